@@ -1,8 +1,9 @@
 -- Marks that are added, one set after another.
-use Rattle.std.proofs.Common.{◌≡◌, ℕ, zero, suc, ◌+◌, ◌<◌, ◌≤◌, Bool, true, false, ◌||◌, ◌&&◌, nat_eq, nat_lt, List, [], ◌∷◌, ◌++◌, get_or, set, take, length, map, replicate, refl, sym, ap, ◌∙◌, arith, absurd, ⊎_elim}
+use Rattle.std.proofs.Common.{◌≡◌, ℕ, zero, suc, ◌+◌, ◌<◌, ◌≤◌, Bool, true, false, ◌||◌, ◌&&◌, nat_eq, nat_lt, tests, List, [], ◌∷◌, ◌++◌, get_or, set, take, length, map, replicate, refl, sym, ap, ◌∙◌, arith, ⊎_elim}
 use Rattle.std.specs.List.{list_any}
 use Rattle.std.proofs.lemmas.Bool.{cases_eq, cases_lt, and_left}
-use Rattle.std.proofs.lemmas.List.{get_or-set_same, get_or-set_other, length-set, take_all}
+use Rattle.std.proofs.lemmas.List.{get_or-set_same, get_or-set_other, get_or_append_left, get_or_at, length-set}
+use Rattle.cx_text.proofs.ListLaws.{take_all}
 use Rattle.std.proofs.lemmas.List.Folds.{list_any_more, list_any-append}
 use Rattle.cx_meaning.specs.Instances.{Set, just}
 use Rattle.cx_sharing.specs.Giving.{is_in}
@@ -17,11 +18,20 @@ pub or-false : (a : Bool) → (a || false) ≡ a
 or-false true = refl
 or-false false = refl
 
+eq_less : (d : ℕ) → false ≡ nat_eq zero (suc d)
+eq_less d = grind (arith, tests)
+
+eq_more : (c : ℕ) → false ≡ nat_eq (suc c) zero
+eq_more c = grind (arith, tests)
+
+eq_next : (c d : ℕ) → nat_eq c d ≡ nat_eq (suc c) (suc d)
+eq_next c d = grind (arith, tests)
+
 pub just_is : (c d : ℕ) → just c d ≡ nat_eq c d
 just_is zero zero = refl
-just_is zero (suc d) = refl
-just_is (suc c) zero = refl
-just_is (suc c) (suc d) = just_is c d
+just_is zero (suc d) = eq_less d
+just_is (suc c) zero = eq_more c
+just_is (suc c) (suc d) = just_is c d ∙ eq_next c d
 
 pub just_itself : (c : ℕ) → just c c ≡ true
 just_itself zero = refl
@@ -139,3 +149,14 @@ members_same marks i cells bare b = record {
 
     same : (c : ℕ) → c ≡ i → is_in c cells ≡ get_or marks c false
     same c e = rw e here
+
+-- marks that are pushed, one for each cell
+pub marks_next : (set : Set) (old : List Bool) (n : ℕ) (b : Bool) → length old ≡ n → ((c : ℕ) → c < n → get_or old c false ≡ set c) → b ≡ set n
+    → (c : ℕ) → c < n + 1 → get_or (old ++ b ∷ []) c false ≡ set c
+marks_next set old n b wide h e c lt =
+    ⊎_elim (λ same. here c same) (λ other. let below : c < n = omega (arith, other) in get_or_append_left old (b ∷ []) false c (omega (arith, wide)) ∙ h c below) (cases_eq c n)
+  where
+    at : get_or (old ++ b ∷ []) n false ≡ set n
+    at = get_or_at old b [] false n wide ∙ e
+    here : (c : ℕ) → c ≡ n → get_or (old ++ b ∷ []) c false ≡ set c
+    here c same = rw same at

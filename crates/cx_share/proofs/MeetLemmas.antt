@@ -1,7 +1,8 @@
 -- Which cells meet, group by group and statement by statement.
 use Rattle.std.proofs.Common.{◌≡◌, ℕ, zero, suc, ◌+◌, ◌<◌, ◌≤◌, Bool, true, false, ◌||◌, ◌&&◌, List, [], ◌∷◌, ◌++◌, get_or, length, map, replicate, refl, sym, ap, ◌∙◌, arith}
 use Rattle.std.specs.List.{list_any}
-use Rattle.std.proofs.lemmas.List.{length-replicate}
+use Rattle.std.proofs.lemmas.List.{length-replicate, length-map, get_or-map}
+use Rattle.std.specs.declared.vec.Vec.{Vec}
 use Rattle.cx_meaning.specs.Designs.{PlainGroup, PlainComponent, PlainStatement}
 use Rattle.cx_meaning.specs.Instances.{Set, just}
 use Rattle.cx_meaning.specs.Control.{targets_cell, groups_of}
@@ -10,7 +11,7 @@ use Rattle.cx_race.specs.Cells.{tested_by}
 use Rattle.cx_sharing.specs.Giving.{is_in}
 use Rattle.cx_sharing.specs.Meeting.{has_both, arms_meet, form_meets, meet}
 use Rattle.cx_sharing.specs.Uses.{assigns_use, group_uses, uses}
-use Rattle.cx_share.specs.Marks.{AreMarks, Adds, any_of}
+use Rattle.cx_share.specs.Marks.{AreMarks, Adds, any_of, lists_of}
 use Rattle.cx_share.specs.Tables.{row_at, IsTable, Joins, pairs_of, IsMeeting}
 use Rattle.cx_share.specs.Using.{Lists}
 use Rattle.cx_share.proofs.MarkLemmas.{adds_then, marks_added, or-assoc}
@@ -128,3 +129,24 @@ meeting_made part lists visited a b c blank used seen p q =
           ∙ ap (λ v. v || list_any (λ w. form_meets part w.form x y) visited) (both_listed lists part.groups x y (λ g. used g x h) (λ g. used g y below))
           ∙ ap (λ vs. list_any (λ g. has_both (assigns_use g.assigns) x y) part.groups || list_any (λ v. form_meets part v.form x y) vs) seen;
     }
+
+-- a table as it lies in memory
+pub table_long : (A : Type 0) (count : ℕ) (table : List (Vec Bool A)) → IsTable count (lists_of table) → length table ≡ count
+table_long A count table t = sym (length-map table (λ (v : Vec Bool A). v.items)) ∙ t.height
+
+pub row_there : (A : Type 0) (table : List (Vec Bool A)) (x : ℕ) (row : Vec Bool A) → x < length table → row ≡ get_or table x row → row_at (lists_of table) x ≡ row.items
+row_there A table x row lt at = get_or-map (λ (v : Vec Bool A). v.items) table x row [] lt ∙ ap (λ (v : Vec Bool A). v.items) (sym at)
+
+pub row_long : (A : Type 0) (count : ℕ) (table : List (Vec Bool A)) (x : ℕ) (row : Vec Bool A) → IsTable count (lists_of table) → x < count → row ≡ get_or table x row → length row.items ≡ count
+row_long A count table x row t lt at =
+    let inside : x < length table = rw (table_long A count table t) lt in
+    ap length (sym (row_there A table x row inside at)) ∙ t.width x lt
+
+pub met_there : (A : Type 0) (part : PlainComponent) (table : List (Vec Bool A)) (x y : ℕ) (row : Vec Bool A) → IsMeeting part (lists_of table) → x < length part.cells → y < length part.cells
+    → row ≡ get_or table x row → get_or row.items y false ≡ meet part x y
+met_there A part table x y row m h k at =
+    let inside : x < length table = rw (table_long A (length part.cells) table m.table) h in
+    let there : row_at (lists_of table) x ≡ row.items = row_there A table x row inside at in
+    let wide : length (row_at (lists_of table) x) ≡ length part.cells = m.table.width x h in
+    let below : y < length (row_at (lists_of table) x) = omega (arith, wide) in
+    ap (λ r. get_or r y false) (sym there) ∙ m.pairs x h y below

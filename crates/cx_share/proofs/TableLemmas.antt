@@ -1,14 +1,16 @@
 -- Marks of pairs that are added, one set of pairs after another.
-use Rattle.std.proofs.Common.{◌≡◌, ℕ, zero, suc, ◌+◌, ◌<◌, ◌≤◌, Bool, true, false, ◌||◌, ◌&&◌, List, [], ◌∷◌, ◌++◌, get_or, set, take, length, replicate, refl, sym, ap, ◌∙◌, arith, absurd, ⊎_elim}
+use Rattle.std.proofs.Common.{◌≡◌, ℕ, zero, suc, ◌+◌, ◌<◌, ◌≤◌, Bool, true, false, ◌||◌, ◌&&◌, List, [], ◌∷◌, ◌++◌, get_or, set, take, length, map, replicate, refl, sym, ap, ◌∙◌, arith, ⊎_elim}
 use Rattle.std.specs.List.{list_any}
 use Rattle.std.proofs.lemmas.Bool.{cases_eq}
-use Rattle.std.proofs.lemmas.List.{get_or-set_same, get_or-set_other, length-set, take_all, get_or-replicate, length-replicate}
+use Rattle.std.proofs.lemmas.List.{get_or-set_same, get_or-set_other, length-set, length-map, map-set, get_or-map, get_or-replicate, length-replicate}
 use Rattle.std.proofs.lemmas.List.Folds.{list_any_more}
+use Rattle.cx_text.proofs.ListLaws.{take_all}
 use Rattle.cx_meaning.specs.Instances.{Set, just}
 use Rattle.cx_sharing.specs.Giving.{is_in}
-use Rattle.cx_share.specs.Marks.{AreMarks, Adds, any_of}
+use Rattle.std.specs.declared.vec.Vec.{Vec}
+use Rattle.cx_share.specs.Marks.{AreMarks, Adds, any_of, lists_of}
 use Rattle.cx_share.specs.Tables.{row_at, IsTable, Joins, pairs_of}
-use Rattle.cx_share.proofs.MarkLemmas.{adds_none, adds_then, adds_same, adds_at, adds_step, just_itself, just_other}
+use Rattle.cx_share.proofs.MarkLemmas.{adds_none, adds_then, adds_same, adds_at, adds_step, any_of-map, just_itself, just_other}
 
 pub joins_none : (rows : List (List Bool)) → Joins rows rows (λ x y. false)
 joins_none rows = record { count = refl; rows = λ x lt. adds_none (row_at rows x) }
@@ -128,3 +130,19 @@ pairs_with (one ∷ ones) others x y = ap (λ v. (just one x && others y) || v) 
     and-or true true false = refl
     and-or true false false = refl
     and-or false b w = refl
+
+pub joins_eq : (a b : List (List Bool)) (p q : ℕ → Set) → ((x y : ℕ) → p x y ≡ q x y) → Joins a b p → Joins a b q
+joins_eq a b p q h f = record { count = f.count; rows = λ x lt. adds_same (row_at a x) (row_at b x) (p x) (q x) (λ y below. h x y) (f.rows x lt) }
+
+-- pairs of what the elements of a list stand for
+pub joins_map : {A B : Type 0} (f : B → ℕ → Set) (g : A → B) (xs : List A) (a b : List (List Bool)) → Joins a b (pairs_of (λ x. f (g x)) xs) → Joins a b (pairs_of f (map g xs))
+joins_map f g xs a b j = joins_eq a b (pairs_of (λ x. f (g x)) xs) (pairs_of f (map g xs)) (λ x y. any_of-map (λ v. f v x) g xs y) j
+
+-- a row that is changed, as it lies in memory
+pub row_joined : (A : Type 0) (set_of : Set) (table : List (Vec Bool A)) (one : ℕ) (before new : Vec Bool A) → one < length table → before ≡ get_or table one before → Adds before.items new.items set_of
+    → Joins (lists_of table) (lists_of (set table one new)) (λ x y. just one x && set_of y)
+row_joined A set_of table one before new lt at p =
+    let inside : one < length (lists_of table) = rw (length-map table (λ (v : Vec Bool A). v.items)) lt in
+    let there : row_at (lists_of table) one ≡ before.items = get_or-map (λ (v : Vec Bool A). v.items) table one before [] lt ∙ ap (λ (v : Vec Bool A). v.items) (sym at) in
+    let changed : lists_of (set table one new) ≡ set (lists_of table) one new.items = map-set (λ (v : Vec Bool A). v.items) table one new in
+    rw changed (joins_row (lists_of table) one new.items set_of inside (rw there p))

@@ -1,8 +1,8 @@
 -- Which cells parts use, as lists.
-use Rattle.std.proofs.Common.{◌≡◌, ℕ, zero, suc, ◌+◌, ◌<◌, ◌≤◌, Bool, true, false, ◌||◌, ◌&&◌, List, [], ◌∷◌, ◌++◌, Option, None, Some, get_or, take, length, map, flat_map, refl, sym, ap, ◌∙◌, arith, absurd, ⊎_elim}
+use Rattle.std.proofs.Common.{◌≡◌, ℕ, zero, suc, ◌+◌, ◌<◌, ◌≤◌, Bool, true, false, ◌||◌, ◌&&◌, List, [], ◌∷◌, ◌++◌, Option, None, Some, get_or, take, length, map, flat_map, refl, sym, ap, ◌∙◌, arith, ⊎_elim}
 use Rattle.std.specs.List.{list_any}
 use Rattle.std.proofs.lemmas.Bool.{cases_eq, cases_lt}
-use Rattle.std.proofs.lemmas.List.{get_or_append_left, get_or_at, get_or_past}
+use Rattle.std.proofs.lemmas.List.{get_or_append_left, get_or_at, get_or_past, length-append}
 use Rattle.std.proofs.lemmas.List.Folds.{list_any-append}
 use Rattle.cx_meaning.specs.declared.ports.PortRef.{PortRef}
 use Rattle.cx_meaning.specs.declared.ports.PortRef.TheVariants as ports
@@ -48,7 +48,7 @@ listed_more count groups i lists cells l h = record {
 }
   where
     length_push : (xs : List (List ℕ)) (x : List ℕ) → length (xs ++ x ∷ []) ≡ length xs + 1
-    length_push xs x = grind arith
+    length_push xs x = length-append xs (x ∷ [])
 
     before : (g : ℕ) → g < i → Lists count (assigns_use (get_or groups g no_group).assigns) (get_or (lists ++ cells ∷ []) g [])
     before g lt =
@@ -77,11 +77,17 @@ pub both_listed : (lists : List (List ℕ)) (groups : List PlainGroup) (x y : �
     → ((g : ℕ) → is_in y (get_or lists g []) ≡ assigns_use (get_or groups g no_group).assigns y)
     → list_any (λ cells. is_in x cells && is_in y cells) lists ≡ list_any (λ g. has_both (assigns_use g.assigns) x y) groups
 both_listed [] [] x y h k = refl
-both_listed [] (g ∷ gs) x y h k = ap (λ v. (v && assigns_use g.assigns y) || list_any (λ g. has_both (assigns_use g.assigns) x y) gs) (h 0) ∙ both_listed [] gs x y (λ n. h (suc n)) (λ n. k (suc n))
-both_listed (l ∷ ls) [] x y h k = ap (λ v. (v && is_in y l) || list_any (λ cells. is_in x cells && is_in y cells) ls) (h 0) ∙ both_listed ls [] x y (λ n. h (suc n)) (λ n. k (suc n))
+both_listed [] (g ∷ gs) x y h k =
+    let here : false ≡ assigns_use g.assigns x = h 0 in
+    both_listed [] gs x y (λ n. h (suc n)) (λ n. k (suc n)) ∙ ap (λ v. (v && assigns_use g.assigns y) || list_any (λ g. has_both (assigns_use g.assigns) x y) gs) here
+both_listed (l ∷ ls) [] x y h k =
+    let here : is_in x l ≡ false = h 0 in
+    ap (λ v. (v && is_in y l) || list_any (λ cells. is_in x cells && is_in y cells) ls) here ∙ both_listed ls [] x y (λ n. h (suc n)) (λ n. k (suc n))
 both_listed (l ∷ ls) (g ∷ gs) x y h k =
-    ap (λ v. (v && is_in y l) || list_any (λ cells. is_in x cells && is_in y cells) ls) (h 0)
-    ∙ ap (λ v. (assigns_use g.assigns x && v) || list_any (λ cells. is_in x cells && is_in y cells) ls) (k 0)
+    let here : is_in x l ≡ assigns_use g.assigns x = h 0 in
+    let there : is_in y l ≡ assigns_use g.assigns y = k 0 in
+    ap (λ v. (v && is_in y l) || list_any (λ cells. is_in x cells && is_in y cells) ls) here
+    ∙ ap (λ v. (assigns_use g.assigns x && v) || list_any (λ cells. is_in x cells && is_in y cells) ls) there
     ∙ ap (λ v. (assigns_use g.assigns x && assigns_use g.assigns y) || v) (both_listed ls gs x y (λ n. h (suc n)) (λ n. k (suc n)))
 
 -- an arm before others: what the others do among themselves, and the arm with each of them, both ways

@@ -7,7 +7,7 @@ ghost use Rattle.cx_sharing.specs.Uses.{is_candidate, is_combinational as is_com
 ghost use Rattle.cx_share.specs.Marks.{Adds, AreMarks, any_of};
 
 use crate::kinds::is_combinational;
-use crate::marks::{add_port, no_cells};
+use crate::marks::{add_port, is_marked, no_cells};
 use crate::using::add_assigns;
 use cx_design::{Assign, Cell, Component, Group};
 use cx_text::Memory;
@@ -23,8 +23,11 @@ pub(crate) fn candidates(alloc: Global, part: &Component) -> Result<Vec<bool>, M
     let mut named = no_cells(alloc, part.cells.len())?;
     add_assigns(alloc, &mut named, part.always.as_slice())?;
     let mut marks = Vec::with_capacity(alloc, part.cells.len())?;
-    for (number, cell) in part.cells.iter().enumerate() {
-        marks.push(is_free(cell, driven[number], named[number]))?;
+    let cells = part.cells.as_slice();
+    for (number, cell) in cells.iter().enumerate() {
+        let is_driven = is_marked(driven.as_slice(), number);
+        let is_named = is_marked(named.as_slice(), number);
+        marks.push(is_free(cell, is_driven, is_named))?;
     }
     Ok(marks)
 }

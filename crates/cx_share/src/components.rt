@@ -29,7 +29,7 @@ pub(crate) fn shared_components(
     keepers: &[Vec<usize>],
     items: &[ComponentItem],
 ) -> Result<Vec<ComponentItem>, Memory>
-    requires count { length items.now ≡ length parts.now }
+    requires alike { map (λ part. length part.cells.items) parts.now ≡ map (λ item. length item.cells.items) items.now }
     requires keepers { AllKeepers (map plain_component parts.now) (lists_of keepers.now) }
     ensures value { IfOk result (λ components. map ast.plain_component components.items ≡ shared.shared_components (map plain_component parts.now) (map ast.plain_component items.now)) }
 {

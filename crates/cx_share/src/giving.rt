@@ -1,20 +1,21 @@
 //! Giving: each candidate is given to the first kept one that takes it, else it is kept.
 
-ghost use Rattle.std.specs.Prelude.{◌≡◌, ◌<◌, ℕ, [], true, false, IfOk, IfSome, IfNone, OnOk, get_or, length, map, if◌then◌else◌, All};
+ghost use Rattle.std.specs.Prelude.{◌≡◌, ◌<◌, ◌&&◌, not, ℕ, [], ◌∷◌, true, false, IfOk, IfSome, IfNone, OnOk, get_or, length, map, if◌then◌else◌, All};
 ghost use Rattle.std.specs.List.{list_any};
-ghost use Rattle.cx_design.specs.PlainForms.{plain_cell, plain_component};
+ghost use Rattle.cx_design.specs.PlainForms.{plain_component, plain_kind};
 ghost use Rattle.cx_sharing.specs.Giving as giving;
 ghost use Rattle.cx_sharing.specs.Giving.{kept_of, keeper_in};
 ghost use Rattle.cx_sharing.specs.Meeting.{meet};
-ghost use Rattle.cx_sharing.specs.Uses.{is_candidate};
+ghost use Rattle.cx_sharing.specs.Uses.{is_candidate, kind_in};
 ghost use Rattle.cx_share.specs.Marks.{AreMarks, lists_of};
 ghost use Rattle.cx_share.specs.Tables.{IsMeeting};
 ghost use Rattle.cx_share.specs.Givings.{AllKeepers, AllWithin, AreKeepers, KeptBy, Put, Within, no_kept, plain_kept};
 
 use crate::candidates::candidates;
 use crate::kinds::is_same_kind;
+use crate::marks::is_marked;
 use crate::meeting::meeting;
-use cx_design::Component;
+use cx_design::{CellKind, Component};
 use cx_text::Memory;
 use std::alloc::Global;
 
@@ -61,7 +62,7 @@ fn kept_cells(
 {
     let mut kept = Vec::new(alloc);
     for cell in 0..part.cells.len() {
-        if !candidates[cell] {
+        if !is_marked(candidates, cell) {
             continue;
         }
         give(alloc, &mut kept, part, table, cell)?;
@@ -117,9 +118,26 @@ fn takes(kept: &Kept, part: &Component, table: &[Vec<bool>], cell: usize) -> boo
     requires table { IsMeeting (plain_component part.now) (lists_of table.now) }
     ensures value { result ≡ giving.takes (plain_component part.now) cell (plain_kept kept.now) }
 {
-    is_same_kind(&part.cells[kept.cell].kind, &part.cells[cell].kind)
-        && !meets(part, table, kept.cell, cell)
-        && !meets_any(part, table, kept.given.as_slice(), cell)
+    let is_alike = is_same_kind(kind_at(part, kept.cell), kind_at(part, cell));
+    let is_met = meets(part, table, kept.cell, cell);
+    let is_met_by_given = meets_any(part, table, kept.given.as_slice(), cell);
+    is_taken(is_alike, is_met, is_met_by_given)
+}
+
+/// Of one kind, and not met.
+fn is_taken(is_alike: bool, is_met: bool, is_met_by_given: bool) -> bool
+    ensures value { result ≡ (is_alike && (not is_met && not is_met_by_given)) }
+{
+    is_alike && (!is_met && !is_met_by_given)
+}
+
+/// What a cell is of.
+fn kind_at(part: &Component, cell: usize) -> &CellKind
+    requires within { cell < length part.now.cells.items }
+    ensures value { plain_kind result.now ≡ kind_in (plain_component part.now).cells cell }
+{
+    let cells = part.cells.as_slice();
+    &cells[cell].kind
 }
 
 /// Whether a cell meets one of several.
@@ -176,8 +194,15 @@ fn put_keeper(keepers: &mut Vec<usize>, kept: &Kept)
     ensures value { Put kept.now.cell kept.now.given.items keepers.old.items keepers.new.items }
 {
     for given in &kept.given {
-        if *given < keepers.len() {
-            keepers[*given] = kept.cell;
-        }
+        put(keepers, *given, kept.cell);
+    }
+}
+
+/// A kept cell stands for one that was given to it.
+fn put(keepers: &mut Vec<usize>, given: usize, cell: usize)
+    ensures value { Put cell (given ∷ []) keepers.old.items keepers.new.items }
+{
+    if given < keepers.len() {
+        keepers[given] = cell;
     }
 }

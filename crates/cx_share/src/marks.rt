@@ -1,6 +1,6 @@
 //! Sets of a component's cells: a mark for each cell, by its number. A number that names no cell is in no set.
 
-ghost use Rattle.std.specs.Prelude.{◌≡◌, false, IfOk, get_or, length, replicate};
+ghost use Rattle.std.specs.Prelude.{◌≡◌, ◌<◌, false, IfOk, get_or, length, replicate};
 ghost use Rattle.cx_meaning.specs.Control.{targets_cell};
 ghost use Rattle.cx_meaning.specs.Instances.{just};
 ghost use Rattle.cx_sharing.specs.Giving.{is_in};
@@ -46,6 +46,14 @@ pub(crate) fn add_cells(marks: &mut Vec<bool>, cells: &[usize])
     for cell in cells {
         add_cell(marks, *cell);
     }
+}
+
+/// Whether a cell is in a set.
+pub(crate) fn is_marked(marks: &[bool], cell: usize) -> bool
+    requires within { cell < length marks.now }
+    ensures value { result ≡ get_or marks.now cell false }
+{
+    marks[cell]
 }
 
 /// The cells of a set, in order.

@@ -1,8 +1,9 @@
 //! Which cells of a component meet.
 
 ghost use Rattle.std.specs.Prelude.{◌≡◌, ◌&&◌, ◌||◌, false, IfOk, OnOk, get_or, length, map, replicate};
+ghost use Rattle.cx_meaning.specs.Designs.{list_of};
 ghost use Rattle.cx_meaning.specs.Instances.{just};
-ghost use Rattle.cx_design.specs.PlainForms.{plain_component, plain_form, plain_statement};
+ghost use Rattle.cx_design.specs.PlainForms.{plain_component, plain_form, plain_statements};
 ghost use Rattle.cx_design_parts.specs.Items.{plain_visited};
 ghost use Rattle.cx_sharing.specs.Giving.{is_in};
 ghost use Rattle.cx_sharing.specs.Uses.{comb_uses, test_uses};
@@ -166,7 +167,7 @@ fn add_arms(
 ) -> Result<(), Memory>
     requires used { AreUsed (plain_component part.now) used.now }
     requires table { IsTable (length part.now.cells.items) (lists_of table.old.items) }
-    ensures value { OnOk result (Joins (lists_of table.old.items) (lists_of table.new.items) (arms_meet (plain_component part.now) (map plain_statement arms.now))) }
+    ensures value { OnOk result (Joins (lists_of table.old.items) (lists_of table.new.items) (arms_meet (plain_component part.now) (list_of (plain_statements arms.now)))) }
 {
     let mut later = no_cells(alloc, part.cells.len())?;
     let mut left = arms.len();

@@ -3,5 +3,5 @@ use Rattle.cx_share.specs.Marks.{lists_of}
 use Rattle.cx_share.proofs.meeting.no_pairs.Given as goal
 
 -- the rows so far
-abbrev pub invariant-loop-_row : goal.invariant-loop-_row
-invariant-loop-_row l = lists_of l.table.items ≡ replicate l._row (replicate l.count false)
+abbrev pub invariant-loop-row : goal.invariant-loop-row
+invariant-loop-row l = lists_of l.table.items ≡ replicate l._row (replicate l.count false)
