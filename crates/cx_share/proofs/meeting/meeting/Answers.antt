@@ -1,0 +1,18 @@
+use Rattle.std.proofs.Common.{◌≡◌, ◌∙◌, ap, sym, map, length, replicate, false, arith, vec_len}
+use Rattle.std.proofs.lemmas.List.{length-map}
+use Rattle.cx_design.specs.PlainForms.{plain_cell, plain_component}
+use Rattle.cx_design_parts.specs.Items.{plain_visited}
+use Rattle.cx_share.specs.Marks.{lists_of}
+use Rattle.cx_share.proofs.MeetLemmas.{meeting_made}
+use Rattle.cx_share.proofs.meeting.meeting.Goals as goal
+
+pub returns : goal.returns
+returns c =
+    let part = plain_component c.args.part.now in
+    let wide : vec_len c.args.part.now.cells ≡ length c.args.part.now.cells.items = omega (arith, c.args.part.now.cells.ok.0) in
+    let blank : lists_of c.in_ok-table.table.items ≡ replicate (length part.cells) (replicate (length part.cells) false) =
+    c.in_ok-table.ensures.value ∙ ap (λ n. replicate n (replicate n false)) (wide ∙ sym (length-map c.args.part.now.cells.items plain_cell)) in
+    record {
+      value = meeting_made part (lists_of c.in_ok-used.used.items) (map plain_visited c.in_ok-statements.statements.items) (lists_of c.in_ok-table.table.items) (lists_of c.add_lists.new.table.items) (lists_of c.add_forms.new.table.items)
+          blank c.in_ok-used.ensures.value c.in_ok-statements.ensures.value (rw c.as_slice.ensures.value at c.add_lists.ensures.value) (rw c.as_slice-3.ensures.value at c.in_ok-add_forms.ensures.value);
+    }

@@ -1,0 +1,208 @@
+//! Giving: each candidate is given to the first kept one that takes it, else it is kept.
+
+ghost use Rattle.std.specs.Prelude.{◌≡◌, ◌<◌, ◌&&◌, not, ℕ, [], ◌∷◌, true, false, IfOk, IfSome, IfNone, OnOk, get_or, length, map, if◌then◌else◌, All};
+ghost use Rattle.std.specs.List.{list_any};
+ghost use Rattle.cx_design.specs.PlainForms.{plain_component, plain_kind};
+ghost use Rattle.cx_sharing.specs.Giving as giving;
+ghost use Rattle.cx_sharing.specs.Giving.{kept_of, keeper_in};
+ghost use Rattle.cx_sharing.specs.Meeting.{meet};
+ghost use Rattle.cx_sharing.specs.Uses.{is_candidate, kind_in};
+ghost use Rattle.cx_share.specs.Marks.{AreMarks, lists_of};
+ghost use Rattle.cx_share.specs.Tables.{IsMeeting};
+ghost use Rattle.cx_share.specs.Givings.{AllKeepers, AllWithin, AreKeepers, KeptBy, Put, Within, no_kept, plain_kept};
+
+use crate::candidates::candidates;
+use crate::kinds::is_same_kind;
+use crate::marks::is_marked;
+use crate::meeting::meeting;
+use cx_design::{CellKind, Component};
+use cx_text::Memory;
+use std::alloc::Global;
+
+/// A kept cell, and those that were given to it, in cell order.
+#[derive(Drop)]
+pub(crate) struct Kept {
+    pub cell: usize,
+    pub given: Vec<usize>,
+}
+
+/// For each component the cells that stand for its cells.
+pub(crate) fn all_keepers(alloc: Global, parts: &[Component]) -> Result<Vec<Vec<usize>>, Memory>
+    ensures value { IfOk result (λ keepers. AllKeepers (map plain_component parts.now) (lists_of keepers.items)) }
+{
+    let mut lists = Vec::with_capacity(alloc, parts.len())?;
+    for part in parts {
+        lists.push(keepers(alloc, part)?)?;
+    }
+    Ok(lists)
+}
+
+/// For each cell of a component the number of the cell that stands for it.
+fn keepers(alloc: Global, part: &Component) -> Result<Vec<usize>, Memory>
+    ensures value { IfOk result (λ keepers. AreKeepers (plain_component part.now) keepers.items) }
+{
+    let candidates = candidates(alloc, part)?;
+    let table = meeting(alloc, part)?;
+    let kept = kept_cells(alloc, part, candidates.as_slice(), table.as_slice())?;
+    let keepers = keepers_by(alloc, part.cells.len(), kept.as_slice())?;
+    Ok(keepers)
+}
+
+/// What is kept of all cells.
+fn kept_cells(
+    alloc: Global,
+    part: &Component,
+    candidates: &[bool],
+    table: &[Vec<bool>],
+) -> Result<Vec<Kept>, Memory>
+    requires count { length candidates.now ≡ length part.now.cells.items }
+    requires candidates { AreMarks candidates.now (is_candidate (plain_component part.now)) }
+    requires table { IsMeeting (plain_component part.now) (lists_of table.now) }
+    ensures value { IfOk result (λ kept. map plain_kept kept.items ≡ kept_of (plain_component part.now)) }
+{
+    let mut kept = Vec::new(alloc);
+    for cell in 0..part.cells.len() {
+        if !is_marked(candidates, cell) {
+            continue;
+        }
+        give(alloc, &mut kept, part, table, cell)?;
+    }
+    Ok(kept)
+}
+
+/// Gives a cell to the first that takes it, or keeps it.
+fn give(
+    alloc: Global,
+    kept: &mut Vec<Kept>,
+    part: &Component,
+    table: &[Vec<bool>],
+    cell: usize,
+) -> Result<(), Memory>
+    requires cell { cell < length part.now.cells.items }
+    requires kept { AllWithin cell (map plain_kept kept.old.items) }
+    requires table { IsMeeting (plain_component part.now) (lists_of table.now) }
+    ensures value { OnOk result (map plain_kept kept.new.items ≡ giving.give (plain_component part.now) cell (map plain_kept kept.old.items)) }
+{
+    match first_taker(kept.as_slice(), part, table, cell) {
+        Some(taker) => kept[taker].given.push(cell)?,
+        None => kept.push(Kept {
+            cell,
+            given: Vec::new(alloc),
+        })?,
+    }
+    Ok(())
+}
+
+/// The number of the first that takes a cell.
+fn first_taker(kept: &[Kept], part: &Component, table: &[Vec<bool>], cell: usize) -> Option<usize>
+    requires cell { cell < length part.now.cells.items }
+    requires kept { AllWithin cell (map plain_kept kept.now) }
+    requires table { IsMeeting (plain_component part.now) (lists_of table.now) }
+    ensures within { IfSome result (λ i. i < length kept.now) }
+    ensures takes { IfSome result (λ i. giving.takes (plain_component part.now) cell (get_or (map plain_kept kept.now) i no_kept) ≡ true) }
+    ensures first { IfSome result (λ i. (k : ℕ) → k < i → giving.takes (plain_component part.now) cell (get_or (map plain_kept kept.now) k no_kept) ≡ false) }
+    ensures none { IfNone result ((k : ℕ) → k < length kept.now → giving.takes (plain_component part.now) cell (get_or (map plain_kept kept.now) k no_kept) ≡ false) }
+{
+    for (number, keeper) in kept.iter().enumerate() {
+        if takes(keeper, part, table, cell) {
+            return Some(number);
+        }
+    }
+    None
+}
+
+/// Whether a kept one takes a cell: they are of one kind, and the cell meets neither it nor any that was given to it.
+fn takes(kept: &Kept, part: &Component, table: &[Vec<bool>], cell: usize) -> bool
+    requires cell { cell < length part.now.cells.items }
+    requires kept { Within cell (plain_kept kept.now) }
+    requires table { IsMeeting (plain_component part.now) (lists_of table.now) }
+    ensures value { result ≡ giving.takes (plain_component part.now) cell (plain_kept kept.now) }
+{
+    let is_alike = is_same_kind(kind_at(part, kept.cell), kind_at(part, cell));
+    let is_met = meets(part, table, kept.cell, cell);
+    let is_met_by_given = meets_any(part, table, kept.given.as_slice(), cell);
+    is_taken(is_alike, is_met, is_met_by_given)
+}
+
+/// Of one kind, and not met.
+fn is_taken(is_alike: bool, is_met: bool, is_met_by_given: bool) -> bool
+    ensures value { result ≡ (is_alike && (not is_met && not is_met_by_given)) }
+{
+    is_alike && (!is_met && !is_met_by_given)
+}
+
+/// What a cell is of.
+fn kind_at(part: &Component, cell: usize) -> &CellKind
+    requires within { cell < length part.now.cells.items }
+    ensures value { plain_kind result.now ≡ kind_in (plain_component part.now).cells cell }
+{
+    let cells = part.cells.as_slice();
+    &cells[cell].kind
+}
+
+/// Whether a cell meets one of several.
+fn meets_any(part: &Component, table: &[Vec<bool>], given: &[usize], cell: usize) -> bool
+    requires cell { cell < length part.now.cells.items }
+    requires given { All (λ x. x < length part.now.cells.items) given.now }
+    requires table { IsMeeting (plain_component part.now) (lists_of table.now) }
+    ensures value { result ≡ list_any (λ x. meet (plain_component part.now) x cell) given.now }
+{
+    for other in given {
+        if meets(part, table, *other, cell) {
+            return true;
+        }
+    }
+    false
+}
+
+/// Whether two cells meet.
+fn meets(part: &Component, table: &[Vec<bool>], one: usize, other: usize) -> bool
+    requires one { one < length part.now.cells.items }
+    requires other { other < length part.now.cells.items }
+    requires table { IsMeeting (plain_component part.now) (lists_of table.now) }
+    ensures value { result ≡ meet (plain_component part.now) one other }
+{
+    table[one][other]
+}
+
+/// For each of so many cells the number of the cell that stands for it.
+fn keepers_by(alloc: Global, count: usize, kept: &[Kept]) -> Result<Vec<usize>, Memory>
+    ensures value { IfOk result (λ keepers. KeptBy count (map plain_kept kept.now) keepers.items) }
+{
+    let mut keepers = each_itself(alloc, count)?;
+    let mut left = kept.len();
+    while left > 0 {
+        left -= 1;
+        put_keeper(&mut keepers, &kept[left]);
+    }
+    Ok(keepers)
+}
+
+/// Each of so many cells stands for itself.
+fn each_itself(alloc: Global, count: usize) -> Result<Vec<usize>, Memory>
+    ensures value { IfOk result (λ keepers. KeptBy count [] keepers.items) }
+{
+    let mut keepers = Vec::with_capacity(alloc, count)?;
+    for cell in 0..count {
+        keepers.push(cell)?;
+    }
+    Ok(keepers)
+}
+
+/// A kept cell stands for those that were given to it.
+fn put_keeper(keepers: &mut Vec<usize>, kept: &Kept)
+    ensures value { Put kept.now.cell kept.now.given.items keepers.old.items keepers.new.items }
+{
+    for given in &kept.given {
+        put(keepers, *given, kept.cell);
+    }
+}
+
+/// A kept cell stands for one that was given to it.
+fn put(keepers: &mut Vec<usize>, given: usize, cell: usize)
+    ensures value { Put cell (given ∷ []) keepers.old.items keepers.new.items }
+{
+    if given < keepers.len() {
+        keepers[given] = cell;
+    }
+}
