@@ -1,0 +1,7 @@
+mod MarkLemmas
+mod TableLemmas
+mod UseLemmas
+mod KindLemmas
+mod MeetLemmas
+mod GiveLemmas
+mod TreeLemmas

@@ -1,0 +1,43 @@
+-- What is kept, as it lies in memory, and the cells that stand for cells.
+use Rattle.std.specs.Prelude.{◌≡◌, ℕ, ◌<◌, true, List, [], ◌∷◌, get_or, length, reverse, if◌then◌else◌}
+use Rattle.cx_meaning.specs.Designs.{PlainComponent, no_component}
+use Rattle.cx_sharing.specs.Giving as giving
+use Rattle.cx_sharing.specs.Giving.{is_in, keeper, keeper_in}
+use Rattle.cx_share.specs.declared.giving.Kept.{Kept}
+
+abbrev pub plain_kept : Kept → giving.Kept
+plain_kept k = record { cell = k.cell; given = reverse k.given.items }
+
+-- what stands for one whose number names none
+abbrev pub no_kept : giving.Kept
+no_kept = record { cell = 0; given = [] }
+
+-- a kept cell and those that were given to it are below a bound
+pub record Within (n : ℕ) (k : giving.Kept) : Type 0 where
+  pub cell : k.cell < n
+  pub given : (x : ℕ) → is_in x k.given ≡ true → x < n
+
+abbrev pub AllWithin : ℕ → List giving.Kept → Type 0
+AllWithin n [] = Unit {0}
+AllWithin n (k ∷ ks) = Within n k × AllWithin n ks
+
+-- the given cells have their keeper, and the others the one that they had
+pub record Put (cell : ℕ) (given old new : List ℕ) : Type 0 where
+  pub count : length new ≡ length old
+  pub cells : (c : ℕ) → c < length old → get_or new c 0 ≡ (if is_in c given then cell else get_or old c 0)
+
+-- for each of so many cells the cell that stands for it, by what is kept
+pub record KeptBy (count : ℕ) (ks : List giving.Kept) (keepers : List ℕ) : Type 0 where
+  pub long : length keepers ≡ count
+  pub cells : (c : ℕ) → c < count → get_or keepers c 0 ≡ keeper_in ks c
+
+-- for each cell of a component the cell that stands for it
+pub record AreKeepers (part : PlainComponent) (keepers : List ℕ) : Type 0 where
+  pub count : length keepers ≡ length part.cells
+  pub keeps : (c : ℕ) → c < length part.cells → get_or keepers c 0 ≡ keeper part c
+  pub within : (c : ℕ) → c < length part.cells → keeper part c < length part.cells
+
+-- and for each component its own
+pub record AllKeepers (parts : List PlainComponent) (keepers : List (List ℕ)) : Type 0 where
+  pub count : length keepers ≡ length parts
+  pub each : (k : ℕ) → k < length parts → AreKeepers (get_or parts k no_component) (get_or keepers k [])
