@@ -1,7 +1,0 @@
-mod MarkLemmas
-mod TableLemmas
-mod UseLemmas
-mod KindLemmas
-mod MeetLemmas
-mod GiveLemmas
-mod TreeLemmas
