@@ -23,7 +23,7 @@ use Rattle.cx_wiring.proofs.DesignNames.{in_filter}
 use Rattle.cx_wiring.proofs.LoweringCounts.{total, all_timers, all_points}
 use Rattle.cx_wiring.proofs.ControlCounts.{timed_in, Untimed, Before, lowered_total, samples_are}
 use Rattle.cx_wiring.proofs.AssignCounts.{units, AllParts, assigns_wires_few, units_filter, units_order}
-use Rattle.cx_wiring.proofs.ComponentCounts.{PartsHold}
+use Rattle.cx_wiring.proofs.ComponentCounts.{no_timed, PartsHold}
 use Rattle.cx_bytes.specs.Shallow.{Shallow}
 use Rattle.cx_bytes.proofs.NetBytes.{drivers_cost, drivers_cost-append}
 use Rattle.cx_bytes.proofs.ControlBytes.{points_cost, occurrences_cost, island_cost, control_cost}

@@ -13,6 +13,7 @@ use Rattle.cx_meaning.specs.Instances.{State, tree_of, words_of}
 use Rattle.cx_meaning.specs.Running.{run_main}
 use Rattle.cx_rules.specs.Accepted.{IsAccepted}
 use Rattle.cx_rules.specs.Externals.{external_rows}
+use Rattle.cx_rules.specs.Flat.{IsFlat}
 use Rattle.cx_rules.specs.Sizes.{design_size}
 use Rattle.cx_rules.specs.Wellformed.{IsDesign}
 use Rattle.cx_control.specs.DesignRuns.{MachineRuns}
@@ -80,8 +81,8 @@ module _ (text json : List ℕ) (budget : ℕ) (d : PlainDesign) (stands : IsDes
 
 -- A TEXT whose design is within the size that is compiled
 module _ (text json : List ℕ) (budget : ℕ) (d : PlainDesign) (stands : IsDesignOf text d) (within : design_size d ≤ COMPILE_SIZE)
-    (machines : (e : PlainDesign) → IsDesign e → IsAccepted e → MachineRuns e) (nets : (e : PlainDesign) → IsDesign e → IsAccepted e → RealisesInNet e (net_for e)) where
-  rules : IsDesign d × IsAccepted d
+    (machines : (e : PlainDesign) → IsDesign e → IsFlat e → IsAccepted e → MachineRuns e) (nets : (e : PlainDesign) → IsDesign e → IsFlat e → IsAccepted e → RealisesInNet e (net_for e)) where
+  rules : IsDesign d × IsFlat d × IsAccepted d
   rules = text_rules text d stands within
 
   -- the text has no other design
@@ -89,13 +90,13 @@ module _ (text json : List ℕ) (budget : ℕ) (d : PlainDesign) (stands : IsDes
   of_it e other = ap (λ x. design_result x json budget) (one_design text e d other stands)
 
   ended : (dump : List ℕ) → IsInterpAnswer text json budget dump → EndsAlike text json budget dump
-  ended dump (inl h) = ends_by text json budget d stands (machines d rules.0 rules.1) (nets d rules.0 rules.1) dump (load_of json (external_rows d)) refl (h.2 ∙ of_it h.0 h.1)
+  ended dump (inl h) = ends_by text json budget d stands (machines d rules.0 rules.1 rules.2) (nets d rules.0 rules.1 rules.2) dump (load_of json (external_rows d)) refl (h.2 ∙ of_it h.0 h.1)
   ended dump (inr h) = absurd (no_refusal dump (stops.Rule h.0) h.2)
 
   waited : (stop : Stop) → IsInterpStop text json budget stop → stop ≡ stops.More budget → WaitsAlike text json budget
   waited stop (inl memory) more = absurd (cc)
   waited stop (inr (inl h)) more =
-      waits_by text json budget d stands (machines d rules.0 rules.1) (nets d rules.0 rules.1) (load_of json (external_rows d)) refl (ap (λ s. Err s) (sym more) ∙ h.2 ∙ of_it h.0 h.1)
+      waits_by text json budget d stands (machines d rules.0 rules.1 rules.2) (nets d rules.0 rules.1 rules.2) (load_of json (external_rows d)) refl (ap (λ s. Err s) (sym more) ∙ h.2 ∙ of_it h.0 h.1)
   waited stop (inr (inr h)) more = let rule : stop ≡ stops.Rule h.0 = same_error stop (stops.Rule h.0) h.2 in absurd (cc)
 
   pub ends_alike : {X : Type 0} (bytes : X → List ℕ) (r : Result X Stop) → IfOk r (λ x. IsInterpAnswer text json budget (bytes x)) → IfOk r (λ x. EndsAlike text json budget (bytes x))

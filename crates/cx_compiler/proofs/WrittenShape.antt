@@ -19,6 +19,7 @@ use Rattle.cx_static.specs.Lowering.{lowered_component, lowered_of}
 use Rattle.cx_wiring.specs.PartNets.{timer_cells, wired_in}
 use Rattle.cx_wiring.specs.Reached.{has_number, place_in, below, reached_from, count, order}
 use Rattle.cx_wiring.specs.Wiring.{kind_in, cell_in, net_of}
+use Rattle.cx_wiring.proofs.ComponentCounts.{no_timed}
 use Rattle.cx_wiring.proofs.ControlCounts.{Untimed}
 use Rattle.cx_wiring.proofs.FitLemmas.{slice_right}
 use Rattle.cx_wiring.proofs.FitNets.{net_fits}

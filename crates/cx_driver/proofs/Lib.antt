@@ -10,6 +10,7 @@ pub mod LeftLemmas
 pub mod TrialMemory
 pub mod TrialLemmas
 pub mod WovenLemmas
+pub mod ListLemmas
 pub mod OrderLemmas
 pub mod TrialDepth
 pub mod FilePromise

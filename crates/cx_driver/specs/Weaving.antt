@@ -1,5 +1,5 @@
 -- What the design of a text does on a data file by the choices of a list, and what stops it.
-use Rattle.std.specs.Prelude.{◌≡◌, ◌⊎◌, ℕ, List, ◌++◌, Result, Ok, Err, codes, decimal}
+use Rattle.std.specs.Prelude.{◌≡◌, ◌≤◌, ◌<◌, ◌^◌, ◌⊎◌, ℕ, List, ◌++◌, Result, Ok, Err, codes, decimal}
 use Rattle.cx_text.specs.declared.diagnostics.Diagnostic.{Diagnostic}
 use Rattle.cx_text.specs.Loading.{PlainMemory, words_loaded, with_words}
 use Rattle.cx_data.specs.Dump.{dump_text}
@@ -8,10 +8,11 @@ use Rattle.cx_data.specs.declared.faults.DataFault.{DataFault}
 use Rattle.cx_meaning.specs.Designs.{PlainDesign}
 use Rattle.cx_meaning.specs.Instances.{tree_of, words_of}
 use Rattle.cx_rules.specs.Externals.{external_rows}
+use Rattle.cx_rules.specs.Sizes.{design_size}
 use Rattle.cx_orders.specs.Woven as woven
 use Rattle.cx_orders.specs.Woven.{Woven, by_list, woven}
 use Rattle.cx_meaning.specs.declared.sights.FaultKind.{FaultKind}
-use Rattle.cx_compiler.specs.Interpreted.{fault_stop, Interprets}
+use Rattle.cx_compiler.specs.Interpreted.{fault_stop, Interprets, IsInterpAnswer}
 use Rattle.cx_compiler.specs.Texts.{IsDesignOf, TextBreak}
 use Rattle.cx_commands.specs.declared.stops.Stop.{Stop}
 use Rattle.cx_commands.specs.declared.stops.Stop.TheVariants as stops
@@ -71,3 +72,14 @@ IsRunWoven d list memories steps answer = woven_result d list memories steps ≡
 
 abbrev pub StopsRunWoven : PlainDesign → List ℕ → List PlainMemory → ℕ → Stop → Type 0
 StopsRunWoven d list memories steps stop = (stop ≡ stops.Memory) ⊎ (woven_result d list memories steps ≡ Err stop)
+
+-- EVERY LIST ENDS as the interpreter does, which dumped this: with enough choices, one number for all lists, the woven run by a list writes so
+-- many choices and the words of that dump
+abbrev pub EveryListEnds : List ℕ → List ℕ → List ℕ → Type 0
+EveryListEnds text json dump =
+    (turns : ℕ) × (memories : List PlainMemory) × (dump ≡ dump_text turns memories) × (enough : ℕ)
+    × ((list : List ℕ) (steps : ℕ) → enough ≤ steps → (sum : ℕ) × IsWovenAnswer text json steps list (woven_text enough sum memories))
+
+-- of every text whose design has parts that 32 bits count
+abbrev pub AllListsEnd : List ℕ → List ℕ → Type 0
+AllListsEnd text json = (d : PlainDesign) (budget : ℕ) (dump : List ℕ) → IsDesignOf text d → design_size d < 2 ^ 32 → IsInterpAnswer text json budget dump → EveryListEnds text json dump

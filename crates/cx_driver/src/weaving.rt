@@ -8,7 +8,7 @@ ghost use Rattle.cx_design.specs.PlainDesigns.{plain_design};
 ghost use Rattle.cx_commands.specs.Lists.{IsList, numbers_in};
 ghost use Rattle.cx_commands.specs.declared.stops.Stop.{Stop as StopValue};
 ghost use Rattle.cx_commands.specs.declared.stops.Stop.TheVariants as stops;
-ghost use Rattle.cx_driver.specs.Weaving.{IsDesignWoven, IsRunWoven, IsWeaveStop, IsWovenAnswer, StopsDesignWoven, StopsRunWoven, StopsWeaving, NeverFaults, woven_text};
+ghost use Rattle.cx_driver.specs.Weaving.{AllListsEnd, IsDesignWoven, IsRunWoven, IsWeaveStop, IsWovenAnswer, StopsDesignWoven, StopsRunWoven, StopsWeaving, NeverFaults, woven_text};
 
 use crate::faults::faulted;
 use crate::memories::{dump_of, load};
@@ -16,6 +16,7 @@ use cx_commands::{Stop, numbers};
 use cx_compiler::accepted_design;
 use cx_compiler::laws::none_ends;
 use cx_design::Checked;
+use cx_orders::laws::orders_end;
 use cx_text::{Loaded, Memory};
 use cx_weave::Wove;
 use itoa::Buffer;
@@ -39,6 +40,9 @@ pub fn weave(
     // Where a woven run ends, the interpreter has no fault.
     ensures no_fault { IfOk result (λ _. NeverFaults text.now json.now) }
 
+    // Where the interpreter ends, every list does with enough choices, in the same words.
+    ensures every_list { AllListsEnd text.now json.now }
+
     // Where the run ends within the choices its dump is the answer, unless memory is wanting.
     ensures all_answers { (answer : List ℕ) → IsWovenAnswer text.now json.now steps list.now answer
         → MatchResult result (λ told. told.items ≡ answer) (λ stop. stop ≡ stops.Memory) }
@@ -48,6 +52,7 @@ pub fn weave(
     ensures all_stops { (why : StopValue) → StopsWeaving text.now json.now steps list.now why
         → MatchResult result (λ _. ⊥) (λ stop. (stop ≡ stops.Memory) ⊎ (stop ≡ why)) }
 {
+    orders_end();
     match accepted_design(alloc, text) {
         Ok(design) => {
             none_ends();

@@ -2,6 +2,7 @@
 use Rattle.std.proofs.Common.{◌≡◌, ◌∙◌, Result, Ok, Err, IfOk, ap, sym, subst}
 use Rattle.cx_meaning.specs.Designs.{PlainDesign}
 use Rattle.cx_rules.specs.Accepted.{IsAccepted}
+use Rattle.cx_rules.specs.Flat.{IsFlat}
 use Rattle.cx_rules.specs.Wellformed.{IsDesign}
 use Rattle.cx_net.specs.Nets.{PlainNet}
 use Rattle.cx_net.specs.NetLimits.{IsWritable}
@@ -16,21 +17,21 @@ use Rattle.cx_wiring.proofs.MainLaws.{rows_of-net_of}
 use Rattle.cx_wiring.proofs.WritableNets.{CanBeWritten, net_writable}
 use Rattle.cx_fsm.specs.Built.{IsNetFor}
 
-net_owes : (d : PlainDesign) → IsDesign d → IsAccepted d → RealisesInNet d (net_tree (net_of (lowered_of d))) → IsNetFor d (net_of (lowered_of d))
-net_owes d rules accepted realises = record {
+net_owes : (d : PlainDesign) → IsDesign d → IsFlat d → IsAccepted d → RealisesInNet d (net_tree (net_of (lowered_of d))) → IsNetFor d (net_of (lowered_of d))
+net_owes d rules flat accepted realises = record {
   realises = realises;
-  fits = net_fits d rules accepted;
-  targets = targets_there d rules accepted;
+  fits = net_fits d rules flat accepted;
+  targets = targets_there d rules flat accepted;
   rows = rows_of-net_of d rules.main_there;
 }
 
-module _ {X F : Type 0} (net : X → PlainNet) (d : PlainDesign) (lowered : PlainLowereds) (rules : IsDesign d) (accepted : IsAccepted d) (same : lowered ≡ lowered_of d) where
+module _ {X F : Type 0} (net : X → PlainNet) (d : PlainDesign) (lowered : PlainLowereds) (rules : IsDesign d) (flat : IsFlat d) (accepted : IsAccepted d) (same : lowered ≡ lowered_of d) where
   -- a net that is the one of the definition owes what that one does
   pub built_owes : (r : Result X F) → RealisesInNet d (net_tree (net_of (lowered_of d))) → IfOk r (λ x. net x ≡ net_of lowered) → IfOk r (λ x. IsNetFor d (net x))
-  built_owes (Ok x) realises is = subst (IsNetFor d) (sym (is ∙ ap net_of same)) (net_owes d rules accepted realises)
+  built_owes (Ok x) realises is = subst (IsNetFor d) (sym (is ∙ ap net_of same)) (net_owes d rules flat accepted realises)
   built_owes (Err fault) realises is = tt
 
   -- and can be written where that one can
   pub built_writable : (r : Result X F) → CanBeWritten d → IfOk r (λ x. net x ≡ net_of lowered) → IfOk r (λ x. IsWritable (net x))
-  built_writable (Ok x) can is = subst IsWritable (sym (is ∙ ap net_of same)) (net_writable d rules accepted can)
+  built_writable (Ok x) can is = subst IsWritable (sym (is ∙ ap net_of same)) (net_writable d rules flat accepted can)
   built_writable (Err fault) can is = tt

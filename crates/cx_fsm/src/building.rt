@@ -3,6 +3,7 @@
 ghost use Rattle.std.specs.Prelude.{◌≡◌, IfOk, filter_map, map, slice_get};
 ghost use Rattle.cx_meaning.specs.Designs.{PlainDesign};
 ghost use Rattle.cx_rules.specs.Accepted.{IsAccepted};
+ghost use Rattle.cx_rules.specs.Flat.{IsFlat};
 ghost use Rattle.cx_rules.specs.Wellformed.{IsDesign};
 ghost use Rattle.cx_net.specs.NetLimits.{IsWritable};
 ghost use Rattle.cx_net.specs.PlainNets.{plain_net, plain_net_component};
@@ -26,12 +27,12 @@ use std::alloc::Global;
 pub fn build(alloc: Global, design: &Lowered) -> Result<Net, Memory>
     ensures value { IfOk result (λ net. plain_net net ≡ net_of (plain_lowereds design.now)) }
 
-    // The net of what an accepted design is lowered to does what that design means, from reset and for all words and budgets.
-    ensures meaning { (d : PlainDesign) → IsDesign d → IsAccepted d → plain_lowereds design.now ≡ lowered_of d
+    // The net of what an accepted design without static components is lowered to does what that design means, from reset and for all words and budgets.
+    ensures meaning { (d : PlainDesign) → IsDesign d → IsFlat d → IsAccepted d → plain_lowereds design.now ≡ lowered_of d
         → IfOk result (λ net. IsNetFor d (plain_net net)) }
 
     // It can be written, where the design is within the size that is compiled.
-    ensures writable { (d : PlainDesign) → IsDesign d → IsAccepted d → plain_lowereds design.now ≡ lowered_of d → CanBeWritten d
+    ensures writable { (d : PlainDesign) → IsDesign d → IsFlat d → IsAccepted d → plain_lowereds design.now ≡ lowered_of d → CanBeWritten d
         → IfOk result (λ net. IsWritable (plain_net net)) }
 {
     design_is_realised();

@@ -74,7 +74,8 @@ fn run_form(
         Form::StaticPar { .. } => run_island(plan, machine, instance, form, budget),
         Form::StaticIf { .. } => run_island(plan, machine, instance, form, budget),
         Form::StaticRepeat { .. } => run_island(plan, machine, instance, form, budget),
-        Form::StaticInvoke(_) | Form::Timed(_) => Answer::More,
+        Form::StaticInvoke(_) => Answer::More,
+        Form::Timed(_) => Answer::More,
     }
 }
 

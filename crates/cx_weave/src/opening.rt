@@ -80,7 +80,8 @@ fn open_form<'a>(
         Form::StaticPar { .. } => open_island(spares, plan, instance, form),
         Form::StaticIf { .. } => open_island(spares, plan, instance, form),
         Form::StaticRepeat { .. } => open_island(spares, plan, instance, form),
-        Form::StaticInvoke(_) | Form::Timed(_) => Strand::Waiting,
+        Form::StaticInvoke(_) => Strand::Waiting,
+        Form::Timed(_) => Strand::Waiting,
     }
 }
 

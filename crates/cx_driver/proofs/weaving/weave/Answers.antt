@@ -3,6 +3,7 @@ use Rattle.cx_design.specs.PlainDesigns.{plain_design}
 use Rattle.cx_compiler.proofs.TextLemmas.{accepted_rules}
 use Rattle.cx_compiler.proofs.Once.{Told, all_answered, all_stopped}
 use Rattle.cx_driver.specs.Weaving.{IsWeaveStop, Weaves}
+use Rattle.cx_driver.proofs.ListLemmas.{lists_end}
 use Rattle.cx_driver.proofs.OrderLemmas.{never_faults}
 use Rattle.cx_driver.proofs.WovenLemmas.{one_woven, text_woven, text_stops, refused_stops}
 use Rattle.cx_driver.proofs.weaving.weave.Goals as goal
@@ -22,6 +23,7 @@ returns-in-Ok c =
       answer = answer;
       cause = cause;
       no_fault = never_faults c.none_ends.ensures d c.in-Ok.design.keeps (accepted_rules text d c.in-Ok.ensures.design) list (λ v. v.items) text json steps r c.in-Ok.ensures.design c.weave_design.ensures.answer;
+      every_list = lists_end c.orders_end.ensures text json;
       all_answers = λ bytes i. all_answered (λ v. v.items) does does (one_woven text json steps list) r answer cause bytes i;
       all_stops = λ why i. all_stopped (λ v. v.items) does does (one_woven text json steps list) r answer cause why i;
     }
@@ -38,6 +40,7 @@ returns-in-Err c =
       answer = tt;
       cause = cause;
       no_fault = tt;
+      every_list = lists_end c.orders_end.ensures text json;
       all_answers = λ bytes i. all_answered {X = Unit {0}} (λ _. []) does does (one_woven text json steps list) (Err c.in-Err.stop) tt cause bytes i;
       all_stops = λ why i. all_stopped {X = Unit {0}} (λ _. []) does does (one_woven text json steps list) (Err c.in-Err.stop) tt cause why i;
     }

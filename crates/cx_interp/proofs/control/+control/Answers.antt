@@ -32,6 +32,9 @@ run_form-returns-in-Empty-clause-done t c =
     empty_form (design_of c.args.plan.now) c.args.instance (plain_form c.args.form.now) (rows_of c.args.machine.now) c.args.budget c.idle_turn.result (ap plain_form c.in-Empty.is ∙ ap plain_form (sym forms.rolls-Empty) ∙ fold-roll-Form PlainForm PlainStatement form_step statement_step _)
     (λ driving. c.idle_turn.ensures (design_of c.args.plan.now) (rows_of c.args.machine.now) c.args.instance driving c.requires.machine.state)
 
+pub run_form-returns-in-StaticInvoke-clause-done : goal.run_form-returns-in-StaticInvoke-clause-done
+run_form-returns-in-StaticInvoke-clause-done t c = timed_form (design_of c.args.plan.now) c.args.instance c.in-StaticInvoke.field-0 (plain_form c.args.form.now) (rows_of c.args.machine.now) c.args.budget (ap plain_form c.in-StaticInvoke.is ∙ ap plain_form (sym (forms.rolls-StaticInvoke c.in-StaticInvoke.field-0)) ∙ fold-roll-Form PlainForm PlainStatement form_step statement_step _) c.requires.machine.state
+
 pub run_form-returns-in-Timed-clause-done : goal.run_form-returns-in-Timed-clause-done
 run_form-returns-in-Timed-clause-done t c = timed_form (design_of c.args.plan.now) c.args.instance c.in-Timed.field-0 (plain_form c.args.form.now) (rows_of c.args.machine.now) c.args.budget (ap plain_form c.in-Timed.is ∙ ap plain_form (sym (forms.rolls-Timed c.in-Timed.field-0)) ∙ fold-roll-Form PlainForm PlainStatement form_step statement_step _) c.requires.machine.state
 

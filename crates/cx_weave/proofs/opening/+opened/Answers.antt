@@ -73,6 +73,9 @@ open_form-returns-in-If-clause-ledger t c = nothing_opened c.args.spares.now _ (
 pub open_form-returns-in-While-clause-ledger : goal.open_form-returns-in-While-clause-ledger
 open_form-returns-in-While-clause-ledger t c = nothing_opened c.args.spares.now _ (λ x. amount_test x _ _ _)
 
+pub open_form-returns-in-StaticInvoke-clause-ledger : goal.open_form-returns-in-StaticInvoke-clause-ledger
+open_form-returns-in-StaticInvoke-clause-ledger t c = nothing_opened c.args.spares.now strands.Waiting amount_waiting
+
 pub open_form-returns-in-Timed-clause-ledger : goal.open_form-returns-in-Timed-clause-ledger
 open_form-returns-in-Timed-clause-ledger t c = nothing_opened c.args.spares.now strands.Waiting amount_waiting
 
