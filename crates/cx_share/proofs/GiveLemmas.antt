@@ -120,10 +120,13 @@ put_there cell x old inside = record {
   where
     is_one : (c : ℕ) → is_in c (x ∷ []) ≡ just x c
     is_one c = or-false (nat_eq x c) ∙ sym (just_is x c)
+
     here : get_or (set old x cell) x 0 ≡ (if is_in x (x ∷ []) then cell else get_or old x 0)
     here = get_or-set_same old x cell 0 inside ∙ ap (λ v. if v then cell else get_or old x 0) (sym (is_one x ∙ just_itself x))
+
     same : (c : ℕ) → c ≡ x → get_or (set old x cell) c 0 ≡ (if is_in c (x ∷ []) then cell else get_or old c 0)
     same c e = rw e here
+
     other : (c : ℕ) → (c ≡ x → ⊥) → get_or (set old x cell) c 0 ≡ (if is_in c (x ∷ []) then cell else get_or old c 0)
     other c h = get_or-set_other old x c cell 0 h ∙ ap (λ v. if v then cell else get_or old c 0) (sym (is_one c ∙ just_other x c (λ e. h (sym e))))
 
@@ -176,6 +179,7 @@ given_more part c kept i before new lt at same more first taken =
   where
     there : get_or (map plain_kept kept) i no_kept ≡ plain_kept before
     there = get_or-map plain_kept kept i before no_kept lt ∙ ap plain_kept (sym at)
+
     one : plain_kept new ≡ record { cell = before.cell; given = c ∷ reverse before.given.items }
     one =
         ap (λ n. record { cell = n; given = reverse new.given.items }) same
@@ -211,7 +215,7 @@ takes_by part c k alike met any a m g =
     ap (λ v. v && (not met && not any)) a
     ∙ ap (λ v. same_kind (kind_in part.cells k.cell) (kind_in part.cells c) && (not v && not any)) m
     ∙ ap (λ v. same_kind (kind_in part.cells k.cell) (kind_in part.cells c) && (not (meet part k.cell c) && v))
-        (ap not g ∙ none_of (λ x. meet part x c) k.given.items ∙ sym (all-reverse (λ x. not (meet part x c)) k.given.items))
+    (ap not g ∙ none_of (λ x. meet part x c) k.given.items ∙ sym (all-reverse (λ x. not (meet part x c)) k.given.items))
   where
     none_of : (p : ℕ → Bool) (xs : List ℕ) → not (list_any p xs) ≡ list_all (λ x. not (p x)) xs
     none_of p [] = refl

@@ -158,5 +158,6 @@ marks_next set old n b wide h e c lt =
   where
     at : get_or (old ++ b ∷ []) n false ≡ set n
     at = get_or_at old b [] false n wide ∙ e
+
     here : (c : ℕ) → c ≡ n → get_or (old ++ b ∷ []) c false ≡ set c
     here c same = rw same at

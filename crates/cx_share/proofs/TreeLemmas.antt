@@ -9,6 +9,7 @@ use Rattle.cx_ast.specs.PlainStatements.{PlainBlock}
 use Rattle.cx_copies.specs.Naming.{named_wire, named_block}
 use Rattle.cx_ast.specs.declared.trees.ImportItem.{ImportItem}
 use Rattle.cx_ast.specs.declared.trees.Tree.{Tree}
+use Rattle.cx_design.specs.declared.cells.Cell.{Cell}
 use Rattle.cx_design.specs.declared.components.Component.{Component}
 use Rattle.cx_design.specs.PlainForms as design
 use Rattle.cx_numbering.specs.DesignOf.{design_of, component_of, plain_cell_of}
@@ -152,7 +153,24 @@ component_made part item names attributes name marks inputs outputs cells wires 
     ∙ ap (λ x. component_by item item.attributes item.name item.marks item.inputs item.outputs x wires control) ec
     ∙ ap (λ x. component_by item item.attributes item.name item.marks item.inputs item.outputs (left_cells part 0 item.cells) x control) (ew ∙ ap (λ f. map (named_wire f) item.wires) same)
     ∙ ap (component_by item item.attributes item.name item.marks item.inputs item.outputs (left_cells part 0 item.cells) (map (named_wire (kept_name part)) item.wires))
-        (et ∙ ap (λ f. option_map (named_block f) item.control) same)
+    (et ∙ ap (λ f. option_map (named_block f) item.control) same)
   where
     same : names ≡ kept_name part
     same = fun_ext kept
+
+pub name_there : (cells : List Cell) (c : ℕ) (cell : Cell) → c < length cells → cell ≡ get_or cells c cell → cell_name (map design.plain_cell cells) c ≡ cell.name
+name_there cells c cell lt at =
+    name_at_cell (map design.plain_cell cells) c (design.plain_cell cell) (rw (length-map cells design.plain_cell) lt)
+    ∙ ap (λ (k : PlainCell). k.name) (get_or-map design.plain_cell cells c cell (design.plain_cell cell) lt ∙ ap design.plain_cell (sym at))
+
+-- the row of a given cell
+pub row_made : (part : PlainComponent) (c k : ℕ) (row : SharedRow) → k ≡ keeper part c → row.component ≡ part.name → row.cell ≡ cell_name part.cells c → row.kept ≡ cell_name part.cells k → row ≡ row_of part c
+row_made part c k row same e f g =
+    ap (λ x. record { component = x; cell = row.cell; kept = row.kept }) e
+    ∙ ap (λ x. record { component = part.name; cell = x; kept = row.kept }) f
+    ∙ ap (λ x. record { component = part.name; cell = cell_name part.cells c; kept = x }) (g ∙ ap (cell_name part.cells) same)
+
+-- the rows of one more component
+pub rows_next : (part : PlainComponent) (parts : List PlainComponent) (before after whole : List SharedRow) → after ≡ before ++ rows_of part → before ++ flat_map rows_of (part ∷ parts) ≡ whole
+    → after ++ flat_map rows_of parts ≡ whole
+rows_next part parts before after whole e h = ap (λ xs. xs ++ flat_map rows_of parts) e ∙ append_assoc before (rows_of part) (flat_map rows_of parts) ∙ h

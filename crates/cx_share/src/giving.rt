@@ -118,10 +118,11 @@ fn takes(kept: &Kept, part: &Component, table: &[Vec<bool>], cell: usize) -> boo
     requires table { IsMeeting (plain_component part.now) (lists_of table.now) }
     ensures value { result ≡ giving.takes (plain_component part.now) cell (plain_kept kept.now) }
 {
-    let is_alike = is_same_kind(kind_at(part, kept.cell), kind_at(part, cell));
-    let is_met = meets(part, table, kept.cell, cell);
-    let is_met_by_given = meets_any(part, table, kept.given.as_slice(), cell);
-    is_taken(is_alike, is_met, is_met_by_given)
+    is_taken(
+        is_same_kind(kind_at(part, kept.cell), kind_at(part, cell)),
+        meets(part, table, kept.cell, cell),
+        meets_any(part, table, kept.given.as_slice(), cell),
+    )
 }
 
 /// Of one kind, and not met.

@@ -86,5 +86,7 @@ pub(crate) fn cell_name(alloc: Global, part: &Component, cell: usize) -> Result<
     requires within { cell < length part.now.cells.items }
     ensures value { IfOk result (λ name. name ≡ ports.cell_name (plain_component part.now).cells cell) }
 {
-    copied_name(alloc, &part.cells[cell].name)
+    let cells = part.cells.as_slice();
+    let name = copied_name(alloc, &cells[cell].name)?;
+    Ok(name)
 }

@@ -14,7 +14,7 @@ loop-group-preserved c =
     let f = λ (g : Group). assigns_drive (plain_group g).assigns in
     adds_step f c.args.groups.now c.loop-group.group-index c.group-item.result c.args.marks.now.items c.loop-group.marks.items c.add_targets.new.marks.items c.loop-group-test.true c.group-item.is c.loop-group.invariant
     (adds_same c.loop-group.marks.items c.add_targets.new.marks.items (assigns_drive (plain_assigns c.as_slice.result.now)) (f c.group-item.result)
-        (λ n lt. ap (λ xs. assigns_drive (plain_assigns xs) n) c.as_slice.ensures.value) c.add_targets.ensures.value)
+    (λ n lt. ap (λ xs. assigns_drive (plain_assigns xs) n) c.as_slice.ensures.value) c.add_targets.ensures.value)
 
 pub returns : goal.returns
 returns c = record {

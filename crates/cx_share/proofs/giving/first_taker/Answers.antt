@@ -12,4 +12,4 @@ pub loop-number-preserved : goal.loop-number-preserved
 loop-number-preserved c =
     below_more _ _ c.loop-number.invariant
     (ap (giving.takes (plain_component c.args.part.now) c.args.cell) (kept_at c.args.kept.now c.loop-number.number c.index-kept-number.result c.loop-number-test.true c.index-kept-number.is)
-        ∙ sym c.takes.ensures.value ∙ c.if-takes.false)
+    ∙ sym c.takes.ensures.value ∙ c.if-takes.false)

@@ -15,8 +15,8 @@ meets_any-requires-clause-given c =
 pub returns : goal.returns
 returns c = record {
   value = c.is_taken.ensures.value
-      ∙ takes_by (plain_component c.args.part.now) c.args.cell c.args.kept.now c.is_same_kind-is_alike.result c.meets-is_met.result c.meets_any-is_met_by_given.result
-          (c.is_same_kind-is_alike.ensures.value ∙ ap (λ k. same_kind k (plain_kind c.kind_at-2.result.now)) c.kind_at.ensures.value ∙ ap (same_kind (kind_in (plain_component c.args.part.now).cells c.args.kept.now.cell)) c.kind_at-2.ensures.value)
-          c.meets-is_met.ensures.value
-          (c.meets_any-is_met_by_given.ensures.value ∙ ap (list_any (λ x. meet (plain_component c.args.part.now) x c.args.cell)) c.as_slice.ensures.value);
+      ∙ takes_by (plain_component c.args.part.now) c.args.cell c.args.kept.now c.is_same_kind.result c.meets.result c.meets_any.result
+      (c.is_same_kind.ensures.value ∙ ap (λ k. same_kind k (plain_kind c.kind_at-2.result.now)) c.kind_at.ensures.value ∙ ap (same_kind (kind_in (plain_component c.args.part.now).cells c.args.kept.now.cell)) c.kind_at-2.ensures.value)
+      c.meets.ensures.value
+      (c.meets_any.ensures.value ∙ ap (list_any (λ x. meet (plain_component c.args.part.now) x c.args.cell)) c.as_slice.ensures.value);
 }

@@ -21,9 +21,9 @@ loop-left-preserved c =
     record {
       within = omega (arith, lt);
       count = c.add_cells.ensures.value.count ∙ inv.count;
-      marks = rw (item, back) (marks_more part (plain_statement one) rest count c.loop-left.later.items c.add_cells.new.marks.items c.in_ok-cells.cells.items inv.count inv.marks c.in_ok-cells.ensures.value (rw c.as_slice-3.ensures.value at c.add_cells.ensures.value));
+      marks = rw (item, back) (marks_more part (plain_statement one) rest count c.loop-left.later.items c.add_cells.new.marks.items c.in_ok-cells.cells.items inv.count inv.marks c.in_ok-cells.ensures.value (rw c.as_slice-in-loop-left-2.ensures.value at c.add_cells.ensures.value));
       joined = rw (item, back) (arm_more part (plain_statement one) rest count c.loop-left.later.items c.in_ok-cells.cells.items (lists_of c.args.table.now.items) (lists_of c.loop-left.table.items) (lists_of c.add_arm.new.table.items) c.requires.table inv.count
-          inv.marks c.in_ok-cells.ensures.value inv.joined (rw (c.as_slice.ensures.value, c.as_slice-2.ensures.value) at c.in_ok-add_arm.ensures.value));
+          inv.marks c.in_ok-cells.ensures.value inv.joined (rw (c.as_slice.ensures.value, c.as_slice-in-loop-left.ensures.value) at c.in_ok-add_arm.ensures.value));
     }
 
 pub returns : goal.returns

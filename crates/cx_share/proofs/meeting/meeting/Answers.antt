@@ -1,4 +1,4 @@
-use Rattle.std.proofs.Common.{◌≡◌, ◌∙◌, ap, sym, map, length, replicate, false, arith, vec_len}
+use Rattle.std.proofs.Common.{◌≡◌, ◌∙◌, ap, sym, map, length, replicate, false, arith}
 use Rattle.std.proofs.lemmas.List.{length-map}
 use Rattle.cx_design.specs.PlainForms.{plain_cell, plain_component}
 use Rattle.cx_design_parts.specs.Items.{plain_visited}
@@ -9,7 +9,7 @@ use Rattle.cx_share.proofs.meeting.meeting.Goals as goal
 pub returns : goal.returns
 returns c =
     let part = plain_component c.args.part.now in
-    let wide : vec_len c.args.part.now.cells ≡ length c.args.part.now.cells.items = omega (arith, c.args.part.now.cells.ok.0) in
+    let wide : c.len.result ≡ length c.args.part.now.cells.items = omega (arith, c.len.ensures, c.args.part.now.cells.ok.0) in
     let blank : lists_of c.in_ok-table.table.items ≡ replicate (length part.cells) (replicate (length part.cells) false) =
     c.in_ok-table.ensures.value ∙ ap (λ n. replicate n (replicate n false)) (wide ∙ sym (length-map c.args.part.now.cells.items plain_cell)) in
     record {

@@ -1,4 +1,4 @@
-use Rattle.std.proofs.Common.{◌≡◌, ◌∙◌, false, get_or, length, replicate, arith, vec_len}
+use Rattle.std.proofs.Common.{◌≡◌, ◌∙◌, false, get_or, length, replicate, arith}
 use Rattle.cx_design.specs.PlainForms.{plain_component, plain_statement}
 use Rattle.cx_sharing.specs.Uses.{group_uses}
 use Rattle.cx_share.specs.Marks.{Adds, any_of}
@@ -8,7 +8,7 @@ use Rattle.cx_share.proofs.using.used_by_statement.Goals as goal
 
 pub returns : goal.returns
 returns c =
-    let wide : vec_len c.args.part.now.cells ≡ length c.args.part.now.cells.items = omega (arith, c.args.part.now.cells.ok.0) in
+    let wide : c.len.result ≡ length c.args.part.now.cells.items = omega (arith, c.len.ensures, c.args.part.now.cells.ok.0) in
     let first : Adds (replicate (length c.args.part.now.cells.items) false) c.add_groups.new.marks.items (any_of (group_uses (plain_component c.args.part.now)) c.as_slice.result.now) =
     rw (c.in_ok-marks.ensures.value, wide) at c.add_groups.ensures.value in
     let found : Lists (length c.add_tested.new.marks.items) (λ n. get_or c.add_tested.new.marks.items n false) c.in_ok-cells.cells.items = rw c.as_slice-3.ensures.value at c.in_ok-cells.ensures.value in
