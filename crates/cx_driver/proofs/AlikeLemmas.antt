@@ -51,9 +51,11 @@ interprets_alike text other tree has accepted runs =
     record {
       accepted = (runs.again, (runs.tokens, runs.lexed, runs.parsed), runs.accepted);
       told = λ json budget result is.
-          let same = of_design text (design_of tree) (tree, has, accepted, refl) json budget result is in
-          (design_result (design_of runs.again) json budget, inl (design_of runs.again, own, refl),
-          subst (λ r. ToldAlike r (design_result (design_of runs.again) json budget)) (sym same) (designs_alike (design_of tree) (design_of runs.again) runs.alike json budget));
+          let same = of_design text (design_of tree) (tree, has, accepted, refl) json budget result is in (
+            design_result (design_of runs.again) json budget,
+            inl (design_of runs.again, own, refl),
+            subst (λ r. ToldAlike r (design_result (design_of runs.again) json budget)) (sym same) (designs_alike (design_of tree) (design_of runs.again) runs.alike json budget),
+          );
     }
 
 -- of a file that was shared

@@ -92,8 +92,8 @@ comments_of [] h = no_line
 comments_of (row ∷ rows) h =
     let words : List ℕ = codes " shared" ++ (32 ∷ row.component) ++ (32 ∷ row.cell) ++ (32 ∷ row.kept) in
     let body : list_all is_in_line words ≡ true =
-        both_in_line (codes " shared" ++ (32 ∷ row.component) ++ (32 ∷ row.cell)) (32 ∷ row.kept)
-        (both_in_line (codes " shared" ++ (32 ∷ row.component)) (32 ∷ row.cell) (both_in_line (codes " shared") (32 ∷ row.component) refl h.0.0) h.0.1) h.0.2 in
+    both_in_line (codes " shared" ++ (32 ∷ row.component) ++ (32 ∷ row.cell)) (32 ∷ row.kept)
+    (both_in_line (codes " shared" ++ (32 ∷ row.component)) (32 ∷ row.cell) (both_in_line (codes " shared") (32 ∷ row.component) refl h.0.0) h.0.1) h.0.2 in
     subst AreComments (spelled row (lines rows)) (a_line words (lines rows) body (comments_of rows h.1))
   where
     spelled : (row : SharedRow) (rest : List ℕ) → 47 ∷ 47 ∷ (codes " shared" ++ (32 ∷ row.component) ++ (32 ∷ row.cell) ++ (32 ∷ row.kept)) ++ 10 ∷ rest ≡ row_line row ++ rest
