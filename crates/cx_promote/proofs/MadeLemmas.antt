@@ -1,5 +1,5 @@
 -- Components that are promoted one by one, and their rows.
-use Rattle.std.proofs.Common.{◌≡◌, ℕ, suc, ◌+◌, ◌<◌, List, [], ◌∷◌, ◌++◌, get_or, length, map, Some, sym, ap, ◌∙◌, subst, add-one, append_assoc}
+use Rattle.std.proofs.Common.{◌≡◌, ℕ, suc, ◌+◌, ◌<◌, List, [], ◌∷◌, ◌++◌, get_or, length, map, sym, ap, ◌∙◌, subst, add-one, append_assoc}
 use Rattle.std.specs.Prelude.{slice_get}
 use Rattle.cx_text.proofs.ListLaws.{item_at, length-map}
 use Rattle.cx_ast.specs.declared.components.ComponentItem.{ComponentItem}
@@ -62,7 +62,7 @@ pub names_of : (parts : List ComponentItem) (indexes : List PartIndex) (k : ℕ)
     → k < length parts → x ≡ get_or parts k x → y ≡ get_or indexes k y → AreNumbersOf (group_names (plain_component x)) y.groups.numbers
 names_of parts indexes k x y tree_parts kept are same_parts same_indexes within at here =
     let all : ArePartIndexes (map plain_component parts) indexes =
-        subst (λ ps. ArePartIndexes (map plain_component ps) indexes) (sym same_parts) (subst (λ is. ArePartIndexes (map plain_component tree_parts) is) (sym same_indexes) are) in
+    subst (λ ps. ArePartIndexes (map plain_component ps) indexes) (sym same_parts) (subst (λ is. ArePartIndexes (map plain_component tree_parts) is) (sym same_indexes) are) in
     let of_part = index_at parts indexes k x y all within at here in
     of_part.groups.numbers
 

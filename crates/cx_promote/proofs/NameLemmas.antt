@@ -1,12 +1,11 @@
 -- The lengths of groups by their names.
-use Rattle.std.proofs.Common.{◌≡◌, ℕ, zero, suc, ◌<◌, Bool, List, [], ◌∷◌, length, map, Option, Some, None, is_some, refl, sym, ap, ◌∙◌, subst}
-use Rattle.std.specs.Prelude.{slice_get}
+use Rattle.std.proofs.Common.{◌≡◌, ℕ, ◌<◌, List, length, Option, Some, None, is_some, refl, sym, ap, ◌∙◌, subst}
 use Rattle.std.proofs.Math.Path.{fun_ext}
 use Rattle.cx_text.proofs.ListLaws.{there_at, length-map}
 use Rattle.cx_ast.specs.PlainTree.{PlainTree, PlainComponent, PlainGroup}
 use Rattle.cx_meaning.specs.Instances.{Instance}
-use Rattle.cx_numbering.specs.Names.{number_of, group_among, group_names, groups_in}
-use Rattle.cx_names_scopes.specs.Numbered.{number_in, AreNumbersOf}
+use Rattle.cx_numbering.specs.Names.{number_of, group_names, groups_in}
+use Rattle.cx_names_scopes.specs.Numbered.{AreNumbersOf}
 use Rattle.cx_names_scopes.specs.Scopes.{at_number}
 use Rattle.cx_names_scopes.proofs.NameLemmas.{group_at, number_within}
 use Rattle.cx_promotion.specs.Rewriting.{length_of, length_found, is_long}

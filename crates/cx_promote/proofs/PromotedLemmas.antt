@@ -1,5 +1,5 @@
 -- The promoted tree, by what was asked of the tree that was made.
-use Rattle.std.proofs.Common.{◌≡◌, inl, inr, List, [], refl, sym, subst, ◌∙◌, ap}
+use Rattle.std.proofs.Common.{◌≡◌, inl, inr, List, [], refl, sym, subst}
 use Rattle.cx_text.specs.declared.diagnostics.Diagnostic.{Diagnostic}
 use Rattle.cx_ast.specs.PlainTree.{PlainTree}
 use Rattle.cx_meaning.specs.Designs.{PlainDesign}

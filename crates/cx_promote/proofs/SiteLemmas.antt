@@ -1,11 +1,10 @@
 -- What stands in the design for a component of its tree.
-use Rattle.std.proofs.Common.{◌≡◌, ℕ, zero, suc, ◌<◌, List, [], ◌∷◌, get_or, length, map, Option, Some, refl, sym, ap, ◌∙◌, subst}
+use Rattle.std.proofs.Common.{◌≡◌, ℕ, zero, suc, ◌<◌, List, [], ◌∷◌, get_or, length, map, Option, Some, sym, ap, ◌∙◌, subst}
 use Rattle.std.specs.Prelude.{slice_get}
 use Rattle.cx_text.proofs.ListLaws.{there_below, length-map}
-use Rattle.cx_ast.specs.PlainTree.{PlainComponent, plain_component}
 use Rattle.cx_meaning.specs.Designs.{no_component, component_at}
 use Rattle.cx_numbering.specs.Names.{group_names, groups_in}
-use Rattle.cx_numbering.specs.DesignOf.{component_of, control_invokes, design_of, group_of, invoke_groups}
+use Rattle.cx_numbering.specs.DesignOf.{component_of, control_invokes, group_of, invoke_groups}
 use Rattle.cx_design.specs.PlainDesigns.{plain_design}
 use Rattle.cx_design.specs.PlainForms as design
 use Rattle.cx_promotion.specs.Promotable.{promotable}

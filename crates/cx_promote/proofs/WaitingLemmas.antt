@@ -1,5 +1,5 @@
 -- The one item of a list, and the length of a group by the one assignment of its done.
-use Rattle.std.proofs.Common.{◌≡◌, ℕ, List, [], ◌∷◌, ◌++◌, Option, Some, None, refl, sym, ap, ◌∙◌}
+use Rattle.std.proofs.Common.{◌≡◌, List, [], ◌∷◌, ◌++◌, Some, None, refl, ap}
 use Rattle.cx_meaning.specs.Designs.{PlainAssign, PlainGroup}
 use Rattle.cx_meaning.specs.Instances.{Instance}
 use Rattle.cx_promotion.specs.Promotable.{of_dones}

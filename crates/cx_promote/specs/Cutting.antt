@@ -1,7 +1,7 @@
 -- Statements that are being cut: those that are done, and the open piece.
-use Rattle.std.specs.Prelude.{◌≡◌, ℕ, ◌≤◌, Bool, true, List, [], ◌∷◌, length}
+use Rattle.std.specs.Prelude.{ℕ, Bool, List, [], ◌∷◌, length}
 use Rattle.cx_ast.specs.PlainStatements.{PlainStatement, PlainStatements, StatementThen, plain_statements}
-use Rattle.cx_promotion.specs.Rewriting.{PIECE, cut, close}
+use Rattle.cx_promotion.specs.Rewriting.{cut}
 use Rattle.cx_promote.specs.declared.pieces.Pieces.{Pieces}
 
 -- statements before others

@@ -11,6 +11,6 @@ returns c =
     let part = part_at c.args.site in
     let i = instance_at c.args.site in
     let control : option_map plain_block c.in_ok-control.control ≡ option_map (promote_block (is_long tree part i) BELOW_CONTROL true) part.control =
-        c.in_ok-control.ensures.value
-        ∙ ap (λ long. option_map (promote_block long BELOW_CONTROL true) part.control) (long_by_name tree part i c.args.lengths c.requires.lengths c.requires.numbers) in
+    c.in_ok-control.ensures.value
+    ∙ ap (λ long. option_map (promote_block long BELOW_CONTROL true) part.control) (long_by_name tree part i c.args.lengths c.requires.lengths c.requires.numbers) in
     search (rules, control)

@@ -1,4 +1,4 @@
-use Rattle.std.proofs.Common.{◌≡◌, ◌<◌, ◌+◌, ◌∷◌, ◌++◌, drop, length, map, sym, ap, ◌∙◌, subst}
+use Rattle.std.proofs.Common.{◌<◌, ◌+◌, ◌++◌, drop, length, map, sym, ap, ◌∙◌, subst}
 use Rattle.cx_text.proofs.ListLaws.{drop_item, item_at, length-map}
 use Rattle.cx_ast.specs.declared.wiring.WireItem.TheVariants as wire_items
 use Rattle.cx_ast.specs.PlainTree as written
@@ -25,7 +25,7 @@ by_length-requires-clause-its c =
     let b = begins_group (group_of tree part) (drop c.loop-wire.place (map plain_group groups)) (drop index items) rest c.wire-item.result there c.in-Group.item c.in-Group.is c.loop-wire.invariant.groups in
     let left = groups_in (map written.plain_wire rest) in
     let within : c.loop-wire.place < length groups =
-        subst (λ n. c.loop-wire.place < n) (length-map plain_group groups) (begins_within (group_of tree part) (map plain_group groups) c.loop-wire.place (written.plain_group c.in-Group.item) left b) in
+    subst (λ n. c.loop-wire.place < n) (length-map plain_group groups) (begins_within (group_of tree part) (map plain_group groups) c.loop-wire.place (written.plain_group c.in-Group.item) left b) in
     same_at (map plain_group groups) c.loop-wire.place _ _
     (item_at plain_group groups c.loop-wire.place c.index-groups-place.result within c.index-groups-place.is)
     (begins_item (group_of tree part) (map plain_group groups) c.loop-wire.place (written.plain_group c.in-Group.item) left b)
@@ -54,10 +54,10 @@ loop-wire-preserved c =
           record {
             made = ap (λ list. map written.plain_wire list.items ++ map (promote_wire tree part i) (map written.plain_wire rest)) w.promoted-is
                 ∙ wires_next (promote_wire tree part i) w.push.new.self.items c.loop-wire.promoted.items left rest wire (wire_items.Group w.in_ok-group-in-Group.group) _
-                  w.in_ok-push-in-Group.ensures.items there
-                  (ap written.Group (w.in_ok-group-in-Group.ensures.value ∙ ap (λ length. promote_group (enables tree part i) length item) length_is)
-                  ∙ sym (ap (λ x. promote_wire tree part i (written.plain_wire x)) w.in-Group.is))
-                  c.loop-wire.invariant.made;
+                w.in_ok-push-in-Group.ensures.items there
+                (ap written.Group (w.in_ok-group-in-Group.ensures.value ∙ ap (λ length. promote_group (enables tree part i) length item) length_is)
+                ∙ sym (ap (λ x. promote_wire tree part i (written.plain_wire x)) w.in-Group.is))
+                c.loop-wire.invariant.made;
             lengths = subst (λ k. Begins (length_of tree part i) (drop k lengths) after) (sym w.place-is) (begins_next (length_of tree part i) lengths place item after timed);
             groups = subst (λ k. Begins (group_of tree part) (drop k groups) after) (sym w.place-is) (begins_next (group_of tree part) groups place item after numbered);
           }
@@ -65,9 +65,9 @@ loop-wire-preserved c =
           record {
             made = ap (λ list. map written.plain_wire list.items ++ map (promote_wire tree part i) (map written.plain_wire rest)) w.promoted-is
                 ∙ wires_next (promote_wire tree part i) w.push-in-Assign.new.self.items c.loop-wire.promoted.items left rest wire (wire_items.Assign w.in_ok-copied_assign-in-Assign.field-0) _
-                  w.in_ok-push-in-Assign.ensures.items there
-                  (ap written.Assign w.in_ok-copied_assign-in-Assign.ensures.value ∙ sym (ap (λ x. promote_wire tree part i (written.plain_wire x)) w.in-Assign.is))
-                  c.loop-wire.invariant.made;
+                w.in_ok-push-in-Assign.ensures.items there
+                (ap written.Assign w.in_ok-copied_assign-in-Assign.ensures.value ∙ sym (ap (λ x. promote_wire tree part i (written.plain_wire x)) w.in-Assign.is))
+                c.loop-wire.invariant.made;
             lengths = subst (λ k. Begins (length_of tree part i) (drop k lengths) after) (sym w.place-is) (begins_assign (length_of tree part i) (drop place lengths) left rest wire there w.in-Assign.item w.in-Assign.is c.loop-wire.invariant.lengths);
             groups = subst (λ k. Begins (group_of tree part) (drop k groups) after) (sym w.place-is) (begins_assign (group_of tree part) (drop place groups) left rest wire there w.in-Assign.item w.in-Assign.is c.loop-wire.invariant.groups);
           }

@@ -1,4 +1,4 @@
-use Rattle.std.proofs.Common.{◌≡◌, ◌<◌, ◌+◌, Bool, drop, length, map, sym, ap, ◌∙◌, None, if◌then◌else◌}
+use Rattle.std.proofs.Common.{◌≡◌, ◌+◌, Bool, drop, sym, ap, ◌∙◌, None, if◌then◌else◌}
 use Rattle.cx_text.proofs.ListLaws.{drop_item}
 use Rattle.cx_ast.specs.PlainTree.{plain_assign}
 use Rattle.cx_rules.specs.Ports.{is_primitive_enable}
@@ -22,10 +22,10 @@ loop-place-preserved c =
     let place = c.loop-place.place in
     let same = c.requires.its ∙ map-map (assign_of tree part) plain_assign items in
     let made : design.plain_assign assign ≡ assign_of tree part (plain_assign item) =
-        found_at design.plain_assign (λ a. assign_of tree part (plain_assign a)) c.args.assigns.now items place assign item same c.index-assigns-place.is c.loop-place-test.true c.index-items-place.is in
+    found_at design.plain_assign (λ a. assign_of tree part (plain_assign a)) c.args.assigns.now items place assign item same c.index-assigns-place.is c.loop-place-test.true c.index-items-place.is in
     kept_next (enables tree part i) c.push.new.self.items c.loop-place.kept.items (drop place items) (drop (place + 1) items) item c.in_ok-kept_assign.field-0 _
     c.in_ok-push.ensures.items (drop_item items place item c.index-items-place.is c.loop-place-test.true) (sym c.is_hole_item.ensures.value ∙ c.if-is_hole_item.false)
     (c.in_ok-kept_assign.ensures.value
     ∙ ap (λ (bare : Bool). if bare then record (plain_assign item) { guard = None } else plain_assign item)
-      (c.is_primitive_enable-enables.ensures.value ∙ ap (λ (a : Assign). is_primitive_enable i a.target) (sym c.index-assigns-place.is) ∙ ap (λ a. is_primitive_enable i a.target) made))
+    (c.is_primitive_enable-enables.ensures.value ∙ ap (λ (a : Assign). is_primitive_enable i a.target) (sym c.index-assigns-place.is) ∙ ap (λ a. is_primitive_enable i a.target) made))
     c.loop-place.invariant

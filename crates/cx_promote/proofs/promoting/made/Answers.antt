@@ -1,4 +1,4 @@
-use Rattle.std.proofs.Common.{◌≡◌, ◌+◌, ◌++◌, drop, length, map, sym, ap, ◌∙◌, subst}
+use Rattle.std.proofs.Common.{◌+◌, ◌++◌, drop, length, map, sym, ap, ◌∙◌, subst}
 use Rattle.cx_text.proofs.ListLaws.{drop_item, length-map}
 use Rattle.cx_ast.specs.PlainTree.{plain_component, plain_tree}
 use Rattle.cx_design.specs.PlainDesigns.{plain_design}

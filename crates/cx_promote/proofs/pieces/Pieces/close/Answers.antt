@@ -1,5 +1,5 @@
 use Rattle.std.proofs.Common.{rules, ◌≡◌, ◌≤◌, length, ap, ◌∙◌}
-use Rattle.cx_ast.specs.PlainStatements.{StatementThen, plain_statements}
+use Rattle.cx_ast.specs.PlainStatements.{plain_statements}
 use Rattle.cx_promotion.specs.Rewriting.{close as closed}
 use Rattle.cx_promote.specs.Cutting.{before, done_of}
 use Rattle.cx_promote.proofs.CuttingLemmas.{before_pushed, closed_none, closed_one}
