@@ -1,11 +1,11 @@
 -- What is kept and what is given.
-use Rattle.std.proofs.Common.{◌≡◌, ℕ, zero, suc, ◌+◌, ◌<◌, ◌≤◌, Bool, true, false, ◌||◌, ◌&&◌, not, nat_eq, List, [], ◌∷◌, ◌++◌, get_or, set, take, drop, length, map, reverse, refl, sym, ap, ◌∙◌, arith, ⊎_elim, if◌then◌else◌, add-one}
+use Rattle.std.proofs.Common.{◌≡◌, ℕ, zero, suc, ◌+◌, ◌<◌, ◌≤◌, Bool, true, false, ◌||◌, ◌&&◌, not, nat_eq, List, [], ◌∷◌, ◌++◌, get_or, set, take, length, map, reverse, refl, sym, ap, ◌∙◌, arith, ⊎_elim, if◌then◌else◌, add-one}
 use Rattle.std.specs.List.{list_all, list_any}
 use Rattle.std.proofs.lemmas.Bool.{cases_eq}
 use Rattle.std.proofs.lemmas.List.{get_or-set_same, get_or-set_other, length-set, reverse-append, map-set, map-append, get_or-map, length-map}
 use Rattle.std.proofs.lemmas.List.Folds.{list_any-append, list_all-append, list_any_more, list_any_at}
 use Rattle.cx_text.proofs.ListLaws.{take_all}
-use Rattle.cx_meaning.specs.Designs.{PlainCell, PlainGroup, PlainKind, PlainComponent}
+use Rattle.cx_meaning.specs.Designs.{PlainCell, PlainKind, PlainComponent}
 use Rattle.cx_meaning.specs.Control.{assigns_drive}
 use Rattle.cx_design.specs.declared.cells.Cell.{Cell}
 use Rattle.cx_design.specs.PlainForms.{plain_cell, plain_kind}
@@ -196,10 +196,7 @@ kept_more part c kept new same none first =
     ∙ ap (λ xs. map plain_kept kept ++ record { cell = c; given = reverse xs } ∷ []) none
     ∙ sym (give_end part c (map plain_kept kept) (λ k lt. first k (rw (length-map kept plain_kept) at lt)))
 
--- the next cell is no candidate, or is one
-pub not_given : (part : PlainComponent) (c : ℕ) (ks : List Kept) → is_candidate part c ≡ false → ks ≡ kept_after part c → ks ≡ kept_after part (c + 1)
-not_given part c ks other same = rw (add-one c, other) same
-
+-- the next cell is a candidate
 pub now_given : (part : PlainComponent) (c : ℕ) (ks new : List Kept) → is_candidate part c ≡ true → ks ≡ kept_after part c → new ≡ give part c ks → new ≡ kept_after part (c + 1)
 now_given part c ks new candidate same given = rw (add-one c, candidate) (given ∙ ap (give part c) same)
 

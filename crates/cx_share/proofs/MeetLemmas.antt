@@ -1,11 +1,11 @@
 -- Which cells meet, group by group and statement by statement.
-use Rattle.std.proofs.Common.{◌≡◌, ℕ, zero, suc, ◌+◌, ◌<◌, ◌≤◌, Bool, true, false, ◌||◌, ◌&&◌, List, [], ◌∷◌, ◌++◌, get_or, length, map, replicate, refl, sym, ap, ◌∙◌, arith}
+use Rattle.std.proofs.Common.{◌≡◌, ℕ, zero, suc, ◌<◌, Bool, false, ◌||◌, ◌&&◌, List, [], ◌∷◌, get_or, length, replicate, refl, sym, ap, ◌∙◌, arith}
 use Rattle.std.specs.List.{list_any}
 use Rattle.std.proofs.lemmas.List.{length-replicate, length-map, get_or-map}
 use Rattle.std.specs.declared.vec.Vec.{Vec}
-use Rattle.cx_meaning.specs.Designs.{PlainGroup, PlainComponent, PlainStatement}
+use Rattle.cx_meaning.specs.Designs.{PlainComponent, PlainStatement}
 use Rattle.cx_meaning.specs.Instances.{Set, just}
-use Rattle.cx_meaning.specs.Control.{targets_cell, groups_of}
+use Rattle.cx_meaning.specs.Control.{groups_of}
 use Rattle.cx_rules.specs.Items.{Visited, statements_in, tests_of}
 use Rattle.cx_race.specs.Cells.{tested_by}
 use Rattle.cx_sharing.specs.Giving.{is_in}
@@ -14,7 +14,7 @@ use Rattle.cx_sharing.specs.Uses.{assigns_use, group_uses, uses}
 use Rattle.cx_share.specs.Marks.{AreMarks, Adds, any_of, lists_of}
 use Rattle.cx_share.specs.Tables.{row_at, IsTable, Joins, pairs_of, IsMeeting}
 use Rattle.cx_share.specs.Using.{Lists}
-use Rattle.cx_share.proofs.MarkLemmas.{adds_then, marks_added, or-assoc}
+use Rattle.cx_share.proofs.MarkLemmas.{adds_then, marks_added}
 use Rattle.cx_share.proofs.TableLemmas.{joins_then, joins_same, joined_table, blank_table, blank_marks}
 use Rattle.cx_share.proofs.UseLemmas.{both_listed, one_more_arm, or-comm, port_cells}
 

@@ -1,12 +1,9 @@
 -- Marks of pairs that are added, one set of pairs after another.
-use Rattle.std.proofs.Common.{◌≡◌, ℕ, zero, suc, ◌+◌, ◌<◌, ◌≤◌, Bool, true, false, ◌||◌, ◌&&◌, List, [], ◌∷◌, ◌++◌, get_or, set, take, length, map, replicate, refl, sym, ap, ◌∙◌, arith, ⊎_elim}
-use Rattle.std.specs.List.{list_any}
+use Rattle.std.proofs.Common.{◌≡◌, ℕ, zero, suc, ◌+◌, ◌<◌, ◌≤◌, Bool, true, false, ◌||◌, ◌&&◌, List, [], ◌∷◌, get_or, set, take, length, map, replicate, refl, sym, ap, ◌∙◌, arith, ⊎_elim}
 use Rattle.std.proofs.lemmas.Bool.{cases_eq}
 use Rattle.std.proofs.lemmas.List.{get_or-set_same, get_or-set_other, length-set, length-map, map-set, get_or-map, get_or-replicate, length-replicate}
-use Rattle.std.proofs.lemmas.List.Folds.{list_any_more}
 use Rattle.cx_text.proofs.ListLaws.{take_all}
 use Rattle.cx_meaning.specs.Instances.{Set, just}
-use Rattle.cx_sharing.specs.Giving.{is_in}
 use Rattle.std.specs.declared.vec.Vec.{Vec}
 use Rattle.cx_share.specs.Marks.{AreMarks, Adds, any_of, lists_of}
 use Rattle.cx_share.specs.Tables.{row_at, IsTable, Joins, pairs_of}

@@ -1,5 +1,5 @@
 -- Rows, cells and names of a shared tree.
-use Rattle.std.proofs.Common.{◌≡◌, ℕ, zero, suc, ◌+◌, ◌-◌, ◌<◌, ◌≤◌, Bool, true, false, nat_eq, List, [], ◌∷◌, ◌++◌, Option, None, Some, option_map, get_or, length, map, flat_map, drop, refl, sym, ap, ◌∙◌, arith, append_assoc, add-one}
+use Rattle.std.proofs.Common.{◌≡◌, ℕ, zero, suc, ◌+◌, ◌<◌, true, false, nat_eq, List, [], ◌∷◌, ◌++◌, Option, None, Some, option_map, get_or, length, map, flat_map, refl, sym, ap, ◌∙◌, arith, append_assoc, add-one}
 use Rattle.std.proofs.Math.Path.{fun_ext}
 use Rattle.std.proofs.lemmas.List.{length-map, get_or-map}
 use Rattle.cx_ast.specs.PlainTree as ast
@@ -14,9 +14,8 @@ use Rattle.cx_design.specs.declared.components.Component.{Component}
 use Rattle.cx_design.specs.PlainForms as design
 use Rattle.cx_numbering.specs.DesignOf.{design_of, component_of, plain_cell_of}
 use Rattle.cx_meaning.specs.Designs.{PlainCell, PlainComponent, PlainDesign, no_component}
-use Rattle.cx_meaning.specs.Instances.{just}
 use Rattle.cx_rules.specs.Ports.{cell_name}
-use Rattle.cx_numbering.specs.Names.{number_of, same_name, later}
+use Rattle.cx_numbering.specs.Names.{number_of}
 use Rattle.cx_names_scopes.proofs.NameLemmas.{number_within}
 use Rattle.cx_sharing.specs.declared.rows.SharedRow.{SharedRow}
 use Rattle.cx_sharing.specs.Giving.{keeper, stays}

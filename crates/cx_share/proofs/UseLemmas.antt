@@ -1,5 +1,5 @@
 -- Which cells parts use, as lists.
-use Rattle.std.proofs.Common.{◌≡◌, ℕ, zero, suc, ◌+◌, ◌<◌, ◌≤◌, Bool, true, false, ◌||◌, ◌&&◌, List, [], ◌∷◌, ◌++◌, Option, None, Some, get_or, take, length, map, flat_map, refl, sym, ap, ◌∙◌, arith, ⊎_elim}
+use Rattle.std.proofs.Common.{◌≡◌, ℕ, suc, ◌+◌, ◌<◌, ◌≤◌, Bool, true, false, ◌||◌, ◌&&◌, List, [], ◌∷◌, ◌++◌, get_or, length, flat_map, refl, sym, ap, ◌∙◌, arith, ⊎_elim}
 use Rattle.std.specs.List.{list_any}
 use Rattle.std.proofs.lemmas.Bool.{cases_eq, cases_lt}
 use Rattle.std.proofs.lemmas.List.{get_or_append_left, get_or_at, get_or_past, length-append}
@@ -7,17 +7,16 @@ use Rattle.std.proofs.lemmas.List.Folds.{list_any-append}
 use Rattle.cx_meaning.specs.declared.ports.PortRef.{PortRef}
 use Rattle.cx_meaning.specs.declared.ports.PortRef.TheVariants as ports
 use Rattle.cx_meaning.specs.declared.ports.PlacedPort.{PlacedPort}
-use Rattle.cx_meaning.specs.Designs.{PlainAssign, PlainGroup, PlainComponent, no_group, group_at, PlainStatement}
-use Rattle.cx_meaning.specs.Instances.{Set, just}
-use Rattle.cx_meaning.specs.Control.{targets_cell, assigns_drive, groups_of}
-use Rattle.cx_rules.specs.Items.{tests_of}
-use Rattle.cx_race.specs.Cells.{cell_in, port_cell, tested_by}
+use Rattle.cx_meaning.specs.Designs.{PlainAssign, PlainGroup, PlainComponent, no_group, PlainStatement}
+use Rattle.cx_meaning.specs.Instances.{just}
+use Rattle.cx_meaning.specs.Control.{targets_cell, assigns_drive}
+use Rattle.cx_race.specs.Cells.{cell_in, port_cell}
 use Rattle.cx_sharing.specs.Giving.{is_in}
 use Rattle.cx_sharing.specs.Meeting.{has_both, arms_meet}
-use Rattle.cx_sharing.specs.Uses.{assigns_use, group_uses, uses}
+use Rattle.cx_sharing.specs.Uses.{assigns_use, uses}
 use Rattle.cx_share.specs.Marks.{any_of}
 use Rattle.cx_share.specs.Using.{Lists, Listed}
-use Rattle.cx_share.proofs.MarkLemmas.{or-false, or-assoc}
+use Rattle.cx_share.proofs.MarkLemmas.{or-false}
 
 -- the cells of ports
 pub port_cells : (ps : List PlacedPort) (c : ℕ) → any_of just (flat_map port_cell ps) c ≡ list_any (λ p. targets_cell p.port c) ps

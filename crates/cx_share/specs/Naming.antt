@@ -1,5 +1,5 @@
 -- Names by numbers, in lists of names in place of others.
-use Rattle.std.specs.Prelude.{◌≡◌, ℕ, ◌<◌, List, [], Option, None, Some, get_or, length}
+use Rattle.std.specs.Prelude.{◌≡◌, ℕ, ◌<◌, List, Option, None, Some, get_or, length}
 use Rattle.cx_meaning.specs.Designs.{PlainComponent}
 use Rattle.cx_rules.specs.Ports.{cell_name}
 use Rattle.cx_sharing.specs.Giving.{keeper}

@@ -1,4 +1,4 @@
-use Rattle.std.proofs.Common.{◌∙◌, map}
+use Rattle.std.proofs.Common.{◌∙◌}
 use Rattle.cx_meaning.specs.Control.{targets_cell, assigns_drive}
 use Rattle.cx_design.specs.PlainForms.{plain_assign, plain_assigns}
 use Rattle.cx_design.specs.declared.groups.Assign.{Assign}

@@ -1,4 +1,4 @@
-use Rattle.std.proofs.Common.{◌≡◌, ◌∷◌, ◌+◌, ◌<◌, ◌∙◌, drop, length, map, sym, arith}
+use Rattle.std.proofs.Common.{◌≡◌, ◌∷◌, ◌+◌, ◌<◌, drop, length, map, sym, arith}
 use Rattle.std.proofs.lemmas.List.{map_push}
 use Rattle.cx_text.proofs.ListLaws.{drop_item}
 use Rattle.cx_ast.specs.declared.components.ComponentItem.{ComponentItem}

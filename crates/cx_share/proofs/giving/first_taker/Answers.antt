@@ -1,7 +1,6 @@
-use Rattle.std.proofs.Common.{◌∙◌, sym, ap, map, below_more}
+use Rattle.std.proofs.Common.{◌∙◌, sym, ap, below_more}
 use Rattle.cx_design.specs.PlainForms.{plain_component}
 use Rattle.cx_sharing.specs.Giving as giving
-use Rattle.cx_share.specs.Givings.{plain_kept}
 use Rattle.cx_share.proofs.GiveLemmas.{kept_at, within_kept}
 use Rattle.cx_share.proofs.giving.first_taker.Goals as goal
 

@@ -1,7 +1,7 @@
 use Rattle.std.proofs.Common.{◌<◌, ◌∙◌, sym, map, length, rules}
 use Rattle.cx_design.specs.PlainForms.{plain_component}
 use Rattle.cx_share.specs.Givings.{plain_kept}
-use Rattle.cx_share.proofs.GiveLemmas.{kept_within, now_given, not_given}
+use Rattle.cx_share.proofs.GiveLemmas.{kept_within, now_given}
 use Rattle.cx_share.proofs.giving.kept_cells.Goals as goal
 
 pub give-requires-clause-kept : goal.give-requires-clause-kept

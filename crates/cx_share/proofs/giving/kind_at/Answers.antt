@@ -1,5 +1,5 @@
-use Rattle.std.proofs.Common.{◌∙◌, sym, ap, map}
-use Rattle.cx_design.specs.PlainForms.{plain_cell, plain_kind}
+use Rattle.std.proofs.Common.{◌∙◌, sym, ap}
+use Rattle.cx_design.specs.PlainForms.{plain_kind}
 use Rattle.cx_design.specs.declared.cells.Cell.{Cell}
 use Rattle.cx_share.proofs.GiveLemmas.{kind_there}
 use Rattle.cx_share.proofs.giving.kind_at.Goals as goal

@@ -1,6 +1,6 @@
 use Rattle.std.proofs.Common.{◌≡◌, ◌<◌, length, map, arith}
 use Rattle.std.proofs.lemmas.List.{length-map}
-use Rattle.cx_design.specs.PlainForms.{plain_cell, plain_component}
+use Rattle.cx_design.specs.PlainForms.{plain_cell}
 use Rattle.cx_share.proofs.MeetLemmas.{row_long}
 use Rattle.cx_share.proofs.giving.meets.Goals as goal
 

@@ -1,4 +1,4 @@
-use Rattle.std.proofs.Common.{◌≡◌, ◌<◌, ◌∙◌, true, length, ap, arith}
+use Rattle.std.proofs.Common.{◌<◌, ◌∙◌, length, ap, arith}
 use Rattle.std.specs.List.{list_any}
 use Rattle.cx_sharing.specs.Meeting.{meet}
 use Rattle.cx_design.specs.PlainForms.{plain_component, plain_kind}

@@ -1,5 +1,4 @@
 use Rattle.std.proofs.Common.{sym, ◌∙◌}
-use Rattle.cx_prim.specs.declared.ports.PortRow.{PortRow}
 use Rattle.cx_prim.specs.Table.{row_of}
 use Rattle.cx_sharing.specs.Uses.{is_plain_side}
 use Rattle.cx_share.proofs.KindLemmas.{any_found, none_next}

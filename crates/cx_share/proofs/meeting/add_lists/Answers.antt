@@ -1,7 +1,6 @@
 use Rattle.std.proofs.Common.{◌&&◌}
 use Rattle.cx_sharing.specs.Giving.{is_in}
 use Rattle.cx_share.specs.Marks.{lists_of}
-use Rattle.cx_share.specs.Tables.{pairs_of}
 use Rattle.cx_share.proofs.TableLemmas.{joins_all, joins_map}
 use Rattle.cx_share.proofs.meeting.add_lists.Goals as goal
 

@@ -1,4 +1,4 @@
-use Rattle.std.proofs.Common.{◌≤◌, length, rules, arith}
+use Rattle.std.proofs.Common.{◌≤◌, length, rules}
 use Rattle.std.proofs.lemmas.List.{length-map}
 use Rattle.cx_sharing.specs.Giving.{is_in}
 use Rattle.cx_share.specs.Marks.{lists_of}

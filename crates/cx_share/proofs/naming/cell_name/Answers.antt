@@ -1,4 +1,4 @@
-use Rattle.std.proofs.Common.{◌≡◌, ◌∙◌, sym, ap, get_or}
+use Rattle.std.proofs.Common.{◌∙◌, sym, ap}
 use Rattle.cx_design.specs.declared.cells.Cell.{Cell}
 use Rattle.cx_share.proofs.TreeLemmas.{name_there}
 use Rattle.cx_share.proofs.naming.cell_name.Goals as goal

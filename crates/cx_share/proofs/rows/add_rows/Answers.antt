@@ -1,4 +1,4 @@
-use Rattle.std.proofs.Common.{◌≡◌, ◌+◌, ◌-◌, ◌<◌, ◌∙◌, suc, length, map, sym, ap, get_or, arith, rules}
+use Rattle.std.proofs.Common.{◌≡◌, ◌+◌, ◌-◌, ◌<◌, ◌∙◌, length, sym, get_or, arith, rules}
 use Rattle.std.proofs.lemmas.List.{length-map}
 use Rattle.cx_sharing.specs.Giving.{keeper}
 use Rattle.cx_design.specs.PlainForms.{plain_cell, plain_component}

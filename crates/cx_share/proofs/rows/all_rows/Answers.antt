@@ -1,4 +1,4 @@
-use Rattle.std.proofs.Common.{◌≡◌, ◌∷◌, ◌+◌, ◌∙◌, drop, map}
+use Rattle.std.proofs.Common.{◌≡◌, ◌∷◌, ◌+◌, drop, map}
 use Rattle.cx_text.proofs.ListLaws.{drop_item}
 use Rattle.cx_design.specs.PlainForms.{plain_component}
 use Rattle.cx_share.proofs.TreeLemmas.{keepers_at, rows_next}

@@ -1,4 +1,4 @@
-use Rattle.std.proofs.Common.{◌≡◌, ◌∙◌, ap, refl, map, flat_map}
+use Rattle.std.proofs.Common.{◌∙◌, ap, refl, map, flat_map}
 use Rattle.cx_ast.specs.PlainTree.{plain_component, plain_tree}
 use Rattle.cx_meaning.specs.Designs.{PlainDesign}
 use Rattle.cx_design.specs.declared.designs.Design.{Design}

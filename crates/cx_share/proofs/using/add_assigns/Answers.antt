@@ -1,4 +1,3 @@
-use Rattle.std.proofs.Common.{map}
 use Rattle.cx_design.specs.PlainForms.{plain_assign, plain_assigns}
 use Rattle.cx_design.specs.declared.groups.Assign.{Assign}
 use Rattle.cx_sharing.specs.Uses.{assign_uses, assigns_use}
