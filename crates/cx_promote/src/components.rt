@@ -23,7 +23,6 @@ use std::alloc::Global;
 const BELOW_CONTROL: u32 = 63;
 
 /// A component with its groups promoted.
-#[tactic(auto, using(crate::proofs::NameLemmas::long_by_name))]
 pub(crate) fn promoted_component(
     alloc: Global,
     site: Site,

@@ -40,7 +40,6 @@ pub(crate) fn promoted_block(
 
 /// Statements with their runs cut.
 #[cycle(control)]
-#[tactic(auto, using(crate::proofs::CuttingLemmas::before_none))]
 fn cut_statements(
     alloc: Global,
     lengths: &Lengths,
@@ -60,7 +59,6 @@ fn cut_statements(
 }
 
 #[cycle(control)]
-#[tactic(auto, using(crate::proofs::CuttingLemmas::before_push, crate::proofs::CuttingLemmas::before_none))]
 fn promoted_statements(
     alloc: Global,
     lengths: &Lengths,

@@ -22,7 +22,7 @@ use cx_text::Memory;
 use std::alloc::Global;
 
 /// What stands in `wires`: a group with a length is a static group of it, and all else stays.
-#[tactic(auto, using(crate::proofs::ListLemmas::begins_item, crate::proofs::ListLemmas::begins_within, crate::proofs::ListLemmas::begins_next, crate::proofs::SiteLemmas::site_groups, crate::proofs::SiteLemmas::site_within))]
+#[tactic(auto, using(crate::proofs::ListLemmas::begins_item, crate::proofs::ListLemmas::begins_within, crate::proofs::SiteLemmas::site_groups, crate::proofs::SiteLemmas::site_within))]
 pub(crate) fn promoted_wires(
     alloc: Global,
     site: Site,

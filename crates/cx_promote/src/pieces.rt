@@ -41,7 +41,7 @@ impl Pieces {
 
     /// Adds a statement: an enable of a run into the open piece, or into a new one where that is full; another statement behind the
     /// open piece, which is closed.
-    #[tactic(auto, using(crate::proofs::CuttingLemmas::add_other, crate::proofs::CuttingLemmas::add_full, crate::proofs::CuttingLemmas::add_open))]
+    #[tactic(auto, using(crate::proofs::CuttingLemmas::add_full, crate::proofs::CuttingLemmas::add_open))]
     pub(crate) fn add(
         &mut self,
         alloc: Global,
@@ -64,7 +64,6 @@ impl Pieces {
     }
 
     /// Closes the open piece: two enables or more are one static seq.
-    #[tactic(auto, using(crate::proofs::CuttingLemmas::before_push))]
     pub(crate) fn close(&mut self, alloc: Global) -> Result<(), Memory>
         ensures done { (long : List ℕ → Bool) (later : PlainStatements) → OnOk result (before (done_of self.new) later ≡ before (done_of self.old) (closed long (open_of self.old) later)) }
         ensures piece { OnOk result (open_of self.new ≡ []) }

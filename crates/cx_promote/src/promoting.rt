@@ -30,7 +30,7 @@ pub struct Promotion {
 
 /// Makes the groups of known length static, and runs of their enables static seqs, in the tree of an accepted design. Where the
 /// tree so made exceeds a limit, the tree stays as it is, and there are no rows.
-#[tactic(auto, using(crate::proofs::PromotedLemmas::promoted_made, crate::proofs::PromotedLemmas::promoted_not, crate::proofs::PromotedLemmas::made_has_targets))]
+#[tactic(auto, using(crate::proofs::PromotedLemmas::promoted_made, crate::proofs::PromotedLemmas::promoted_not))]
 pub fn promote(alloc: Global, tree: &Tree, design: &Checked) -> Result<Promotion, Memory>
     requires accepted { IsAcceptedTree (plain_tree tree.now) }
     requires targets { HasTargets (plain_tree tree.now) }
