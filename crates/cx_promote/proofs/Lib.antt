@@ -1,0 +1,13 @@
+mod CycleLemmas
+mod PortLemmas
+mod StartLemmas
+mod WaitingLemmas
+mod CuttingLemmas
+mod ListLemmas
+mod OperandLemmas
+mod GroupLemmas
+mod NameLemmas
+mod TargetLemmas
+mod SiteLemmas
+mod MadeLemmas
+mod PromotedLemmas
