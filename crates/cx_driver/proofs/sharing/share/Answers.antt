@@ -1,5 +1,5 @@
 use Rattle.cx_ast.specs.PlainTree.{plain_tree}
-use Rattle.cx_compiler.proofs.TextLemmas.{tree_refused, no_tree_refused}
+use Rattle.cx_compiler.proofs.TextLemmas.{accepted_stop, no_tree_refused, text_stop, tree_refused}
 use Rattle.cx_driver.proofs.SharingLemmas.{all_shared, all_told, tree_shared}
 use Rattle.cx_driver.proofs.sharing.share.Goals as goal
 
@@ -18,3 +18,9 @@ returns-in-Ok c =
       all_answers = λ is. all_shared (λ v. v.items) text r cause is;
       all_refusals = λ told b. all_told (λ v. v.items) text r answer cause told b;
     }
+
+pub returns-in-Err-clause-all_answers : goal.returns-in-Err-clause-all_answers
+returns-in-Err-clause-all_answers c = λ is. accepted_stop c.args.text.now c.in-Err.stop is (no_tree_refused c.args.text.now c.in-Err.stop c.in-Err.ensures.fault)
+
+pub returns-in-Err-clause-all_refusals : goal.returns-in-Err-clause-all_refusals
+returns-in-Err-clause-all_refusals c = λ told b. text_stop c.args.text.now told c.in-Err.stop b (no_tree_refused c.args.text.now c.in-Err.stop c.in-Err.ensures.fault)
