@@ -1,0 +1,4 @@
+mod PartsPromoted
+mod OrderPromoted
+mod ControlPromoted
+mod DesignPromoted
