@@ -1,4 +1,7 @@
-mod PartsPromoted
+pub mod PartsPromoted
 mod OrderPromoted
-mod ControlPromoted
-mod DesignPromoted
+pub mod ControlPromoted
+pub mod DesignPromoted
+pub mod NamesPromoted
+pub mod AcceptedPromoted
+mod OncePromoted

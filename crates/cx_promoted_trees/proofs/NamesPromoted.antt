@@ -33,10 +33,10 @@ use Rattle.cx_promotion.specs.Rewriting.{PIECE, BELOW_CONTROL, is_hole_item, bar
 use Rattle.cx_promoted_trees.proofs.PartsPromoted.{component_names-made, MadeKind, neither, a_primitive, a_component, cell_of-made, go_of, ports-made, twin, made_group, groups_in-made, always_in-made, name_made, group_names-made}
 
 -- LISTS OF BREAKS that are empty
-both_none : {A : Type 0} (xs ys : List A) → xs ≡ [] → ys ≡ [] → xs ++ ys ≡ []
+pub both_none : {A : Type 0} (xs ys : List A) → xs ≡ [] → ys ≡ [] → xs ++ ys ≡ []
 both_none xs ys e h = ap₂ ◌++◌ e h
 
-flat_is_none : {A B : Type 0} (f : A → List B) (xs : List A) → ((x : A) → In xs x → f x ≡ []) → flat_map f xs ≡ []
+pub flat_is_none : {A B : Type 0} (f : A → List B) (xs : List A) → ((x : A) → In xs x → f x ≡ []) → flat_map f xs ≡ []
 flat_is_none f [] h = refl
 flat_is_none f (x ∷ xs) h = both_none (f x) (flat_map f xs) (h x (inl refl)) (flat_is_none f xs (λ y i. h y (inr i)))
 
@@ -50,7 +50,7 @@ list_kept old new each (x ∷ rest) none = let two = append_none _ _ none in bot
 
 -- STATEMENTS of the promoted tree: each is one of the tree, promoted, or a static seq that is made
 module _ (long : List ℕ → Bool) where
-  data Came (vs : List Visited) : Visited → Type 0 where
+  pub data Came (vs : List Visited) : Visited → Type 0 where
     of_one : (v : Visited) (below : ℕ) → In vs v → Came vs (record { form = promote_form long below v.form; place = v.place })
     as_it_is : (v : Visited) → In vs v → Came vs v
     of_piece : (list : statements.PlainStatements) (place there : Place) → Came vs (record { form = statements.StaticSeq None [] (statements.Braces list there); place = place })

@@ -183,7 +183,7 @@ module _ (tree : PlainTree) where
     word-made words.Comb = refl
     word-made (words.Timed n) = refl
 
-    group-made : (g : ast.PlainGroup) → group_of (made_tree tree) twin g ≡ group_of tree part g
+    pub group-made : (g : ast.PlainGroup) → group_of (made_tree tree) twin g ≡ group_of tree part g
     group-made g = ap₂ (λ kind assigns. record { name = g.name; kind = kind; assigns = assigns; place = g.place }) (word-made g.kind) (assigns-made g.assigns)
 
     -- or is promoted: its assignments are those of the group as a static one
