@@ -97,28 +97,25 @@ module _ (long : List ℕ → Bool) where
   come_cut : (vs : List Visited) (piece : List statements.PlainStatement) (count : ℕ) (ss : statements.PlainStatements)
       → CameAll vs (visit_all (statements.statements_of piece)) → CameAll vs (visit_all ss) → CameAll vs (visit_all (cut long piece count ss))
   come_cut vs piece count statements.NoStatements one two = come_closed vs piece statements.NoStatements one two
-  come_cut vs piece count (statements.StatementThen s ss) one two = by (is_run long s) (nat_eq count PIECE) (λ open many before. come_cut vs open many ss before after)
+  come_cut vs piece count (statements.StatementThen s ss) one two = by (is_run long s) (nat_eq count PIECE) (λ opened many before. come_cut vs opened many ss before after)
     where
-      abbrev here : List Visited
-      here = visit_all (statements.StatementThen s statements.NoStatements)
-
-      split : CameAll vs (here ++ visit_all ss)
+      split : CameAll vs (visit_all (statements.StatementThen s statements.NoStatements) ++ visit_all ss)
       split = subst (CameAll vs) (visits_first s ss) two
 
-      now : CameAll vs here
-      now w i = split w (in_left here (visit_all ss) w i)
+      now : CameAll vs (visit_all (statements.StatementThen s statements.NoStatements))
+      now w i = split w (in_left (visit_all (statements.StatementThen s statements.NoStatements)) (visit_all ss) w i)
 
       after : CameAll vs (visit_all ss)
-      after w i = split w (in_right here (visit_all ss) w i)
+      after w i = split w (in_right (visit_all (statements.StatementThen s statements.NoStatements)) (visit_all ss) w i)
 
-      by : (run full : Bool) → ((open : List statements.PlainStatement) (many : ℕ) → CameAll vs (visit_all (statements.statements_of open)) → CameAll vs (visit_all (cut long open many ss)))
+      by : (run full : Bool) → ((opened : List statements.PlainStatement) (many : ℕ) → CameAll vs (visit_all (statements.statements_of opened)) → CameAll vs (visit_all (cut long opened many ss)))
           → CameAll vs (visit_all (if run then (if full then close long piece (cut long (s ∷ []) 1 ss) else cut long (piece ++ (s ∷ [])) (suc count) ss) else close long piece (statements.StatementThen s (cut long [] 0 ss))))
       by true true later = come_closed vs piece (cut long (s ∷ []) 1 ss) one (later (s ∷ []) 1 now)
       by true false later =
-          later (piece ++ (s ∷ [])) (suc count) (subst (CameAll vs) (sym (visits_listed piece (s ∷ []))) (both_come vs (visit_all (statements.statements_of piece)) here one now))
+          later (piece ++ (s ∷ [])) (suc count) (subst (CameAll vs) (sym (visits_listed piece (s ∷ []))) (both_come vs (visit_all (statements.statements_of piece)) (visit_all (statements.StatementThen s statements.NoStatements)) one now))
       by false full later =
           come_closed vs piece (statements.StatementThen s (cut long [] 0 ss)) one
-          (subst (CameAll vs) (sym (visits_first s (cut long [] 0 ss))) (both_come vs here (visit_all (cut long [] 0 ss)) now (later [] 0 (λ w i. absurd i))))
+          (subst (CameAll vs) (sym (visits_first s (cut long [] 0 ss))) (both_come vs (visit_all (statements.StatementThen s statements.NoStatements)) (visit_all (cut long [] 0 ss)) now (later [] 0 (λ w i. absurd i))))
 
   come_cut_if : (vs : List Visited) (b : Bool) (ss : statements.PlainStatements) → CameAll vs (visit_all ss) → CameAll vs (visit_all (cut_if long b ss))
   come_cut_if vs true ss all = come_cut vs [] 0 ss (λ w i. absurd i) all
@@ -163,13 +160,13 @@ module _ (long : List ℕ → Bool) where
     come_block below in_order (statements.Braces ss place) = come_cut_if (visit_all ss) (in_order && nat_lt 0 below) (promote_all long below ss) (come_all below ss)
 
 -- what a component's control visits
+abbrev visits : Option statements.PlainBlock → List Visited
+visits None = []
+visits (Some block) = visit_block block
+
 pub statements_come : (tree : PlainTree) (part : ast.PlainComponent) (i : Instance) → CameAll (is_long tree part i) (statements_in part) (statements_in (twin tree part i))
 statements_come tree part i = by part.control
   where
-    abbrev visits : Option statements.PlainBlock → List Visited
-    visits None = []
-    visits (Some block) = visit_block block
-
     by : (o : Option statements.PlainBlock) → CameAll (is_long tree part i) (visits o) (visits (option_map (promote_block (is_long tree part i) BELOW_CONTROL true) o))
     by None = all_stay (is_long tree part i) []
     by (Some block) = come_block (is_long tree part i) BELOW_CONTROL true block

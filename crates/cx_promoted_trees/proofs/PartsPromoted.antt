@@ -202,18 +202,18 @@ module _ (tree : PlainTree) where
     bare-made a true = assign_is _ _ Always Always _ _ a.place (port-made a.target.form) refl (placed-made a.source)
     bare-made a false = assign-made a
 
+    abbrev bared : ast.PlainAssign → PlainAssign
+    bared a = if is_primitive_enable i (port_of tree part a.target.form) then record (assign_of tree part a) { guard = Always } else assign_of tree part a
+
     static_assigns-made : (list : List ast.PlainAssign) → map (assign_of (made_tree tree) twin) (promote_assigns (enables tree part i) list) ≡ promoted_assigns i (map (assign_of tree part) list)
     static_assigns-made [] = refl
     static_assigns-made (a ∷ rest) =
         by (is_hole_item a.target.form) (static_assigns-made rest)
-        ∙ ap (λ hole. if hole then promoted_assigns i (map (assign_of tree part) rest) else bared ∷ promoted_assigns i (map (assign_of tree part) rest)) (sym (hole_same a.target.form))
+        ∙ ap (λ hole. if hole then promoted_assigns i (map (assign_of tree part) rest) else bared a ∷ promoted_assigns i (map (assign_of tree part) rest)) (sym (hole_same a.target.form))
       where
-        abbrev bared : PlainAssign
-        bared = if is_primitive_enable i (port_of tree part a.target.form) then record (assign_of tree part a) { guard = Always } else assign_of tree part a
-
         by : (hole : Bool) → map (assign_of (made_tree tree) twin) (promote_assigns (enables tree part i) rest) ≡ promoted_assigns i (map (assign_of tree part) rest)
             → map (assign_of (made_tree tree) twin) (if hole then promote_assigns (enables tree part i) rest else bare_enable (enables tree part i) a ∷ promote_assigns (enables tree part i) rest)
-            ≡ (if hole then promoted_assigns i (map (assign_of tree part) rest) else bared ∷ promoted_assigns i (map (assign_of tree part) rest))
+            ≡ (if hole then promoted_assigns i (map (assign_of tree part) rest) else bared a ∷ promoted_assigns i (map (assign_of tree part) rest))
         by true h = h
         by false h = ap₂ ◌∷◌ (bare-made a (enables tree part i a.target.form)) h
 
