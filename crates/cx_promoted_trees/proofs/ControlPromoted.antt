@@ -140,6 +140,11 @@ module _ (tree : PlainTree) (part : ast.PlainComponent) (i : Instance) where
     all-stay n (statements.StatementThen (statements.Placed attributes form place) rest) =
         ap₂ a_statement (ap (λ f. Placed f place) (form-stays n place form)) (all-stay (n + length (invokes_in form place)) rest)
 
+  -- the invokes of a component's control stay
+  pub control_invokes-made : (long : List ℕ → Bool) (o : Option statements.PlainBlock) → control_invokes (made_tree tree) other (option_map (promote_block long BELOW_CONTROL true) o) ≡ control_invokes tree part o
+  control_invokes-made long None = refl
+  control_invokes-made long (Some block) = block_invokes long BELOW_CONTROL true block
+
   -- WHAT IS PROMOTED, by which groups are
   module _ (long : List ℕ → Bool) (promoted : ℕ → Type 0) (are : (name : List ℕ) → long name ≡ true → promoted (group_number tree part name)) where
     -- an enable of a promoted group
@@ -401,7 +406,3 @@ module _ (tree : PlainTree) (part : ast.PlainComponent) (i : Instance) where
     control_made (Some block) =
         subst (λ (names : List (List ℕ)). StatementMade promoted (block_of tree part false (length (group_names part)) block) (block_of (made_tree tree) other false (length names) (promote_block long BELOW_CONTROL true block)))
         (sym (group_names-made tree part i)) (block_made (length (group_names part)) BELOW_CONTROL block)
-
-    pub control_invokes-made : (o : Option statements.PlainBlock) → control_invokes (made_tree tree) other (option_map (promote_block long BELOW_CONTROL true) o) ≡ control_invokes tree part o
-    control_invokes-made None = refl
-    control_invokes-made (Some block) = block_invokes long BELOW_CONTROL true block
