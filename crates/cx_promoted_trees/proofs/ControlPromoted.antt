@@ -16,7 +16,7 @@ use Rattle.cx_numbering.specs.DesignOf.{number_or_0, Invoke, placed_of, invokes_
 use Rattle.cx_numbering.specs.Names.{group_names}
 use Rattle.cx_rewrites.specs.Beside.{joined}
 use Rattle.cx_promotion.specs.Made.{IsRun, no_more, one_more, FormMade, empty, enable, seq, collapsed, par, if_made, while_made, repeat_made, static, StatementMade, placed, PartsMade, no_parts, a_part, a_run, ArmsMade, no_arms, an_arm}
-use Rattle.cx_promotion.specs.Rewriting.{PIECE, BELOW_CONTROL, is_run, place_of, close, cut, cut_if, promote_form, promote_else, promote_statement, promote_all, promote_block, made_tree}
+use Rattle.cx_promotion.specs.Rewriting.{PIECE, BELOW_CONTROL, is_run, close, cut, cut_if, promote_form, promote_else, promote_all, promote_block, made_tree}
 use Rattle.cx_promoted_trees.proofs.PartsPromoted.{twin, placed-made, group_names-made}
 
 -- INVOKES of control stay

@@ -7,19 +7,17 @@ use Rattle.cx_text.specs.declared.places.Place.{Place}
 use Rattle.cx_ast.specs.PlainStatements as statements
 use Rattle.cx_ast.specs.PlainTree as ast
 use Rattle.cx_ast.specs.PlainTree.{PlainTree}
-use Rattle.cx_meaning.specs.Designs.{PlainGroup, no_group, group_at, PlainStatements, no_statements, a_statement, PlainStatement, Placed, PlainComponent, PlainDesign, no_component, component_at, no_place}
-use Rattle.cx_meaning.specs.Designs as plain
-use Rattle.cx_meaning.specs.Active.{source_order}
+use Rattle.cx_meaning.specs.Designs.{PlainGroup, no_group, group_at, PlainComponent, no_component, component_at, no_place}
 use Rattle.cx_meaning.specs.Instances.{Instance}
 use Rattle.cx_rules.specs.Ports as rules
-use Rattle.cx_numbering.specs.Names.{number_of, group_among, group_names, groups_in, always_in}
-use Rattle.cx_numbering.specs.DesignOf.{number_or_0, group_of, assign_of, of_block, form_of, else_of, block_of, parts_of, all_of, invokes_in, invokes_of, invoke_groups, control_invokes, control_of, group_number, component_of, design_of}
+use Rattle.cx_numbering.specs.Names.{number_of, group_names, groups_in, always_in}
+use Rattle.cx_numbering.specs.DesignOf.{number_or_0, group_of, assign_of, form_of, else_of, block_of, all_of, invokes_in, invokes_of, invoke_groups, control_invokes, control_of, group_number, component_of, design_of}
 use Rattle.cx_names_scopes.specs.Scopes.{at_number}
 use Rattle.cx_names_scopes.proofs.NameLemmas.{group_at as group_by_number}
 use Rattle.cx_promotion.specs.declared.rows.PromotedRow.{PromotedRow}
 use Rattle.cx_promotion.specs.Promotable.{promotable, promoted_group}
-use Rattle.cx_promotion.specs.Made.{GroupMade, GroupsMade, no_groups, a_group, IsPromoted, FormMade, empty, enable, seq, par, if_made, while_made, repeat_made, static, StatementMade, placed, PartsMade, no_parts, a_part, ArmsMade, no_arms, an_arm, OrderMade, PartMade, DesignMade}
-use Rattle.cx_promotion.specs.Rewriting.{length_of, length_found, is_long, promote_wire, promote_component, components_from, made_tree, IsPromotedTree}
+use Rattle.cx_promotion.specs.Made.{GroupsMade, no_groups, a_group, IsPromoted, FormMade, empty, enable, seq, par, if_made, while_made, repeat_made, static, StatementMade, placed, PartsMade, no_parts, a_part, ArmsMade, no_arms, an_arm, PartMade, DesignMade}
+use Rattle.cx_promotion.specs.Rewriting.{length_of, length_found, is_long, promote_component, components_from, made_tree, IsPromotedTree}
 use Rattle.cx_promoted_trees.proofs.PartsPromoted.{component_names-made, twin, made_group, cells-made, groups_in-made, always_in-made, group_names-made, assigns-made, long-made, groups-made, invoke_groups-made}
 use Rattle.cx_promoted_trees.proofs.ControlPromoted.{control_made, control_invokes-made}
 use Rattle.cx_promoted_trees.proofs.OrderPromoted.{order_made}

@@ -18,18 +18,17 @@ use Rattle.cx_ast.specs.declared.wiring.GroupWord.{GroupWord}
 use Rattle.cx_ast.specs.declared.wiring.GroupWord.TheVariants as words
 use Rattle.cx_ast.specs.PlainTree as ast
 use Rattle.cx_ast.specs.PlainTree.{PlainTree}
-use Rattle.cx_ast.specs.PlainGuards as guards
 use Rattle.cx_ast.specs.PlainStatements as statements
 use Rattle.cx_meaning.specs.Instances.{Instance}
 use Rattle.cx_meaning.specs.Sights.{In}
 use Rattle.cx_rules.specs.Ports as design
 use Rattle.cx_numbering.specs.Names.{same_name, is_among, groups_in, always_in, cell_among, group_among, CellOf, Neither, APrimitive, AComponent, cell_of, cell_go, is_external}
 use Rattle.cx_numbering.specs.DesignOf.{kind_of, group_of, design_of}
-use Rattle.cx_numbering.specs.NameRules.{tell_if, path_of, named, duplicates, component_duplicates, guard_operands, Standing, standing, Visited, visit_parts, visit_else, visit_block, visit_all, statements_in, is_component, found_component, is_clock, is_unknown, unknown, is_left_out, is_hole, source_breaks, is_wrong_target, is_one, is_bare_done, assign_breaks, is_comb_word, is_comb_group, enable_breaks, with_breaks, output_rows, output_names, is_go_name, is_reg, found_reg, is_register_in, input_breaks, output_breaks, invoke_on, form_breaks, kind_breaks, is_narrow_memory, port_breaks, component_kinds, some_part, leads_back, cell_breaks, component_breaks, name_breaks, first_break, names_break}
+use Rattle.cx_numbering.specs.NameRules.{tell_if, path_of, named, duplicates, component_duplicates, guard_operands, Standing, standing, Visited, visit_parts, visit_else, visit_block, visit_all, statements_in, is_component, found_component, is_clock, is_unknown, unknown, is_left_out, is_hole, source_breaks, is_wrong_target, is_one, is_bare_done, assign_breaks, is_comb_word, is_comb_group, enable_breaks, with_breaks, output_rows, output_names, is_go_name, is_reg, found_reg, is_register_in, input_breaks, output_breaks, invoke_on, form_breaks, kind_breaks, is_narrow_memory, port_breaks, some_part, leads_back, cell_breaks, component_breaks, name_breaks, first_break, names_break}
 use Rattle.cx_names.proofs.Base.{in_left, in_right, in_either, in_map, map_in, in_flat, flat_in, append_none, tell_none, first_none}
 use Rattle.cx_names.proofs.Kept.{KeptPart, kept, kept_part}
 use Rattle.cx_promotion.specs.Promotable.{promotable}
-use Rattle.cx_promotion.specs.Rewriting.{PIECE, BELOW_CONTROL, place_of, is_hole_item, bare_enable, promote_assigns, promote_group, is_run, close, cut, cut_if, promote_form, promote_else, promote_all, promote_block, length_of, is_long, enables, promote_wire, promote_component, components_from, made_tree}
+use Rattle.cx_promotion.specs.Rewriting.{PIECE, BELOW_CONTROL, place_of, is_hole_item, bare_enable, promote_assigns, promote_group, is_run, close, cut, cut_if, promote_form, promote_else, promote_all, promote_block, length_of, is_long, enables, promote_component, components_from, made_tree}
 use Rattle.cx_promoted_trees.proofs.PartsPromoted.{component_names-made, MadeKind, neither, a_primitive, a_component, cell_of-made, go_of, ports-made, twin, made_group, groups_in-made, always_in-made, name_made, group_names-made}
 
 -- LISTS OF BREAKS that are empty
