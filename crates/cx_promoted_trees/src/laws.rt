@@ -1,0 +1,46 @@
+//! Laws of the promoted tree: each function does nothing, and its clauses are the law.
+
+ghost use Rattle.std.specs.Prelude.{◌≡◌, List, [], None};
+ghost use Rattle.cx_ast.specs.PlainTree.{PlainTree};
+ghost use Rattle.cx_meaning.specs.Instances.{State, tree_of, words_of};
+ghost use Rattle.cx_rules.specs.Wellformed.{IsDesign};
+ghost use Rattle.cx_numbering.specs.DesignOf.{design_of};
+ghost use Rattle.cx_numbering.specs.NameRules.{names_break};
+ghost use Rattle.cx_rewrites.specs.Places.{SameDesign};
+ghost use Rattle.cx_promotion.specs.declared.rows.PromotedRow.{PromotedRow};
+ghost use Rattle.cx_promotion.specs.Made.{DesignMade, Quickens};
+ghost use Rattle.cx_promotion.specs.Rewriting.{IsPromotedTree, made_tree};
+ghost use Rattle.cx_check.specs.Acceptance.{IsAcceptedTree};
+ghost use Rattle.cx_check.specs.Unbuilt.{first_unbuilt};
+
+/// The design of a promoted tree is one that promotion makes of the tree's design.
+pub fn promoted_trees_have_promoted_designs()
+    ensures made { (tree new : PlainTree) (rows : List PromotedRow) → IsPromotedTree tree new rows → DesignMade (design_of tree) (design_of new) }
+{}
+
+/// The promoted tree of an accepted tree is accepted. With promotable groups promoted, whatever the size, the tree has nothing that is
+/// left out as a whole and breaks no rule on names, where the tree does.
+pub fn promoted_is_accepted()
+    ensures accepted { (tree new : PlainTree) (rows : List PromotedRow) → IsDesign (design_of tree) → IsAcceptedTree tree → IsPromotedTree tree new rows → IsAcceptedTree new }
+    ensures built { (tree : PlainTree) → first_unbuilt tree ≡ None → first_unbuilt (made_tree tree) ≡ None }
+    ensures named { (tree : PlainTree) → names_break tree ≡ None → names_break (made_tree tree) ≡ None }
+{}
+
+/// Where the run of an accepted tree's design ends, on whatever data and under whatever budget, that of the promoted tree's design ends
+/// under that budget, in no more turns, in the same state of every cell; and so does that of a tree whose design is the same apart
+/// from places. The external memories of a state are read alike.
+pub fn promoted_trees_run_quicker()
+    ensures quickens { (tree new : PlainTree) (rows : List PromotedRow)
+        → IsDesign (design_of tree) → IsAcceptedTree tree → IsPromotedTree tree new rows → Quickens (design_of tree) (design_of new) }
+    ensures again { (tree new again : PlainTree) (rows : List PromotedRow)
+        → IsDesign (design_of tree) → IsAcceptedTree tree → IsPromotedTree tree new rows → SameDesign (design_of new) (design_of again)
+        → Quickens (design_of tree) (design_of again) }
+    ensures words { (tree new : PlainTree) (rows : List PromotedRow) (s : State)
+        → IsDesign (design_of tree) → IsAcceptedTree tree → IsPromotedTree tree new rows
+        → words_of (tree_of (design_of new)) s ≡ words_of (tree_of (design_of tree)) s }
+{}
+
+/// Nothing more is promoted in a promoted tree: no row is told of it.
+pub fn promoted_trees_promote_nothing_more()
+    ensures { (tree new newer : PlainTree) (rows more : List PromotedRow) → IsPromotedTree tree new rows → IsPromotedTree new newer more → more ≡ [] }
+{}
