@@ -1,18 +1,19 @@
 -- PROMOTABLE GROUPS ARE SHORT: no primitive takes more cycles than the greatest width.
-use Rattle.std.proofs.Common.{◌≡◌, ◌≤◌, ℕ, zero, suc, ◌&&◌, not, Bool, true, false, List, [], ◌∷◌, Option, Some, None, filter, refl, subst, arith, if◌then◌else◌}
+use Rattle.std.proofs.Common.{◌≡◌, ◌≤◌, ℕ, ◌&&◌, not, Bool, true, false, List, [], ◌∷◌, Option, Some, None, filter, refl, subst, arith, if◌then◌else◌}
 use Rattle.cx_text.proofs.OptionLaws.{none_some, same_some}
 use Rattle.cx_prim.specs.Rows.{Row}
 use Rattle.cx_prim.specs.Table.{PrimitiveRow, row_of}
 use Rattle.cx_prim.proofs.TableCases.{of_row}
 use Rattle.cx_meaning.specs.declared.ports.PortRef.{PortRef}
 use Rattle.cx_meaning.specs.declared.ports.PortRef.TheVariants as ports
-use Rattle.cx_meaning.specs.Designs.{PlainKind, OfPrimitive, OfComponent, PlainCell, PlainAssign, PlainGroup, PlainDesign, component_at}
-use Rattle.cx_meaning.specs.Instances.{Instance, Cells, At, Nothing, OfRow, OfInstance, cell_at, cells_of, add_cell, cells_for, tree_within}
+use Rattle.cx_meaning.specs.Designs.{PlainAssign, PlainGroup, PlainDesign}
+use Rattle.cx_meaning.specs.Instances.{Instance, Cells, At, Nothing, OfRow, OfInstance, cell_at, cells_of, tree_within}
 use Rattle.cx_rules.specs.Items.{is_plain}
 use Rattle.cx_rules.specs.Ports.{component_of, is_part_port}
 use Rattle.cx_rules.specs.ShapeRules.{is_hole, some_target}
 use Rattle.cx_rules.specs.CallShape.{is_always}
 use Rattle.cx_promotion.specs.Promotable.{cycles_of, keeps_all, length_if, of_cell, of_source, of_dones, promotable}
+use Rattle.cx_promotion.proofs.Trees.{rows_within}
 
 -- at most so many, where there are any
 abbrev pub Few : Option ℕ → Type 0
@@ -50,19 +51,8 @@ row_short = of_row IsShort (record {
 abbrev AllShort : Cells → Type 0
 AllShort cells = (c : ℕ) (row : Row) → cell_at cells c ≡ OfRow row → IsShort row
 
-kind_short : (f : ℕ → Instance) (kind : PlainKind) (rest : Cells) → AllShort rest → AllShort (add_cell f kind rest)
-kind_short f (OfPrimitive p) rest each zero row e = let same : row_of p ≡ row = cc in subst IsShort same (row_short p)
-kind_short f (OfPrimitive p) rest each (suc c) row e = each c row e
-kind_short f (OfComponent k) rest each zero row e = absurd (cc)
-kind_short f (OfComponent k) rest each (suc c) row e = each c row e
-
-cells_short : (f : ℕ → Instance) (cells : List PlainCell) → AllShort (cells_for f cells)
-cells_short f [] c row e = absurd (cc)
-cells_short f (cell ∷ cells) = kind_short f cell.kind (cells_for f cells) (cells_short f cells)
-
 within_short : (d : PlainDesign) (m k : ℕ) → AllShort (cells_of (tree_within d m k))
-within_short d zero k c row e = absurd (cc)
-within_short d (suc m) k = cells_short (tree_within d m) (component_at d k).cells
+within_short d m k c row e = let known = rows_within d m k c row e in subst IsShort known.1 (row_short known.0)
 
 -- GROUPS
 module _ (i : Instance) (short : AllShort (cells_of i)) (x : PlainGroup) where
