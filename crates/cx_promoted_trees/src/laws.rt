@@ -40,7 +40,8 @@ pub fn promoted_trees_run_quicker()
         → words_of (tree_of (design_of new)) s ≡ words_of (tree_of (design_of tree)) s }
 {}
 
-/// Nothing more is promoted in a promoted tree: no row is told of it.
+/// Nothing more is promoted in a promoted tree: no row is told of it, and it stays as it is.
 pub fn promoted_trees_promote_nothing_more()
-    ensures { (tree new newer : PlainTree) (rows more : List PromotedRow) → IsPromotedTree tree new rows → IsPromotedTree new newer more → more ≡ [] }
+    ensures rows { (tree new newer : PlainTree) (rows more : List PromotedRow) → IsPromotedTree tree new rows → IsPromotedTree new newer more → more ≡ [] }
+    ensures stays { (tree new newer : PlainTree) (rows more : List PromotedRow) → IsPromotedTree tree new rows → IsPromotedTree new newer more → newer ≡ new }
 {}

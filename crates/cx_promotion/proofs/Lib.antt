@@ -1,5 +1,5 @@
 mod KnownPromotions
-mod Unchanged
+pub mod Unchanged
 mod Impossible
 mod RowPorts
 mod RowCounts
@@ -8,7 +8,7 @@ mod RowReady
 mod Orders
 mod Sources
 mod SeenAlike
-mod Twins
+pub mod Twins
 mod Chains
 mod MadeBeside
 mod Stays
@@ -24,15 +24,15 @@ mod MadeControl
 mod LeavesQuicken
 mod PiecesQuicken
 mod RunsQuicken
-mod Trees
-mod DesignsQuicken
-mod PortsMade
+pub mod Trees
+pub mod DesignsQuicken
+pub mod PortsMade
 mod LeadsMade
 mod AssignsMade
 mod CallsMade
 mod VisitsMade
 mod StatementsMade
-mod RulesMade
+pub mod RulesMade
 mod Together
 mod Runs
 mod Pieces

@@ -1,0 +1,12 @@
+use Rattle.cx_promoted_trees.proofs.AcceptedPromoted.{promoted_tree_accepted, unbuilt_made}
+use Rattle.cx_promoted_trees.proofs.NamesPromoted.{names_made}
+use Rattle.cx_promoted_trees.proofs.laws.promoted_is_accepted.Goals as goal
+
+pub returns-clause-accepted : goal.returns-clause-accepted
+returns-clause-accepted c = λ tree new rows design accepted is. promoted_tree_accepted tree new rows design accepted is
+
+pub returns-clause-built : goal.returns-clause-built
+returns-clause-built c = λ tree none. unbuilt_made tree none
+
+pub returns-clause-named : goal.returns-clause-named
+returns-clause-named c = λ tree none. names_made tree none
