@@ -4,7 +4,7 @@ use Rattle.std.specs.Str.Parse.{digits_value}
 use Rattle.cx_commands.specs.Asked.{asked_of}
 use Rattle.cx_commands.specs.Lists.{IsList}
 use Rattle.cx_commands.specs.declared.commands.Command.{Command}
-use Rattle.cx_commands.specs.Commands.{IsBudget, Asked, Asks, AsksNothing, AsksNoDesign, AsksNoOther, HasList, compile, interp, check, sim, trial, share, weave}
+use Rattle.cx_commands.specs.Commands.{IsBudget, Asked, Asks, AsksNothing, AsksNoDesign, AsksNoOther, HasList, compile, interp, check, sim, trial, share, promote, weave}
 
 pub neither : (words : List (List ℕ)) → AsksNoDesign words → AsksNoOther words → AsksNothing words
 neither words d r (compile design) asks = d.verdicts.compiles design asks
@@ -12,7 +12,8 @@ neither words d r (interp design json budget) asks = r.runs.interprets design js
 neither words d r (check design) asks = d.verdicts.checks design asks
 neither words d r (sim verilog json budget) asks = r.runs.simulates verilog json budget asks
 neither words d r (trial seed) asks = r.others.tries seed asks
-neither words d r (share design) asks = d.shares design asks
+neither words d r (share design) asks = d.rewritings.shares design asks
+neither words d r (promote design) asks = d.rewritings.promotes design asks
 neither words d r (weave design json steps list) asks = r.others.weaves design json steps list asks
 
 -- two equal words
@@ -26,7 +27,8 @@ same (a ∷ xs) (b ∷ ys) = nat_eq a b && same xs ys
 abbrev on_one : List ℕ → List ℕ → Asked
 on_one name word =
     if same name (codes "compile") then compile word else if same name (codes "check") then check word
-    else if same name (codes "share") then share word else trial (digits_value 10 word)
+    else if same name (codes "share") then share word else if same name (codes "promote") then promote word
+    else trial (digits_value 10 word)
 
 abbrev on_two : List ℕ → List ℕ → List ℕ → List ℕ → Asked
 on_two name first second digits =
@@ -48,6 +50,7 @@ is_asked words (check d) h = ap asked_by h
 is_asked words (sim d j n) h = ap asked_by h.1 ∙ ap (λ m. Some (sim d j m)) h.2.value
 is_asked words (trial s) h = ap asked_by h.1 ∙ ap (λ m. Some (trial m)) h.2.value
 is_asked words (share d) h = ap asked_by h
+is_asked words (promote d) h = ap asked_by h
 is_asked words (weave d j n l) h = ap asked_by h.1 ∙ ap (λ m. Some (weave d j m l)) h.2.value
 
 -- words ask for one command
@@ -72,6 +75,7 @@ has_list words (check design) asks = tt
 has_list words (sim verilog json budget) asks = tt
 has_list words (trial seed) asks = tt
 has_list words (share design) asks = tt
+has_list words (promote design) asks = tt
 has_list words (weave design json steps list) asks = asks.3
 
 -- the words of a woven run, where the last is a list and where it is none

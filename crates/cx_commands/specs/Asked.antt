@@ -1,7 +1,7 @@
 -- The command of the program's own type as what is asked for.
-use Rattle.cx_commands.specs.Commands.{Asked, compile, interp, check, sim, trial, share, weave}
+use Rattle.cx_commands.specs.Commands.{Asked, compile, interp, check, sim, trial, share, promote, weave}
 use Rattle.cx_commands.specs.declared.commands.Command.{Command}
-use Rattle.cx_commands.specs.declared.commands.Command.TheVariants.{Compile, Interp, Check, Sim, Trial, Share, Weave}
+use Rattle.cx_commands.specs.declared.commands.Command.TheVariants.{Compile, Interp, Check, Sim, Trial, Share, Promote, Weave}
 
 -- what a command asks for
 abbrev pub asked_of : Command → Asked
@@ -11,4 +11,5 @@ asked_of (Check design) = check design.now
 asked_of (Sim verilog json budget) = sim verilog.now json.now budget
 asked_of (Trial seed) = trial seed
 asked_of (Share design) = share design.now
+asked_of (Promote design) = promote design.now
 asked_of (Weave design json steps list) = weave design.now json.now steps list.now

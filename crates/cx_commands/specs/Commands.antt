@@ -12,6 +12,7 @@ pub data Asked : Type 0 where
   sim : (verilog json : List ℕ) (budget : ℕ) → Asked
   trial : (seed : ℕ) → Asked
   share : (design : List ℕ) → Asked
+  promote : (design : List ℕ) → Asked
   weave : (design json : List ℕ) (steps : ℕ) (list : List ℕ) → Asked
 
 -- one decimal digit or more, with a value of at most 10^12; zeros may stand before
@@ -44,6 +45,7 @@ Asks words (check design) = AsksDesign words (codes "check") design
 Asks words (sim verilog json budget) = AsksRun words (codes "sim") verilog json budget
 Asks words (trial seed) = AsksTrial words seed
 Asks words (share design) = AsksDesign words (codes "share") design
+Asks words (promote design) = AsksDesign words (codes "promote") design
 Asks words (weave design json steps list) = AsksWeave words design json steps list
 
 -- the words ask for no compilation and no check
@@ -51,10 +53,15 @@ pub record AsksNoVerdict (words : List (List ℕ)) : Type 0 where
   pub compiles : (design : List ℕ) → Asks words (compile design) → ⊥
   pub checks : (design : List ℕ) → Asks words (check design) → ⊥
 
+-- the words ask for no other design
+pub record AsksNoRewriting (words : List (List ℕ)) : Type 0 where
+  pub shares : (design : List ℕ) → Asks words (share design) → ⊥
+  pub promotes : (design : List ℕ) → Asks words (promote design) → ⊥
+
 -- the words ask for nothing on one file
 pub record AsksNoDesign (words : List (List ℕ)) : Type 0 where
   pub verdicts : AsksNoVerdict words
-  pub shares : (design : List ℕ) → Asks words (share design) → ⊥
+  pub rewritings : AsksNoRewriting words
 
 -- the words ask for no run
 pub record AsksNoRun (words : List (List ℕ)) : Type 0 where
@@ -88,6 +95,7 @@ wanted_by (check design) = record { file = design; most = DESIGN_BYTES } ∷ []
 wanted_by (sim verilog json budget) = record { file = verilog; most = VERILOG_BYTES } ∷ record { file = json; most = DATA_BYTES } ∷ []
 wanted_by (trial seed) = []
 wanted_by (share design) = record { file = design; most = DESIGN_BYTES } ∷ []
+wanted_by (promote design) = record { file = design; most = DESIGN_BYTES } ∷ []
 wanted_by (weave design json steps list) = record { file = design; most = DESIGN_BYTES } ∷ record { file = json; most = DATA_BYTES } ∷ []
 
 abbrev pub files_of : Asked → List (List ℕ)
@@ -105,4 +113,5 @@ HasList (check design) = Unit {0}
 HasList (sim verilog json budget) = Unit {0}
 HasList (trial seed) = Unit {0}
 HasList (share design) = Unit {0}
+HasList (promote design) = Unit {0}
 HasList (weave design json steps list) = IsList list

@@ -1,7 +1,7 @@
 //! The commands that the words on the command line spell.
 
 ghost use Rattle.std.specs.Prelude.{◌≡◌, ℕ, List, MatchOption};
-ghost use Rattle.cx_commands.specs.Commands.{Asks, AsksDesign, AsksNeither, AsksNoDesign, AsksNoOther, AsksNoRun, AsksNoVerdict, AsksNothing, AsksRun, IsBudget, check, compile, interp, share, sim, trial, weave};
+ghost use Rattle.cx_commands.specs.Commands.{Asks, AsksDesign, AsksNeither, AsksNoDesign, AsksNoOther, AsksNoRewriting, AsksNoRun, AsksNoVerdict, AsksNothing, AsksRun, IsBudget, check, compile, interp, promote, share, sim, trial, weave};
 ghost use Rattle.cx_commands.specs.Asked.{asked_of};
 ghost use Rattle.cx_commands.specs.Lists.{IsList};
 
@@ -38,6 +38,10 @@ pub enum Command<'a> {
     },
     /// Writes the design of a file with one cell in the place of those that are never used together.
     Share {
+        design: &'a [u8],
+    },
+    /// Writes the design of a file with the groups of known length as static ones.
+    Promote {
         design: &'a [u8],
     },
     /// Runs the design of a file on a data file by so many choices, those of a list.
@@ -80,13 +84,23 @@ fn command_on_numbers(words: &[Word]) -> Option<Command<'_>>
     }
 }
 
-/// The command of the words `compile FILE`, `check FILE` or `share FILE`.
+/// The command of the words `compile FILE`, `check FILE`, `share FILE` or `promote FILE`.
 fn command_on_design(words: &[Word]) -> Option<Command<'_>>
     ensures { MatchOption result (AsksNoDesign words.now) (λ command. Asks words.now (asked_of command)) }
 {
     match verdict_of(words) {
         Some(command) => Some(command),
-        None => sharer_of(words),
+        None => rewriter_of(words),
+    }
+}
+
+/// The command of the words `share FILE` or `promote FILE`.
+fn rewriter_of(words: &[Word]) -> Option<Command<'_>>
+    ensures { MatchOption result (AsksNoRewriting words.now) (λ command. Asks words.now (asked_of command)) }
+{
+    match sharer_of(words) {
+        Some(command) => Some(command),
+        None => promoter_of(words),
     }
 }
 
@@ -123,6 +137,15 @@ fn sharer_of(words: &[Word]) -> Option<Command<'_>>
 {
     match design_of(words, b"share".as_slice()) {
         Some(design) => Some(Command::Share { design }),
+        None => None,
+    }
+}
+
+fn promoter_of(words: &[Word]) -> Option<Command<'_>>
+    ensures { MatchOption result ((design : List ℕ) → Asks words.now (promote design) → ⊥) (λ command. Asks words.now (asked_of command)) }
+{
+    match design_of(words, b"promote".as_slice()) {
+        Some(design) => Some(Command::Promote { design }),
         None => None,
     }
 }

@@ -25,7 +25,8 @@ use Rattle.cx_rewritten.specs.Alike.{AreAlike, both_end, both_fault, both_go_on,
 use Rattle.cx_driver.specs.Alike.{StopsAlike, ToldAlike, InterpretsAlike, AlikeOfFile}
 use Rattle.cx_driver.specs.Outcomes.{IsAnswer}
 use Rattle.cx_driver.proofs.ReadLemmas.{Held}
-use Rattle.cx_driver.proofs.SharingLemmas.{answer_shared}
+use Rattle.cx_driver.specs.Sharing.{IsSharedTree}
+use Rattle.cx_driver.proofs.RewritingLemmas.{answer_rewritten}
 
 module _ (d e : PlainDesign) where
   answers_alike : (memories : List PlainMemory) (budget : ℕ) (a b : Answer State cycles.Fault) → AreAlike d e a b → ToldAlike (told_of d memories budget a) (told_of e memories budget b)
@@ -62,5 +63,5 @@ interprets_alike text other tree has accepted runs =
 pub shared_of_file : (held : Held) (file answer : List ℕ) (command : Asked) → share file ≡ command → IsAnswer held command answer → AlikeOfFile held file answer
 shared_of_file held file answer command same h =
     let written : IsAnswer held (share file) answer = subst (λ asked. IsAnswer held asked answer) (sym same) h in
-    let shared = answer_shared written.bytes answer written.is in
-    record { bytes = written.bytes; reads = written.reads; is = interprets_alike written.bytes answer shared.tree shared.has shared.accepted shared.shared.runs }
+    let shared = answer_rewritten IsSharedTree written.bytes answer written.is in
+    record { bytes = written.bytes; reads = written.reads; is = interprets_alike written.bytes answer shared.tree shared.has shared.accepted shared.written.runs }

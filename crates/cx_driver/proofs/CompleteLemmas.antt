@@ -2,7 +2,7 @@
 use Rattle.std.proofs.Common.{◌≡◌, ◌⊎◌, inl, inr, ⊎_elim, ℕ, List, Option, Some, None, Ok, Err, codes, sym, ap, ◌∙◌, subst}
 use Rattle.cx_outside.specs.Counts.{HasRisen}
 use Rattle.cx_text.specs.declared.limits.TheConstants.{DESIGN_BYTES, DATA_BYTES, VERILOG_BYTES}
-use Rattle.cx_commands.specs.Commands.{Asked, compile, interp, check, sim, trial, share, weave, wanted_by}
+use Rattle.cx_commands.specs.Commands.{Asked, compile, interp, check, sim, trial, share, promote, weave, wanted_by}
 use Rattle.cx_compiler.specs.Compiled.{IsCompilable, Compiles}
 use Rattle.cx_compiler.specs.Texts.{IsAcceptedText}
 use Rattle.cx_compiler.specs.Interpreted.{Interprets}
@@ -22,13 +22,14 @@ use Rattle.cx_commands.specs.declared.refusals.Status.TheVariants as statuses
 use Rattle.cx_commands.specs.declared.stops.Stop.{Stop}
 use Rattle.cx_commands.specs.declared.stops.Stop.TheVariants as stops
 use Rattle.cx_driver.specs.Tried.{Tries}
-use Rattle.cx_driver.specs.Sharing.{Shares}
+use Rattle.cx_driver.specs.Promoting.{Promotes, PromotesTree}
+use Rattle.cx_driver.specs.Sharing.{IsSharedTree, Shares}
 use Rattle.cx_driver.specs.Weaving.{Weaves}
 use Rattle.cx_driver.specs.Causes.{HasCause}
 use Rattle.cx_driver.proofs.InterpLemmas.{one_result}
 use Rattle.cx_driver.proofs.TrialLemmas.{one_line, tries_once}
 use Rattle.cx_driver.proofs.WovenLemmas.{one_woven}
-use Rattle.cx_driver.proofs.SharingLemmas.{accepted_shares, shares_once, shares_told}
+use Rattle.cx_driver.proofs.RewritingLemmas.{accepted_rewrites, rewrites_once, rewrites_status}
 use Rattle.cx_driver.proofs.SimLemmas.{no_stop, spelled_once}
 use Rattle.cx_driver.proofs.ReadLemmas.{Held, Readable, same_bytes, none_over, none_unread}
 
@@ -45,12 +46,6 @@ checks_status : (text other : List ℕ) (a b : Stop) → Checks text (Err a) →
 checks_status text other a b (inl h) k = absurd (not_both (codes "accepted\n") a (sym h.1))
 checks_status text other a b (inr h) (inl k) = absurd (not_both (codes "accepted\n") b (sym k.1))
 checks_status text other a b (inr h) (inr k) = ap stop_status (same_stop a (stops.Rule h.0) h.2) ∙ sym (ap stop_status (same_stop b (stops.Rule k.0) k.2))
-
-shares_status : (text other : List ℕ) (a b : Stop) → Shares text (Err a) → Shares other (Err b) → stop_status a ≡ stop_status b
-shares_status text other a b h k =
-    let first = shares_told text a h in
-    let second = shares_told other b k in
-    ap stop_status first.1 ∙ sym (ap stop_status second.1)
 
 simulated_status : (text json : List ℕ) (budget : ℕ) (a b : Stop) → Simulates text json budget (Err a) → Simulates text json budget (Err b) → stop_status a ≡ stop_status b
 simulated_status text json budget a b (inl h) k = ap stop_status (same_stop a b (spelled_once text json budget (Err a) (Err b) h k))
@@ -71,6 +66,7 @@ module _ (holds : List ℕ → Option (List ℕ)) where
   does_read (sim verilog json budget) result h = ((h.bytes, h.reads), ((h.is.bytes, h.is.reads), tt))
   does_read (trial seed) result h = tt
   does_read (share design) result h = ((h.bytes, h.reads), tt)
+  does_read (promote design) result h = ((h.bytes, h.reads), tt)
   does_read (weave design json steps list) result h = ((h.bytes, h.reads), ((h.is.bytes, h.is.reads), tt))
 
   can_read : (command : Asked) → CanAnswer (Some holds) command → Readable holds (wanted_by command)
@@ -80,6 +76,7 @@ module _ (holds : List ℕ → Option (List ℕ)) where
   can_read (sim verilog json budget) can = does_read (sim verilog json budget) (Ok can.0) can.1
   can_read (trial seed) can = does_read (trial seed) (Ok can.0) can.1
   can_read (share design) can = ((can.bytes, can.reads), tt)
+  can_read (promote design) can = ((can.bytes, can.reads), tt)
   can_read (weave design json steps list) can = does_read (weave design json steps list) (Ok can.0) can.1
 
   -- of one file
@@ -101,7 +98,8 @@ module _ (holds : List ℕ → Option (List ℕ)) where
       (λ text. of_one (λ bytes. Simulates text bytes budget (Ok answer)) (λ bytes. Simulates text bytes budget (Err stop)) DATA_BYTES json
       (λ bytes p q. no_stop text bytes budget answer stop p q)) h k
   does_once (trial seed) answer stop h k = tries_once seed answer stop h k
-  does_once (share design) answer stop h k = of_one (λ text. Shares text (Ok answer)) (λ text. Shares text (Err stop)) DESIGN_BYTES design (λ text. shares_once text answer stop) h k
+  does_once (share design) answer stop h k = of_one (λ text. Shares text (Ok answer)) (λ text. Shares text (Err stop)) DESIGN_BYTES design (λ text. rewrites_once IsSharedTree text answer stop) h k
+  does_once (promote design) answer stop h k = of_one (λ text. Promotes text (Ok answer)) (λ text. Promotes text (Err stop)) DESIGN_BYTES design (λ text. rewrites_once PromotesTree text answer stop) h k
   does_once (weave design json steps list) answer stop h k =
       of_one (λ text. OfFile (Some holds) DATA_BYTES json (λ bytes. Weaves text bytes steps (numbers_in list) (Ok answer))) (λ text. OfFile (Some holds) DATA_BYTES json (λ bytes. Weaves text bytes steps (numbers_in list) (Err stop)))
       DESIGN_BYTES design
@@ -115,7 +113,8 @@ module _ (holds : List ℕ → Option (List ℕ)) where
   can_once (check design) stop can k = does_once (check design) can.0 stop can.1 k
   can_once (sim verilog json budget) stop can k = does_once (sim verilog json budget) can.0 stop can.1 k
   can_once (trial seed) stop can k = does_once (trial seed) can.0 stop can.1 k
-  can_once (share design) stop can k = of_one IsAcceptedText (λ text. Shares text (Err stop)) DESIGN_BYTES design (λ text. accepted_shares text stop) can k
+  can_once (share design) stop can k = of_one IsAcceptedText (λ text. Shares text (Err stop)) DESIGN_BYTES design (λ text. accepted_rewrites IsSharedTree text stop) can k
+  can_once (promote design) stop can k = of_one IsAcceptedText (λ text. Promotes text (Err stop)) DESIGN_BYTES design (λ text. accepted_rewrites PromotesTree text stop) can k
   can_once (weave design json steps list) stop can k = does_once (weave design json steps list) can.0 stop can.1 k
 
   -- nothing but want of memory is told of files that give an answer
@@ -141,7 +140,8 @@ module _ (holds : List ℕ → Option (List ℕ)) where
       let own = subst (λ t. Simulates t h.is.bytes budget (Err a)) text h.is.is in
       simulated_status k.bytes k.is.bytes budget a b (subst (λ d. Simulates k.bytes d budget (Err a)) loaded own) k.is.is
   same_status (trial seed) a b h k = tried_status seed a b h k
-  same_status (share design) a b h k = shares_status h.bytes k.bytes a b h.is k.is
+  same_status (share design) a b h k = rewrites_status IsSharedTree h.bytes k.bytes a b h.is k.is
+  same_status (promote design) a b h k = rewrites_status PromotesTree h.bytes k.bytes a b h.is k.is
   same_status (weave design json steps list) a b h k =
       let text = same_bytes holds DESIGN_BYTES DESIGN_BYTES design h.bytes k.bytes h.reads k.reads in
       let loaded = same_bytes holds DATA_BYTES DATA_BYTES json h.is.bytes k.is.bytes h.is.reads k.is.reads in
@@ -179,6 +179,8 @@ module _ (P R : Asked → Held → Type 0) (p_any : OfAnyTrial P) (r_any : OfAny
   told_some (sim verilog json budget) (Some holds) so own = (holds, so, own)
   told_some (share design) None so own = absurd so
   told_some (share design) (Some holds) so own = (holds, so, own)
+  told_some (promote design) None so own = absurd so
+  told_some (promote design) (Some holds) so own = (holds, so, own)
   told_some (weave design json steps list) None so own = absurd so
   told_some (weave design json steps list) (Some holds) so own = (holds, so, own)
 

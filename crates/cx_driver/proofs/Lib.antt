@@ -3,7 +3,7 @@ pub mod InterpLemmas
 pub mod FaultLemmas
 pub mod RanLemmas
 pub mod SimLemmas
-pub mod SharingLemmas
+pub mod RewritingLemmas
 pub mod CauseLemmas
 pub mod CompleteLemmas
 pub mod FileLemmas
@@ -16,3 +16,4 @@ pub mod OrderLemmas
 pub mod TrialDepth
 pub mod FilePromise
 pub mod AlikeLemmas
+pub mod NoLaterLemmas

@@ -2,7 +2,10 @@ pub mod Loads
 pub mod Weaving
 pub mod Leaving
 pub mod Tried
+pub mod Rewriting
 pub mod Sharing
+pub mod Promoting
 pub mod Alike
+pub mod NoLater
 pub mod Outcomes
 pub mod Causes

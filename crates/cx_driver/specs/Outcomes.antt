@@ -2,13 +2,14 @@
 use Rattle.std.specs.Prelude.{◌≡◌, ◌⊎◌, ℕ, List, Option, Some, Result, Ok, Err, IsSomeAnd, codes}
 use Rattle.cx_text.specs.declared.diagnostics.Diagnostic.{Diagnostic}
 use Rattle.cx_text.specs.declared.limits.TheConstants.{DESIGN_BYTES, DATA_BYTES, VERILOG_BYTES}
-use Rattle.cx_commands.specs.Commands.{Asked, compile, interp, check, sim, trial, share, weave, Asks}
+use Rattle.cx_commands.specs.Commands.{Asked, compile, interp, check, sim, trial, share, promote, weave, Asks}
 use Rattle.cx_commands.specs.Reads.{OfFile}
 use Rattle.cx_compiler.specs.Texts.{IsAcceptedText, TextBreak}
 use Rattle.cx_compiler.specs.Compiled.{IsCompilable, Compiles}
 use Rattle.cx_compiler.specs.Interpreted.{Interprets}
 use Rattle.cx_compiler.specs.Simulated.{Simulates}
 use Rattle.cx_driver.specs.Tried.{Tries}
+use Rattle.cx_driver.specs.Promoting.{Promotes}
 use Rattle.cx_driver.specs.Sharing.{Shares}
 use Rattle.cx_driver.specs.Weaving.{Weaves}
 use Rattle.cx_commands.specs.Lists.{numbers_in}
@@ -31,6 +32,7 @@ Does held (sim verilog json budget) result =
     OfFile held VERILOG_BYTES verilog (λ text. OfFile held DATA_BYTES json (λ bytes. Simulates text bytes budget result))
 Does held (trial seed) result = Tries seed result
 Does held (share design) result = OfFile held DESIGN_BYTES design (λ text. Shares text result)
+Does held (promote design) result = OfFile held DESIGN_BYTES design (λ text. Promotes text result)
 Does held (weave design json steps list) result =
     OfFile held DESIGN_BYTES design (λ text. OfFile held DATA_BYTES json (λ bytes. Weaves text bytes steps (numbers_in list) result))
 
@@ -46,7 +48,7 @@ IsAnswerTo held words answer = (command : Asked) × Asks words command × IsAnsw
 abbrev pub HasAnswer : Option (List ℕ → Option (List ℕ)) → Asked → Type 0
 HasAnswer held command = (answer : List ℕ) × IsAnswer held command answer
 
--- what the files hold can be answered: of compile, the text is accepted and its design is within the size; of share, it is accepted
+-- what the files hold can be answered: of compile, the text is accepted and its design is within the size; of share and promote, it is accepted
 abbrev pub CanAnswer : Option (List ℕ → Option (List ℕ)) → Asked → Type 0
 CanAnswer held (compile design) = OfFile held DESIGN_BYTES design IsCompilable
 CanAnswer held (interp design json budget) = HasAnswer held (interp design json budget)
@@ -54,6 +56,7 @@ CanAnswer held (check design) = HasAnswer held (check design)
 CanAnswer held (sim verilog json budget) = HasAnswer held (sim verilog json budget)
 CanAnswer held (trial seed) = HasAnswer held (trial seed)
 CanAnswer held (share design) = OfFile held DESIGN_BYTES design IsAcceptedText
+CanAnswer held (promote design) = OfFile held DESIGN_BYTES design IsAcceptedText
 CanAnswer held (weave design json steps list) = HasAnswer held (weave design json steps list)
 
 -- what the files hold stops the command
@@ -68,6 +71,7 @@ OfTold (check design) held P = IsSomeAnd held (λ holds. P (Some holds))
 OfTold (sim verilog json budget) held P = IsSomeAnd held (λ holds. P (Some holds))
 OfTold (trial seed) held P = P held
 OfTold (share design) held P = IsSomeAnd held (λ holds. P (Some holds))
+OfTold (promote design) held P = IsSomeAnd held (λ holds. P (Some holds))
 OfTold (weave design json steps list) held P = IsSomeAnd held (λ holds. P (Some holds))
 
 -- why it stops, unless memory is wanting

@@ -4,6 +4,7 @@
 mod faults;
 mod interpreting;
 mod memories;
+mod promoting;
 mod running;
 mod sharing;
 mod simulating;
@@ -12,6 +13,7 @@ mod weaving;
 
 pub use cx_commands::{Status, Stop};
 pub use interpreting::interp;
+pub use promoting::promote;
 pub use running::run;
 pub use sharing::share;
 pub use simulating::sim;

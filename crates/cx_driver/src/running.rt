@@ -10,6 +10,7 @@ ghost use Rattle.cx_commands.specs.Lists.{IsList};
 ghost use Rattle.cx_commands.specs.Messages.{line_of};
 ghost use Rattle.cx_compiler.specs.Promise.{KeepsOfFile};
 ghost use Rattle.cx_driver.specs.Alike.{AlikeOfFile};
+ghost use Rattle.cx_driver.specs.NoLater.{NoLaterOfFile};
 ghost use Rattle.cx_driver.specs.Outcomes.{CanAnswer, IsAnswer, IsAnswerTo, IsStopped, OfTold};
 ghost use Rattle.cx_commands.specs.Reads.{HoldsWithin, IsReadFault};
 ghost use Rattle.cx_commands.specs.declared.refusals.Refusal.{Refusal as RefusalValue};
@@ -20,6 +21,7 @@ ghost use Rattle.cx_driver.specs.Causes.{HasCause, IsMemory, IsOfFile, IsTold, I
 ghost use Rattle.cx_commands.specs.Statuses.{IsRefusing, ReceivesLine, fixed_line, status_of};
 
 use crate::interpreting::interp;
+use crate::promoting::promote;
 use crate::sharing::share;
 use crate::simulating::sim;
 use crate::trying::trial;
@@ -49,6 +51,10 @@ pub fn run<F: Files, O: Sink, E: Sink>(
     // What `share` wrote of a file is accepted, and interpreted as the file is.
     ensures shared { result ≡ statuses.Done → (file : List ℕ) → Asks words.now (asked.share file)
         → (answer : List ℕ) × AlikeOfFile (F.held files.old) file answer × (O.written out.new ≡ grown (O.written out.old) answer) }
+
+    // What `promote` wrote of a file is accepted, and interpreted no later than the file, with the same memories.
+    ensures promoted { result ≡ statuses.Done → (file : List ℕ) → Asks words.now (asked.promote file)
+        → (answer : List ℕ) × NoLaterOfFile (F.held files.old) file answer × (O.written out.new ≡ grown (O.written out.old) answer) }
 
     ensures words { (result ≡ statuses.Words) ↔ AsksNothing words.now }
     ensures read_fault { result ≡ statuses.ReadFault → (file : List ℕ) × IsFileOf words.now file
@@ -196,6 +202,7 @@ fn answer<'a, F: Files>(
         } => simulated(alloc, verilog, json, budget, files),
         Command::Trial { seed } => tried(alloc, seed),
         Command::Share { design } => shared(alloc, design, files),
+        Command::Promote { design } => promoted(alloc, design, files),
         Command::Weave {
             design,
             json,
@@ -324,6 +331,23 @@ fn shared<'a, F: Files>(
 {
     let text = read(alloc, files, design, DESIGN_BYTES)?;
     match share(alloc, &text) {
+        Ok(answer) => Ok(answer),
+        Err(why) => Err(Refusal::Stop(why)),
+    }
+}
+
+/// The answer of promotion on a file.
+fn promoted<'a, F: Files>(
+    alloc: Global,
+    design: &'a [u8],
+    files: &mut F,
+) -> Result<Vec<u8>, Refusal<'a>>
+    ensures answer { IfOk result (λ text. IsAnswer (F.held files.old) (asked.promote design.now) text.items) }
+    ensures cause { IfErr result (HasCause (asked.promote design.now) (F.held files.old) (F.faults files.old) (F.faults files.new)) }
+    ensures kept { F.held files.new ≡ F.held files.old }
+{
+    let text = read(alloc, files, design, DESIGN_BYTES)?;
+    match promote(alloc, &text) {
         Ok(answer) => Ok(answer),
         Err(why) => Err(Refusal::Stop(why)),
     }

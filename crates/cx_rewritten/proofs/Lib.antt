@@ -1,3 +1,9 @@
+mod LineLemmas
+mod OrderLemmas
 mod NamedOrder
 pub mod SharedLemmas
 pub mod AlikeLemmas
+mod PromotedCycles
+mod PromotedOrder
+mod PromotedPrintable
+pub mod PromotedLemmas

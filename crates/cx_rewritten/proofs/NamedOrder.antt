@@ -1,4 +1,4 @@
--- A tree with other names of cells keeps the order of its assignments and invokes, and is printable where the names are.
+-- A tree with other names of cells keeps the order of its assignments and invokes.
 use Rattle.std.proofs.Common.{◌≡◌, ℕ, List, [], ◌∷◌, ◌++◌, map, flat_map, Option, Some, None, option_map, refl, sym, ap, ◌∙◌}
 use Rattle.std.proofs.lemmas.List.{map-append}
 use Rattle.cx_text.specs.declared.places.Place.{Place}
@@ -6,12 +6,7 @@ use Rattle.cx_ast.specs.PlainTree as ast
 use Rattle.cx_ast.specs.PlainStatements as statements
 use Rattle.cx_copies.specs.Naming.{named_assign, named_wire, named_form, named_else, named_block, named_statements}
 use Rattle.cx_numbering.specs.DesignOf.{Invoke, invokes_in, invokes_else, invokes_of, invokes_all}
-use Rattle.cx_written.specs.Ordered.{wire_places, invoke_places, AreOf, none_left, one_kept}
-
--- all of a list are some of it
-pub all_of : (ps : List Place) → AreOf ps ps
-all_of [] = none_left
-all_of (p ∷ ps) = one_kept (all_of ps)
+use Rattle.cx_written.specs.Ordered.{wire_places, invoke_places}
 
 module _ (name : List ℕ → List ℕ) where
   -- WIRES

@@ -1,14 +1,11 @@
 -- THE SHARED TREE keeps the order of its tree, and the lines before it are comments.
-use Rattle.std.proofs.Common.{◌≡◌, ℕ, zero, suc, Bool, true, false, List, [], ◌∷◌, ◌++◌, codes, length, map, flat_map, option_map, refl, sym, ap, ◌∙◌, subst, if◌then◌else◌, arith, append_assoc}
+use Rattle.std.proofs.Common.{◌≡◌, ℕ, zero, suc, Bool, true, false, List, [], ◌∷◌, ◌++◌, codes, length, map, flat_map, option_map, refl, sym, ap, ◌∙◌, subst, if◌then◌else◌, append_assoc}
 use Rattle.std.specs.List.{AllByRecursion, list_all}
-use Rattle.std.proofs.lemmas.Bool.Decides.{nat_tests}
-use Rattle.cx_text.proofs.BoolLaws.{and_true, and_left, and_right, or_left}
 use Rattle.cx_ast.specs.PlainTree as ast
-use Rattle.cx_lex.specs.Bytes.{is_name_start, is_digit, is_name_byte, is_in_line}
+use Rattle.cx_lex.specs.Bytes.{is_in_line}
 use Rattle.cx_meaning.specs.Designs.{PlainCell, PlainComponent}
 use Rattle.cx_rules.specs.Ports.{cell_name}
 use Rattle.cx_numbering.specs.DesignOf.{plain_cell_of, component_of, design_of}
-use Rattle.cx_print.specs.Layout.{IsWritableWord}
 use Rattle.cx_print.proofs.FileGiven.{tree_of_text}
 use Rattle.cx_print.specs.Printable.{IsName, IsCell, IsComponent, IsPrintable}
 use Rattle.cx_sharing.specs.declared.rows.SharedRow.{SharedRow}
@@ -18,12 +15,14 @@ use Rattle.cx_sharing.specs.SharedRows.{row_of, rows_from, rows_of, shared_rows}
 use Rattle.cx_shared_trees.proofs.PrintableShared.{printable-shared}
 use Rattle.cx_copies.specs.Naming.{named_block}
 use Rattle.cx_written.specs.Ordered.{wire_places, invoke_places, places_in, AreOf, StandAs, KeepsOrder}
-use Rattle.cx_written.specs.Comments.{AreComments, no_line, a_line}
+use Rattle.cx_written.specs.Comments.{AreComments}
 use Rattle.cx_written.specs.Written.{IsReadAs}
 use Rattle.cx_written.proofs.ReadLemmas.{written_read}
 use Rattle.cx_rewritten.specs.Sources.{IsTreeOfText}
 use Rattle.cx_rewritten.specs.SharedTexts.{row_line, lines, IsSharedText}
-use Rattle.cx_rewritten.proofs.NamedOrder.{all_of, wires-named, control-named}
+use Rattle.cx_rewritten.proofs.LineLemmas.{word_in_line, joined_in_line, IsComment, comments_of, all_joined}
+use Rattle.cx_rewritten.proofs.OrderLemmas.{all_of, stand_themselves}
+use Rattle.cx_rewritten.proofs.NamedOrder.{wires-named, control-named}
 
 -- ORDER
 part_order : (part : PlainComponent) (item : ast.PlainComponent) → places_in (shared_component part item) ≡ places_in item
@@ -34,10 +33,6 @@ part_order part item =
 stand_as : (parts : List PlainComponent) (items : List ast.PlainComponent) → StandAs (shared_components parts items) items
 stand_as parts [] = tt
 stand_as [] (item ∷ items) = (all_of (places_in item), stand_themselves items)
-  where
-    stand_themselves : (items : List ast.PlainComponent) → StandAs items items
-    stand_themselves [] = tt
-    stand_themselves (item ∷ items) = (all_of (places_in item), stand_themselves items)
 stand_as (part ∷ parts) (item ∷ items) = (subst (λ ps. AreOf ps (places_in item)) (sym (part_order part item)) (all_of (places_in item)), stand_as parts items)
 
 pub shared_keeps_order : (tree : ast.PlainTree) → KeepsOrder tree (shared_tree tree)
@@ -55,21 +50,6 @@ cells_named tree item h = by item.cells h
     by (cell ∷ cells) k = (k.0.1, by cells k.1)
 
 -- COMMENTS: no name ends a line
-in_line : (b : ℕ) → is_name_byte b ≡ true → is_in_line b ≡ true
-in_line b h = grind (arith, nat_tests)
-
-all_in_line : (bs : List ℕ) → list_all is_name_byte bs ≡ true → list_all is_in_line bs ≡ true
-all_in_line [] h = refl
-all_in_line (b ∷ bs) h = and_true (is_in_line b) (list_all is_in_line bs) (in_line b (and_left (is_name_byte b) (list_all is_name_byte bs) h)) (all_in_line bs (and_right (is_name_byte b) (list_all is_name_byte bs) h))
-
-word_in_line : (bs : List ℕ) → IsWritableWord bs → list_all is_in_line bs ≡ true
-word_in_line [] h = refl
-word_in_line (b ∷ bs) h = and_true (is_in_line b) (list_all is_in_line bs) (in_line b (or_left (is_name_start b) (is_digit b) h.0)) (all_in_line bs h.1)
-
-both_in_line : (xs ys : List ℕ) → list_all is_in_line xs ≡ true → list_all is_in_line ys ≡ true → list_all is_in_line (xs ++ ys) ≡ true
-both_in_line [] ys h k = k
-both_in_line (x ∷ xs) ys h k = and_true (is_in_line x) (list_all is_in_line (xs ++ ys)) (and_left (is_in_line x) (list_all is_in_line xs) h) (both_in_line xs ys (and_right (is_in_line x) (list_all is_in_line xs) h) k)
-
 -- the words of a row stand on one line
 abbrev InLine : SharedRow → Type 0
 InLine row = (list_all is_in_line row.component ≡ true) × (list_all is_in_line row.cell ≡ true) × (list_all is_in_line row.kept ≡ true)
@@ -87,30 +67,21 @@ rows_in_line part name h c (suc more) = by (stays part c) (rows_in_line part nam
     by true k = k
     by false k = ((word_in_line part.name name.0, cell_in_line part.cells c h, cell_in_line part.cells (keeper part c) h), k)
 
-comments_of : (rows : List SharedRow) → AllByRecursion InLine rows → AreComments (lines rows)
-comments_of [] h = no_line
-comments_of (row ∷ rows) h =
-    let words : List ℕ = codes " shared" ++ (32 ∷ row.component) ++ (32 ∷ row.cell) ++ (32 ∷ row.kept) in
-    let body : list_all is_in_line words ≡ true =
-    both_in_line (codes " shared" ++ (32 ∷ row.component) ++ (32 ∷ row.cell)) (32 ∷ row.kept)
-    (both_in_line (codes " shared" ++ (32 ∷ row.component)) (32 ∷ row.cell) (both_in_line (codes " shared") (32 ∷ row.component) refl h.0.0) h.0.1) h.0.2 in
-    subst AreComments (spelled row (lines rows)) (a_line words (lines rows) body (comments_of rows h.1))
-  where
-    spelled : (row : SharedRow) (rest : List ℕ) → 47 ∷ 47 ∷ (codes " shared" ++ (32 ∷ row.component) ++ (32 ∷ row.cell) ++ (32 ∷ row.kept)) ++ 10 ∷ rest ≡ row_line row ++ rest
-    spelled row rest = simp append_assoc
+row_is_comment : (row : SharedRow) → InLine row → IsComment (row_line row)
+row_is_comment row h = record {
+  body = codes " shared" ++ (32 ∷ row.component) ++ (32 ∷ row.cell) ++ (32 ∷ row.kept);
+  in_line = joined_in_line _ (32 ∷ row.kept) (joined_in_line _ (32 ∷ row.cell) (joined_in_line (codes " shared") (32 ∷ row.component) refl h.0.0) h.0.1) h.0.2;
+  is = simp append_assoc;
+}
 
 parts_in_line : (tree : ast.PlainTree) (items : List ast.PlainComponent) → AllByRecursion IsComponent items → AllByRecursion InLine (flat_map rows_of (map (component_of tree) items))
 parts_in_line tree [] h = tt
 parts_in_line tree (item ∷ items) h =
-    joined (rows_of (component_of tree item)) (flat_map rows_of (map (component_of tree) items))
+    all_joined InLine (rows_of (component_of tree item)) (flat_map rows_of (map (component_of tree) items))
     (rows_in_line (component_of tree item) h.0.name (cells_named tree item h.0.cells) 0 (length (component_of tree item).cells)) (parts_in_line tree items h.1)
-  where
-    joined : (xs ys : List SharedRow) → AllByRecursion InLine xs → AllByRecursion InLine ys → AllByRecursion InLine (xs ++ ys)
-    joined [] ys k l = l
-    joined (x ∷ xs) ys k l = (k.0, joined xs ys k.1 l)
 
 pub lines_are_comments : (tree : ast.PlainTree) → IsPrintable tree → AreComments (lines (shared_rows tree))
-lines_are_comments tree h = comments_of (shared_rows tree) (parts_in_line tree tree.components h.components)
+lines_are_comments tree h = comments_of row_line InLine row_is_comment (shared_rows tree) (parts_in_line tree tree.components h.components)
 
 -- WHAT IS WRITTEN is read as the shared tree
 pub shared_read : (tree : ast.PlainTree) (written : List ℕ) → IsTreeOfText tree → IsSharedText tree written → IsReadAs (shared_tree tree) written

@@ -3,6 +3,8 @@
 
 pub mod laws;
 mod lines;
+mod promoting;
 mod sharing;
 
+pub use promoting::promote_text;
 pub use sharing::share_text;

@@ -9,6 +9,7 @@ use Rattle.cx_driver.proofs.CompleteLemmas.{complete_asked, stopped_asked}
 use Rattle.cx_driver.proofs.FileLemmas.{file_asked}
 use Rattle.cx_driver.proofs.AlikeLemmas.{shared_of_file}
 use Rattle.cx_driver.proofs.FilePromise.{kept_of_file}
+use Rattle.cx_driver.proofs.NoLaterLemmas.{promoted_of_file}
 use Rattle.cx_driver.proofs.running.run.Goals as goal
 
 pub returns-in-Some-clause-done : goal.returns-in-Some-clause-done
@@ -25,6 +26,12 @@ returns-in-Some-clause-shared g c = λ e file asks.
     let d = c.obey.ensures.done e in
     let own = asked_of c.in-Some.command in
     (d.0, shared_of_file (g.F.Files.held c.args.files.now) file d.0 own (one_command c.args.words.now (asked.share file) own asks c.in-Some.ensures) d.1, d.2)
+
+pub returns-in-Some-clause-promoted : goal.returns-in-Some-clause-promoted
+returns-in-Some-clause-promoted g c = λ e file asks.
+    let d = c.obey.ensures.done e in
+    let own = asked_of c.in-Some.command in
+    (d.0, promoted_of_file (g.F.Files.held c.args.files.now) file d.0 own (one_command c.args.words.now (asked.promote file) own asks c.in-Some.ensures) d.1, d.2)
 
 pub returns-in-Some-clause-part : goal.returns-in-Some-clause-part
 returns-in-Some-clause-part g c = λ e. let d = c.obey.ensures.part e in (d.0, (asked_of c.in-Some.command, c.in-Some.ensures, d.1), d.2)

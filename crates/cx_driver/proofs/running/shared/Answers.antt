@@ -3,9 +3,9 @@ use Rattle.std.proofs.lemmas.Result.{err_from_is_err_and}
 use Rattle.cx_text.specs.declared.limits.TheConstants.{DESIGN_BYTES}
 use Rattle.cx_commands.specs.Commands.{Wanted, share}
 use Rattle.cx_compiler.specs.Texts.{IsTextRefusal}
-use Rattle.cx_driver.specs.Sharing.{IsShared}
+use Rattle.cx_driver.specs.Sharing.{IsShared, IsSharedTree}
 use Rattle.cx_driver.proofs.ReadLemmas.{first_read}
-use Rattle.cx_driver.proofs.SharingLemmas.{refused_share}
+use Rattle.cx_driver.proofs.RewritingLemmas.{refused_file}
 use Rattle.cx_driver.proofs.running.shared.Goals as goal
 
 pub returns-in_err-text-clause-cause : goal.returns-in_err-text-clause-cause
@@ -23,4 +23,4 @@ returns-in-Ok-clause-answer g c = record {
 
 pub returns-clause-cause : goal.returns-clause-cause
 returns-clause-cause g c =
-    refused_share (g.F.Files.held c.args.files.now) c.args.design.now c.in_ok-text.text.items c.in-Err.why c.in_ok-text.ensures.held (subst (λ t. IsTextRefusal t c.in-Err.why) c.deref.ensures.value c.in-Err.ensures.cause)
+    refused_file IsSharedTree (g.F.Files.held c.args.files.now) c.args.design.now c.in_ok-text.text.items c.in-Err.why c.in_ok-text.ensures.held (subst (λ t. IsTextRefusal t c.in-Err.why) c.deref.ensures.value c.in-Err.ensures.cause)

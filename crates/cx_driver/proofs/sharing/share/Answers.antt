@@ -1,6 +1,7 @@
 use Rattle.cx_ast.specs.PlainTree.{plain_tree}
 use Rattle.cx_compiler.proofs.TextLemmas.{accepted_stop, no_tree_refused, text_stop, tree_refused}
-use Rattle.cx_driver.proofs.SharingLemmas.{all_shared, all_told, tree_shared}
+use Rattle.cx_driver.specs.Sharing.{IsSharedTree}
+use Rattle.cx_driver.proofs.RewritingLemmas.{all_rewritten, all_told, tree_rewritten}
 use Rattle.cx_driver.proofs.sharing.share.Goals as goal
 
 pub share_tree-requires : goal.share_tree-requires
@@ -10,13 +11,13 @@ pub returns-in-Ok : goal.returns-in-Ok
 returns-in-Ok c =
     let text = c.args.text.now in
     let r = c.share_tree.result in
-    let answer = tree_shared (λ v. v.items) text (plain_tree c.in-Ok.tree) r c.in-Ok.ensures.tree c.share_tree.ensures.accepted c.share_tree.ensures.shared in
+    let answer = tree_rewritten IsSharedTree (λ v. v.items) text (plain_tree c.in-Ok.tree) r c.in-Ok.ensures.tree c.share_tree.ensures.accepted c.share_tree.ensures.shared in
     let cause = tree_refused text (plain_tree c.in-Ok.tree) r c.in-Ok.ensures.tree c.share_tree.ensures.cause in
     record {
       answer = answer;
       cause = cause;
-      all_answers = λ is. all_shared (λ v. v.items) text r cause is;
-      all_refusals = λ told b. all_told (λ v. v.items) text r answer cause told b;
+      all_answers = λ is. all_rewritten text r cause is;
+      all_refusals = λ told b. all_told IsSharedTree (λ v. v.items) text r answer cause told b;
     }
 
 pub returns-in-Err-clause-all_answers : goal.returns-in-Err-clause-all_answers
