@@ -79,7 +79,7 @@ list_joined : (done later : PlainStatements) → list_of (joined done later) ≡
 list_joined no_statements later = refl
 list_joined (a_statement s ss) later = ap (λ list. s ∷ list) (list_joined ss later)
 
-counted_kind : (cells : Cells) (g : PlainGroup) → is_counted cells g ≡ true → is_comb g.kind ≡ false
+pub counted_kind : (cells : Cells) (g : PlainGroup) → is_counted cells g ≡ true → is_comb g.kind ≡ false
 counted_kind cells g e = by g.kind (and_parts (has_name g.name) (is_counted_kind cells g.assigns g.kind) e).1
   where
     by : (kind : GroupKind) → is_counted_kind cells g.assigns kind ≡ true → is_comb kind ≡ false

@@ -36,6 +36,9 @@ pub mod CircleLemmas
 pub mod SightLemmas
 pub mod RowLemmas
 pub mod AcyclicLemmas
+pub mod PartTable
+pub mod PortsKept
+pub mod ShapesKept
 pub mod CounterLooks
 pub mod GrownCycles
 pub mod SeenOutputs
