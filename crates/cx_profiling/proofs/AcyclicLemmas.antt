@@ -273,7 +273,7 @@ module _ (d : PlainDesign) (design : IsDesign d) (m k : ℕ) (at : InTree d (suc
   none_mentions p q e l = let r : Mentions [] q = subst (λ acts. Mentions acts q) e l in r.1
 
   -- ALL PORTS, where those of further cells, of new outputs and of new holes are known
-  all_known : ((c p : ℕ) → length node.cells + 2 * length (counters (component_of d k)) ≤ c → IsKnown d design m k at.within act (ports.Cell c p))
+  pub all_known : ((c p : ℕ) → length node.cells + 2 * length (counters (component_of d k)) ≤ c → IsKnown d design m k at.within act (ports.Cell c p))
       → ((n : ℕ) → length node.outputs ≤ n → IsKnown d design m k at.within act (ports.Output n))
       → ((g : ℕ) → length node.groups ≤ g → IsKnown d design m k at.within act (ports.Done g)) → (p : PortRef) → IsKnown d design m k at.within act p
   all_known cells outs dones (ports.Cell c p) =
@@ -313,56 +313,3 @@ module _ (d : PlainDesign) (design : IsDesign d) (m k : ℕ) (at : InTree d (suc
   child_acyclic names is acyclic =
       acyclic_grown d design m k at.within act acyclic
       (all_known (cells_end names is) (outputs_end names is) (λ g past. ending 0 (λ q l. none_mentions (ports.Done g) q (child_silent d design k at.within act names is (ports.Done g) past tt tt) l)))
-
-  -- OF MAIN, under groups of the design
-  module _ (names : List (List ℕ)) (is : other ≡ main_component d k names) (acts : ActsWithin node act) (count address : ℕ)
-      (memory : cell_at (cells_of j) (length node.cells + 2 * length (counters (component_of d k))) ≡ OfRow (memory_row 64 (count ∷ []) (address ∷ []))) where
-    abbrev place_of_memory : ℕ
-    place_of_memory = length node.cells + 2 * length (counters (component_of d k))
-
-    memory_silent : (c p : ℕ) → place_of_memory ≤ c → drivers other act (ports.Cell c p) ≡ []
-    memory_silent c p past = main_silent d design k at.within act names is acts (ports.Cell c p) (omega (arith, past)) (inr past)
-
-    address_ends : Ends j act 0 (ports.Cell place_of_memory 0)
-    address_ends q l = none_mentions (ports.Cell place_of_memory 0) q (memory_silent place_of_memory 0 (omega arith)) (subst (λ x. CellLeads other act place_of_memory 0 x q) memory l)
-
-    read_ends : Ends j act 1 (ports.Cell place_of_memory 3)
-    read_ends q l = by (subst (λ x. CellLeads other act place_of_memory 3 x q) memory l)
-      where
-        by : SideLeads other act (memory_row 64 (count ∷ []) (address ∷ [])) place_of_memory 3 sides.Output q → Ends j act 0 q
-        by (zero, reads, e) = subst (Ends j act 0) e address_ends
-        by (suc p, reads, e) = absurd (let few : suc p < 1 = ltb-true (suc p) 1 reads in omega (arith, few))
-
-    memory_known : (p : ℕ) → IsKnown d design m k at.within act (ports.Cell place_of_memory p)
-    memory_known zero = ending 0 address_ends
-    memory_known (suc zero) = ending 0 (λ q l. none_mentions (ports.Cell place_of_memory 1) q (memory_silent place_of_memory 1 (omega arith)) (subst (λ x. CellLeads other act place_of_memory 1 x q) memory l))
-    memory_known (suc (suc zero)) = ending 0 (λ q l. none_mentions (ports.Cell place_of_memory 2) q (memory_silent place_of_memory 2 (omega arith)) (subst (λ x. CellLeads other act place_of_memory 2 x q) memory l))
-    memory_known (suc (suc (suc zero))) = ending 1 read_ends
-    memory_known (suc (suc (suc (suc zero)))) = ending 0 (λ q l. subst (λ x. CellLeads other act place_of_memory 4 x q) memory l)
-    memory_known (suc (suc (suc (suc (suc p))))) = ending 0 (λ q l. subst (λ x. CellLeads other act place_of_memory (suc (suc (suc (suc (suc p))))) x q) memory l)
-
-    main_cells : (c p : ℕ) → place_of_memory ≤ c → IsKnown d design m k at.within act (ports.Cell c p)
-    main_cells c p past =
-        ⊎_elim
-        (λ (e : c ≡ place_of_memory). subst (λ n. IsKnown d design m k at.within act (ports.Cell n p)) (sym e) (memory_known p))
-        (λ differ.
-        let size : length other.cells ≡ suc place_of_memory = main_size in
-        let far : length other.cells ≤ c = omega (arith, past, size, differ) in
-        ending 0 (λ q l. subst (λ x. CellLeads other act c p x q) (at_none (tree_within (with_counts d) m) other.cells c (slice_get_past other.cells c far)) l))
-        (cases_eq c place_of_memory)
-      where
-        main_size : length other.cells ≡ suc place_of_memory
-        main_size =
-            let counters_are : length (counter_cells node.place names 0 (length (counters (component_of d k)))) ≡ 2 * length (counters (component_of d k)) = counter_cells-length node.place names 0 (length (counters (component_of d k))) in
-            let last = memory_cell node.place (name_at names (2 * length (counters (component_of d k)))) (length (shown_in (component_of d k))) ∷ [] in
-            let whole : length other.cells ≡ length node.cells + length (counter_cells node.place names 0 (length (counters (component_of d k))) ++ last) =
-            ap (λ x. length x.cells) is ∙ length-append node.cells (counter_cells node.place names 0 (length (counters (component_of d k))) ++ last) in
-            let behind_node : length (counter_cells node.place names 0 (length (counters (component_of d k))) ++ last) ≡ length (counter_cells node.place names 0 (length (counters (component_of d k)))) + 1 =
-            length-append (counter_cells node.place names 0 (length (counters (component_of d k)))) last in
-            omega (arith, whole, behind_node, counters_are)
-
-    pub main_acyclic : IsAcyclic (tree_within d (suc m) k) act → IsAcyclic j act
-    main_acyclic acyclic =
-        acyclic_grown d design m k at.within act acyclic
-        (all_known main_cells (λ n past. ending 0 (λ q l. none_mentions (ports.Output n) q (main_silent d design k at.within act names is acts (ports.Output n) past tt) l))
-        (λ g past. ending 0 (λ q l. none_mentions (ports.Done g) q (main_silent d design k at.within act names is acts (ports.Done g) past tt) l)))

@@ -39,6 +39,9 @@ pub mod AcyclicLemmas
 pub mod PartTable
 pub mod PortsKept
 pub mod ShapesKept
+pub mod MovedCalls
+pub mod CallsKept
+pub mod CirclesKept
 pub mod CounterLooks
 pub mod GrownCycles
 pub mod SeenOutputs

@@ -41,7 +41,8 @@ use Rattle.cx_profiling.specs.Instrumented.{moved_in, store_enables, address_wid
 use Rattle.cx_profiling.specs.RunsAlike.{Owes}
 use Rattle.cx_profiling.proofs.GrownLemmas.{grown_numbers}
 use Rattle.cx_profiling.proofs.GrownTrees.{InTree, in_reach}
-use Rattle.cx_profiling.proofs.AcyclicLemmas.{ActsWithin, main_acyclic, main_silent}
+use Rattle.cx_profiling.proofs.AcyclicLemmas.{ActsWithin, main_silent}
+use Rattle.cx_profiling.proofs.CirclesKept.{main_acyclic}
 use Rattle.cx_profiling.proofs.GroupLemmas.{behind_undriven}
 use Rattle.cx_profiling.proofs.ArmLemmas.{moved_groups, all_forms, no_cell}
 use Rattle.cx_profiling.proofs.EnabledLemmas.{Known, statement_known}
@@ -185,7 +186,7 @@ module _ (d : PlainDesign) (design : IsDesign d) (accepted : IsAccepted d) (grow
   old_control : Carries Exact (Grown i) (λ f. f) (count_control i unheld) (run_control i unheld) (run M (moved_statement (λ p. moved_in d node p) node.control))
   old_control =
       control_carries d design accepted grown_accepted m k at
-      (λ act acts acyclic. main_acyclic d design m k at act names is acts size (address_width size) at_memory acyclic) memory_rests (child_control d design accepted grown_accepted m) unheld unheld (λ n less. refl)
+      (λ act acts acyclic. main_acyclic d design m k at act names is size (address_width size) at_memory acyclic) memory_rests (child_control d design accepted grown_accepted m) unheld unheld (λ n less. refl)
 
   -- which drives no cell behind the counters
   control_spares : drives other (moved_statement (λ p. moved_in d node p) node.control) memory ≡ false

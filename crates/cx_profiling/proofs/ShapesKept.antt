@@ -134,7 +134,7 @@ module _ (d : PlainDesign) (design : IsDesign d) (accepted : IsAccepted d) (m k 
   abbrev mv : PortRef → PortRef
   mv p = moved_in d part p
 
-  i_is : component_of d k ≡ i
+  pub i_is : component_of d k ≡ i
   i_is = ap (λ n. tree_within d n k) count
 
   pub j_is : component_of (with_counts d) k ≡ j
