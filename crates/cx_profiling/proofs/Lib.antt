@@ -42,6 +42,7 @@ pub mod ShapesKept
 pub mod MovedCalls
 pub mod CallsKept
 pub mod CirclesKept
+pub mod RacesKept
 pub mod CounterLooks
 pub mod GrownCycles
 pub mod SeenOutputs
@@ -60,3 +61,4 @@ pub mod StoreLemmas
 pub mod StartsGrown
 pub mod MainLemmas
 pub mod AlikeLemmas
+pub mod AcceptedStages

@@ -166,11 +166,11 @@ module _ (d : PlainDesign) (design : IsDesign d) (accepted : IsAccepted d) (grow
 
   -- UNDER GROUPS OF THE DESIGN the memory rests
   at_memory : cell_at (cells_of j) memory ≡ OfRow (memory_row 64 (size ∷ []) (address_width size ∷ []))
-  at_memory = memory_at d k at.within names is grown_accepted m some
+  at_memory = memory_at d k at.within names is grown_accepted.limits m some
 
   memory_rests : (act : Active) → ActsWithin node act → IsAcyclic j act → (twin : Held) (t : State) (e : ℕ) → memory ≤ e → e < length other.cells → (after : CellState) × (comes_to j twin act t e ≡ Next after)
   memory_rests act acts acyclic twin t e past less =
-      let total : length other.cells ≡ suc memory = cells_total d k at.within names is grown_accepted in
+      let total : length other.cells ≡ suc memory = cells_total d k at.within names is grown_accepted.limits in
       let same : memory ≡ e = omega (arith, past, less, total) in
       subst (λ c. (after : CellState) × (comes_to j twin act t c ≡ Next after)) same (
         row.idle (t (memory ∷ [])),

@@ -366,7 +366,7 @@ module _ (d : PlainDesign) (design : IsDesign d) (accepted : IsAccepted d) (m k 
       by (no_group_there past gone e) = omega (arith, gone, there)
 
   -- STATEMENTS
-  no_visited : (rule : StatementRule) → ((v : Visited) (place : Place) (name : List ℕ) → IsNewStatement d design k within v → rule j v place name → ⊥)
+  pub no_visited : (rule : StatementRule) → ((v : Visited) (place : Place) (name : List ℕ) → IsNewStatement d design k within v → rule j v place name → ⊥)
       → ((w : Visited) → In (statements_in part) w → (place : Place) (name : List ℕ) → rule j (moved_visited mv w) place name → ⊥)
       → (v : Visited) → In (statements_in other) v → (place : Place) (name : List ℕ) → rule j v place name → ⊥
   no_visited rule new old v inside place name breaks = by (statement_made d design k within v inside)
