@@ -36,6 +36,13 @@ pub mod CircleLemmas
 pub mod SightLemmas
 pub mod RowLemmas
 pub mod AcyclicLemmas
+pub mod PartTable
+pub mod PortsKept
+pub mod ShapesKept
+pub mod MovedCalls
+pub mod CallsKept
+pub mod CirclesKept
+pub mod RacesKept
 pub mod CounterLooks
 pub mod GrownCycles
 pub mod SeenOutputs
@@ -54,3 +61,4 @@ pub mod StoreLemmas
 pub mod StartsGrown
 pub mod MainLemmas
 pub mod AlikeLemmas
+pub mod AcceptedStages
