@@ -1,0 +1,4 @@
+mod BareIslands
+pub mod BareRuns
+pub mod KnownInvokes
+pub mod KnownNested
