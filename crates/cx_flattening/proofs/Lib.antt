@@ -1,4 +1,5 @@
 mod BareIslands
-pub mod BareRuns
+mod BareRuns
+mod BareDesigns
 pub mod KnownInvokes
 pub mod KnownNested
