@@ -1,8 +1,9 @@
 -- THE FLAT DESIGN: the flat components that the flat main reaches, in their order.
 use Rattle.std.specs.Prelude.{ℕ, zero, suc, Bool, true, false, ◌||◌, nat_eq, List, [], ◌∷◌, Option, Some, None, length, map, is_some, if◌then◌else◌}
 use Rattle.cx_meaning.specs.Designs.{PlainKind, OfPrimitive, OfComponent, PlainCell, PlainComponent, PlainDesign, component_at}
+use Rattle.cx_rules.specs.Ports.{component_of}
 use Rattle.cx_flattening.specs.Copies.{count_if}
-use Rattle.cx_flattening.specs.Flattened.{flat_component}
+use Rattle.cx_flattening.specs.Flattened.{flat_part}
 
 -- one of the cells is of a component with this property
 abbrev pub kind_of : (ℕ → Bool) → PlainKind → Bool
@@ -14,21 +15,9 @@ any_of property [] = false
 any_of property (c ∷ cs) = kind_of property c.kind || any_of property cs
 
 module _ (d : PlainDesign) where
-  abbrev pub some_if : Bool → PlainComponent → Option PlainComponent
-  some_if true part = Some part
-  some_if false part = None
-
-  abbrev pub is_static_number : ℕ → Bool
-  is_static_number k = is_some (component_at d k).latency
-
-  -- component k flattened, with at most so many levels of static components below it
-  abbrev pub flat_within : ℕ → ℕ → PlainComponent
-  flat_within zero k = flat_component (λ j. None) (component_at d k)
-  flat_within (suc n) k = flat_component (λ j. some_if (is_static_number j) (flat_within n j)) (component_at d k)
-
-  -- no cell of a design leads back to its component, so there are no more levels than components
+  -- component k flattened, with what is below it
   abbrev pub flat_of : ℕ → PlainComponent
-  flat_of k = flat_within (length d.components) k
+  flat_of k = flat_part (component_of d k)
 
   -- component j is k, or has in its flat form a cell of one that leads to k, in at most so many steps
   abbrev pub leads_within : ℕ → ℕ → ℕ → Bool

@@ -6,3 +6,5 @@ pub mod Copies
 pub mod Flattened
 pub mod FlatDesign
 pub mod Told
+pub mod Acting
+pub mod Embedded
