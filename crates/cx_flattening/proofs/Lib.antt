@@ -3,3 +3,10 @@ mod BareRuns
 mod BareDesigns
 pub mod KnownInvokes
 pub mod KnownNested
+mod Sorting
+mod MovedDrivers
+mod CopiedAssigns
+mod FirstFaults
+mod Placing
+mod PortLemmas
+mod FlatAssigns

@@ -56,14 +56,14 @@ abbrev pub flat_cells : Kids → List PlainCell → List PlainCell
 flat_cells kids cs = kept kids cs ++ blocks kids cs
 
 -- where cell c stands, where it is kept; and where its block begins behind the cells that are kept
-abbrev pub kept_size : Option PlainComponent → ℕ
-kept_size None = 1
-kept_size (Some child) = 0
+abbrev pub behind : Option PlainComponent → ℕ → ℕ
+behind None n = suc n
+behind (Some child) n = n
 
 abbrev pub kept_at : Kids → ℕ → ℕ
 kept_at [] c = c
 kept_at (k ∷ ks) zero = 0
-kept_at (k ∷ ks) (suc c) = kept_size k + kept_at ks c
+kept_at (k ∷ ks) (suc c) = behind k (kept_at ks c)
 
 abbrev pub block_size : Option PlainComponent → ℕ
 block_size None = 0

@@ -8,3 +8,4 @@ pub mod FlatDesign
 pub mod Told
 pub mod Acting
 pub mod Embedded
+pub mod Targets
