@@ -10,3 +10,4 @@ mod FirstFaults
 mod Placing
 mod PortLemmas
 mod FlatAssigns
+mod FlatDrivers
