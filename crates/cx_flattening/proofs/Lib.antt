@@ -3,3 +3,4 @@ mod BareRuns
 mod BareDesigns
 pub mod KnownInvokes
 pub mod KnownNested
+mod FlatDesigns
