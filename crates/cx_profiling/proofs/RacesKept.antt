@@ -26,7 +26,7 @@ use Rattle.cx_laws.proofs.RaceLemmas.{unshared, not_twice}
 use Rattle.cx_laws.proofs.VisitLemmas.{visited}
 use Rattle.cx_rewrites.specs.Moving.{moved_port, moved_assign, moved_form, moved_statement}
 use Rattle.cx_rewrites.proofs.ReflectLemmas.{names_back}
-use Rattle.cx_sharing.proofs.MovedLists.{groups_of-moved, tests_of-moved, arms_of-moved, enabled_in-moved}
+use Rattle.cx_rewrites.proofs.MovedLists.{groups_of-moved, tests_of-moved, arms_of-moved, enabled_in-moved}
 use Rattle.cx_profiling.specs.Counters.{is_counted, counters, counters_from}
 use Rattle.cx_profiling.specs.Instrumented.{is_reached, moved_in, with_counts}
 use Rattle.cx_profiling.proofs.ArmLemmas.{driver_in, counted_kind}

@@ -33,7 +33,7 @@ use Rattle.cx_rewrites.specs.Driving.{assigns_of}
 use Rattle.cx_rewrites.specs.Moving.{moved_port, moved_assign, moved_owned, moved_form}
 use Rattle.cx_rewrites.proofs.IslandLemmas.{form_length-moved}
 use Rattle.cx_rewrites.proofs.ReflectLemmas.{names_back}
-use Rattle.cx_sharing.proofs.MovedLists.{ranges_of-moved, some_target-moved, is_static-moved, written_length-moved, may_stand-moved, form_has_length-moved}
+use Rattle.cx_rewrites.proofs.MovedLists.{ranges_of-moved, some_target-moved, is_static-moved, written_length-moved, may_stand-moved, form_has_length-moved}
 use Rattle.cx_profiling.specs.Counters.{counters, Shown, shown_in, entry_count}
 use Rattle.cx_profiling.specs.Instrumented.{is_reached, drive, counter_assigns, address_width, store_assigns, moved_in, moved_assigns, with_counts}
 use Rattle.cx_profiling.proofs.AcyclicLemmas.{shown_ends}
