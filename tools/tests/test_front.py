@@ -65,6 +65,13 @@ class Front(unittest.TestCase):
         self.assertEqual(common.calyx('run', f'{path}.futil', f'{path}.json', '--sim'), (0, common.example('swap.dump'), 'sim: the same line\n'))
         self.assertIn('error: this file could not be read', common.calyx('check', 'there_is_none.futil')[2])
 
+    def test_other_designs(self):
+        path = os.path.join(common.EXAMPLES, 'add_three')
+        with common.Folder() as folder:
+            for command, turns in (('share', 6), ('promote', 4)):
+                self.assertEqual(common.calyx(command, f'{path}.futil', '-o', 'other.futil', folder=folder), (0, '', ''))
+                self.assertIn(f'"cycles":{turns},', common.calyx('run', 'other.futil', f'{path}.json', folder=folder)[1])
+
     def test_no_colour_outside_a_terminal(self):
         with common.Folder(d__futil='component') as folder:
             self.assertNotIn('\x1b', common.calyx('check', 'd.futil', folder=folder)[2])

@@ -63,32 +63,38 @@ module _ (long : List ℕ → Bool) where
   closed_invokes (s ∷ []) later = then_invokes s later ∙ ap (λ ks. ks ++ invokes_all later) (sym (one_invokes s))
   closed_invokes (s ∷ t ∷ rest) later = refl
 
+  -- a statement is cut: the piece is full, has room, or ends
+  module _ (piece : List statements.PlainStatement) (count : ℕ) (s : statements.PlainStatement) (ss : statements.PlainStatements) where
+    abbrev begun : statements.PlainStatements
+    begun = cut long (s ∷ []) 1 ss
+
+    abbrev grown : statements.PlainStatements
+    grown = cut long (piece ++ s ∷ []) (suc count) ss
+
+    abbrev other : statements.PlainStatements
+    other = statements.StatementThen s (cut long [] 0 ss)
+
+    abbrev wanted : List Invoke
+    wanted = invokes_listed piece ++ (invokes_at s ++ invokes_all ss)
+
+    next_invokes : invokes_all begun ≡ invokes_listed (s ∷ []) ++ invokes_all ss → invokes_all grown ≡ invokes_listed (piece ++ s ∷ []) ++ invokes_all ss → invokes_all (cut long [] 0 ss) ≡ invokes_all ss
+        → (run full : Bool) → invokes_all (if run then (if full then close long piece begun else grown) else close long piece other) ≡ wanted
+    next_invokes is_begun is_grown is_other true true =
+        closed_invokes piece begun
+        ∙ ap (λ ks. invokes_listed piece ++ ks) (is_begun ∙ ap (λ ks. ks ++ invokes_all ss) (one_invokes s))
+    next_invokes is_begun is_grown is_other true false =
+        is_grown
+        ∙ ap (λ ks. ks ++ invokes_all ss) (more_invokes piece s)
+        ∙ append_assoc (invokes_listed piece) (invokes_at s) (invokes_all ss)
+    next_invokes is_begun is_grown is_other false full =
+        closed_invokes piece other
+        ∙ ap (λ ks. invokes_listed piece ++ ks) (then_invokes s (cut long [] 0 ss) ∙ ap (λ ks. invokes_at s ++ ks) is_other)
+
   cut_invokes : (piece : List statements.PlainStatement) (count : ℕ) (ss : statements.PlainStatements) → invokes_all (cut long piece count ss) ≡ invokes_listed piece ++ invokes_all ss
   cut_invokes piece count statements.NoStatements = closed_invokes piece statements.NoStatements
-  cut_invokes piece count (statements.StatementThen s ss) = by (is_run long s) (nat_eq count PIECE) ∙ ap (λ ks. invokes_listed piece ++ ks) (sym (then_invokes s ss))
-    where
-      full : invokes_all (close long piece (cut long (s ∷ []) 1 ss)) ≡ invokes_listed piece ++ (invokes_at s ++ invokes_all ss)
-      full =
-          closed_invokes piece (cut long (s ∷ []) 1 ss)
-          ∙ ap (λ ks. invokes_listed piece ++ ks) (cut_invokes (s ∷ []) 1 ss ∙ ap (λ ks. ks ++ invokes_all ss) (one_invokes s))
-
-      room : invokes_all (cut long (piece ++ s ∷ []) (suc count) ss) ≡ invokes_listed piece ++ (invokes_at s ++ invokes_all ss)
-      room =
-          cut_invokes (piece ++ s ∷ []) (suc count) ss
-          ∙ ap (λ ks. ks ++ invokes_all ss) (more_invokes piece s)
-          ∙ append_assoc (invokes_listed piece) (invokes_at s) (invokes_all ss)
-
-      other : invokes_all (close long piece (statements.StatementThen s (cut long [] 0 ss))) ≡ invokes_listed piece ++ (invokes_at s ++ invokes_all ss)
-      other =
-          closed_invokes piece (statements.StatementThen s (cut long [] 0 ss))
-          ∙ ap (λ ks. invokes_listed piece ++ ks) (then_invokes s (cut long [] 0 ss) ∙ ap (λ ks. invokes_at s ++ ks) (cut_invokes [] 0 ss))
-
-      by : (run is_full : Bool)
-          → invokes_all (if run then (if is_full then close long piece (cut long (s ∷ []) 1 ss) else cut long (piece ++ s ∷ []) (suc count) ss) else close long piece (statements.StatementThen s (cut long [] 0 ss)))
-          ≡ invokes_listed piece ++ (invokes_at s ++ invokes_all ss)
-      by true true = full
-      by true false = room
-      by false is_full = other
+  cut_invokes piece count (statements.StatementThen s ss) =
+      next_invokes piece count s ss (cut_invokes (s ∷ []) 1 ss) (cut_invokes (piece ++ s ∷ []) (suc count) ss) (cut_invokes [] 0 ss) (is_run long s) (nat_eq count PIECE)
+      ∙ ap (λ ks. invokes_listed piece ++ ks) (sym (then_invokes s ss))
 
   cut_if_invokes : (b : Bool) (ss : statements.PlainStatements) → invokes_all (cut_if long b ss) ≡ invokes_all ss
   cut_if_invokes true ss = cut_invokes [] 0 ss

@@ -64,20 +64,26 @@ module _ (long : List ℕ → Bool) where
   closed_printable n (s ∷ []) later h k = (h.0 (suc n), k)
   closed_printable n (s ∷ t ∷ rest) later h k = ((tt, tt, tt, piece_printable (s ∷ t ∷ rest) h n), k)
 
-  cut_printable : (n : ℕ) (piece : List statements.PlainStatement) (count : ℕ) (ss : statements.PlainStatements) → AllByRecursion Anywhere piece → AreStatements ss (suc n) → AreStatements (cut long piece count ss) (suc n)
-  cut_printable n piece count statements.NoStatements h k = closed_printable n piece statements.NoStatements h tt
-  cut_printable n piece count (statements.StatementThen s ss) h k = by (is_run long s) (nat_eq count PIECE) refl
-    where
-      by : (run full : Bool) → is_run long s ≡ run
-          → AreStatements (if run then (if full then close long piece (cut long (s ∷ []) 1 ss) else cut long (piece ++ s ∷ []) (suc count) ss) else close long piece (statements.StatementThen s (cut long [] 0 ss))) (suc n)
-      by true true e = closed_printable n piece (cut long (s ∷ []) 1 ss) h (cut_printable n (s ∷ []) 1 ss (run_anywhere s (suc n) e k.0, tt) k.1)
-      by true false e = cut_printable n (piece ++ s ∷ []) (suc count) ss (all_joined Anywhere piece (s ∷ []) h (run_anywhere s (suc n) e k.0, tt)) k.1
-      by false full e = closed_printable n piece (statements.StatementThen s (cut long [] 0 ss)) h (k.0, cut_printable n [] 0 ss tt k.1)
+  abbrev Cuts : ℕ → List statements.PlainStatement → ℕ → statements.PlainStatements → Type 0
+  Cuts n piece count ss = AllByRecursion Anywhere piece → AreStatements (cut long piece count ss) (suc n)
+
+  -- a statement is cut: the piece is full, has room, or ends
+  next_printable : (n : ℕ) (piece : List statements.PlainStatement) (count : ℕ) (s : statements.PlainStatement) (ss : statements.PlainStatements) → AllByRecursion Anywhere piece → IsStatement s (suc n)
+      → Cuts n (s ∷ []) 1 ss → Cuts n (piece ++ s ∷ []) (suc count) ss → Cuts n [] 0 ss → (run full : Bool) → is_run long s ≡ run
+      → AreStatements (if run then (if full then close long piece (cut long (s ∷ []) 1 ss) else cut long (piece ++ s ∷ []) (suc count) ss) else close long piece (statements.StatementThen s (cut long [] 0 ss))) (suc n)
+  next_printable n piece count s ss h k begun grown other true true e = closed_printable n piece (cut long (s ∷ []) 1 ss) h (begun (run_anywhere s (suc n) e k, tt))
+  next_printable n piece count s ss h k begun grown other true false e = grown (all_joined Anywhere piece (s ∷ []) h (run_anywhere s (suc n) e k, tt))
+  next_printable n piece count s ss h k begun grown other false full e = closed_printable n piece (statements.StatementThen s (cut long [] 0 ss)) h (k, other tt)
+
+  cut_printable : (n : ℕ) (piece : List statements.PlainStatement) (count : ℕ) (ss : statements.PlainStatements) → AreStatements ss (suc n) → Cuts n piece count ss
+  cut_printable n piece count statements.NoStatements k h = closed_printable n piece statements.NoStatements h tt
+  cut_printable n piece count (statements.StatementThen s ss) k h =
+      next_printable n piece count s ss h k.0 (cut_printable n (s ∷ []) 1 ss k.1) (cut_printable n (piece ++ s ∷ []) (suc count) ss k.1) (cut_printable n [] 0 ss k.1) (is_run long s) (nat_eq count PIECE) refl
 
   -- runs are cut where a level is left
   cut_if_printable : (b : Bool) (n : ℕ) (ss : statements.PlainStatements) → (b ≡ true → 1 ≤ n) → AreStatements ss n → AreStatements (cut_if long b ss) n
   cut_if_printable true zero ss left h = absurd (let some = left refl in omega arith)
-  cut_if_printable true (suc n) ss left h = cut_printable n [] 0 ss tt h
+  cut_if_printable true (suc n) ss left h = cut_printable n [] 0 ss h tt
   cut_if_printable false n ss left h = h
 
   -- a block takes a level
