@@ -62,3 +62,4 @@ pub mod MainLemmas
 pub mod AlikeLemmas
 pub mod AcceptedStages
 pub mod MemoryNames
+pub mod PathsKept
