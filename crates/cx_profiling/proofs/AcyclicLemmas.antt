@@ -1,13 +1,12 @@
 -- The ports of new parts lead nowhere in three steps, so nothing leads in a circle under groups of the design.
 use Rattle.std.proofs.Common.{◌≡◌, ℕ, zero, suc, ◌+◌, ◌-◌, ◌*◌, ◌<◌, ◌≤◌, inl, inr, ◌⊎◌, ⊎_elim, Bool, true, false, if◌then◌else◌, List, [], ◌∷◌, ◌++◌, length, Option, Some, None, refl, sym, ap, ◌∙◌, subst, arith}
-use Rattle.std.proofs.lemmas.Bool.{cases_lt, cases_eq, ltb-true}
+use Rattle.std.proofs.lemmas.Bool.{cases_lt, ltb-true}
 use Rattle.std.proofs.lemmas.Option.{slice_get_past}
 use Rattle.std.proofs.lemmas.List.{length-append}
 use Rattle.cx_text.specs.declared.places.Place.{Place}
 use Rattle.cx_text.proofs.ListLaws.{there_at}
 use Rattle.cx_prim.specs.declared.ports.Side.TheVariants as sides
 use Rattle.cx_prim.specs.declared.names.PrimitiveName.TheVariants as primitives
-use Rattle.cx_prim.specs.MemoryRows.{memory_row}
 use Rattle.cx_meaning.specs.declared.ports.PortRef.{PortRef}
 use Rattle.cx_meaning.specs.declared.ports.PortRef.TheVariants as ports
 use Rattle.cx_meaning.specs.Rows.{side_of}
@@ -24,7 +23,7 @@ use Rattle.cx_rules.specs.Ports.{component_of}
 use Rattle.cx_rules.specs.Wellformed.{IsDesign}
 use Rattle.cx_rewrites.specs.Driving.{assigns_of}
 use Rattle.cx_profiling.specs.Counters.{is_counted, Counter, counters_from, counters, Shown, shown_in, first_gained}
-use Rattle.cx_profiling.specs.Instrumented.{drive, moved_assigns, counted_groups, output_assigns, store_groups, counter_cells, memory_cell, name_at, main_component, child_component, with_counts}
+use Rattle.cx_profiling.specs.Instrumented.{drive, moved_assigns, counted_groups, output_assigns, store_groups, counter_cells, main_component, child_component, with_counts}
 use Rattle.cx_profiling.proofs.ListedCells.{at_row, at_none}
 use Rattle.cx_profiling.proofs.PortLemmas.{IsInside, IsNew}
 use Rattle.cx_profiling.proofs.LoneDrivers.{AllSilent, silent_joined, silent_drives}

@@ -1,5 +1,5 @@
 -- An instrumented design keeps the rule on calls: a group that calls is not counted, so it has its old assignments, moved, alone.
-use Rattle.std.proofs.Common.{◌≡◌, ℕ, zero, suc, ◌+◌, ◌*◌, ◌<◌, ◌≤◌, inl, inr, ◌⊎◌, ⊎_elim, Bool, true, false, ◌||◌, ◌&&◌, if◌then◌else◌, List, [], ◌∷◌, ◌++◌, length, map, Option, Some, None, slice_get, refl, sym, ap, ap₂, ◌∙◌, subst, arith}
+use Rattle.std.proofs.Common.{◌≡◌, ℕ, suc, ◌+◌, ◌*◌, ◌<◌, ◌≤◌, inl, inr, ◌⊎◌, ⊎_elim, Bool, true, false, ◌||◌, ◌&&◌, if◌then◌else◌, List, [], ◌∷◌, ◌++◌, length, map, Option, Some, None, slice_get, refl, sym, ap, ap₂, ◌∙◌, subst, arith}
 use Rattle.std.specs.Prelude.{nat_eq, is_none}
 use Rattle.std.proofs.lemmas.Bool.{and_parts, both_ways, cases_lt, eq-eqb, eqb-true, or_cases, ne_eqb}
 use Rattle.cx_text.specs.declared.places.Place.{Place}
@@ -15,12 +15,12 @@ use Rattle.cx_meaning.specs.Designs.{PlainAssign, PlainGroup, PlainCell, PlainKi
 use Rattle.cx_meaning.specs.Instances.{Instance, Cells, At, Nothing, OfRow, OfInstance, cell_at, cells_of, part_of, tree_within}
 use Rattle.cx_meaning.specs.Active.{group, Owned, same_port, source_order}
 use Rattle.cx_meaning.specs.Calls.{if_instance, called_by, called_in}
-use Rattle.cx_meaning.specs.Sights.{In, PartPort, AnInput, AnOutput, ItsDone, part_port}
+use Rattle.cx_meaning.specs.Sights.{In, PartPort, AnInput, part_port}
 use Rattle.cx_meaning.proofs.DesignsLemmas.{same_part}
-use Rattle.cx_meaning.proofs.InstancesLemmas.{instance_is, instance_row, row_instance}
+use Rattle.cx_meaning.proofs.InstancesLemmas.{instance_is, row_instance}
 use Rattle.cx_meaning.proofs.SightsLaws.{image_in}
 use Rattle.cx_rules.specs.Accepted.{IsAccepted}
-use Rattle.cx_rules.specs.Footprints.{AssignNames, Depends}
+use Rattle.cx_rules.specs.Footprints.{Depends}
 use Rattle.cx_rules.specs.Items.{is_plain}
 use Rattle.cx_rules.specs.Ports.{component_of, is_primitive_enable, is_instance, is_part_port, path_of}
 use Rattle.cx_rules.specs.ShapeRules.{is_hole_of, some_target}
@@ -35,7 +35,7 @@ use Rattle.cx_profiling.proofs.CircleLemmas.{depends_back}
 use Rattle.cx_profiling.proofs.GainedLemmas.{grown_at}
 use Rattle.cx_profiling.proofs.ListedCells.{CellIs, is_primitive, is_component, cell_is}
 use Rattle.cx_profiling.proofs.ListedCells as listed
-use Rattle.cx_profiling.proofs.MovedCalls.{some_moved, same_moved, AssignInside, AllInside, with_target-moved, target_inside, is_right_go-moved, is_right_enable-moved, is_right_done-moved}
+use Rattle.cx_profiling.proofs.MovedCalls.{some_moved, same_moved, AllInside, with_target-moved, target_inside, is_right_go-moved, is_right_enable-moved, is_right_done-moved}
 use Rattle.cx_profiling.proofs.PairLemmas.{CellPair, row_pair, child_pair, pair_at, child_ports}
 use Rattle.cx_profiling.proofs.PartTable.{in_order, GroupMade, bare_group, counting_group, storing_group, no_group_there, group_made, kind_kept, InGroup, old_in, counting_in, storing_in, in_group, OwnedMade, old_owned, showing, counting, storing, owned_made}
 use Rattle.cx_profiling.proofs.PortLemmas.{IsInside, grown_number, moved-primitive, moved_apart}
@@ -506,8 +506,7 @@ module _ (d : PlainDesign) (design : IsDesign d) (accepted : IsAccepted d) (m k 
 
         by : OwnedMade d design k within o → ⊥
         by (old_owned w stands e) =
-            shapes.old_assign d design accepted m k count within BreaksCallShape (λ s p n on. accepted.shapes rules.CallShape s p n refl (inl on)) w stands w.assign.place (path_of i w.assign.target)
-            (
+            shapes.old_assign d design accepted m k count within BreaksCallShape (λ s p n on. accepted.shapes rules.CallShape s p n refl (inl on)) w stands w.assign.place (path_of i w.assign.target) (
               inl (
                 sym (part_port_kept d design m k within w.assign.target (shapes.target_inside d design accepted m k count within w stands)) ∙ ap (λ (x : Owned). is_part_port j x.assign.target) e ∙ is,
                 owner_back w (ap (λ (x : Owned). x.owner) e) why,
@@ -532,8 +531,7 @@ module _ (d : PlainDesign) (design : IsDesign d) (accepted : IsAccepted d) (m k 
 
         by : OwnedMade d design k within o → ⊥
         by (old_owned w stands e) =
-            shapes.old_assign d design accepted m k count within BreaksCallShape (λ s p n on. accepted.shapes rules.CallShape s p n refl (inl on)) w stands w.assign.place (path_of i w.assign.target)
-            (
+            shapes.old_assign d design accepted m k count within BreaksCallShape (λ s p n on. accepted.shapes rules.CallShape s p n refl (inl on)) w stands w.assign.place (path_of i w.assign.target) (
               inr (record {
                 group = mis.group;
                 owner = ap (λ (x : Owned). x.owner) e ∙ mis.owner;

@@ -10,7 +10,6 @@ pub mod CellLemmas
 pub mod NewAssigns
 pub mod ComponentLemmas
 pub mod DesignLemmas
-pub mod AssignTable
 pub mod SortLemmas
 pub mod WidthsKept
 pub mod NewSorts
@@ -62,3 +61,5 @@ pub mod StartsGrown
 pub mod MainLemmas
 pub mod AlikeLemmas
 pub mod AcceptedStages
+pub mod MemoryNames
+pub mod PathsKept

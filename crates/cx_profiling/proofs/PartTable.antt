@@ -1,7 +1,7 @@
 -- THE PARTS OF AN INSTRUMENTED COMPONENT: each group, assignment and statement of it is an old one, moved, or a new one: of a counter, of an
 -- output that shows a count, or of a store.
-use Rattle.std.proofs.Common.{◌≡◌, ℕ, zero, suc, ◌+◌, ◌-◌, ◌*◌, ◌<◌, ◌≤◌, inl, inr, ◌⊎◌, ⊎_elim, Bool, true, false, List, [], ◌∷◌, ◌++◌, length, map, Option, Some, None, slice_get, get_or, refl, sym, ap, ◌∙◌, subst, arith}
-use Rattle.std.proofs.lemmas.Bool.{cases_lt, eq-eqb}
+use Rattle.std.proofs.Common.{◌≡◌, ℕ, zero, suc, ◌+◌, ◌-◌, ◌*◌, ◌<◌, ◌≤◌, inl, inr, ◌⊎◌, ⊎_elim, true, false, List, [], ◌∷◌, ◌++◌, length, map, Option, Some, None, slice_get, get_or, refl, sym, ap, ◌∙◌, subst, arith}
+use Rattle.std.proofs.lemmas.Bool.{cases_lt}
 use Rattle.std.proofs.lemmas.List.{get_or_past, length-append}
 use Rattle.cx_text.specs.declared.places.Place.{Place}
 use Rattle.cx_text.proofs.ListLaws.{there_at, length-map}
@@ -14,7 +14,7 @@ use Rattle.cx_meaning.specs.Active.{Owned, owned, owned_by_groups, by_place, sou
 use Rattle.cx_meaning.specs.Islands.{kind_length, group_length}
 use Rattle.cx_meaning.specs.Sights.{In}
 use Rattle.cx_meaning.proofs.ActiveLemmas.{placed_still, placed_first}
-use Rattle.cx_meaning.proofs.DesignsLemmas.{owned_has, there_below}
+use Rattle.cx_meaning.proofs.DesignsLemmas.{owned_has}
 use Rattle.cx_meaning.proofs.SightsLaws.{in_left, in_right, in_either, image_in}
 use Rattle.cx_rules.specs.Ports.{component_of}
 use Rattle.cx_rules.specs.Items.{Dynamic, Visited, visit, visit_all, statements_in, test_in}
@@ -31,7 +31,7 @@ use Rattle.cx_profiling.proofs.GainedLemmas.{counted_groups-length, store_groups
 use Rattle.cx_profiling.proofs.RoleLemmas.{Role, as_main, as_child, as_kept, role}
 use Rattle.cx_profiling.proofs.GroupLemmas.{GroupOf, counted_group, plain_group, group_is}
 use Rattle.cx_profiling.proofs.PairLemmas.{stored}
-use Rattle.cx_profiling.proofs.StoreDrives.{store_group, memory_place, memory_width}
+use Rattle.cx_profiling.proofs.StoreDrives.{store_group}
 
 -- what stands in a component stands in its source order
 sorted_has : (list : List Owned) (o : Owned) → In list o → In (by_place list) o

@@ -1,30 +1,30 @@
 -- An instrumented design keeps the rule on races: what two arms share is a cell that they shared before, or one of a counter, whose group both enable.
-use Rattle.std.proofs.Common.{◌≡◌, ℕ, zero, suc, ◌+◌, ◌*◌, ◌<◌, ◌≤◌, inl, inr, ◌⊎◌, ⊎_elim, true, false, List, [], ◌∷◌, ◌++◌, length, map, Option, Some, None, slice_get, refl, sym, ap, ap₂, ◌∙◌, subst, arith}
+use Rattle.std.proofs.Common.{◌≡◌, ℕ, zero, suc, ◌+◌, ◌*◌, ◌<◌, ◌≤◌, inl, inr, ◌⊎◌, ⊎_elim, true, List, [], ◌∷◌, ◌++◌, length, map, Option, Some, None, slice_get, refl, sym, ap, ap₂, ◌∙◌, subst, arith}
 use Rattle.std.specs.Prelude.{flat_map}
-use Rattle.std.proofs.lemmas.Bool.{or_cases, or_right}
+use Rattle.std.proofs.lemmas.Bool.{or_cases}
 use Rattle.std.proofs.lemmas.List.{map-append}
 use Rattle.cx_text.specs.declared.places.Place.{Place}
 use Rattle.cx_meaning.specs.declared.ports.PortRef.{PortRef}
 use Rattle.cx_meaning.specs.declared.ports.PortRef.TheVariants as ports
 use Rattle.cx_meaning.specs.declared.ports.PlacedPort.{PlacedPort}
 use Rattle.cx_meaning.specs.Designs.{PlainAssign, PlainComponent, PlainDesign, component_at, group_at, PlainForm, Empty, Enable, Seq, Par, If, While, Repeat, StaticSeq, StaticPar, StaticIf, StaticRepeat, Timed, PlainStatement, Placed, PlainStatements, no_statements, a_statement}
-use Rattle.cx_meaning.specs.Instances.{Instance, Cells, cells_of, tree_within}
-use Rattle.cx_meaning.specs.Control.{targets_cell, assigns_drive, group_drives, groups_drive, groups_of, drives}
+use Rattle.cx_meaning.specs.Instances.{Cells, cells_of, tree_within}
+use Rattle.cx_meaning.specs.Control.{targets_cell, assigns_drive, groups_of, drives}
 use Rattle.cx_meaning.specs.Sights.{In}
 use Rattle.cx_meaning.proofs.ControlLaws.{groups_drive_in}
 use Rattle.cx_meaning.proofs.DesignsLemmas.{same_part}
-use Rattle.cx_meaning.proofs.InstancesLemmas.{just_true, just_same}
+use Rattle.cx_meaning.proofs.InstancesLemmas.{just_true}
 use Rattle.cx_meaning.proofs.SightsLaws.{image_in, in_image, in_either}
 use Rattle.cx_rules.specs.Accepted.{IsAccepted}
 use Rattle.cx_rules.specs.Footprints.{AssignNames, Reads, driven, named, tested, through}
-use Rattle.cx_rules.specs.Items.{Context, Dynamic, InStatic, Branch, below_dynamic, Visited, visit, visit_parts, visit_all, statements_in, test_in, tests_of, option_list}
+use Rattle.cx_rules.specs.Items.{Context, Dynamic, InStatic, below_dynamic, Visited, visit, visit_parts, visit_all, statements_in, test_in, tests_of, option_list}
 use Rattle.cx_rules.specs.Ports.{component_of}
 use Rattle.cx_rules.specs.RaceRule.{Arms, arms_of, enabled_in, IsShared, IsEnabledTwice, BreaksRace}
 use Rattle.cx_rules.specs.Wellformed.{IsDesign, IsForm}
 use Rattle.cx_rules.proofs.ForeignLemmas.{assigns_drive_in}
 use Rattle.cx_laws.proofs.RaceLemmas.{unshared, not_twice}
 use Rattle.cx_laws.proofs.VisitLemmas.{visited}
-use Rattle.cx_rewrites.specs.Moving.{moved_port, moved_assign, moved_form, moved_statement}
+use Rattle.cx_rewrites.specs.Moving.{moved_port, moved_form, moved_statement}
 use Rattle.cx_rewrites.proofs.ReflectLemmas.{names_back}
 use Rattle.cx_rewrites.proofs.MovedLists.{groups_of-moved, tests_of-moved, arms_of-moved, enabled_in-moved}
 use Rattle.cx_profiling.specs.Counters.{is_counted, counters, counters_from}
@@ -32,9 +32,8 @@ use Rattle.cx_profiling.specs.Instrumented.{is_reached, moved_in, with_counts}
 use Rattle.cx_profiling.proofs.ArmLemmas.{driver_in, counted_kind}
 use Rattle.cx_profiling.proofs.EnabledLemmas.{AreForms, statement_known, is_enabled, visits_of_arm}
 use Rattle.cx_profiling.proofs.GroupLemmas.{register_past, same_register}
-use Rattle.cx_profiling.proofs.InsideLemmas.{names_inside, targets_inside}
 use Rattle.cx_profiling.proofs.MovedParts.{moved_visited}
-use Rattle.cx_profiling.proofs.PartTable.{AlwaysMade, old_always, showing_always, always_made, InGroup, old_in, counting_in, storing_in, in_group, in_order, StatementMade, old_statement, new_statement, statement_made}
+use Rattle.cx_profiling.proofs.PartTable.{AlwaysMade, old_always, showing_always, always_made, InGroup, old_in, counting_in, storing_in, in_group, in_order}
 use Rattle.cx_profiling.proofs.PortLemmas.{IsInside, there_inside}
 use Rattle.cx_profiling.proofs.PortsKept.{counter_target, counter_names, cell_back}
 use Rattle.cx_profiling.proofs.RoleLemmas.{own_counters, counter_number}

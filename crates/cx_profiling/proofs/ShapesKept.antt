@@ -1,22 +1,19 @@
 -- An instrumented design keeps the rules on shapes of groups, guards, static control and outputs. Calls stand in CallsKept.
-use Rattle.std.proofs.Common.{◌≡◌, ℕ, zero, suc, ◌+◌, ◌*◌, ◌^◌, ◌<◌, ◌≤◌, inl, inr, ◌⊎◌, ⊎_elim, Bool, true, false, ◌||◌, List, [], ◌∷◌, ◌++◌, length, map, Option, Some, None, slice_get, refl, sym, ap, ap₂, ◌∙◌, subst, arith}
+use Rattle.std.proofs.Common.{◌≡◌, ℕ, suc, ◌+◌, ◌*◌, ◌^◌, ◌<◌, ◌≤◌, inl, inr, ◌⊎◌, ⊎_elim, Bool, true, false, ◌||◌, List, [], ◌∷◌, ◌++◌, length, Option, Some, None, slice_get, refl, sym, ap, ap₂, ◌∙◌, subst, arith}
 use Rattle.std.specs.Prelude.{nat_eq, ◌≢◌}
-use Rattle.std.proofs.lemmas.Bool.{both_ways, eq-eqb, or_cases}
+use Rattle.std.proofs.lemmas.Bool.{both_ways, eq-eqb}
 use Rattle.std.proofs.lemmas.Option.{slice_get_within}
 use Rattle.cx_text.specs.declared.places.Place.{Place}
 use Rattle.cx_text.specs.declared.rules.Rule.TheVariants as rules
 use Rattle.cx_text.proofs.OptionLaws.{none_some}
 use Rattle.cx_prim.specs.Rows.{Row}
-use Rattle.cx_prim.specs.declared.ports.Side.TheVariants as sides
 use Rattle.cx_meaning.specs.Rows.{side_of}
 use Rattle.cx_meaning.specs.declared.ports.PortRef.{PortRef}
 use Rattle.cx_meaning.specs.declared.ports.PortRef.TheVariants as ports
 use Rattle.cx_meaning.specs.declared.ports.PlacedPort.{PlacedPort}
-use Rattle.cx_meaning.specs.declared.kinds.GroupKind.{GroupKind}
-use Rattle.cx_meaning.specs.declared.kinds.GroupKind.TheVariants as kinds
-use Rattle.cx_meaning.specs.Designs.{PlainGuard, Always, PlainAssign, PlainGroup, PlainComponent, PlainDesign, component_at, group_at, no_group, PlainForm, Empty, Enable, Seq, Par, If, While, Repeat, StaticSeq, StaticPar, StaticIf, StaticRepeat, Timed, PlainStatement}
-use Rattle.cx_meaning.specs.Instances.{Instance, OfRow, cell_at, cells_of, part_of, tree_within}
-use Rattle.cx_meaning.specs.Active.{nothing, Owned, owned, owned_by_groups, source_order}
+use Rattle.cx_meaning.specs.Designs.{Always, PlainAssign, PlainGroup, PlainComponent, PlainDesign, component_at, group_at, PlainForm, Empty, Enable, Seq, Par, If, While, Repeat, StaticSeq, StaticPar, StaticIf, StaticRepeat, Timed, PlainStatement}
+use Rattle.cx_meaning.specs.Instances.{Instance, tree_within}
+use Rattle.cx_meaning.specs.Active.{nothing, Owned, source_order}
 use Rattle.cx_meaning.specs.Sights.{In}
 use Rattle.cx_meaning.specs.Islands.{kind_length, group_length, form_length}
 use Rattle.cx_meaning.proofs.SightsLaws.{in_at, number_in}
@@ -30,12 +27,12 @@ use Rattle.cx_rules.specs.StaticControl.{is_in_static, is_static, written_length
 use Rattle.cx_rules.specs.Wellformed.{IsDesign}
 use Rattle.cx_rules.proofs.ForeignLemmas.{sorted_among}
 use Rattle.cx_rewrites.specs.Driving.{assigns_of}
-use Rattle.cx_rewrites.specs.Moving.{moved_port, moved_assign, moved_owned, moved_form}
+use Rattle.cx_rewrites.specs.Moving.{moved_port, moved_owned, moved_form}
 use Rattle.cx_rewrites.proofs.IslandLemmas.{form_length-moved}
 use Rattle.cx_rewrites.proofs.ReflectLemmas.{names_back}
 use Rattle.cx_rewrites.proofs.MovedLists.{ranges_of-moved, some_target-moved, is_static-moved, written_length-moved, may_stand-moved, form_has_length-moved}
 use Rattle.cx_profiling.specs.Counters.{counters, Shown, shown_in, entry_count}
-use Rattle.cx_profiling.specs.Instrumented.{is_reached, drive, counter_assigns, address_width, store_assigns, moved_in, moved_assigns, with_counts}
+use Rattle.cx_profiling.specs.Instrumented.{is_reached, counter_assigns, address_width, store_assigns, moved_in, moved_assigns, with_counts}
 use Rattle.cx_profiling.proofs.AcyclicLemmas.{shown_ends}
 use Rattle.cx_profiling.proofs.ArmLemmas.{counted_kind}
 use Rattle.cx_profiling.proofs.CellLemmas.{memory_row_of}
@@ -72,14 +69,14 @@ counter_holes : (place : Place) (r : ℕ) → some_target is_hole (counter_assig
 counter_holes place r = refl
 
 -- new assignments have no guard
-counter_bare : (place : Place) (r : ℕ) (a : PlainAssign) → In (counter_assigns place r) a → a.guard ≡ Always
+pub counter_bare : (place : Place) (r : ℕ) (a : PlainAssign) → In (counter_assigns place r) a → a.guard ≡ Always
 counter_bare place r a (inl e) = ap (λ (x : PlainAssign). x.guard) (sym e)
 counter_bare place r a (inr (inl e)) = ap (λ (x : PlainAssign). x.guard) (sym e)
 counter_bare place r a (inr (inr (inl e))) = ap (λ (x : PlainAssign). x.guard) (sym e)
 counter_bare place r a (inr (inr (inr (inl e)))) = ap (λ (x : PlainAssign). x.guard) (sym e)
 counter_bare place r a (inr (inr (inr (inr i)))) = absurd i
 
-store_bare : (place : Place) (memory width g n : ℕ) (count : PortRef) (a : PlainAssign) → In (store_assigns place memory width g n count) a → a.guard ≡ Always
+pub store_bare : (place : Place) (memory width g n : ℕ) (count : PortRef) (a : PlainAssign) → In (store_assigns place memory width g n count) a → a.guard ≡ Always
 store_bare place memory width g n count a (inl e) = ap (λ (x : PlainAssign). x.guard) (sym e)
 store_bare place memory width g n count a (inr (inl e)) = ap (λ (x : PlainAssign). x.guard) (sym e)
 store_bare place memory width g n count a (inr (inr (inl e))) = ap (λ (x : PlainAssign). x.guard) (sym e)
@@ -232,8 +229,7 @@ module _ (d : PlainDesign) (design : IsDesign d) (accepted : IsAccepted d) (m k 
       by : OwnedMade d design k within o → ⊥
       by (old_owned w stands is) =
           let here = target_inside w stands in
-          old_assign BreaksCombEnable (λ s p n on. accepted.shapes rules.CombEnable s p n refl on) w stands w.assign.place (path_of i w.assign.target)
-          (
+          old_assign BreaksCombEnable (λ s p n on. accepted.shapes rules.CombEnable s p n refl on) w stands w.assign.place (path_of i w.assign.target) (
             g,
             owner_is o w is ∙ owner,
             old_comb,
@@ -265,8 +261,7 @@ module _ (d : PlainDesign) (design : IsDesign d) (accepted : IsAccepted d) (m k 
 
       by : OwnedMade d design k within o → ⊥
       by (old_owned w stands is) =
-          old_assign BreaksStaticGuard (λ s p n on. accepted.shapes rules.StaticGuard s p n refl on) w stands w.assign.place (path_of i w.assign.target)
-          (
+          old_assign BreaksStaticGuard (λ s p n on. accepted.shapes rules.StaticGuard s p n refl on) w stands w.assign.place (path_of i w.assign.target) (
             r,
             subst (λ list. In list r) (ranges_of-moved mv w.assign.guard) (subst (λ (x : Owned). In (ranges_of x.assign.guard) r) (sym is) stands_in),
             ap (λ n. is_bad_range n r) (sym (owner_length_kept w.owner)) ∙ ap (λ z. is_bad_range (owner_length other z) r) (owner_is o w is) ∙ bad,
@@ -332,8 +327,7 @@ module _ (d : PlainDesign) (design : IsDesign d) (accepted : IsAccepted d) (m k 
     where
       old : g < length part.groups → (more : List PlainAssign) → some_target (is_hole_of g) (moved_assigns d part (group_at part g).assigns ++ more) ≡ false → ⊥
       old few more e =
-          old_group BreaksNoDone (λ s p n on. accepted.shapes rules.NoDone s p n refl on) g few (group_at part g).place (group_at part g).name
-          (
+          old_group BreaksNoDone (λ s p n on. accepted.shapes rules.NoDone s p n refl on) g few (group_at part g).place (group_at part g).name (
             ap is_plain (sym (kind_kept d design k within g)) ∙ plain,
             sym (some_target-moved mv (is_hole_of g) (is_hole_of g) (hole_of_kept d design m k within g) (group_at part g).assigns)
                 ∙ left_false (some_target (is_hole_of g) (moved_assigns d part (group_at part g).assigns)) (some_target (is_hole_of g) more) (sym (some_joined (is_hole_of g) (moved_assigns d part (group_at part g).assigns) more) ∙ e),
