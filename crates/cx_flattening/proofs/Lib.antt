@@ -11,3 +11,4 @@ mod Placing
 mod PortLemmas
 mod FlatAssigns
 mod FlatDrivers
+mod LevelSights

@@ -9,3 +9,4 @@ pub mod Told
 pub mod Acting
 pub mod Embedded
 pub mod Targets
+pub mod Levels

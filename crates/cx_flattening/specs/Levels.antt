@@ -1,0 +1,55 @@
+-- An instance whose ports stand for ports of a host: what is asked of both so that each port is seen in the host as in the instance.
+use Rattle.std.specs.Prelude.{◌≡◌, ℕ, ◌+◌, ◌<◌, Bool, true, false, [], ◌∷◌, map, length}
+use Rattle.cx_prim.specs.Rows.{Row}
+use Rattle.cx_meaning.specs.declared.ports.PortRef.{PortRef}
+use Rattle.cx_meaning.specs.declared.ports.PortRef.TheVariants as ports
+use Rattle.cx_meaning.specs.declared.sights.Seen.{Seen}
+use Rattle.cx_meaning.specs.declared.sights.Seen.TheVariants.{Undefined}
+use Rattle.cx_meaning.specs.Instances.{Instance, Nothing, OfRow, OfInstance, part_of, cells_of, cell_at, State, under}
+use Rattle.cx_meaning.specs.Active.{Active, nothing, drivers}
+use Rattle.cx_meaning.specs.Sights.{Held, unheld, PartPort, AnOutput, part_port, is_done_cell, bit_of, target_seen, Sees, seen, outputs_below}
+use Rattle.cx_rules.specs.Footprints.{Leads}
+use Rattle.cx_rewrites.specs.Moving.{moved_acting}
+use Rattle.cx_flattening.specs.Whole.{is_static}
+use Rattle.cx_flattening.specs.Flattened.{flat_part, flat_kids, kept_at, wire_at, own_port}
+use Rattle.cx_flattening.specs.Targets.{OwnTarget}
+
+-- a port of the instance that is asked for: of its cells those that are there, and of a cell of a static component an output
+abbrev pub IsKnown : Instance → PortRef → Type 0
+IsKnown i (ports.Cell c p) = (c < length (part_of i).cells) × ((child : Instance) → cell_at (cells_of i) c ≡ OfInstance child → is_static child ≡ true → (n : ℕ) × (part_port (part_of child) p ≡ AnOutput n))
+IsKnown i (ports.Input n) = Unit {0}
+IsKnown i (ports.Output n) = Unit {0}
+IsKnown i (ports.Done g) = Unit {0}
+IsKnown i (ports.Literal w v) = Unit {0}
+
+-- the port of the flat component that stands for a port of the instance
+abbrev pub own_of : Instance → PortRef → PortRef
+own_of i = own_port (flat_kids (cells_of i)) (part_of i)
+
+-- the flat component's cells stand in the host from cell `first` on, and f gives the host's ports of its ports
+module _ (host : Instance) (host_held : Held) (more : Active) (z : State) (i : Instance) (first : ℕ) (f : PortRef → PortRef) (held : Held) (act : Active) (s : State) (asked : PortRef → Type 0) where
+  pub record IsLevel : Type 0 where
+    pub counts : (c : ℕ) → c < length (part_of i).cells → (cell_at (cells_of i) c ≡ Nothing → ⊥)
+    pub known : (p : PortRef) → asked p → IsKnown i p
+    pub closed : (p q : PortRef) → asked p → Leads i act p q → asked q
+    pub cells : (e p : ℕ) → f (ports.Cell e p) ≡ ports.Cell (first + e) p
+    pub literals : (w v : ℕ) → f (ports.Literal w v) ≡ ports.Literal w v
+    -- what drives its ports drives them there
+    pub drives : (p : PortRef) → asked p → OwnTarget (flat_kids (cells_of i)) (part_of i) p
+        → drivers (part_of host) more (f (own_of i p)) ≡ map (moved_acting f) (map (moved_acting (own_of i)) (drivers (part_of i) act p))
+    pub inputs : (n : ℕ) → asked (ports.Input n) → seen host host_held more z (f (ports.Input n)) ≡ held n
+    pub outputs : (n : ℕ) → asked (ports.Output n) → seen host host_held more z (f (ports.Output n)) ≡ target_seen Undefined (seen host host_held more z) (drivers (part_of host) more (f (ports.Output n)))
+    pub holes : (g : ℕ) → asked (ports.Done g) → seen host host_held more z (f (ports.Done g)) ≡ target_seen (bit_of false) (seen host host_held more z) (drivers (part_of host) more (f (ports.Done g)))
+    -- its cells, and those of its dynamic children, stand there, in the same state
+    pub rows : (c : ℕ) (row : Row) → cell_at (cells_of i) c ≡ OfRow row → cell_at (cells_of host) (first + kept_at (flat_kids (cells_of i)) c) ≡ OfRow row
+    pub states : (c : ℕ) (row : Row) → cell_at (cells_of i) c ≡ OfRow row → z ((first + kept_at (flat_kids (cells_of i)) c) ∷ []) ≡ s (c ∷ [])
+    pub children : (c : ℕ) (child : Instance) → cell_at (cells_of i) c ≡ OfInstance child → is_static child ≡ false
+        → (twin : Instance) × (cell_at (cells_of host) (first + kept_at (flat_kids (cells_of i)) c) ≡ OfInstance twin) × ((p : ℕ) → part_port (part_of child) p ≡ part_port (part_of twin) p)
+    pub gives : (c n : ℕ) (child : Instance) (x : Seen) → cell_at (cells_of i) c ≡ OfInstance child → is_static child ≡ false → Sees child unheld nothing (under c s) (ports.Output n) x
+        → outputs_below (cells_of host) (λ e. under e z) (first + kept_at (flat_kids (cells_of i)) c) n ≡ x
+    pub dones : (c : ℕ) (child : Instance) → cell_at (cells_of i) c ≡ OfInstance child → is_static child ≡ false
+        → is_done_cell more.done_cell (first + kept_at (flat_kids (cells_of i)) c) ≡ is_done_cell act.done_cell c
+    -- and the outputs of its static children are given by their wires
+    pub wires : (c n : ℕ) (child : Instance) (x : Seen) → cell_at (cells_of i) c ≡ OfInstance child → is_static child ≡ true → n < length (part_of child).outputs
+        → Sees child unheld nothing (under c s) (ports.Output n) x
+        → seen host host_held more z (ports.Cell (first + wire_at (flat_kids (cells_of i)) (part_of i) (flat_part child) c n) 1) ≡ x
