@@ -12,3 +12,4 @@ mod PortLemmas
 mod FlatAssigns
 mod FlatDrivers
 mod LevelSights
+mod RestingPorts

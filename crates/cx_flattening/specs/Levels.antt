@@ -5,14 +5,16 @@ use Rattle.cx_meaning.specs.declared.ports.PortRef.{PortRef}
 use Rattle.cx_meaning.specs.declared.ports.PortRef.TheVariants as ports
 use Rattle.cx_meaning.specs.declared.sights.Seen.{Seen}
 use Rattle.cx_meaning.specs.declared.sights.Seen.TheVariants.{Undefined}
+use Rattle.cx_meaning.specs.Designs.{PlainAssign, PlainGroup, PlainComponent}
 use Rattle.cx_meaning.specs.Instances.{Instance, Nothing, OfRow, OfInstance, part_of, cells_of, cell_at, State, under}
 use Rattle.cx_meaning.specs.Active.{Active, nothing, drivers}
-use Rattle.cx_meaning.specs.Sights.{Held, unheld, PartPort, AnOutput, part_port, is_done_cell, bit_of, target_seen, Sees, seen, outputs_below}
+use Rattle.cx_meaning.specs.Sights.{Held, unheld, PartPort, AnOutput, part_port, is_done_cell, bit_of, target_seen, In, Sees, seen, outputs_below}
 use Rattle.cx_rules.specs.Footprints.{Leads}
 use Rattle.cx_rewrites.specs.Moving.{moved_acting}
 use Rattle.cx_flattening.specs.Whole.{is_static}
 use Rattle.cx_flattening.specs.Flattened.{flat_part, flat_kids, kept_at, wire_at, own_port}
-use Rattle.cx_flattening.specs.Targets.{OwnTarget}
+use Rattle.cx_flattening.specs.Targets.{OwnTarget, BlockTarget}
+use Rattle.cx_flattening.specs.Embedded.{IsEmbedded, Stands}
 
 -- a port of the instance that is asked for: of its cells those that are there, and of a cell of a static component an output
 abbrev pub IsKnown : Instance → PortRef → Type 0
@@ -53,3 +55,17 @@ module _ (host : Instance) (host_held : Held) (more : Active) (z : State) (i : I
     pub wires : (c n : ℕ) (child : Instance) (x : Seen) → cell_at (cells_of i) c ≡ OfInstance child → is_static child ≡ true → n < length (part_of child).outputs
         → Sees child unheld nothing (under c s) (ports.Output n) x
         → seen host host_held more z (ports.Cell (first + wire_at (flat_kids (cells_of i)) (part_of i) (flat_part child) c n) 1) ≡ x
+
+-- no group of a component drives the port
+abbrev pub IsStill : PlainComponent → PortRef → Type 0
+IsStill part q = (x : PlainGroup) (a : PlainAssign) → In part.groups x → In x.assigns a → a.target ≡ q → ⊥
+
+-- the flat component of an instance stands in the host, as far as its outputs ask for it: whatever acts there
+module _ (host : Instance) (host_held : Held) (more : Active) (z : State) (i : Instance) (first : ℕ) (f : PortRef → PortRef) (s : State) where
+  pub record IsHosted : Type 0 where
+    pub cells : (e p : ℕ) → f (ports.Cell e p) ≡ ports.Cell (first + e) p
+    pub literals : (w v : ℕ) → f (ports.Literal w v) ≡ ports.Literal w v
+    pub drives : (q : PortRef) → BlockTarget (flat_part i) q → IsStill (flat_part i) q → drivers (part_of host) more (f q) ≡ map (moved_acting f) (drivers (flat_part i) nothing q)
+    pub outputs : (n : ℕ) → n < length (part_of i).outputs → seen host host_held more z (f (ports.Output n)) ≡ target_seen Undefined (seen host host_held more z) (drivers (part_of host) more (f (ports.Output n)))
+    pub embedded : IsEmbedded i first (cells_of host)
+    pub stands : Stands i first s z

@@ -10,3 +10,4 @@ pub mod Acting
 pub mod Embedded
 pub mod Targets
 pub mod Levels
+pub mod Fair
