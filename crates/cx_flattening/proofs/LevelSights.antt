@@ -112,12 +112,12 @@ module _ (host : Instance) (host_held : Held) (more : Active) (z : State) (acycl
   side_there below row c p sides.Registered here at = ap (λ d. of_option (row.output d [] p)) (level.states c row at)
 
   part_there : (below : Below) (c p : ℕ) (child : Instance) (port : PartPort) → asked (ports.Cell c p) → cell_at (cells_of i) c ≡ OfInstance child → is_static child ≡ false
-      → ((n : ℕ) → there (first + kept_at (flat_kids (cells_of i)) c) n ≡ below c n)
+      → part_port (part_of child) p ≡ port → ((n : ℕ) → n < length (part_of child).outputs → there (first + kept_at (flat_kids (cells_of i)) c) n ≡ below c n)
       → part_step (part_of host) more z twin there (first + kept_at (flat_kids (cells_of i)) c) p port ≡ part_step (part_of i) act s back below c p port
-  part_there below c p child Go here at dynamic outs = driven_there c p (bit_of false) here (kid-dynamic (cells_of i) c child at dynamic)
-  part_there below c p child (AnInput n) here at dynamic outs = driven_there c p Undefined here (kid-dynamic (cells_of i) c child at dynamic)
-  part_there below c p child (AnOutput n) here at dynamic outs = outs n
-  part_there below c p child ItsDone here at dynamic outs = ap bit_of (level.dones c child at dynamic)
+  part_there below c p child Go here at dynamic its outs = driven_there c p (bit_of false) here (kid-dynamic (cells_of i) c child at dynamic)
+  part_there below c p child (AnInput n) here at dynamic its outs = driven_there c p Undefined here (kid-dynamic (cells_of i) c child at dynamic)
+  part_there below c p child (AnOutput n) here at dynamic its outs = outs n (output_there (part_of child) p n its)
+  part_there below c p child ItsDone here at dynamic its outs = ap bit_of (level.dones c child at dynamic)
 
   child_there : (below : Below) (c p : ℕ) (child : Instance) (static : Bool) → is_static child ≡ static → asked (ports.Cell c p) → cell_at (cells_of i) c ≡ OfInstance child → IsSeenBelow i s (ports.Cell c p) below
       → back (ports.Cell c p) ≡ part_step (part_of i) act s back below c p (part_port (part_of child) p)
@@ -126,7 +126,7 @@ module _ (host : Instance) (host_held : Held) (more : Active) (z : State) (acycl
       ap twin (kept-is c p (kid-dynamic (cells_of i) c child at e)) ∙ solves (ports.Cell (first + kept_at (flat_kids (cells_of i)) c) p)
       ∙ ap (cell_step (part_of host) more z twin there (first + kept_at (flat_kids (cells_of i)) c) p) r.1
       ∙ ap (part_step (part_of host) more z twin there (first + kept_at (flat_kids (cells_of i)) c) p) (sym (r.2 p))
-      ∙ part_there below c p child (part_port (part_of child) p) here at e (λ n. level.gives c n child (below c n) at e (known c p n child refl at))
+      ∙ part_there below c p child (part_port (part_of child) p) here at e refl (λ n less. level.gives c n child (below c n) at e less (known c p n child refl at))
   child_there below c p child true e here at known =
       let r = (level.known (ports.Cell c p) here).1 child at e in
       ap (λ k. twin (f (port_if (flat_kids (cells_of i)) (part_of i) k c p))) (kid-static (cells_of i) c child at e)

@@ -13,3 +13,5 @@ mod FlatAssigns
 mod FlatDrivers
 mod LevelSights
 mod RestingPorts
+mod MovedTwice
+mod Standing

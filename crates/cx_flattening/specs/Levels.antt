@@ -47,7 +47,7 @@ module _ (host : Instance) (host_held : Held) (more : Active) (z : State) (i : I
     pub states : (c : ℕ) (row : Row) → cell_at (cells_of i) c ≡ OfRow row → z ((first + kept_at (flat_kids (cells_of i)) c) ∷ []) ≡ s (c ∷ [])
     pub children : (c : ℕ) (child : Instance) → cell_at (cells_of i) c ≡ OfInstance child → is_static child ≡ false
         → (twin : Instance) × (cell_at (cells_of host) (first + kept_at (flat_kids (cells_of i)) c) ≡ OfInstance twin) × ((p : ℕ) → part_port (part_of child) p ≡ part_port (part_of twin) p)
-    pub gives : (c n : ℕ) (child : Instance) (x : Seen) → cell_at (cells_of i) c ≡ OfInstance child → is_static child ≡ false → Sees child unheld nothing (under c s) (ports.Output n) x
+    pub gives : (c n : ℕ) (child : Instance) (x : Seen) → cell_at (cells_of i) c ≡ OfInstance child → is_static child ≡ false → n < length (part_of child).outputs → Sees child unheld nothing (under c s) (ports.Output n) x
         → outputs_below (cells_of host) (λ e. under e z) (first + kept_at (flat_kids (cells_of i)) c) n ≡ x
     pub dones : (c : ℕ) (child : Instance) → cell_at (cells_of i) c ≡ OfInstance child → is_static child ≡ false
         → is_done_cell more.done_cell (first + kept_at (flat_kids (cells_of i)) c) ≡ is_done_cell act.done_cell c
@@ -67,5 +67,6 @@ module _ (host : Instance) (host_held : Held) (more : Active) (z : State) (i : I
     pub literals : (w v : ℕ) → f (ports.Literal w v) ≡ ports.Literal w v
     pub drives : (q : PortRef) → BlockTarget (flat_part i) q → IsStill (flat_part i) q → drivers (part_of host) more (f q) ≡ map (moved_acting f) (drivers (flat_part i) nothing q)
     pub outputs : (n : ℕ) → n < length (part_of i).outputs → seen host host_held more z (f (ports.Output n)) ≡ target_seen Undefined (seen host host_held more z) (drivers (part_of host) more (f (ports.Output n)))
+    pub quiet : (e : ℕ) → e < length (flat_part i).cells → is_done_cell more.done_cell (first + e) ≡ false
     pub embedded : IsEmbedded i first (cells_of host)
     pub stands : Stands i first s z
