@@ -15,3 +15,5 @@ mod LevelSights
 mod RestingPorts
 mod MovedTwice
 mod Standing
+mod StillPorts
+mod FlatOutputs

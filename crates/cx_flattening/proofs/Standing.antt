@@ -45,7 +45,7 @@ module _ (kids : Kids) (part : PlainComponent) (first : ℕ) (host : Cells) wher
   embedded_static (an_instance other rest) c (suc n) child h e static =
       subst (λ k. IsEmbedded child (first + start_of kids part k) host × HasWires (part_of child).outputs (first + wire_at kids part (flat_part child) k 0) host) (plus c n) (embedded_static rest (suc c) n child h.2 e static)
 
-  abbrev TwinAt : Instance → ℕ → Type 0
+  abbrev pub TwinAt : Instance → ℕ → Type 0
   TwinAt child k = (twin : Instance) × (cell_at host (first + kept_at kids k) ≡ OfInstance twin) × IsLike (part_of twin) (flat_part child) × IsEmbedded child 0 (cells_of twin)
 
   pub embedded_dynamic : (cells : Cells) (c n : ℕ) (child : Instance) → AreEmbedded kids part cells c first host → cell_at cells n ≡ OfInstance child → is_static child ≡ false → TwinAt child (c + n)

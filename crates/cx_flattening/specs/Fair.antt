@@ -5,12 +5,13 @@ use Rattle.cx_prim.specs.Rows.{Row}
 use Rattle.cx_meaning.specs.declared.ports.PortRef.{PortRef}
 use Rattle.cx_meaning.specs.declared.ports.PortRef.TheVariants as ports
 use Rattle.cx_meaning.specs.Designs.{PlainAssign, PlainGroup, PlainComponent}
-use Rattle.cx_meaning.specs.Instances.{Instance, Node, Cells, no_cells, a_primitive, an_instance, Nothing, OfRow, part_of, cells_of, cell_at}
+use Rattle.cx_meaning.specs.Instances.{Instance, Node, Cells, no_cells, a_primitive, an_instance, Nothing, OfRow, OfInstance, part_of, cells_of, cell_at}
 use Rattle.cx_meaning.specs.Sights.{In}
 use Rattle.cx_meaning.specs.Rows.{side_of}
 use Rattle.cx_rules.specs.Ports.{is_source_only}
 use Rattle.cx_rules.specs.Footprints.{AssignNames, Rests}
 use Rattle.cx_rules.specs.ShapeRules.{LeadsToInput}
+use Rattle.cx_flattening.specs.Whole.{is_static}
 use Rattle.cx_flattening.specs.Flattened.{flat_kids}
 use Rattle.cx_flattening.specs.Targets.{HasTargets}
 use Rattle.cx_flattening.specs.Levels.{IsKnown}
@@ -31,8 +32,10 @@ IsNamed i (ports.Literal w v) = Unit {0}
 -- no input
 pub record IsFair (i : Instance) : Type 0 where
   pub counts : (c : ℕ) → c < length (part_of i).cells → (cell_at (cells_of i) c ≡ Nothing → ⊥)
+  pub within : (c : ℕ) (child : Instance) → cell_at (cells_of i) c ≡ OfInstance child → c < length (part_of i).cells
   pub targets : HasTargets (flat_kids (cells_of i)) (part_of i)
   pub names : (a : PlainAssign) (q : PortRef) → IsAssignOf (part_of i) a → AssignNames a q → IsNamed i q
+  pub kept : is_static i ≡ true → (a : PlainAssign) (n : ℕ) → In (part_of i).always a → AssignNames a (ports.Input n) → ⊥
   pub not_source : (a : PlainAssign) → IsAssignOf (part_of i) a → is_source_only i a.target ≡ false
   pub reads : (c p m : ℕ) (row : Row) → cell_at (cells_of i) c ≡ OfRow row → row.reads p m ≡ true → (side_of row m ≡ sides.Enable) ⊎ (side_of row m ≡ sides.Plain)
   pub outputs_rest : (n : ℕ) (a : PlainAssign) (q : PortRef) → In (part_of i).always a → a.target ≡ ports.Output n → AssignNames a q → Rests i q

@@ -1,5 +1,5 @@
 -- An instance whose ports stand for ports of a host: what is asked of both so that each port is seen in the host as in the instance.
-use Rattle.std.specs.Prelude.{◌≡◌, ℕ, ◌+◌, ◌<◌, Bool, true, false, [], ◌∷◌, map, length}
+use Rattle.std.specs.Prelude.{◌≡◌, ℕ, ◌+◌, ◌<◌, Bool, true, false, [], ◌∷◌, Some, map, length}
 use Rattle.cx_prim.specs.Rows.{Row}
 use Rattle.cx_meaning.specs.declared.ports.PortRef.{PortRef}
 use Rattle.cx_meaning.specs.declared.ports.PortRef.TheVariants as ports
@@ -7,12 +7,12 @@ use Rattle.cx_meaning.specs.declared.sights.Seen.{Seen}
 use Rattle.cx_meaning.specs.declared.sights.Seen.TheVariants.{Undefined}
 use Rattle.cx_meaning.specs.Designs.{PlainAssign, PlainGroup, PlainComponent}
 use Rattle.cx_meaning.specs.Instances.{Instance, Nothing, OfRow, OfInstance, part_of, cells_of, cell_at, State, under}
-use Rattle.cx_meaning.specs.Active.{Active, nothing, drivers}
+use Rattle.cx_meaning.specs.Active.{Active, nothing, Owned, source_order, offset_of, drivers}
 use Rattle.cx_meaning.specs.Sights.{Held, unheld, PartPort, AnOutput, part_port, is_done_cell, bit_of, target_seen, In, Sees, seen, outputs_below}
-use Rattle.cx_rules.specs.Footprints.{Leads}
+use Rattle.cx_rules.specs.Footprints.{AssignNames, Leads}
 use Rattle.cx_rewrites.specs.Moving.{moved_acting}
 use Rattle.cx_flattening.specs.Whole.{is_static}
-use Rattle.cx_flattening.specs.Flattened.{flat_part, flat_kids, kept_at, wire_at, own_port}
+use Rattle.cx_flattening.specs.Flattened.{kid_at, flat_part, flat_kids, kept_at, block_size, start_of, wire_at, own_port}
 use Rattle.cx_flattening.specs.Targets.{OwnTarget, BlockTarget}
 use Rattle.cx_flattening.specs.Embedded.{IsEmbedded, Stands}
 
@@ -60,13 +60,52 @@ module _ (host : Instance) (host_held : Held) (more : Active) (z : State) (i : I
 abbrev pub IsStill : PlainComponent → PortRef → Type 0
 IsStill part q = (x : PlainGroup) (a : PlainAssign) → In part.groups x → In x.assigns a → a.target ≡ q → ⊥
 
--- the flat component of an instance stands in the host, as far as its outputs ask for it: whatever acts there
+-- THE FLAT COMPONENT OF AN INSTANCE STANDS IN THE HOST, whatever acts there: f gives the host's ports of its ports
 module _ (host : Instance) (host_held : Held) (more : Active) (z : State) (i : Instance) (first : ℕ) (f : PortRef → PortRef) (s : State) where
-  pub record IsHosted : Type 0 where
+  pub record IsBase : Type 0 where
     pub cells : (e p : ℕ) → f (ports.Cell e p) ≡ ports.Cell (first + e) p
     pub literals : (w v : ℕ) → f (ports.Literal w v) ≡ ports.Literal w v
     pub drives : (q : PortRef) → BlockTarget (flat_part i) q → IsStill (flat_part i) q → drivers (part_of host) more (f q) ≡ map (moved_acting f) (drivers (flat_part i) nothing q)
+    pub embedded : IsEmbedded i first (cells_of host)
+    pub stands : Stands i first s z
+
+  -- as far as its outputs ask for it
+  pub record IsHosted : Type 0 where
+    pub base : IsBase
     pub outputs : (n : ℕ) → n < length (part_of i).outputs → seen host host_held more z (f (ports.Output n)) ≡ target_seen Undefined (seen host host_held more z) (drivers (part_of host) more (f (ports.Output n)))
     pub quiet : (e : ℕ) → e < length (flat_part i).cells → is_done_cell more.done_cell (first + e) ≡ false
+
+-- a port of a flat component that may be driven: these outputs and holes, and ports of its cells
+abbrev pub InFlat : PlainComponent → (ℕ → Type 0) → (ℕ → Type 0) → PortRef → Type 0
+InFlat part outputs holes (ports.Cell e p) = e < length part.cells
+InFlat part outputs holes (ports.Input n) = ⊥
+InFlat part outputs holes (ports.Output n) = outputs n
+InFlat part outputs holes (ports.Done g) = holes g
+InFlat part outputs holes (ports.Literal w v) = ⊥
+
+-- a port of an instance that is asked for, with these inputs, outputs and holes
+abbrev pub Asked : Instance → (ℕ → Type 0) → (ℕ → Type 0) → (ℕ → Type 0) → PortRef → Type 0
+Asked i inputs outputs holes (ports.Cell c p) = IsKnown i (ports.Cell c p)
+Asked i inputs outputs holes (ports.Input n) = inputs n
+Asked i inputs outputs holes (ports.Output n) = outputs n
+Asked i inputs outputs holes (ports.Done g) = holes g
+Asked i inputs outputs holes (ports.Literal w v) = Unit {0}
+
+-- IT ACTS THERE as the instance does: inner acts of the flat component, as act does of the instance, whose inputs are held
+module _ (host : Instance) (host_held : Held) (more : Active) (z : State) (i : Instance) (first : ℕ) (f : PortRef → PortRef) (held : Held) (act inner : Active) (s : State) (inputs outputs holes : ℕ → Type 0) where
+  pub record IsPlayed : Type 0 where
+    pub cells : (e p : ℕ) → f (ports.Cell e p) ≡ ports.Cell (first + e) p
+    pub literals : (w v : ℕ) → f (ports.Literal w v) ≡ ports.Literal w v
+    pub drives : (q : PortRef) → InFlat (flat_part i) outputs holes q → drivers (part_of host) more (f q) ≡ map (moved_acting f) (drivers (flat_part i) inner q)
+    pub acts : (g : ℕ) → g < length (part_of i).groups → inner.offset g ≡ act.offset g
+    pub held_there : (n : ℕ) → inputs n → seen host host_held more z (f (ports.Input n)) ≡ held n
+    pub given : (n : ℕ) → outputs n → seen host host_held more z (f (ports.Output n)) ≡ target_seen Undefined (seen host host_held more z) (drivers (part_of host) more (f (ports.Output n)))
+    pub ended : (g : ℕ) → holes g → seen host host_held more z (f (ports.Done g)) ≡ target_seen (bit_of false) (seen host host_held more z) (drivers (part_of host) more (f (ports.Done g)))
+    pub all_outputs : (n : ℕ) → n < length (part_of i).outputs → outputs n
+    -- the inputs that active assignments name
+    pub named : (o : Owned) (k n : ℕ) → In (source_order (part_of i)) o → offset_of act o.owner ≡ Some k → AssignNames o.assign (ports.Input n) → inputs n
+    pub dones : (c : ℕ) (child : Instance) → cell_at (cells_of i) c ≡ OfInstance child → is_static child ≡ false
+        → is_done_cell more.done_cell (first + kept_at (flat_kids (cells_of i)) c) ≡ is_done_cell act.done_cell c
+    pub quiet : (c e : ℕ) (child : PlainComponent) → kid_at (flat_kids (cells_of i)) c ≡ Some child → e < block_size (Some child) → is_done_cell more.done_cell (first + (start_of (flat_kids (cells_of i)) (part_of i) c + e)) ≡ false
     pub embedded : IsEmbedded i first (cells_of host)
     pub stands : Stands i first s z
