@@ -13,10 +13,12 @@ use Rattle.cx_meaning.proofs.SightsLaws.{image_in}
 use Rattle.cx_rules.specs.Footprints.{AssignNames}
 use Rattle.cx_rewrites.specs.Moving.{moved_port, moved_guard, moved_guards, moved_assign, moved_group, moved_acting}
 use Rattle.cx_flattening.specs.Invokes.{no_invoke, invoke_at}
+use Rattle.cx_flattening.specs.Deeds.{Deed}
 use Rattle.cx_flattening.specs.Copies.{copied_group, is_one_of, enabled_below, group_if, enabled_groups}
 use Rattle.cx_flattening.specs.Flattened.{Kids, kid_at, own_port, child_port, invoke_port, always_if, always_from, copies_if, copies, flat_groups, first_copy, copy_of}
 use Rattle.cx_flattening.specs.Targets.{OwnTarget, BlockTarget, AllUsed, IsBlock, HasTargets}
-use Rattle.cx_flattening.specs.Acting.{IsUsed, IsOf}
+use Rattle.cx_flattening.specs.Acting.{IsUsed, IsOf, IsIdle, IsFed}
+use Rattle.cx_flattening.proofs.Sorting.{acting_both}
 use Rattle.cx_flattening.proofs.MovedDrivers.{drivers_mapped}
 use Rattle.cx_flattening.proofs.CopiedAssigns.{acting_copied, acting_none, acting_elsewhere}
 use Rattle.cx_flattening.proofs.PortLemmas.{not_same, own_same, InBlock, in_block, own_apart, block_apart, child_same}
@@ -378,3 +380,35 @@ module _ (kids : Kids) (part : PlainComponent) (has : HasTargets kids part) (mor
             not_suc m z = omega (arith, z)
             less_one : (a b : ℕ) → suc a ≡ suc b → a ≡ b
             less_one a b z = omega (arith, z)
+
+    -- where nothing of the child acts
+    none_acts : (inner : Active) (x : PortRef) (n : ℕ) (xs : List PlainGroup) → ((g : ℕ) → inner.offset g ≡ None) → acting inner x (owned_by_groups n xs) ≡ []
+    none_acts inner x n [] still = refl
+    none_acts inner x n (y ∷ ys) still =
+        acting_both inner x (owned (Some n) y.assigns) (owned_by_groups (suc n) ys)
+        ∙ ap (λ l. l ++ acting inner x (owned_by_groups (suc n) ys)) (acting_none inner x (Some n) y.assigns (still n)) ∙ none_acts inner x (suc n) ys still
+
+    module _ (c : ℕ) (child : PlainComponent) (its : kid_at kids c ≡ Some child) (deeds : List Deed) (inner : Active) where
+      -- WHERE INVOKE k FEEDS IT
+      pub fed_drivers : (fed : IsFed kids part c child deeds inner more) (q : PortRef) → BlockTarget child q
+          → drivers K more (invoke_port kids part child (invoke_at part fed.invoke) q) ≡ map (moved_acting (invoke_port kids part child (invoke_at part fed.invoke))) (drivers child inner q)
+      fed_drivers fed q there =
+          let v = invoke_at part fed.invoke in
+          let here : kid_at kids v.cell ≡ Some child = ap (kid_at kids) fed.its.cell ∙ its in
+          let inside : InBlock kids part child c (invoke_port kids part child v q) = subst (λ n. InBlock kids part child n (invoke_port kids part child v q)) fed.its.cell (in_block kids part child v.cell _ q there) in
+          drivers_mapped (invoke_port kids part child v) child K inner more q (invoke_port kids part child v q)
+          (block_always v.cell child here inner _ q there)
+          (block_groups c child its inner (invoke_port kids part child v q) inside
+          ∙ one_acts c child its inner v fed.its.cell q there inside (length part.groups) part.invokes fed.invoke fed.its.there refl fed.used fed.unused
+          (λ j less at apart g u. fed.others j g (record { there = less; cell = at }) apart u))
+
+      -- WHERE IT IS IDLE
+      pub idle_drivers : (idle : IsIdle kids part c child deeds inner more) (sources : ℕ → PortRef) (q : PortRef) → BlockTarget child q
+          → drivers K more (child_port kids part child c sources q) ≡ map (moved_acting (child_port kids part child c sources)) (drivers child inner q)
+      idle_drivers idle sources q there =
+          let inside = in_block kids part child c sources q there in
+          drivers_mapped (child_port kids part child c sources) child K inner more q (child_port kids part child c sources q)
+          (block_always c child its inner sources q there)
+          (block_groups c child its inner (child_port kids part child c sources q) inside
+          ∙ all_still c child its inner (child_port kids part child c sources q) inside (length part.groups) part.invokes (λ j less at g u. idle.copies j g (record { there = less; cell = at }) u)
+          ∙ ap (map (moved_acting (child_port kids part child c sources))) (sym (none_acts inner q 0 child.groups idle.still)))

@@ -12,3 +12,9 @@ mod PortLemmas
 mod FlatAssigns
 mod FlatDrivers
 mod FlatDesigns
+mod LevelSights
+mod RestingPorts
+mod MovedTwice
+mod Standing
+mod StillPorts
+mod FlatOutputs

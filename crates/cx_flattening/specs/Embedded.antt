@@ -1,8 +1,7 @@
 -- An instance whose cells, with those of static components below it, stand among the cells of another; and the states of both.
 use Rattle.std.specs.Prelude.{◌≡◌, ℕ, suc, ◌+◌, ◌<◌, Bool, true, false, List, [], ◌∷◌, Option, Some, None, length, get_or}
-use Rattle.cx_prim.specs.declared.names.PrimitiveName.TheVariants as primitives
 use Rattle.cx_prim.specs.Rows.{Row}
-use Rattle.cx_prim.specs.Table.{row_of}
+use Rattle.cx_prim.specs.CombinationalRows.{unary_row}
 use Rattle.cx_meaning.specs.declared.kinds.PortDecl.{PortDecl}
 use Rattle.cx_meaning.specs.Designs.{PlainAssign, PlainGroup, PlainStatement, PlainComponent}
 use Rattle.cx_meaning.specs.Instances.{Instance, Node, Cells, no_cells, a_primitive, an_instance, OfRow, OfInstance, part_of, cells_of, cell_at, cell_count, State, under}
@@ -17,9 +16,9 @@ pub record IsLike (one other : PlainComponent) : Type 0 where
   pub always : one.always ≡ other.always
   pub control : one.control ≡ other.control
 
--- the row of the wire of an output
+-- the row of the wire of an output, which gives what it is given
 abbrev pub wire_row : ℕ → Row
-wire_row width = row_of (record { name = primitives.Wire; numbers = width ∷ [] })
+wire_row width = unary_row width width (λ a. a)
 
 abbrev pub HasWires : List PortDecl → ℕ → Cells → Type 0
 HasWires [] e host = Unit {0}

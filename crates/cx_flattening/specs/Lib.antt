@@ -9,3 +9,5 @@ pub mod Told
 pub mod Acting
 pub mod Embedded
 pub mod Targets
+pub mod Levels
+pub mod Fair
