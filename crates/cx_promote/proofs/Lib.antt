@@ -7,7 +7,6 @@ mod ListLemmas
 mod OperandLemmas
 mod GroupLemmas
 mod NameLemmas
-mod TargetLemmas
 mod SiteLemmas
 mod MadeLemmas
 mod PromotedLemmas

@@ -1,10 +1,11 @@
 //! From a tree to its promoted tree.
 
-ghost use Rattle.std.specs.Prelude.{◌≡◌, IfOk, false, true};
+ghost use Rattle.std.specs.Prelude.{◌≡◌, IfOk, None, false, true};
 ghost use Rattle.cx_ast.specs.PlainTree.{plain_tree};
 ghost use Rattle.cx_design.specs.PlainDesigns.{plain_design};
 ghost use Rattle.cx_names.specs.Targets.{HasTargets};
 ghost use Rattle.cx_numbering.specs.DesignOf.{design_of};
+ghost use Rattle.cx_numbering.specs.NameRules.{names_break};
 ghost use Rattle.cx_rules.specs.Accepted.{KeepsStage};
 ghost use Rattle.cx_check.specs.Acceptance.{IsAcceptedTree};
 ghost use Rattle.cx_promotion.specs.Rewriting.{IsPromotedTree, made_rows, made_tree};
@@ -84,26 +85,22 @@ fn made(alloc: Global, tree: &Tree, design: &Design) -> Result<Promotion, Memory
     Ok(Promotion { tree, rows })
 }
 
-/// Whether the design of a promoted tree keeps the limits. That it keeps the other rules is asked, and where it does not the
-/// answer is as if memory were wanting.
+/// Whether the design of a tree that breaks no rule on names keeps the limits.
 #[tactic(auto, using(crate::proofs::PromotedLemmas::breaks_limit))]
 fn keeps_limits(alloc: Global, tree: &Tree) -> Result<bool, Memory>
     requires targets { HasTargets (plain_tree tree.now) }
-    ensures keeps { IfOk result (λ keeps. keeps ≡ true → IsAcceptedTree (plain_tree tree.now)) }
+    requires named { names_break (plain_tree tree.now) ≡ None }
+    ensures keeps { IfOk result (λ keeps. keeps ≡ true → KeepsStage 7 (design_of (plain_tree tree.now))) }
     ensures breaks { IfOk result (λ keeps. keeps ≡ false → KeepsStage 7 (design_of (plain_tree tree.now)) → ⊥) }
 {
-    if cx_check::first_unbuilt(tree).is_some() {
-        return Err(Memory);
-    }
-    let Ok(design) = cx_names::resolve(alloc, tree) else {
-        return Err(Memory);
+    let design = match cx_names::resolve(alloc, tree) {
+        Ok(design) => design,
+        Err(Refusal::Memory) => return Err(Memory),
+        Err(Refusal::Rule(_)) => unreachable!(),
     };
     match cx_limits::limits(alloc, &design) {
+        Ok(()) => Ok(true),
         Err(Refusal::Rule(_)) => Ok(false),
         Err(Refusal::Memory) => Err(Memory),
-        Ok(()) => match cx_check::check(alloc, design) {
-            Ok(_) => Ok(true),
-            Err(_) => Err(Memory),
-        },
     }
 }

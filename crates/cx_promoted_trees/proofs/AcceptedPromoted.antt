@@ -1,5 +1,5 @@
 -- THE PROMOTED TREE IS ACCEPTED, where the tree is, and its run is quicker.
-use Rattle.std.proofs.Common.{◌≡◌, ℕ, Bool, inl, inr, List, [], ◌∷◌, ◌++◌, Option, Some, None, flat_map, refl, sym, ap, ap₂, ◌∙◌, subst}
+use Rattle.std.proofs.Common.{◌≡◌, ℕ, Bool, inl, inr, List, [], ◌∷◌, Some, None, refl, sym, ap, ◌∙◌, subst}
 use Rattle.cx_text.specs.declared.places.Place.{Place}
 use Rattle.cx_ast.specs.PlainTree as ast
 use Rattle.cx_ast.specs.PlainTree.{PlainTree}
@@ -8,7 +8,7 @@ use Rattle.cx_meaning.specs.Instances.{Instance, State, tree_of, words_of}
 use Rattle.cx_meaning.specs.Sights.{In}
 use Rattle.cx_rules.specs.Wellformed.{IsDesign}
 use Rattle.cx_numbering.specs.DesignOf.{design_of}
-use Rattle.cx_numbering.specs.NameRules.{Visited, statements_in, names_break}
+use Rattle.cx_numbering.specs.NameRules.{Visited, statements_in}
 use Rattle.cx_names.proofs.Base.{append_none, flat_none}
 use Rattle.cx_check.specs.Acceptance.{IsAcceptedTree}
 use Rattle.cx_check.specs.Unbuilt.{length_word, static_word, words_in, words_of_tree, first_place, first_unbuilt, earlier}

@@ -16,7 +16,7 @@ use Rattle.cx_numbering.specs.DesignOf.{number_or_0, Invoke, placed_of, invokes_
 use Rattle.cx_numbering.specs.Names.{group_names}
 use Rattle.cx_rewrites.specs.Beside.{joined}
 use Rattle.cx_promotion.specs.Made.{IsRun, no_more, one_more, FormMade, empty, enable, seq, collapsed, par, if_made, while_made, repeat_made, static, StatementMade, placed, PartsMade, no_parts, a_part, a_run, ArmsMade, no_arms, an_arm}
-use Rattle.cx_promotion.specs.Rewriting.{PIECE, BELOW_CONTROL, is_run, place_of, close, cut, cut_if, promote_form, promote_else, promote_statement, promote_all, promote_block, made_tree}
+use Rattle.cx_promotion.specs.Rewriting.{PIECE, BELOW_CONTROL, is_run, close, cut, cut_if, promote_form, promote_else, promote_all, promote_block, made_tree}
 use Rattle.cx_promoted_trees.proofs.PartsPromoted.{twin, placed-made, group_names-made}
 
 -- INVOKES of control stay
@@ -37,24 +37,18 @@ module _ (long : List ℕ → Bool) where
   invokes_cut : (piece : List statements.PlainStatement) (count : ℕ) (ss : statements.PlainStatements) → invokes_all (cut long piece count ss) ≡ invokes_all (statements.statements_of piece) ++ invokes_all ss
   invokes_cut piece count statements.NoStatements = invokes_closed piece statements.NoStatements
   invokes_cut piece count (statements.StatementThen s ss) =
-      by (is_run long s) (nat_eq count PIECE) (λ open many. invokes_cut open many ss)
+      by (is_run long s) (nat_eq count PIECE) (λ piece many. invokes_cut piece many ss)
       ∙ ap (λ list. invokes_all (statements.statements_of piece) ++ list) (sym (invokes_first s ss))
     where
-      abbrev before : List Invoke
-      before = invokes_all (statements.statements_of piece)
-
-      abbrev here : List Invoke
-      here = invokes_all (statements.StatementThen s statements.NoStatements)
-
-      by : (run full : Bool) → ((open : List statements.PlainStatement) (many : ℕ) → invokes_all (cut long open many ss) ≡ invokes_all (statements.statements_of open) ++ invokes_all ss)
+      by : (run full : Bool) → ((opened : List statements.PlainStatement) (many : ℕ) → invokes_all (cut long opened many ss) ≡ invokes_all (statements.statements_of opened) ++ invokes_all ss)
           → invokes_all (if run then (if full then close long piece (cut long (s ∷ []) 1 ss) else cut long (piece ++ (s ∷ [])) (suc count) ss) else close long piece (statements.StatementThen s (cut long [] 0 ss)))
-          ≡ before ++ (here ++ invokes_all ss)
-      by true true later = invokes_closed piece (cut long (s ∷ []) 1 ss) ∙ ap (λ list. before ++ list) (later (s ∷ []) 1)
+          ≡ (invokes_all (statements.statements_of piece)) ++ (invokes_all (statements.StatementThen s statements.NoStatements) ++ invokes_all ss)
+      by true true later = invokes_closed piece (cut long (s ∷ []) 1 ss) ∙ ap (λ list. (invokes_all (statements.statements_of piece)) ++ list) (later (s ∷ []) 1)
       by true false later =
-          later (piece ++ (s ∷ [])) (suc count) ∙ ap (λ list. list ++ invokes_all ss) (invokes_listed piece (s ∷ [])) ∙ append_assoc before here (invokes_all ss)
+          later (piece ++ (s ∷ [])) (suc count) ∙ ap (λ list. list ++ invokes_all ss) (invokes_listed piece (s ∷ [])) ∙ append_assoc (invokes_all (statements.statements_of piece)) (invokes_all (statements.StatementThen s statements.NoStatements)) (invokes_all ss)
       by false full later =
           invokes_closed piece (statements.StatementThen s (cut long [] 0 ss))
-          ∙ ap (λ list. before ++ list) (invokes_first s (cut long [] 0 ss) ∙ ap (λ list. here ++ list) (later [] 0))
+          ∙ ap (λ list. (invokes_all (statements.statements_of piece)) ++ list) (invokes_first s (cut long [] 0 ss) ∙ ap (λ list. (invokes_all (statements.StatementThen s statements.NoStatements)) ++ list) (later [] 0))
 
   invokes_cut_if : (b : Bool) (ss : statements.PlainStatements) → invokes_all (cut_if long b ss) ≡ invokes_all ss
   invokes_cut_if true ss = invokes_cut [] 0 ss
@@ -146,6 +140,11 @@ module _ (tree : PlainTree) (part : ast.PlainComponent) (i : Instance) where
     all-stay n (statements.StatementThen (statements.Placed attributes form place) rest) =
         ap₂ a_statement (ap (λ f. Placed f place) (form-stays n place form)) (all-stay (n + length (invokes_in form place)) rest)
 
+  -- the invokes of a component's control stay
+  pub control_invokes-made : (long : List ℕ → Bool) (o : Option statements.PlainBlock) → control_invokes (made_tree tree) other (option_map (promote_block long BELOW_CONTROL true) o) ≡ control_invokes tree part o
+  control_invokes-made long None = refl
+  control_invokes-made long (Some block) = block_invokes long BELOW_CONTROL true block
+
   -- WHAT IS PROMOTED, by which groups are
   module _ (long : List ℕ → Bool) (promoted : ℕ → Type 0) (are : (name : List ℕ) → long name ≡ true → promoted (group_number tree part name)) where
     -- an enable of a promoted group
@@ -155,6 +154,9 @@ module _ (tree : PlainTree) (part : ast.PlainComponent) (i : Instance) where
       marks : List Mark
       place : Place
       is : long group ≡ true
+
+    abbrev an_enabled : List Attribute → (group : List ℕ) → List Mark → Place → long group ≡ true → Enabled
+    an_enabled attributes group marks place is = record { attributes = attributes; group = group; marks = marks; place = place; is = is }
 
     abbrev spelled : Enabled → statements.PlainStatement
     spelled e = statements.Placed e.attributes (statements.Enable e.group e.marks) e.place
@@ -222,7 +224,7 @@ module _ (tree : PlainTree) (part : ast.PlainComponent) (i : Instance) where
         (a_part (placed one) more))
 
     -- an enable of a group that is promoted goes on with a run
-    Goes : ℕ → ℕ → statements.PlainStatements → Type 0
+    abbrev Goes : ℕ → ℕ → statements.PlainStatements → Type 0
     Goes n below ss = (es : List Enabled) (count : ℕ) → Parts (joined (ran es) (all_of tree part n ss)) (all_of (made_tree tree) other n (cut long (map spelled es) count (promote_all long below ss)))
 
     enabled_made : (es : List Enabled) (count n below : ℕ) (attributes : List Attribute) (group : List ℕ) (marks : List Mark) (place : Place) (ss : statements.PlainStatements) (b : Bool)
@@ -232,20 +234,17 @@ module _ (tree : PlainTree) (part : ast.PlainComponent) (i : Instance) where
         else cut long (map spelled es ++ (statements.Placed attributes (statements.Enable group marks) place ∷ [])) (suc count) (promote_all long below ss))
         else close long (map spelled es) (statements.StatementThen (statements.Placed attributes (statements.Enable group marks) place) (cut long [] 0 (promote_all long below ss)))))
     enabled_made es count n below attributes group marks place ss true is goes =
-        subst (λ m. Parts (joined (ran es) (a_statement (enabled e) (all_of tree part m ss)))
-        (all_of (made_tree tree) other n (if nat_eq count PIECE then close long (map spelled es) (cut long (spelled e ∷ []) 1 (promote_all long below ss)) else cut long (map spelled es ++ (spelled e ∷ [])) (suc count) (promote_all long below ss))))
+        subst (λ m. Parts (joined (ran es) (a_statement (enabled (an_enabled attributes group marks place is)) (all_of tree part m ss)))
+        (all_of (made_tree tree) other n (if nat_eq count PIECE then close long (map spelled es) (cut long (spelled (an_enabled attributes group marks place is) ∷ []) 1 (promote_all long below ss)) else cut long (map spelled es ++ (spelled (an_enabled attributes group marks place is) ∷ [])) (suc count) (promote_all long below ss))))
         (sym (no_more_invokes n)) (by (nat_eq count PIECE))
       where
-        abbrev e : Enabled
-        e = record { attributes = attributes; group = group; marks = marks; place = place; is = is }
-
-        by : (full : Bool) → Parts (joined (ran es) (a_statement (enabled e) (all_of tree part n ss)))
-            (all_of (made_tree tree) other n (if full then close long (map spelled es) (cut long (spelled e ∷ []) 1 (promote_all long below ss)) else cut long (map spelled es ++ (spelled e ∷ [])) (suc count) (promote_all long below ss)))
-        by true = closed_made es n (a_statement (enabled e) (all_of tree part n ss)) (cut long (spelled e ∷ []) 1 (promote_all long below ss)) (goes (e ∷ []) 1)
+        by : (full : Bool) → Parts (joined (ran es) (a_statement (enabled (an_enabled attributes group marks place is)) (all_of tree part n ss)))
+            (all_of (made_tree tree) other n (if full then close long (map spelled es) (cut long (spelled (an_enabled attributes group marks place is) ∷ []) 1 (promote_all long below ss)) else cut long (map spelled es ++ (spelled (an_enabled attributes group marks place is) ∷ [])) (suc count) (promote_all long below ss)))
+        by true = closed_made es n (a_statement (enabled (an_enabled attributes group marks place is)) (all_of tree part n ss)) (cut long (spelled (an_enabled attributes group marks place is) ∷ []) 1 (promote_all long below ss)) (goes ((an_enabled attributes group marks place is) ∷ []) 1)
         by false =
-            subst (λ old. Parts old (all_of (made_tree tree) other n (cut long (map spelled es ++ (spelled e ∷ [])) (suc count) (promote_all long below ss)))) (joined_one es e (all_of tree part n ss))
-            (subst (λ list. Parts (joined (ran (es ++ (e ∷ []))) (all_of tree part n ss)) (all_of (made_tree tree) other n (cut long list (suc count) (promote_all long below ss)))) (spelled_one es e)
-            (goes (es ++ (e ∷ [])) (suc count)))
+            subst (λ old. Parts old (all_of (made_tree tree) other n (cut long (map spelled es ++ (spelled (an_enabled attributes group marks place is) ∷ [])) (suc count) (promote_all long below ss)))) (joined_one es (an_enabled attributes group marks place is) (all_of tree part n ss))
+            (subst (λ list. Parts (joined (ran (es ++ ((an_enabled attributes group marks place is) ∷ []))) (all_of tree part n ss)) (all_of (made_tree tree) other n (cut long list (suc count) (promote_all long below ss)))) (spelled_one es (an_enabled attributes group marks place is))
+            (goes (es ++ ((an_enabled attributes group marks place is) ∷ [])) (suc count)))
     enabled_made es count n below attributes group marks place ss false is goes =
         ended_made es n below attributes (statements.Enable group marks) place ss (cut long [] 0 (promote_all long below ss))
         (subst (λ g. FormMade promoted (plain.Enable (group_number tree part group)) (plain.Enable g)) (sym (number-made group)) enable)
@@ -277,6 +276,26 @@ module _ (tree : PlainTree) (part : ast.PlainComponent) (i : Instance) where
     several_made place s t more no_statements h = absurd (not_gone s (a_statement t more) refl h)
     several_made place s t more (a_statement (Placed form there) no_statements) h = placed (collapsed h)
     several_made place s t more (a_statement x (a_statement y rest)) h = placed (seq h)
+
+    first_arm : {s t : PlainStatement} {ss tt : PlainStatements} → ArmsMade promoted (a_statement s ss) (a_statement t tt) → StatementMade promoted s t
+    first_arm (an_arm one more) = one
+
+    cut_if_made : (n below : ℕ) (ss : statements.PlainStatements) (b : Bool) → Parts (all_of tree part n ss) (all_of (made_tree tree) other n (cut long [] 0 (promote_all long below ss)))
+        → Parts (all_of tree part n ss) (all_of (made_tree tree) other n (promote_all long below ss)) → Parts (all_of tree part n ss) (all_of (made_tree tree) other n (cut_if long b (promote_all long below ss)))
+    cut_if_made n below ss true one two = one
+    cut_if_made n below ss false one two = two
+
+    block_is : (n below : ℕ) (place : Place) (ss : statements.PlainStatements) (b : Bool) → Parts (all_of tree part n ss) (all_of (made_tree tree) other n (cut_if long b (promote_all long below ss)))
+        → ArmsMade promoted (all_of tree part n ss) (all_of (made_tree tree) other n (promote_all long below ss))
+        → StatementMade promoted (of_block tree part false place (all_of tree part n ss)) (of_block (made_tree tree) other false place (all_of (made_tree tree) other n (cut_if long b (promote_all long below ss))))
+    block_is n below place statements.NoStatements b parts arms =
+        subst (λ ss. StatementMade promoted (Placed plain.Empty place) (of_block (made_tree tree) other false place (all_of (made_tree tree) other n ss))) (sym (cut_none_if b)) (placed empty)
+    block_is n below place (statements.StatementThen (statements.Placed attributes form here) statements.NoStatements) b parts arms =
+        subst (λ ss. StatementMade promoted (Placed (form_of tree part n here form) here) (of_block (made_tree tree) other false place (all_of (made_tree tree) other n ss)))
+        (sym (cut_one_if b (statements.Placed attributes (promote_form long below form) here))) (first_arm arms)
+    block_is n below place (statements.StatementThen (statements.Placed attributes form here) (statements.StatementThen (statements.Placed more next there) ss)) b parts arms =
+        several_made place (Placed (form_of tree part n here form) here) (Placed (form_of tree part (n + length (invokes_in form here)) there next) there)
+        (all_of tree part (n + length (invokes_in form here) + length (invokes_in next there)) ss) _ parts
 
     mutual
       form_made : (n below : ℕ) (place : Place) (form : statements.PlainForm) → FormMade promoted (form_of tree part n place form) (form_of (made_tree tree) other n place (promote_form long below form))
@@ -375,30 +394,15 @@ module _ (tree : PlainTree) (part : ast.PlainComponent) (i : Instance) where
           ended_made es n below attributes (statements.StaticInvoke written cell inputs outputs) place ss (cut long [] 0 (promote_all long below ss)) (form_made n below place (statements.StaticInvoke written cell inputs outputs))
           (cut_made (n + length (invokes_in (statements.StaticInvoke written cell inputs outputs) place)) below ss [] 0)
 
-      cut_if_made : (n below : ℕ) (ss : statements.PlainStatements) (b : Bool) → Parts (all_of tree part n ss) (all_of (made_tree tree) other n (cut_if long b (promote_all long below ss)))
-      cut_if_made n below ss true = cut_made n below ss [] 0
-      cut_if_made n below ss false = each_made n below ss
-
       parts_made : (n below : ℕ) (block : statements.PlainBlock) → Parts (parts_of tree part n block) (parts_of (made_tree tree) other n (promote_block long below true block))
-      parts_made n below (statements.Braces ss place) = cut_if_made n below ss (nat_lt 0 below)
+      parts_made n below (statements.Braces ss place) = cut_if_made n below ss (nat_lt 0 below) (cut_made n below ss [] 0) (each_made n below ss)
 
       block_made : (n below : ℕ) (block : statements.PlainBlock) → StatementMade promoted (block_of tree part false n block) (block_of (made_tree tree) other false n (promote_block long below true block))
-      block_made n below (statements.Braces statements.NoStatements place) =
-          subst (λ ss. StatementMade promoted (Placed plain.Empty place) (of_block (made_tree tree) other false place (all_of (made_tree tree) other n ss))) (sym (cut_none_if (nat_lt 0 below))) (placed empty)
-      block_made n below (statements.Braces (statements.StatementThen (statements.Placed attributes form here) statements.NoStatements) place) =
-          subst (λ ss. StatementMade promoted (Placed (form_of tree part n here form) here) (of_block (made_tree tree) other false place (all_of (made_tree tree) other n ss)))
-          (sym (cut_one_if (nat_lt 0 below) (statements.Placed attributes (promote_form long below form) here))) (placed (form_made n below here form))
-      block_made n below (statements.Braces (statements.StatementThen (statements.Placed attributes form here) (statements.StatementThen (statements.Placed more next there) ss)) place) =
-          several_made place (Placed (form_of tree part n here form) here) (Placed (form_of tree part (n + length (invokes_in form here)) there next) there)
-          (all_of tree part (n + length (invokes_in form here) + length (invokes_in next there)) ss) _
-          (cut_if_made n below (statements.StatementThen (statements.Placed attributes form here) (statements.StatementThen (statements.Placed more next there) ss)) (nat_lt 0 below))
+      block_made n below (statements.Braces ss place) =
+          block_is n below place ss (nat_lt 0 below) (cut_if_made n below ss (nat_lt 0 below) (cut_made n below ss [] 0) (each_made n below ss)) (arms_all n below ss)
 
     pub control_made : (o : Option statements.PlainBlock) → StatementMade promoted (control_of tree part o) (control_of (made_tree tree) other (option_map (promote_block long BELOW_CONTROL true) o))
     control_made None = placed empty
     control_made (Some block) =
         subst (λ (names : List (List ℕ)). StatementMade promoted (block_of tree part false (length (group_names part)) block) (block_of (made_tree tree) other false (length names) (promote_block long BELOW_CONTROL true block)))
         (sym (group_names-made tree part i)) (block_made (length (group_names part)) BELOW_CONTROL block)
-
-    pub control_invokes-made : (o : Option statements.PlainBlock) → control_invokes (made_tree tree) other (option_map (promote_block long BELOW_CONTROL true) o) ≡ control_invokes tree part o
-    control_invokes-made None = refl
-    control_invokes-made (Some block) = block_invokes long BELOW_CONTROL true block

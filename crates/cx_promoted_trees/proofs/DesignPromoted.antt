@@ -1,5 +1,5 @@
 -- THE DESIGN OF A PROMOTED TREE is one that promotion makes of the tree's design.
-use Rattle.std.proofs.Common.{◌≡◌, ℕ, zero, suc, ◌+◌, ◌<◌, inl, inr, true, List, [], ◌∷◌, ◌++◌, Option, Some, None, is_some, option_map, length, map, get_or, slice_get, codes, refl, sym, ap, ap₂, ◌∙◌, subst, arith}
+use Rattle.std.proofs.Common.{◌≡◌, ℕ, zero, suc, ◌+◌, ◌<◌, inl, inr, true, false, List, [], ◌∷◌, ◌++◌, Option, Some, None, is_some, option_map, length, map, get_or, slice_get, codes, refl, sym, ap, ap₂, ◌∙◌, subst, arith}
 use Rattle.std.proofs.lemmas.List.{length-map, append-nil}
 use Rattle.std.proofs.lemmas.Option.{slice_get-map, slice_get-get_or}
 use Rattle.std.specs.Prelude.{unwrap_or}
@@ -7,19 +7,17 @@ use Rattle.cx_text.specs.declared.places.Place.{Place}
 use Rattle.cx_ast.specs.PlainStatements as statements
 use Rattle.cx_ast.specs.PlainTree as ast
 use Rattle.cx_ast.specs.PlainTree.{PlainTree}
-use Rattle.cx_meaning.specs.Designs.{PlainGroup, no_group, group_at, PlainStatements, no_statements, a_statement, PlainStatement, Placed, PlainComponent, PlainDesign, no_component, component_at, no_place}
-use Rattle.cx_meaning.specs.Designs as plain
-use Rattle.cx_meaning.specs.Active.{source_order}
+use Rattle.cx_meaning.specs.Designs.{PlainGroup, no_group, group_at, PlainComponent, no_component, component_at, no_place}
 use Rattle.cx_meaning.specs.Instances.{Instance}
 use Rattle.cx_rules.specs.Ports as rules
-use Rattle.cx_numbering.specs.Names.{number_of, group_among, group_names, groups_in, always_in}
-use Rattle.cx_numbering.specs.DesignOf.{number_or_0, group_of, assign_of, of_block, form_of, else_of, block_of, parts_of, all_of, invokes_in, invokes_of, invoke_groups, control_invokes, control_of, group_number, component_of, design_of}
+use Rattle.cx_numbering.specs.Names.{number_of, group_names, groups_in, always_in}
+use Rattle.cx_numbering.specs.DesignOf.{number_or_0, group_of, assign_of, form_of, else_of, block_of, all_of, invokes_in, invokes_of, invoke_groups, control_invokes, control_of, group_number, component_of, design_of}
 use Rattle.cx_names_scopes.specs.Scopes.{at_number}
 use Rattle.cx_names_scopes.proofs.NameLemmas.{group_at as group_by_number}
 use Rattle.cx_promotion.specs.declared.rows.PromotedRow.{PromotedRow}
 use Rattle.cx_promotion.specs.Promotable.{promotable, promoted_group}
-use Rattle.cx_promotion.specs.Made.{GroupMade, GroupsMade, no_groups, a_group, IsPromoted, FormMade, empty, enable, seq, par, if_made, while_made, repeat_made, static, StatementMade, placed, PartsMade, no_parts, a_part, ArmsMade, no_arms, an_arm, OrderMade, PartMade, DesignMade}
-use Rattle.cx_promotion.specs.Rewriting.{length_of, length_found, is_long, promote_wire, promote_component, components_from, made_tree, IsPromotedTree}
+use Rattle.cx_promotion.specs.Made.{GroupsMade, no_groups, a_group, IsPromoted, FormMade, empty, enable, seq, par, if_made, while_made, repeat_made, static, StatementMade, placed, PartsMade, no_parts, a_part, ArmsMade, no_arms, an_arm, PartMade, DesignMade}
+use Rattle.cx_promotion.specs.Rewriting.{length_of, length_found, is_long, promote_component, components_from, made_tree, IsPromotedTree}
 use Rattle.cx_promoted_trees.proofs.PartsPromoted.{component_names-made, twin, made_group, cells-made, groups_in-made, always_in-made, group_names-made, assigns-made, long-made, groups-made, invoke_groups-made}
 use Rattle.cx_promoted_trees.proofs.ControlPromoted.{control_made, control_invokes-made}
 use Rattle.cx_promoted_trees.proofs.OrderPromoted.{order_made}
@@ -36,11 +34,11 @@ same_groups i (x ∷ xs) = a_group (inl refl) (same_groups i xs)
 
 -- A COMPONENT, and the one that is made of it
 module _ (tree : PlainTree) (part : ast.PlainComponent) (i : Instance) where
-  abbrev old : PlainComponent
-  old = component_of tree part
+  abbrev old_part : PlainComponent
+  old_part = component_of tree part
 
-  abbrev new : PlainComponent
-  new = component_of (made_tree tree) (twin tree part i)
+  abbrev new_part : PlainComponent
+  new_part = component_of (made_tree tree) (twin tree part i)
 
   -- the groups of invokes stay
   abbrev invoked : List PlainGroup
@@ -51,45 +49,45 @@ module _ (tree : PlainTree) (part : ast.PlainComponent) (i : Instance) where
       ap₂ (λ (names : List (List ℕ)) list. invoke_groups (made_tree tree) (twin tree part i) (length names) list) (group_names-made tree part i) (control_invokes-made tree part i (is_long tree part i) part.control)
       ∙ invoke_groups-made tree part i (length (group_names part)) (control_invokes tree part part.control)
 
-  new_groups : new.groups ≡ map (group_of (made_tree tree) (twin tree part i)) (map (made_group tree part i) (groups_in part.wires)) ++ invoked
+  new_groups : new_part.groups ≡ map (group_of (made_tree tree) (twin tree part i)) (map (made_group tree part i) (groups_in part.wires)) ++ invoked
   new_groups = ap₂ (λ gs rest. map (group_of (made_tree tree) (twin tree part i)) gs ++ rest) (groups_in-made tree part i part.wires) invoked-made
 
-  groups-are-made : GroupsMade i old.groups new.groups
-  groups-are-made = subst (GroupsMade i old.groups) (sym new_groups) (groups-made tree part i (groups_in part.wires) invoked invoked (same_groups i invoked))
+  groups-are-made : GroupsMade i old_part.groups new_part.groups
+  groups-are-made = subst (GroupsMade i old_part.groups) (sym new_groups) (groups-made tree part i (groups_in part.wires) invoked invoked (same_groups i invoked))
 
   -- a group whose name is that of a promotable one is promoted
-  found_long : (name : List ℕ) (o : Option ℕ) → number_of name (group_names part) ≡ o → is_some (length_found tree part i (at_number o (groups_in part.wires))) ≡ true → IsPromoted i old new (group_number tree part name)
+  found_long : (name : List ℕ) (o : Option ℕ) → number_of name (group_names part) ≡ o → is_some (length_found tree part i (at_number o (groups_in part.wires))) ≡ true → IsPromoted i old_part new_part (group_number tree part name)
   found_long name None e long = absurd cc
   found_long name (Some n) e long = by (slice_get (groups_in part.wires) n) refl long
     where
       number : n ≡ group_number tree part name
       number = sym (ap (λ o. unwrap_or o 0) e)
 
-      here : (g : ast.PlainGroup) (k : ℕ) → slice_get (groups_in part.wires) n ≡ Some g → length_of tree part i g ≡ Some k → IsPromoted i old new n
+      here : (g : ast.PlainGroup) (k : ℕ) → slice_get (groups_in part.wires) n ≡ Some g → length_of tree part i g ≡ Some k → IsPromoted i old_part new_part n
       here g k there is =
-          let before : group_at old n ≡ group_of tree part g = front_of (group_of tree part) (groups_in part.wires) invoked n g no_group there in
-          let after : group_at new n ≡ group_of (made_tree tree) (twin tree part i) (made_group tree part i g) =
+          let before : group_at old_part n ≡ group_of tree part g = front_of (group_of tree part) (groups_in part.wires) invoked n g no_group there in
+          let after : group_at new_part n ≡ group_of (made_tree tree) (twin tree part i) (made_group tree part i g) =
           ap (λ gs. get_or gs n no_group) new_groups
           ∙ front_of (group_of (made_tree tree) (twin tree part i)) (map (made_group tree part i) (groups_in part.wires)) invoked n (made_group tree part i g) no_group
           (slice_get-map (made_group tree part i) (groups_in part.wires) n ∙ ap (option_map (made_group tree part i)) there) in
           (k, ap (promotable i) before ∙ is, after ∙ long-made tree part i g k is ∙ ap (promoted_group i k) (sym before))
 
-      of_length : (g : ast.PlainGroup) (o : Option ℕ) → slice_get (groups_in part.wires) n ≡ Some g → length_of tree part i g ≡ o → is_some o ≡ true → IsPromoted i old new n
+      of_length : (g : ast.PlainGroup) (o : Option ℕ) → slice_get (groups_in part.wires) n ≡ Some g → length_of tree part i g ≡ o → is_some o ≡ true → IsPromoted i old_part new_part n
       of_length g None there is some = absurd cc
       of_length g (Some k) there is some = here g k there is
 
-      by : (o : Option ast.PlainGroup) → slice_get (groups_in part.wires) n ≡ o → is_some (length_found tree part i o) ≡ true → IsPromoted i old new (group_number tree part name)
+      by : (o : Option ast.PlainGroup) → slice_get (groups_in part.wires) n ≡ o → is_some (length_found tree part i o) ≡ true → IsPromoted i old_part new_part (group_number tree part name)
       by None there some = absurd cc
-      by (Some g) there some = subst (IsPromoted i old new) number (of_length g (length_of tree part i g) there refl some)
+      by (Some g) there some = subst (IsPromoted i old_part new_part) number (of_length g (length_of tree part i g) there refl some)
 
-  long_is_promoted : (name : List ℕ) → is_long tree part i name ≡ true → IsPromoted i old new (group_number tree part name)
+  long_is_promoted : (name : List ℕ) → is_long tree part i name ≡ true → IsPromoted i old_part new_part (group_number tree part name)
   long_is_promoted name long =
       found_long name (number_of name (group_names part)) refl (sym (ap (λ o. is_some (length_found tree part i o)) (group_by_number name (groups_in part.wires))) ∙ long)
 
-  always-stays : old.always ≡ new.always
+  always-stays : old_part.always ≡ new_part.always
   always-stays = sym (ap (map (assign_of (made_tree tree) (twin tree part i))) (always_in-made tree part i part.wires) ∙ assigns-made tree part i (always_in part.wires))
 
-  pub part_made : PartMade i old new
+  pub part_made : PartMade i old_part new_part
   part_made = record {
     name = refl;
     latency = refl;
@@ -99,8 +97,8 @@ module _ (tree : PlainTree) (part : ast.PlainComponent) (i : Instance) where
     groups = groups-are-made;
     invokes = refl;
     always = always-stays;
-    order = order_made i old new always-stays groups-are-made;
-    control = control_made tree part i (is_long tree part i) (IsPromoted i old new) long_is_promoted part.control;
+    order = order_made i old_part new_part always-stays groups-are-made;
+    control = control_made tree part i (is_long tree part i) (IsPromoted i old_part new_part) long_is_promoted part.control;
   }
 
 -- what stands for a component that is not there

@@ -5,3 +5,4 @@ pub mod DesignPromoted
 pub mod NamesPromoted
 pub mod AcceptedPromoted
 mod OncePromoted
+pub mod TargetsPromoted

@@ -18,18 +18,17 @@ use Rattle.cx_ast.specs.declared.wiring.GroupWord.{GroupWord}
 use Rattle.cx_ast.specs.declared.wiring.GroupWord.TheVariants as words
 use Rattle.cx_ast.specs.PlainTree as ast
 use Rattle.cx_ast.specs.PlainTree.{PlainTree}
-use Rattle.cx_ast.specs.PlainGuards as guards
 use Rattle.cx_ast.specs.PlainStatements as statements
 use Rattle.cx_meaning.specs.Instances.{Instance}
 use Rattle.cx_meaning.specs.Sights.{In}
 use Rattle.cx_rules.specs.Ports as design
 use Rattle.cx_numbering.specs.Names.{same_name, is_among, groups_in, always_in, cell_among, group_among, CellOf, Neither, APrimitive, AComponent, cell_of, cell_go, is_external}
 use Rattle.cx_numbering.specs.DesignOf.{kind_of, group_of, design_of}
-use Rattle.cx_numbering.specs.NameRules.{tell_if, named, duplicates, component_duplicates, guard_operands, Standing, standing, Visited, visit_parts, visit_else, visit_block, visit_all, statements_in, is_component, found_component, is_clock, is_unknown, unknown, is_left_out, is_hole, source_breaks, is_wrong_target, is_one, is_bare_done, assign_breaks, is_comb_word, is_comb_group, enable_breaks, with_breaks, output_rows, output_names, is_go_name, is_reg, found_reg, is_register_in, input_breaks, output_breaks, invoke_on, form_breaks, kind_breaks, is_narrow_memory, port_breaks, component_kinds, some_part, leads_back, cell_breaks, component_breaks, name_breaks, first_break, names_break}
+use Rattle.cx_numbering.specs.NameRules.{tell_if, path_of, named, duplicates, component_duplicates, guard_operands, Standing, standing, Visited, visit_parts, visit_else, visit_block, visit_all, statements_in, is_component, found_component, is_clock, is_unknown, unknown, is_left_out, is_hole, source_breaks, is_wrong_target, is_one, is_bare_done, assign_breaks, is_comb_word, is_comb_group, enable_breaks, with_breaks, output_rows, output_names, is_go_name, is_reg, found_reg, is_register_in, input_breaks, output_breaks, invoke_on, form_breaks, kind_breaks, is_narrow_memory, port_breaks, some_part, leads_back, cell_breaks, component_breaks, name_breaks, first_break, names_break}
 use Rattle.cx_names.proofs.Base.{in_left, in_right, in_either, in_map, map_in, in_flat, flat_in, append_none, tell_none, first_none}
 use Rattle.cx_names.proofs.Kept.{KeptPart, kept, kept_part}
 use Rattle.cx_promotion.specs.Promotable.{promotable}
-use Rattle.cx_promotion.specs.Rewriting.{PIECE, BELOW_CONTROL, is_hole_item, bare_enable, promote_assigns, promote_group, is_run, close, cut, cut_if, promote_form, promote_else, promote_all, promote_block, length_of, is_long, enables, promote_wire, promote_component, components_from, made_tree}
+use Rattle.cx_promotion.specs.Rewriting.{PIECE, BELOW_CONTROL, place_of, is_hole_item, bare_enable, promote_assigns, promote_group, is_run, close, cut, cut_if, promote_form, promote_else, promote_all, promote_block, length_of, is_long, enables, promote_component, components_from, made_tree}
 use Rattle.cx_promoted_trees.proofs.PartsPromoted.{component_names-made, MadeKind, neither, a_primitive, a_component, cell_of-made, go_of, ports-made, twin, made_group, groups_in-made, always_in-made, name_made, group_names-made}
 
 -- LISTS OF BREAKS that are empty
@@ -73,6 +72,10 @@ module _ (long : List ℕ → Bool) where
       by (inl l) = one w l
       by (inr r) = two w r
 
+  come_first : (vs : List Visited) (v : Visited) (ws : List Visited) → Came vs v → CameAll vs ws → CameAll vs (v ∷ ws)
+  come_first vs v ws one all w (inl e) = subst (Came vs) e one
+  come_first vs v ws one all w (inr i) = all w i
+
   all_stay : (vs : List Visited) → CameAll vs vs
   all_stay vs w i = as_it_is w i
 
@@ -91,38 +94,40 @@ module _ (long : List ℕ → Bool) where
       → CameAll vs (visit_all (statements.statements_of piece)) → CameAll vs (visit_all later) → CameAll vs (visit_all (close long piece later))
   come_closed vs [] later one two = two
   come_closed vs (s ∷ []) later one two = subst (CameAll vs) (sym (visits_first s later)) (both_come vs _ (visit_all later) one two)
-  come_closed vs (s ∷ t ∷ rest) later one two w (inl e) = subst (Came vs) e (of_piece (statements.statements_of (s ∷ t ∷ rest)) _ _)
-  come_closed vs (s ∷ t ∷ rest) later one two w (inr i) = both_come vs (visit_all (statements.statements_of (s ∷ t ∷ rest))) (visit_all later) one two w i
+  come_closed vs (s ∷ t ∷ rest) later one two =
+      come_first vs _ _ (of_piece (statements.statements_of (s ∷ t ∷ rest)) (place_of long s) (place_of long s)) (both_come vs (visit_all (statements.statements_of (s ∷ t ∷ rest))) (visit_all later) one two)
 
   come_cut : (vs : List Visited) (piece : List statements.PlainStatement) (count : ℕ) (ss : statements.PlainStatements)
       → CameAll vs (visit_all (statements.statements_of piece)) → CameAll vs (visit_all ss) → CameAll vs (visit_all (cut long piece count ss))
   come_cut vs piece count statements.NoStatements one two = come_closed vs piece statements.NoStatements one two
-  come_cut vs piece count (statements.StatementThen s ss) one two = by (is_run long s) (nat_eq count PIECE) (λ open many before. come_cut vs open many ss before after)
+  come_cut vs piece count (statements.StatementThen s ss) one two = by (is_run long s) (nat_eq count PIECE) (λ opened many before. come_cut vs opened many ss before after)
     where
-      abbrev here : List Visited
-      here = visit_all (statements.StatementThen s statements.NoStatements)
-
-      split : CameAll vs (here ++ visit_all ss)
+      split : CameAll vs (visit_all (statements.StatementThen s statements.NoStatements) ++ visit_all ss)
       split = subst (CameAll vs) (visits_first s ss) two
 
-      now : CameAll vs here
-      now w i = split w (in_left here (visit_all ss) w i)
+      now : CameAll vs (visit_all (statements.StatementThen s statements.NoStatements))
+      now w i = split w (in_left (visit_all (statements.StatementThen s statements.NoStatements)) (visit_all ss) w i)
 
       after : CameAll vs (visit_all ss)
-      after w i = split w (in_right here (visit_all ss) w i)
+      after w i = split w (in_right (visit_all (statements.StatementThen s statements.NoStatements)) (visit_all ss) w i)
 
-      by : (run full : Bool) → ((open : List statements.PlainStatement) (many : ℕ) → CameAll vs (visit_all (statements.statements_of open)) → CameAll vs (visit_all (cut long open many ss)))
+      by : (run full : Bool) → ((opened : List statements.PlainStatement) (many : ℕ) → CameAll vs (visit_all (statements.statements_of opened)) → CameAll vs (visit_all (cut long opened many ss)))
           → CameAll vs (visit_all (if run then (if full then close long piece (cut long (s ∷ []) 1 ss) else cut long (piece ++ (s ∷ [])) (suc count) ss) else close long piece (statements.StatementThen s (cut long [] 0 ss))))
       by true true later = come_closed vs piece (cut long (s ∷ []) 1 ss) one (later (s ∷ []) 1 now)
       by true false later =
-          later (piece ++ (s ∷ [])) (suc count) (subst (CameAll vs) (sym (visits_listed piece (s ∷ []))) (both_come vs (visit_all (statements.statements_of piece)) here one now))
+          later (piece ++ (s ∷ [])) (suc count) (subst (CameAll vs) (sym (visits_listed piece (s ∷ []))) (both_come vs (visit_all (statements.statements_of piece)) (visit_all (statements.StatementThen s statements.NoStatements)) one now))
       by false full later =
           come_closed vs piece (statements.StatementThen s (cut long [] 0 ss)) one
-          (subst (CameAll vs) (sym (visits_first s (cut long [] 0 ss))) (both_come vs here (visit_all (cut long [] 0 ss)) now (later [] 0 (λ w i. absurd i))))
+          (subst (CameAll vs) (sym (visits_first s (cut long [] 0 ss))) (both_come vs (visit_all (statements.StatementThen s statements.NoStatements)) (visit_all (cut long [] 0 ss)) now (later [] 0 (λ w i. absurd i))))
 
   come_cut_if : (vs : List Visited) (b : Bool) (ss : statements.PlainStatements) → CameAll vs (visit_all ss) → CameAll vs (visit_all (cut_if long b ss))
   come_cut_if vs true ss all = come_cut vs [] 0 ss (λ w i. absurd i) all
   come_cut_if vs false ss all = all
+
+  come_head : (below : ℕ) (form : statements.PlainForm) (place : Place) (vs ws : List Visited) → CameAll vs ws
+      → CameAll (record { form = form; place = place } ∷ vs) (record { form = promote_form long below form; place = place } ∷ ws)
+  come_head below form place vs ws all w (inl e) = subst (Came (record { form = form; place = place } ∷ vs)) e (of_one (record { form = form; place = place }) below (inl refl))
+  come_head below form place vs ws all w (inr i) = wider (λ v j. inr j) (all w i)
 
   mutual
     come_form : (below : ℕ) (form : statements.PlainForm) → CameAll (visit_parts form) (visit_parts (promote_form long below form))
@@ -154,22 +159,17 @@ module _ (long : List ℕ → Bool) where
         (widen (visit_parts form) (visit_parts form ++ visit_all ss) _ (in_left (visit_parts form) (visit_all ss)) (come_form below form))
         (widen (visit_all ss) (visit_parts form ++ visit_all ss) _ (in_right (visit_parts form) (visit_all ss)) (come_all below ss)))
 
-    come_head : (below : ℕ) (form : statements.PlainForm) (place : Place) (vs ws : List Visited) → CameAll vs ws
-        → CameAll (record { form = form; place = place } ∷ vs) (record { form = promote_form long below form; place = place } ∷ ws)
-    come_head below form place vs ws all w (inl e) = subst (Came (record { form = form; place = place } ∷ vs)) e (of_one (record { form = form; place = place }) below (inl refl))
-    come_head below form place vs ws all w (inr i) = wider (λ v j. inr j) (all w i)
-
     pub come_block : (below : ℕ) (in_order : Bool) (block : statements.PlainBlock) → CameAll (visit_block block) (visit_block (promote_block long below in_order block))
     come_block below in_order (statements.Braces ss place) = come_cut_if (visit_all ss) (in_order && nat_lt 0 below) (promote_all long below ss) (come_all below ss)
 
 -- what a component's control visits
+abbrev visits : Option statements.PlainBlock → List Visited
+visits None = []
+visits (Some block) = visit_block block
+
 pub statements_come : (tree : PlainTree) (part : ast.PlainComponent) (i : Instance) → CameAll (is_long tree part i) (statements_in part) (statements_in (twin tree part i))
 statements_come tree part i = by part.control
   where
-    abbrev visits : Option statements.PlainBlock → List Visited
-    visits None = []
-    visits (Some block) = visit_block block
-
     by : (o : Option statements.PlainBlock) → CameAll (is_long tree part i) (visits o) (visits (option_map (promote_block (is_long tree part i) BELOW_CONTROL true) o))
     by None = all_stay (is_long tree part i) []
     by (Some block) = come_block (is_long tree part i) BELOW_CONTROL true block
@@ -196,22 +196,24 @@ module _ (tree : PlainTree) where
   kinds_of (APrimitive primitive) = []
   kinds_of (AComponent component) = component ∷ []
 
-  mutual
-    leads_kept : (name : List ℕ) (n : ℕ) (part : ast.PlainComponent) (i : Instance) → leads_back (made_tree tree) name n (promote_component tree part i) ≡ leads_back tree name n part
-    leads_kept name zero part i = refl
-    leads_kept name (suc n) part i = ap (λ b. same_name part.name name || b) (some_kept name n part.cells)
+  abbrev LeadsAlike : List ℕ → ℕ → Type 0
+  LeadsAlike name n = (part : ast.PlainComponent) (i : Instance) → leads_back (made_tree tree) name n (promote_component tree part i) ≡ leads_back tree name n part
 
-    some_kept : (name : List ℕ) (n : ℕ) (cells : List ast.PlainCell)
-        → some_part (leads_back (made_tree tree) name n) (flat_map (λ cell. kinds_of (cell_of (made_tree tree) cell)) cells) ≡ some_part (leads_back tree name n) (flat_map (λ cell. kinds_of (cell_of tree cell)) cells)
-    some_kept name n [] = refl
-    some_kept name n (cell ∷ cells) = kind_kept name n (cell_of tree cell) (cell_of (made_tree tree) cell) _ _ (cell_of-made tree cell) (some_kept name n cells)
+  kind_leads : (name : List ℕ) (n : ℕ) (of other : CellOf) (olds news : List ast.PlainComponent) → LeadsAlike name n → MadeKind tree of other
+      → some_part (leads_back (made_tree tree) name n) news ≡ some_part (leads_back tree name n) olds
+      → some_part (leads_back (made_tree tree) name n) (kinds_of other ++ news) ≡ some_part (leads_back tree name n) (kinds_of of ++ olds)
+  kind_leads name n of other olds news each neither rest = rest
+  kind_leads name n of other olds news each a_primitive rest = rest
+  kind_leads name n of other olds news each (a_component {part = part} i) rest = ap₂ ◌||◌ (each part i) rest
 
-    kind_kept : (name : List ℕ) (n : ℕ) (of other : CellOf) (olds news : List ast.PlainComponent) → MadeKind tree of other
-        → some_part (leads_back (made_tree tree) name n) news ≡ some_part (leads_back tree name n) olds
-        → some_part (leads_back (made_tree tree) name n) (kinds_of other ++ news) ≡ some_part (leads_back tree name n) (kinds_of of ++ olds)
-    kind_kept name n of other olds news neither rest = rest
-    kind_kept name n of other olds news a_primitive rest = rest
-    kind_kept name n of other olds news (a_component {part = part} i) rest = ap₂ ◌||◌ (leads_kept name n part i) rest
+  some_lead : (name : List ℕ) (n : ℕ) → LeadsAlike name n → (cells : List ast.PlainCell)
+      → some_part (leads_back (made_tree tree) name n) (flat_map (λ cell. kinds_of (cell_of (made_tree tree) cell)) cells) ≡ some_part (leads_back tree name n) (flat_map (λ cell. kinds_of (cell_of tree cell)) cells)
+  some_lead name n each [] = refl
+  some_lead name n each (cell ∷ cells) = kind_leads name n (cell_of tree cell) (cell_of (made_tree tree) cell) _ _ each (cell_of-made tree cell) (some_lead name n each cells)
+
+  leads_kept : (name : List ℕ) (n : ℕ) → LeadsAlike name n
+  leads_kept name zero part i = refl
+  leads_kept name (suc n) part i = ap (λ b. same_name part.name name || b) (some_lead name n (leads_kept name n) part.cells)
 
   module _ (part : ast.PlainComponent) (i : Instance) (own : KeptPart tree part) where
     abbrev other : ast.PlainComponent
@@ -317,8 +319,8 @@ module _ (tree : PlainTree) where
         let wrong : Bool = is_left_out tree part a.target.form || is_wrong_target tree part group a.target.form in
         let right = or_before wrong (is_bare_done tree part a) (tell_none _ _ _ _ one.1) in
         both_none _ _ (both_none _ _ (both_none _ _ (known_operand a.target one.0)
-        (ap (λ t. tell_if t _ a.target.place _)
-        (ap₂ ◌||◌ (ap₂ ◌||◌ (left_out_kept a.target.form) (wrong_kept group a.target.form)) (ap (λ b. (b && true) && is_one (made_tree tree) other a.source.form) (hole_item a.target.form ∙ no_hole)) ∙ right)))
+        (retold _ false rules.LeftOut a.target.place (path_of a.target.form)
+        (ap₂ ◌||◌ (ap₂ ◌||◌ (left_out_kept a.target.form) (wrong_kept group a.target.form)) (ap (λ b. (b && true) && is_one (made_tree tree) other a.source.form) (hole_item a.target.form ∙ no_hole)) ∙ right) refl))
         (source_operand a.source two.1))
         refl
 
@@ -327,7 +329,7 @@ module _ (tree : PlainTree) where
     bare_kept group a true no_hole none = unguarded_kept group a no_hole none
     bare_kept group a false no_hole none = assign_kept (record { group = group; assign = a }) none
 
-    AllKept : List ℕ → List ast.PlainAssign → Type 0
+    abbrev AllKept : List ℕ → List ast.PlainAssign → Type 0
     AllKept name list = (a : ast.PlainAssign) → In list a → assign_breaks tree part (record { group = Some name; assign = a }) ≡ []
 
     promoted_kept : (name : List ℕ) (list : List ast.PlainAssign) → AllKept name list → (a : ast.PlainAssign) → In (promote_assigns (enables tree part i) list) a

@@ -1,6 +1,6 @@
 -- NOTHING MORE IS PROMOTED in a promoted tree: what is promotable hangs on cells and on continuous assignments, which stay, and a promoted
 -- group is no plain one.
-use Rattle.std.proofs.Common.{◌≡◌, ℕ, zero, suc, ◌<◌, ◌≤◌, ◌⊎◌, inl, inr, Bool, true, false, ◌&&◌, not, List, [], ◌∷◌, ◌++◌, Option, Some, None, length, map, filter, refl, sym, ap, ap₂, ◌∙◌, subst}
+use Rattle.std.proofs.Common.{◌≡◌, ℕ, suc, ◌<◌, ◌≤◌, ◌⊎◌, inl, inr, Bool, true, ◌&&◌, not, List, [], ◌∷◌, ◌++◌, Option, Some, None, length, map, filter, refl, sym, ap, ap₂, ◌∙◌, subst}
 use Rattle.std.specs.Prelude.{if◌then◌else◌}
 use Rattle.std.specs.List.{list_all, list_any}
 use Rattle.std.proofs.Math.Path.{fun_ext}
@@ -17,7 +17,7 @@ use Rattle.cx_ast.specs.PlainTree as ast
 use Rattle.cx_ast.specs.PlainTree.{PlainTree}
 use Rattle.cx_rules.specs.Accepted.{KeepsStage}
 use Rattle.cx_rules.specs.Items.{is_plain, sources_of}
-use Rattle.cx_rules.specs.Ports.{component_of, is_primitive_enable, is_part_port}
+use Rattle.cx_rules.specs.Ports.{component_of}
 use Rattle.cx_rules.specs.ShapeRules.{is_hole, some_target}
 use Rattle.cx_rules.specs.CallShape.{is_always}
 use Rattle.cx_numbering.specs.Names.{groups_in}
@@ -25,7 +25,7 @@ use Rattle.cx_numbering.specs.DesignOf.{group_of, design_of}
 use Rattle.cx_promotion.specs.declared.rows.PromotedRow.{PromotedRow}
 use Rattle.cx_promotion.specs.Promotable.{is_done_at, is_done_of_part, is_done, looks_at_done, is_right_enable, is_right, starts, starting_port, is_named, keeps_all, length_if, of_cell, of_source, of_dones, promotable}
 use Rattle.cx_promotion.specs.Made.{DesignMade}
-use Rattle.cx_promotion.specs.Rewriting.{length_of, enables, promote_group, row_if, rows_in, rows_from, promote_component, components_from, made_tree, made_rows, IsPromotedTree}
+use Rattle.cx_promotion.specs.Rewriting.{length_of, enables, promote_group, row_if, rows_in, rows_from, components_from, made_tree, made_rows, IsPromotedTree}
 use Rattle.cx_promotion.proofs.Twins.{Twins, TwinAt, none_there, a_row_there, a_child_there, beside_each}
 use Rattle.cx_promotion.proofs.Trees.{past_new, twins_within}
 use Rattle.cx_promotion.proofs.PortsMade.{SameSignature, port_same, kind_is, enable_same, part_port_same}

@@ -1,5 +1,5 @@
 -- THE ORDER OF ASSIGNMENTS follows from the groups: where each group stays or is promoted, so does each assignment in source order.
-use Rattle.std.proofs.Common.{◌≡◌, ℕ, zero, suc, ◌+◌, inl, inr, Bool, true, false, List, [], ◌∷◌, ◌++◌, Option, Some, None, refl, sym, ap, ◌∙◌, subst, arith, tests}
+use Rattle.std.proofs.Common.{◌≡◌, ℕ, suc, ◌+◌, inl, inr, Bool, true, false, List, [], ◌∷◌, ◌++◌, Option, Some, None, refl, sym, ap, ◌∙◌, subst, arith, tests}
 use Rattle.std.specs.Prelude.{if◌then◌else◌, slice_get}
 use Rattle.std.proofs.lemmas.Option.{get_or_from_slice_get}
 use Rattle.cx_text.specs.declared.places.Place.{Place}
@@ -9,7 +9,7 @@ use Rattle.cx_meaning.specs.Active.{Owned, owned, owned_by_groups, no_later, pla
 use Rattle.cx_rules.specs.Ports.{is_primitive_enable}
 use Rattle.cx_rules.specs.ShapeRules.{is_hole}
 use Rattle.cx_promotion.specs.Promotable.{promotable, bare_enable, promoted_assigns, promoted_group}
-use Rattle.cx_promotion.specs.Made.{GroupMade, GroupsMade, no_groups, a_group, IsPromoted, OrderMade, no_assigns, stands, bared, dropped}
+use Rattle.cx_promotion.specs.Made.{GroupMade, GroupsMade, no_groups, a_group, IsPromoted, without_guard, OrderMade, no_assigns, stands, bared, dropped}
 
 -- PLACES are in one order
 total : (a b : Place) → no_later a b ≡ false → no_later b a ≡ true
@@ -68,36 +68,33 @@ module _ (i : Instance) (promoted : ℕ → Type 0) where
 
   -- an assignment that stands, and one at its place that was made of it
   abbrev Joins : Owned → Owned → Type 0
-  Joins a b = {os ps : List Owned} → Made os ps → Made (a ∷ os) (b ∷ ps)
+  Joins a b = (os ps : List Owned) → Made os ps → Made (a ∷ os) (b ∷ ps)
 
-  placed_made : (a b : Owned) → b.assign.place ≡ a.assign.place → Joins a b → {os ps : List Owned} → IsSorted os → Made os ps → Made (placed_in a os) (placed_in b ps)
-  placed_made a b same joins sorted no_assigns = joins no_assigns
-  placed_made a b same joins (after, sorted) (stands {o = o} {os = os} {ps = ps} rest) =
+  placed_made : (a b : Owned) → b.assign.place ≡ a.assign.place → Joins a b → {os ps : List Owned} → Made os ps → IsSorted os → Made (placed_in a os) (placed_in b ps)
+  placed_made a b same joins no_assigns sorted = joins [] [] no_assigns
+  placed_made a b same joins (stands {o = o} {os = os} {ps = ps} rest) (after, sorted) =
       subst (λ t. Made (placed_in a (o ∷ os)) (if t then b ∷ o ∷ ps else o ∷ placed_in b ps)) (ap (λ x. no_later x o.assign.place) (sym same))
-      (choice (no_later a.assign.place o.assign.place) (placed_made a b same joins sorted rest))
+      (choice (no_later a.assign.place o.assign.place) (placed_made a b same joins rest sorted))
     where
       choice : (t : Bool) → Made (placed_in a os) (placed_in b ps) → Made (if t then a ∷ o ∷ os else o ∷ placed_in a os) (if t then b ∷ o ∷ ps else o ∷ placed_in b ps)
-      choice true k = joins (stands rest)
+      choice true k = joins (o ∷ os) (o ∷ ps) (stands rest)
       choice false k = stands k
-  placed_made a b same joins (after, sorted) (bared {o = o} {os = os} {ps = ps} g owner is enable rest) =
-      subst (λ t. Made (placed_in a (o ∷ os)) (if t then b ∷ bare ∷ ps else bare ∷ placed_in b ps)) (ap (λ x. no_later x o.assign.place) (sym same))
-      (choice (no_later a.assign.place o.assign.place) (placed_made a b same joins sorted rest))
+  placed_made a b same joins (bared {o = o} {os = os} {ps = ps} g owner is enable rest) (after, sorted) =
+      subst (λ t. Made (placed_in a (o ∷ os)) (if t then b ∷ without_guard o ∷ ps else without_guard o ∷ placed_in b ps)) (ap (λ x. no_later x o.assign.place) (sym same))
+      (choice (no_later a.assign.place o.assign.place) (placed_made a b same joins rest sorted))
     where
-      abbrev bare : Owned
-      bare = record o { assign = record o.assign { guard = Always } }
-
-      choice : (t : Bool) → Made (placed_in a os) (placed_in b ps) → Made (if t then a ∷ o ∷ os else o ∷ placed_in a os) (if t then b ∷ bare ∷ ps else bare ∷ placed_in b ps)
-      choice true k = joins (bared g owner is enable rest)
+      choice : (t : Bool) → Made (placed_in a os) (placed_in b ps) → Made (if t then a ∷ o ∷ os else o ∷ placed_in a os) (if t then b ∷ without_guard o ∷ ps else without_guard o ∷ placed_in b ps)
+      choice true k = joins (o ∷ os) (without_guard o ∷ ps) (bared g owner is enable rest)
       choice false k = bared g owner is enable k
-  placed_made a b same joins (after, sorted) (dropped {o = o} {os = os} {ps = ps} g owner is hole rest) =
-      choice (no_later a.assign.place o.assign.place) refl (placed_made a b same joins sorted rest)
+  placed_made a b same joins (dropped {o = o} {os = os} {ps = ps} g owner is hole rest) (after, sorted) =
+      choice (no_later a.assign.place o.assign.place) refl (placed_made a b same joins rest sorted)
     where
       front : no_later a.assign.place o.assign.place ≡ true → placed_in b ps ≡ b ∷ ps
       front e =
           placed_front b ps (after_made b rest (all_later b o os (ap (λ x. no_later x o.assign.place) same ∙ e) after))
 
       choice : (t : Bool) → no_later a.assign.place o.assign.place ≡ t → Made (placed_in a os) (placed_in b ps) → Made (if t then a ∷ o ∷ os else o ∷ placed_in a os) (placed_in b ps)
-      choice true e k = subst (λ list. Made (a ∷ o ∷ os) list) (sym (front e)) (joins (dropped g owner is hole rest))
+      choice true e k = subst (λ list. Made (a ∷ o ∷ os) list) (sym (front e)) (joins (o ∷ os) ps (dropped g owner is hole rest))
       choice false e k = dropped g owner is hole k
 
   -- one that is dropped, wherever it stands
@@ -112,7 +109,7 @@ module _ (i : Instance) (promoted : ℕ → Type 0) where
   placed_dropped a g owner is hole os ps (bared {o = o} {os = os'} {ps = ps'} f own was enable rest) =
       choice (no_later a.assign.place o.assign.place) (placed_dropped a g owner is hole os' ps' rest)
     where
-      choice : (t : Bool) → Made (placed_in a os') ps' → Made (if t then a ∷ o ∷ os' else o ∷ placed_in a os') (record o { assign = record o.assign { guard = Always } } ∷ ps')
+      choice : (t : Bool) → Made (placed_in a os') ps' → Made (if t then a ∷ o ∷ os' else o ∷ placed_in a os') (without_guard o ∷ ps')
       choice true k = dropped g owner is hole (bared f own was enable rest)
       choice false k = bared f own was enable k
   placed_dropped a g owner is hole os ps (dropped {o = o} {os = os'} f own was gone rest) =
@@ -125,9 +122,9 @@ module _ (i : Instance) (promoted : ℕ → Type 0) where
   -- BY PLACE
   pub sorted_made : {os ps : List Owned} → Made os ps → Made (by_place os) (by_place ps)
   sorted_made no_assigns = no_assigns
-  sorted_made (stands {o = o} {os = os} {ps = ps} rest) = placed_made o o refl stands (by_place_sorted os) (sorted_made rest)
+  sorted_made (stands {o = o} {os = os} {ps = ps} rest) = placed_made o o refl (λ os ps rest. stands rest) (sorted_made rest) (by_place_sorted os)
   sorted_made (bared {o = o} {os = os} {ps = ps} g owner is enable rest) =
-      placed_made o (record o { assign = record o.assign { guard = Always } }) refl (bared g owner is enable) (by_place_sorted os) (sorted_made rest)
+      placed_made o (without_guard o) refl (λ os ps rest. bared g owner is enable rest) (sorted_made rest) (by_place_sorted os)
   sorted_made (dropped {o = o} {os = os} {ps = ps} g owner is hole rest) = placed_dropped o g owner is hole (by_place os) (by_place ps) (sorted_made rest)
 
   -- the assignments of a group that stays, and of one that is promoted

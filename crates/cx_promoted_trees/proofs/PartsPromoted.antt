@@ -1,5 +1,5 @@
 -- PARTS OF THE PROMOTED TREE: its cells, signatures and names stay, so each operand is the same port; groups stay, or are promoted.
-use Rattle.std.proofs.Common.{◌≡◌, ℕ, zero, suc, inl, inr, Bool, true, false, List, [], ◌∷◌, ◌++◌, Option, Some, None, length, map, flat_map, codes, refl, sym, ap, ap₂, ◌∙◌}
+use Rattle.std.proofs.Common.{◌≡◌, ℕ, suc, inl, inr, Bool, true, false, List, [], ◌∷◌, ◌++◌, Option, Some, None, map, flat_map, codes, refl, sym, ap, ap₂, ◌∙◌}
 use Rattle.std.specs.Prelude.{if◌then◌else◌}
 use Rattle.cx_text.specs.declared.places.Place.{Place}
 use Rattle.cx_prim.specs.declared.names.PrimitiveName.{PrimitiveName}
@@ -19,15 +19,15 @@ use Rattle.cx_meaning.specs.declared.ports.PortRef.{PortRef}
 use Rattle.cx_meaning.specs.declared.ports.PortRef.TheVariants as ports
 use Rattle.cx_meaning.specs.declared.ports.PlacedPort.{PlacedPort}
 use Rattle.cx_meaning.specs.declared.kinds.GroupKind.TheVariants as kinds
-use Rattle.cx_meaning.specs.Designs.{PlainGuard, PlainGuards, Always, Atom, Negation, All, Any, Compared, a_guard, guards_of, PlainAssign, PlainGroup, OfComponent}
+use Rattle.cx_meaning.specs.Designs.{PlainGuard, Always, Atom, Negation, All, Any, Compared, a_guard, guards_of, PlainAssign, PlainGroup, OfComponent}
 use Rattle.cx_meaning.specs.Instances.{Instance}
 use Rattle.cx_rules.specs.Ports.{is_primitive_enable}
 use Rattle.cx_rules.specs.Ports as rules
 use Rattle.cx_rules.specs.ShapeRules.{is_hole}
 use Rattle.cx_numbering.specs.Names.{same_name, number_of, is_external, cell_names, component_names, port_names, groups_in, always_in, group_names, component_among, cell_among, CellOf, Neither, APrimitive, AComponent, or_component, primitive_or, cell_of, cell_port_names, found_cell_ports, cell_go, primitive_of}
 use Rattle.cx_numbering.specs.DesignOf.{number_or_0, Invoke, own_port, cell_port, port_of, placed_of, comparison_of, guard_of, guards_in, guard_or_always, assign_of, kind_of, group_of, go_port, found_go, at, input_assign, go_guard, go_assign, register_of, capture_assigns, register_done, done_assign, invoke_group, invoke_groups, kind_or, plain_cell_of, design_of}
-use Rattle.cx_promotion.specs.Promotable.{promotable, promoted_assigns, promoted_group}
-use Rattle.cx_promotion.specs.Made.{GroupMade, GroupsMade, no_groups, a_group}
+use Rattle.cx_promotion.specs.Promotable.{promoted_assigns, promoted_group}
+use Rattle.cx_promotion.specs.Made.{GroupMade, GroupsMade, a_group}
 use Rattle.cx_promotion.specs.Rewriting.{is_hole_item, bare_enable, promote_assigns, promote_group, length_of, enables, promote_wire, promote_component, components_from, made_tree}
 
 module _ (tree : PlainTree) where
@@ -202,18 +202,18 @@ module _ (tree : PlainTree) where
     bare-made a true = assign_is _ _ Always Always _ _ a.place (port-made a.target.form) refl (placed-made a.source)
     bare-made a false = assign-made a
 
+    abbrev bared : ast.PlainAssign → PlainAssign
+    bared a = if is_primitive_enable i (port_of tree part a.target.form) then record (assign_of tree part a) { guard = Always } else assign_of tree part a
+
     static_assigns-made : (list : List ast.PlainAssign) → map (assign_of (made_tree tree) twin) (promote_assigns (enables tree part i) list) ≡ promoted_assigns i (map (assign_of tree part) list)
     static_assigns-made [] = refl
     static_assigns-made (a ∷ rest) =
         by (is_hole_item a.target.form) (static_assigns-made rest)
-        ∙ ap (λ hole. if hole then promoted_assigns i (map (assign_of tree part) rest) else bared ∷ promoted_assigns i (map (assign_of tree part) rest)) (sym (hole_same a.target.form))
+        ∙ ap (λ hole. if hole then promoted_assigns i (map (assign_of tree part) rest) else bared a ∷ promoted_assigns i (map (assign_of tree part) rest)) (sym (hole_same a.target.form))
       where
-        abbrev bared : PlainAssign
-        bared = if is_primitive_enable i (port_of tree part a.target.form) then record (assign_of tree part a) { guard = Always } else assign_of tree part a
-
         by : (hole : Bool) → map (assign_of (made_tree tree) twin) (promote_assigns (enables tree part i) rest) ≡ promoted_assigns i (map (assign_of tree part) rest)
             → map (assign_of (made_tree tree) twin) (if hole then promote_assigns (enables tree part i) rest else bare_enable (enables tree part i) a ∷ promote_assigns (enables tree part i) rest)
-            ≡ (if hole then promoted_assigns i (map (assign_of tree part) rest) else bared ∷ promoted_assigns i (map (assign_of tree part) rest))
+            ≡ (if hole then promoted_assigns i (map (assign_of tree part) rest) else bared a ∷ promoted_assigns i (map (assign_of tree part) rest))
         by true h = h
         by false h = ap₂ ◌∷◌ (bare-made a (enables tree part i a.target.form)) h
 

@@ -10,6 +10,7 @@ ghost use Rattle.cx_rewrites.specs.Places.{SameDesign};
 ghost use Rattle.cx_promotion.specs.declared.rows.PromotedRow.{PromotedRow};
 ghost use Rattle.cx_promotion.specs.Made.{DesignMade, Quickens};
 ghost use Rattle.cx_promotion.specs.Rewriting.{IsPromotedTree, made_tree};
+ghost use Rattle.cx_names.specs.Targets.{HasTargets};
 ghost use Rattle.cx_check.specs.Acceptance.{IsAcceptedTree};
 ghost use Rattle.cx_check.specs.Unbuilt.{first_unbuilt};
 
@@ -18,12 +19,13 @@ pub fn promoted_trees_have_promoted_designs()
     ensures made { (tree new : PlainTree) (rows : List PromotedRow) → IsPromotedTree tree new rows → DesignMade (design_of tree) (design_of new) }
 {}
 
-/// The promoted tree of an accepted tree is accepted. With promotable groups promoted, whatever the size, the tree has nothing that is
-/// left out as a whole and breaks no rule on names, where the tree does.
+/// The promoted tree of an accepted tree is accepted. The tree that is made, whatever its size, has nothing that is left out as a whole,
+/// breaks no rule on names and has no target that is a literal, where the tree has and breaks none.
 pub fn promoted_is_accepted()
     ensures accepted { (tree new : PlainTree) (rows : List PromotedRow) → IsDesign (design_of tree) → IsAcceptedTree tree → IsPromotedTree tree new rows → IsAcceptedTree new }
     ensures built { (tree : PlainTree) → first_unbuilt tree ≡ None → first_unbuilt (made_tree tree) ≡ None }
     ensures named { (tree : PlainTree) → names_break tree ≡ None → names_break (made_tree tree) ≡ None }
+    ensures targets { (tree : PlainTree) → HasTargets tree → HasTargets (made_tree tree) }
 {}
 
 /// Where the run of an accepted tree's design ends, on whatever data and under whatever budget, that of the promoted tree's design ends

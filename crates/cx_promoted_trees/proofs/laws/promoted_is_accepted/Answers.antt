@@ -1,5 +1,6 @@
 use Rattle.cx_promoted_trees.proofs.AcceptedPromoted.{promoted_tree_accepted, unbuilt_made}
 use Rattle.cx_promoted_trees.proofs.NamesPromoted.{names_made}
+use Rattle.cx_promoted_trees.proofs.TargetsPromoted.{made_tree_has_targets}
 use Rattle.cx_promoted_trees.proofs.laws.promoted_is_accepted.Goals as goal
 
 pub returns-clause-accepted : goal.returns-clause-accepted
@@ -10,3 +11,6 @@ returns-clause-built c = λ tree none. unbuilt_made tree none
 
 pub returns-clause-named : goal.returns-clause-named
 returns-clause-named c = λ tree none. names_made tree none
+
+pub returns-clause-targets : goal.returns-clause-targets
+returns-clause-targets c = λ tree targets. made_tree_has_targets tree targets

@@ -1,11 +1,12 @@
 -- The targets of a promoted tree are targets of the old one.
-use Rattle.std.proofs.Common.{◌≡◌, ℕ, suc, ◌⊎◌, inl, inr, Bool, true, false, List, [], ◌∷◌, ◌++◌, map, flat_map, Option, Some, None, refl, ap, subst, if◌then◌else◌}
+use Rattle.std.proofs.Common.{◌≡◌, ℕ, suc, ◌⊎◌, inl, inr, Bool, true, false, List, [], ◌∷◌, map, flat_map, Option, Some, None, refl, subst, if◌then◌else◌}
 use Rattle.cx_ast.specs.declared.operands.OperandForm.{OperandForm}
 use Rattle.cx_ast.specs.PlainTree.{PlainTree, PlainComponent, PlainGroup, PlainAssign, PlainWire, Group, Assign}
 use Rattle.cx_meaning.specs.Instances.{Instance}
 use Rattle.cx_meaning.specs.Sights.{In}
 use Rattle.cx_numbering.specs.Names.{always_in, groups_in}
 use Rattle.cx_numbering.specs.NameRules.{Standing, standing}
+use Rattle.cx_names.proofs.Base.{in_left, in_right, in_either, in_map, map_in}
 use Rattle.cx_names.specs.Targets.{is_literal, HasTargets}
 use Rattle.cx_rules.specs.Ports.{component_of}
 use Rattle.cx_numbering.specs.DesignOf.{design_of}
@@ -50,34 +51,6 @@ module _ (tree : PlainTree) (part : PlainComponent) (i : Instance) where
   wires_targets (Assign a ∷ ws) (h, all) = (h, wires_targets ws all)
 
 -- as assignments that stand in a component
-in_left : {A : Type 0} (xs ys : List A) (x : A) → In xs x → In (xs ++ ys) x
-in_left [] ys x here = absurd here
-in_left (y ∷ xs) ys x (inl e) = inl e
-in_left (y ∷ xs) ys x (inr there) = inr (in_left xs ys x there)
-
-in_right : {A : Type 0} (xs ys : List A) (x : A) → In ys x → In (xs ++ ys) x
-in_right [] ys x there = there
-in_right (y ∷ xs) ys x there = inr (in_right xs ys x there)
-
-in_either : {A : Type 0} (xs ys : List A) (x : A) → In (xs ++ ys) x → In xs x ⊎ In ys x
-in_either [] ys x there = inr there
-in_either (y ∷ xs) ys x (inl e) = inl (inl e)
-in_either (y ∷ xs) ys x (inr there) = by (in_either xs ys x there)
-  where
-    by : In xs x ⊎ In ys x → In (y ∷ xs) x ⊎ In ys x
-    by (inl h) = inl (inr h)
-    by (inr h) = inr h
-
-in_map : {A B : Type 0} (f : A → B) (xs : List A) (x : A) → In xs x → In (map f xs) (f x)
-in_map f [] x here = absurd here
-in_map f (y ∷ xs) x (inl e) = inl (ap f e)
-in_map f (y ∷ xs) x (inr there) = inr (in_map f xs x there)
-
-in_mapped : {A B : Type 0} (f : A → B) (xs : List A) (y : B) → In (map f xs) y → (x : A) × In xs x × (f x ≡ y)
-in_mapped f [] y here = absurd here
-in_mapped f (x ∷ xs) y (inl e) = (x, inl refl, e)
-in_mapped f (x ∷ xs) y (inr there) = let h = in_mapped f xs y there in (h.0, inr h.1, h.2)
-
 abbrev of_group : PlainGroup → List Standing
 of_group g = map (λ a. record { group = Some g.name; assign = a }) g.assigns
 
@@ -87,7 +60,7 @@ Stands list = (x : Standing) → In list x → is_literal x.assign.target.form �
 wire_parts : (ws : List PlainWire) → Stands (map (λ a. record { group = None; assign = a }) (always_in ws)) → Stands (flat_map of_group (groups_in ws)) → WiresTargets ws
 wire_parts [] always groups = tt
 wire_parts (Group g ∷ ws) always groups = (
-  λ a here. groups (record { group = Some g.name; assign = a }) (in_left (of_group g) (flat_map of_group (groups_in ws)) _ (in_map (λ x. record { group = Some g.name; assign = x }) g.assigns a here)),
+  λ a here. groups (record { group = Some g.name; assign = a }) (in_left (of_group g) (flat_map of_group (groups_in ws)) _ (map_in (λ x. record { group = Some g.name; assign = x }) g.assigns a here)),
   wire_parts ws always (λ x there. groups x (in_right (of_group g) (flat_map of_group (groups_in ws)) x there)),
 )
 wire_parts (Assign a ∷ ws) always groups = (always (record { group = None; assign = a }) (inl refl), wire_parts ws (λ x there. always x (inr there)) groups)
@@ -103,7 +76,7 @@ groups_back [] all x here = absurd here
 groups_back (Group g ∷ ws) (h, all) x here = by (in_either (of_group g) (flat_map of_group (groups_in ws)) x here) (groups_back ws all)
   where
     by : In (of_group g) x ⊎ In (flat_map of_group (groups_in ws)) x → Stands (flat_map of_group (groups_in ws)) → is_literal x.assign.target.form ≡ false
-    by (inl there) rest = let m = in_mapped (λ a. record { group = Some g.name; assign = a }) g.assigns x there in subst (λ y. is_literal y.assign.target.form ≡ false) m.2 (h m.0 m.1)
+    by (inl there) rest = let m = in_map (λ a. record { group = Some g.name; assign = a }) g.assigns x there in subst (λ y. is_literal y.assign.target.form ≡ false) m.2 (h m.0 m.1)
     by (inr there) rest = rest x there
 groups_back (Assign a ∷ ws) (h, all) x here = groups_back ws all x here
 
