@@ -4,9 +4,9 @@
     bench/alloc.py PROGRAM [--most N]
 
 PROGRAM is the built calyx_cli. A small library, which `cc` compiles and which is loaded before the C library, counts what the program asks of
-`malloc` and `realloc`, and refuses the request of a number. The runs are `check`, `interp`, `weave` and `compile` of some designs and `sim` of what
+`malloc` and `realloc`, and refuses the request of a number. The runs are the commands of COMMANDS on some designs and `sim` of what
 `compile` wrote, `sim` of a hand-written text, and `trial 0`; each is made once for each of its requests, or with `--most` for so many of them that
-lie evenly. It has to end with status 7, with nothing on standard output and `memory` or nothing on standard error, or with its own status and
+lie evenly. A command that the program does not know is left out, which is told. It has to end with status 7, with nothing on standard output and `memory` or nothing on standard error, or with its own status and
 output. Request 300 of `trial 0` has to give 7. The choices of `weave` have to take no memory: a run of 100,000 choices, in which statements of all kinds open and end, has as many
 requests as one of 1,000. Printed are the requests of each run, and how many gave 7. The last line is 'N passed, M failed'; the status is 1 where one failed.
 """
@@ -103,6 +103,18 @@ def matrix_product():
     return shape.text, {name: memory(words) for name, words in shape.before.items()}
 
 
+# What is run on each design. A command more is a line more.
+COMMANDS = (
+    ('check', 'design'),
+    ('compile', 'design'),
+    ('share', 'design'),
+    ('promote', 'design'),
+    ('flatten', 'design'),
+    ('instrument', 'design'),
+    ('interp', 'design', 'data', '1000'),
+    ('profile', 'design', 'data', '1000'),
+    ('weave', 'design', 'data', '100000', '1,0'),
+)
 DESIGNS = {'whole path': whole_path, 'call': call, 'island': island, 'signed memories': signed_memories, 'matrix product': matrix_product}
 COUNTER = ('module main(\n  input wire [0:0] clk,\n  input wire [0:0] reset,\n  input wire [0:0] go,\n  output wire [0:0] done\n);\n  reg [3:0] n;\n'
            "  assign done = (n == 4'ha);\n  always @(posedge clk) begin\n    if (reset) begin\n      n <= 4'h0;\n    end else begin\n"
@@ -157,16 +169,24 @@ def swept(runs, name, words, most, wanted=None):
     return wrong, len(numbers) + 1 - len(wrong)
 
 
+def known(runs):
+    """The commands that the program knows; it says of the others that the words are none of a command."""
+    for words in COMMANDS:
+        if runs.outcome(words) == (1, b'', b'words\n'):
+            print(f'{words[0]}: not in this program', flush=True)
+        else:
+            yield words
+
+
 def plan(runs):
     """The name and the words of each run. A design's text is compiled on the way."""
+    commands = list(known(runs))
     for name, make in DESIGNS.items():
         text, data = make()
         runs.write('design', text)
         runs.write('data', json.dumps(data))
-        for command in ('check', 'compile'):
-            yield f'{command}, {name}', [command, 'design']
-        yield f'interp, {name}', ['interp', 'design', 'data', '1000']
-        yield f'weave, {name}', ['weave', 'design', 'data', '100000', '1,0']
+        for words in commands:
+            yield f'{words[0]}, {name}', list(words)
         runs.write('verilog', runs.outcome(['compile', 'design'])[1])
         yield f'sim, {name}', ['sim', 'verilog', 'data', '1000']
     runs.write('counter', COUNTER)

@@ -22,6 +22,10 @@ module _ (tree : PlainTree) where
   flat_at (part ∷ parts) zero within = record { dynamic = refl; no_invoke = refl }
   flat_at (part ∷ parts) (suc k) within = flat_at parts k (omega (arith, within))
 
+-- so has that of a text
+pub text_flat : (text : List ℕ) (d : PlainDesign) → IsDesignOf text d → IsFlat d
+text_flat text d h = subst IsFlat (sym h.3) (flat_at h.0 h.0.components)
+
 -- the design of an accepted tree of that size keeps what every design keeps, has no static component, and breaks no rule
 pub tree_rules : (tree : PlainTree) (d : PlainDesign) → HasTargets tree → IsAcceptedTree tree → d ≡ design_of tree → design_size d ≤ COMPILE_SIZE → IsDesign d × IsFlat d × IsAccepted d
 tree_rules tree d targets accepted same within =

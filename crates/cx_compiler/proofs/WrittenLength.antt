@@ -50,7 +50,7 @@ weight_few d accepted = ⊎_elim (λ more. absurd (over more)) (λ h. h) (cases_
 
 -- SO IT IS SHORT, of a tree that is accepted
 module _ (d : PlainDesign) (rules : IsDesign d) (flat : IsFlat d) (accepted : IsAccepted d) (within : design_size d ≤ COMPILE_SIZE) (parts : (k : ℕ) → k < length d.components → PartsHold (component_at d k)) where
-  short : IsShallow d → is_sound (written_source d) ≡ true → length (text_of (written_source d)) ≤ VERILOG_BYTES
+  pub short : IsShallow d → is_sound (written_source d) ≡ true → length (text_of (written_source d)) ≤ VERILOG_BYTES
   short shallow sound =
       let small : design_size d ≤ 16384 = within in
       let weight : weight_of d ≤ WEIGHT = weight_few d accepted in

@@ -71,7 +71,7 @@ cells_words text tree has k within cell i =
     let found = in_map (plain_cell_of tree part.0) part.0.cells cell own in
     subst (λ (c : PlainCell). is_word c.name ≡ true) found.2 (cells_named text tree has part.0 (in_at tree.components k part.0 part.1) found.0 found.1)
 
-design_words : (text : List ℕ) (d : PlainDesign) → IsDesignOf text d → (k : ℕ) → k < length d.components → (cell : PlainCell) → In (component_at d k).cells cell → is_word cell.name ≡ true
+pub design_words : (text : List ℕ) (d : PlainDesign) → IsDesignOf text d → (k : ℕ) → k < length d.components → (cell : PlainCell) → In (component_at d k).cells cell → is_word cell.name ≡ true
 design_words text d h = subst (λ (e : PlainDesign). (k : ℕ) → k < length e.components → (cell : PlainCell) → In (component_at e k).cells cell → is_word cell.name ≡ true) (sym h.3) (cells_words text h.0 h.1)
 
 -- the names of the external memories of a design are words
@@ -131,7 +131,7 @@ module _ (d : PlainDesign) (rules : IsDesign d) (flat : IsFlat d) (accepted : Is
       let within : r.0 < length d.components = there d rules r.0 (in_number r.0 (order (lowered_of d)) (in_slice (order (lowered_of d)) n r.0 r.1)) in
       subst (λ (c : PlainNetComponent). length c.wires + c.holes < 2 ^ 64) (sym (stands_at d rules n r.0 r.1)) (own_wires r.0 within)
 
-  net_emitted : CanBeEmitted (written_net d)
+  pub net_emitted : CanBeEmitted (written_net d)
   net_emitted = record {
     fits = inlined_fits net names (net_fits d rules flat accepted);
     targets = inlined_targets net names (targets_there d rules flat accepted);
@@ -140,7 +140,7 @@ module _ (d : PlainDesign) (rules : IsDesign d) (flat : IsFlat d) (accepted : Is
   }
 
   -- its nets: 64 for each unit of weight at most
-  nets_weigh : HasFewNets d (written_source d)
+  pub nets_weigh : HasFewNets d (written_source d)
   nets_weigh =
       let weigh : nets_below (net_tree (inlined net)) ≤ 64 * weight_of d = subst (λ tree. nets_below tree ≤ 64 * weight_of d) (sym made_so) (whole_weighs d rules (made d) no_numbers own_nets) in
       let nets = source_nets (inlined net) (emitted_sound (inlined net) net_emitted) (record { fits = net_emitted.fits; no_holes = net_emitted.no_holes }) in

@@ -1,13 +1,12 @@
 -- The ports of new parts lead nowhere in three steps, so nothing leads in a circle under groups of the design.
 use Rattle.std.proofs.Common.{◌≡◌, ℕ, zero, suc, ◌+◌, ◌-◌, ◌*◌, ◌<◌, ◌≤◌, inl, inr, ◌⊎◌, ⊎_elim, Bool, true, false, if◌then◌else◌, List, [], ◌∷◌, ◌++◌, length, Option, Some, None, refl, sym, ap, ◌∙◌, subst, arith}
-use Rattle.std.proofs.lemmas.Bool.{cases_lt, cases_eq, ltb-true}
+use Rattle.std.proofs.lemmas.Bool.{cases_lt, ltb-true}
 use Rattle.std.proofs.lemmas.Option.{slice_get_past}
 use Rattle.std.proofs.lemmas.List.{length-append}
 use Rattle.cx_text.specs.declared.places.Place.{Place}
 use Rattle.cx_text.proofs.ListLaws.{there_at}
 use Rattle.cx_prim.specs.declared.ports.Side.TheVariants as sides
 use Rattle.cx_prim.specs.declared.names.PrimitiveName.TheVariants as primitives
-use Rattle.cx_prim.specs.MemoryRows.{memory_row}
 use Rattle.cx_meaning.specs.declared.ports.PortRef.{PortRef}
 use Rattle.cx_meaning.specs.declared.ports.PortRef.TheVariants as ports
 use Rattle.cx_meaning.specs.Rows.{side_of}
@@ -24,7 +23,7 @@ use Rattle.cx_rules.specs.Ports.{component_of}
 use Rattle.cx_rules.specs.Wellformed.{IsDesign}
 use Rattle.cx_rewrites.specs.Driving.{assigns_of}
 use Rattle.cx_profiling.specs.Counters.{is_counted, Counter, counters_from, counters, Shown, shown_in, first_gained}
-use Rattle.cx_profiling.specs.Instrumented.{drive, moved_assigns, counted_groups, output_assigns, store_groups, counter_cells, memory_cell, name_at, main_component, child_component, with_counts}
+use Rattle.cx_profiling.specs.Instrumented.{drive, moved_assigns, counted_groups, output_assigns, store_groups, counter_cells, main_component, child_component, with_counts}
 use Rattle.cx_profiling.proofs.ListedCells.{at_row, at_none}
 use Rattle.cx_profiling.proofs.PortLemmas.{IsInside, IsNew}
 use Rattle.cx_profiling.proofs.LoneDrivers.{AllSilent, silent_joined, silent_drives}
@@ -198,14 +197,14 @@ module _ (d : PlainDesign) (design : IsDesign d) (m k : ℕ) (at : InTree d (suc
     enable_ends : Ends j act 1 (ports.Cell r 1)
     enable_ends q l = subst (Ends j act 0) (wired to_enable q (of_register 1 q l)) (literal_ends 1 1)
 
-    register_known : (p : ℕ) → IsKnown d design m k at act (ports.Cell r p)
+    register_known : (p : ℕ) → IsKnown d design m k at.within act (ports.Cell r p)
     register_known zero = ending 3 in_ends
     register_known (suc zero) = ending 1 enable_ends
     register_known (suc (suc zero)) = ending 0 out_ends
     register_known (suc (suc (suc zero))) = ending 0 (λ q l. of_register 3 q l)
     register_known (suc (suc (suc (suc p)))) = ending 0 (λ q l. of_register (suc (suc (suc (suc p)))) q l)
 
-    adder_known : (p : ℕ) → IsKnown d design m k at act (ports.Cell (suc r) p)
+    adder_known : (p : ℕ) → IsKnown d design m k at.within act (ports.Cell (suc r) p)
     adder_known zero = ending 1 left_ends
     adder_known (suc zero) = ending 1 right_ends
     adder_known (suc (suc zero)) = ending 2 sum_ends
@@ -219,13 +218,13 @@ module _ (d : PlainDesign) (design : IsDesign d) (m k : ℕ) (at : InTree d (suc
       none_leads c p port q (given_output n) l = l
       none_leads c p port q given_done l = l
 
-      of_pair : (c p : ℕ) (child : Instance) → cell_at (cells_of (tree_within d (suc m) k)) c ≡ OfInstance child → first_gained (part_of child) ≤ p → CellPair d design m k at c → Ends j act 0 (ports.Cell c p)
+      of_pair : (c p : ℕ) (child : Instance) → cell_at (cells_of (tree_within d (suc m) k)) c ≡ OfInstance child → first_gained (part_of child) ≤ p → CellPair d design m k at.within c → Ends j act 0 (ports.Cell c p)
       of_pair c p child stands past (row_pair row first second moved) = absurd (row_instance row child (sym first ∙ stands))
       of_pair c p child stands past (child_pair cell e there is below first second moved) = λ q l.
           let same : tree_within d m e ≡ child = instance_is (tree_within d m e) child (sym first ∙ stands) in
           let part_is : part_of child ≡ component_at d e = ap part_of (sym same) ∙ same_part d m e in
           let inputs : length (part_of (tree_within (with_counts d) m e)).inputs ≡ length (part_of child).inputs =
-          ap (λ (x : PlainComponent). length x.inputs) (same_part (with_counts d) m e) ∙ ap length ((grown_at d e below.within).inputs) ∙ ap (λ (x : PlainComponent). length x.inputs) (sym part_is) in
+          ap (λ (x : PlainComponent). length x.inputs) (same_part (with_counts d) m e) ∙ ap length ((grown_at d e below).inputs) ∙ ap (λ (x : PlainComponent). length x.inputs) (sym part_is) in
           let far : suc (length (part_of (tree_within (with_counts d) m e)).inputs) ≤ p = omega (arith, past, inputs) in
           none_leads c p (part_port (part_of (tree_within (with_counts d) m e)) p) q (part_given (part_of (tree_within (with_counts d) m e)) p far) (subst (λ x. CellLeads other act c p x q) second l)
 
@@ -236,7 +235,7 @@ module _ (d : PlainDesign) (design : IsDesign d) (m k : ℕ) (at : InTree d (suc
           let few : b.cell < length node.cells = child_few (tree_within d m) node.cells b.cell b.child whole in
           let zero_first : 0 + b.cell ≡ b.cell = omega arith in
           subst (Ends j act 0) (ap (λ c. ports.Cell c (first_gained (part_of b.child) + b.number)) (sym zero_first) ∙ sym b.port)
-          (of_pair b.cell (first_gained (part_of b.child) + b.number) b.child whole (omega arith) (pair_at d design m k at b.cell few))
+          (of_pair b.cell (first_gained (part_of b.child) + b.number) b.child whole (omega arith) (pair_at d design m k at.within b.cell few))
 
   -- A CELL BEHIND THOSE OF THE COMPONENT is a counter's, or stands behind all counters
   pub data NewCell (c : ℕ) : Type 0 where
@@ -264,40 +263,40 @@ module _ (d : PlainDesign) (design : IsDesign d) (m k : ℕ) (at : InTree d (suc
           (λ (e : c - length node.cells ≡ 2 * n). a_register r.0 there (omega (arith, past, number, e)))
           (λ (e : c - length node.cells ≡ suc (2 * n)). an_adder r.0 there (omega (arith, past, number, e))) side
 
-  counter_known : (c p : ℕ) → NewCell c → (length node.cells + 2 * length (counters (component_of d k)) ≤ c → IsKnown d design m k at act (ports.Cell c p)) → IsKnown d design m k at act (ports.Cell c p)
-  counter_known c p (a_register x i e) far = subst (λ n. IsKnown d design m k at act (ports.Cell n p)) e (register_known x i p)
-  counter_known c p (an_adder x i e) far = subst (λ n. IsKnown d design m k at act (ports.Cell n p)) e (adder_known x i p)
+  counter_known : (c p : ℕ) → NewCell c → (length node.cells + 2 * length (counters (component_of d k)) ≤ c → IsKnown d design m k at.within act (ports.Cell c p)) → IsKnown d design m k at.within act (ports.Cell c p)
+  counter_known c p (a_register x i e) far = subst (λ n. IsKnown d design m k at.within act (ports.Cell n p)) e (register_known x i p)
+  counter_known c p (an_adder x i e) far = subst (λ n. IsKnown d design m k at.within act (ports.Cell n p)) e (adder_known x i p)
   counter_known c p (further_on past) far = far past
 
   none_mentions : (p q : PortRef) → drivers other act p ≡ [] → Mentions (drivers other act p) q → ⊥
   none_mentions p q e l = let r : Mentions [] q = subst (λ acts. Mentions acts q) e l in r.1
 
   -- ALL PORTS, where those of further cells, of new outputs and of new holes are known
-  all_known : ((c p : ℕ) → length node.cells + 2 * length (counters (component_of d k)) ≤ c → IsKnown d design m k at act (ports.Cell c p))
-      → ((n : ℕ) → length node.outputs ≤ n → IsKnown d design m k at act (ports.Output n))
-      → ((g : ℕ) → length node.groups ≤ g → IsKnown d design m k at act (ports.Done g)) → (p : PortRef) → IsKnown d design m k at act p
+  pub all_known : ((c p : ℕ) → length node.cells + 2 * length (counters (component_of d k)) ≤ c → IsKnown d design m k at.within act (ports.Cell c p))
+      → ((n : ℕ) → length node.outputs ≤ n → IsKnown d design m k at.within act (ports.Output n))
+      → ((g : ℕ) → length node.groups ≤ g → IsKnown d design m k at.within act (ports.Done g)) → (p : PortRef) → IsKnown d design m k at.within act p
   all_known cells outs dones (ports.Cell c p) =
-      ⊎_elim (λ less. old_known d design m k at act c p less) (λ past. counter_known c p (new_cell_is c past) (cells c p)) (cases_lt c (length node.cells))
+      ⊎_elim (λ less. old_known d design m k at.within act c p less) (λ past. counter_known c p (new_cell_is c past) (cells c p)) (cases_lt c (length node.cells))
   all_known cells outs dones (ports.Input n) = ending 0 (λ q l. l)
-  all_known cells outs dones (ports.Output n) = ⊎_elim (λ less. plain_known d design m k at act (ports.Output n) less refl) (λ past. outs n past) (cases_lt n (length node.outputs))
-  all_known cells outs dones (ports.Done g) = ⊎_elim (λ less. plain_known d design m k at act (ports.Done g) less refl) (λ past. dones g past) (cases_lt g (length node.groups))
+  all_known cells outs dones (ports.Output n) = ⊎_elim (λ less. plain_known d design m k at.within act (ports.Output n) less refl) (λ past. outs n past) (cases_lt n (length node.outputs))
+  all_known cells outs dones (ports.Done g) = ⊎_elim (λ less. plain_known d design m k at.within act (ports.Done g) less refl) (λ past. dones g past) (cases_lt g (length node.groups))
   all_known cells outs dones (ports.Literal w v) = ending 0 (λ q l. l)
 
   -- OF A CHILD
-  cells_end : (names : List (List ℕ)) → other ≡ child_component d k names → (c p : ℕ) → length node.cells + 2 * length (counters (component_of d k)) ≤ c → IsKnown d design m k at act (ports.Cell c p)
+  cells_end : (names : List (List ℕ)) → other ≡ child_component d k names → (c p : ℕ) → length node.cells + 2 * length (counters (component_of d k)) ≤ c → IsKnown d design m k at.within act (ports.Cell c p)
   cells_end names is c p past =
       let count : length other.cells ≡ length node.cells + 2 * length (counters (component_of d k)) =
       ap (λ x. length x.cells) is ∙ length-append node.cells (counter_cells node.place names 0 (length (counters (component_of d k)))) ∙ ap (λ n. length node.cells + n) (counter_cells-length node.place names 0 (length (counters (component_of d k)))) in
       let far : length other.cells ≤ c = omega (arith, past, count) in
       ending 0 (λ q l. subst (λ x. CellLeads other act c p x q) (at_none (tree_within (with_counts d) m) other.cells c (slice_get_past other.cells c far)) l)
 
-  outputs_end : (names : List (List ℕ)) → other ≡ child_component d k names → (n : ℕ) → length node.outputs ≤ n → IsKnown d design m k at act (ports.Output n)
+  outputs_end : (names : List (List ℕ)) → other ≡ child_component d k names → (n : ℕ) → length node.outputs ≤ n → IsKnown d design m k at.within act (ports.Output n)
   outputs_end names is n past =
       ⊎_elim
       (λ (less : n - length node.outputs < length (shown_in (component_of d k))).
       let x = there_at (shown_in (component_of d k)) (n - length node.outputs) less in
       let number : length node.outputs + (n - length node.outputs) ≡ n = omega (arith, past) in
-      subst (λ q. IsKnown d design m k at act (ports.Output q)) number
+      subst (λ q. IsKnown d design m k at.within act (ports.Output q)) number
       (ending 1 (λ q l. subst (Ends j act 0) (one_source x.0 q (subst (λ acts. Mentions acts q) (output_driven d k names is inside act (n - length node.outputs) x.0 x.1) l))
       (shown_ends x.0 (in_at (shown_in (component_of d k)) (n - length node.outputs) x.0 x.1)))))
       (λ (far : length (shown_in (component_of d k)) ≤ n - length node.outputs).
@@ -311,58 +310,5 @@ module _ (d : PlainDesign) (design : IsDesign d) (m k : ℕ) (at : InTree d (suc
 
   pub child_acyclic : (names : List (List ℕ)) → other ≡ child_component d k names → IsAcyclic (tree_within d (suc m) k) act → IsAcyclic j act
   child_acyclic names is acyclic =
-      acyclic_grown d design m k at act acyclic
+      acyclic_grown d design m k at.within act acyclic
       (all_known (cells_end names is) (outputs_end names is) (λ g past. ending 0 (λ q l. none_mentions (ports.Done g) q (child_silent d design k at.within act names is (ports.Done g) past tt tt) l)))
-
-  -- OF MAIN, under groups of the design
-  module _ (names : List (List ℕ)) (is : other ≡ main_component d k names) (acts : ActsWithin node act) (count address : ℕ)
-      (memory : cell_at (cells_of j) (length node.cells + 2 * length (counters (component_of d k))) ≡ OfRow (memory_row 64 (count ∷ []) (address ∷ []))) where
-    abbrev place_of_memory : ℕ
-    place_of_memory = length node.cells + 2 * length (counters (component_of d k))
-
-    memory_silent : (c p : ℕ) → place_of_memory ≤ c → drivers other act (ports.Cell c p) ≡ []
-    memory_silent c p past = main_silent d design k at.within act names is acts (ports.Cell c p) (omega (arith, past)) (inr past)
-
-    address_ends : Ends j act 0 (ports.Cell place_of_memory 0)
-    address_ends q l = none_mentions (ports.Cell place_of_memory 0) q (memory_silent place_of_memory 0 (omega arith)) (subst (λ x. CellLeads other act place_of_memory 0 x q) memory l)
-
-    read_ends : Ends j act 1 (ports.Cell place_of_memory 3)
-    read_ends q l = by (subst (λ x. CellLeads other act place_of_memory 3 x q) memory l)
-      where
-        by : SideLeads other act (memory_row 64 (count ∷ []) (address ∷ [])) place_of_memory 3 sides.Output q → Ends j act 0 q
-        by (zero, reads, e) = subst (Ends j act 0) e address_ends
-        by (suc p, reads, e) = absurd (let few : suc p < 1 = ltb-true (suc p) 1 reads in omega (arith, few))
-
-    memory_known : (p : ℕ) → IsKnown d design m k at act (ports.Cell place_of_memory p)
-    memory_known zero = ending 0 address_ends
-    memory_known (suc zero) = ending 0 (λ q l. none_mentions (ports.Cell place_of_memory 1) q (memory_silent place_of_memory 1 (omega arith)) (subst (λ x. CellLeads other act place_of_memory 1 x q) memory l))
-    memory_known (suc (suc zero)) = ending 0 (λ q l. none_mentions (ports.Cell place_of_memory 2) q (memory_silent place_of_memory 2 (omega arith)) (subst (λ x. CellLeads other act place_of_memory 2 x q) memory l))
-    memory_known (suc (suc (suc zero))) = ending 1 read_ends
-    memory_known (suc (suc (suc (suc zero)))) = ending 0 (λ q l. subst (λ x. CellLeads other act place_of_memory 4 x q) memory l)
-    memory_known (suc (suc (suc (suc (suc p))))) = ending 0 (λ q l. subst (λ x. CellLeads other act place_of_memory (suc (suc (suc (suc (suc p))))) x q) memory l)
-
-    main_cells : (c p : ℕ) → place_of_memory ≤ c → IsKnown d design m k at act (ports.Cell c p)
-    main_cells c p past =
-        ⊎_elim
-        (λ (e : c ≡ place_of_memory). subst (λ n. IsKnown d design m k at act (ports.Cell n p)) (sym e) (memory_known p))
-        (λ differ.
-        let size : length other.cells ≡ suc place_of_memory = main_size in
-        let far : length other.cells ≤ c = omega (arith, past, size, differ) in
-        ending 0 (λ q l. subst (λ x. CellLeads other act c p x q) (at_none (tree_within (with_counts d) m) other.cells c (slice_get_past other.cells c far)) l))
-        (cases_eq c place_of_memory)
-      where
-        main_size : length other.cells ≡ suc place_of_memory
-        main_size =
-            let counters_are : length (counter_cells node.place names 0 (length (counters (component_of d k)))) ≡ 2 * length (counters (component_of d k)) = counter_cells-length node.place names 0 (length (counters (component_of d k))) in
-            let last = memory_cell node.place (name_at names (2 * length (counters (component_of d k)))) (length (shown_in (component_of d k))) ∷ [] in
-            let whole : length other.cells ≡ length node.cells + length (counter_cells node.place names 0 (length (counters (component_of d k))) ++ last) =
-            ap (λ x. length x.cells) is ∙ length-append node.cells (counter_cells node.place names 0 (length (counters (component_of d k))) ++ last) in
-            let behind_node : length (counter_cells node.place names 0 (length (counters (component_of d k))) ++ last) ≡ length (counter_cells node.place names 0 (length (counters (component_of d k)))) + 1 =
-            length-append (counter_cells node.place names 0 (length (counters (component_of d k)))) last in
-            omega (arith, whole, behind_node, counters_are)
-
-    pub main_acyclic : IsAcyclic (tree_within d (suc m) k) act → IsAcyclic j act
-    main_acyclic acyclic =
-        acyclic_grown d design m k at act acyclic
-        (all_known main_cells (λ n past. ending 0 (λ q l. none_mentions (ports.Output n) q (main_silent d design k at.within act names is acts (ports.Output n) past tt) l))
-        (λ g past. ending 0 (λ q l. none_mentions (ports.Done g) q (main_silent d design k at.within act names is acts (ports.Done g) past tt) l)))

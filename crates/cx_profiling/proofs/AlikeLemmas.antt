@@ -24,7 +24,7 @@ use Rattle.cx_profiling.proofs.GrownTrees.{InTree, main_in_tree}
 use Rattle.cx_profiling.proofs.MainLemmas.{main_owes}
 use Rattle.cx_profiling.proofs.ReadLemmas.{profile_reads}
 
-some_levels : (count k : ℕ) → k < count → (m : ℕ) × (count ≡ suc m)
+pub some_levels : (count k : ℕ) → k < count → (m : ℕ) × (count ≡ suc m)
 some_levels zero k less = absurd (omega (arith, less))
 some_levels (suc m) k less = (m, refl)
 

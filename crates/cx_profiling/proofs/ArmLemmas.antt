@@ -70,7 +70,7 @@ driving_arm part (a_statement s ss) c e =
     ⊎_elim (λ a. (0, s, refl, a)) (λ b. let r = driving_arm part ss c b in (suc r.0, r.1, r.2, r.3))
     (or_cases (drives part s c) (groups_drive part (groups_in_all ss) c) (sym (groups_joined part (groups_of s) (groups_in_all ss) c) ∙ e))
 
-driver_in : (part : PlainComponent) (gs : List ℕ) (c : ℕ) → groups_drive part gs c ≡ true → (g : ℕ) × In gs g × (group_drives part g c ≡ true)
+pub driver_in : (part : PlainComponent) (gs : List ℕ) (c : ℕ) → groups_drive part gs c ≡ true → (g : ℕ) × In gs g × (group_drives part g c ≡ true)
 driver_in part [] c e = absurd (cc)
 driver_in part (g ∷ gs) c e =
     ⊎_elim (λ a. (g, inl refl, a)) (λ b. let r = driver_in part gs c b in (r.0, inr r.1, r.2)) (or_cases (group_drives part g c) (groups_drive part gs c) e)
@@ -79,7 +79,7 @@ list_joined : (done later : PlainStatements) → list_of (joined done later) ≡
 list_joined no_statements later = refl
 list_joined (a_statement s ss) later = ap (λ list. s ∷ list) (list_joined ss later)
 
-counted_kind : (cells : Cells) (g : PlainGroup) → is_counted cells g ≡ true → is_comb g.kind ≡ false
+pub counted_kind : (cells : Cells) (g : PlainGroup) → is_counted cells g ≡ true → is_comb g.kind ≡ false
 counted_kind cells g e = by g.kind (and_parts (has_name g.name) (is_counted_kind cells g.assigns g.kind) e).1
   where
     by : (kind : GroupKind) → is_counted_kind cells g.assigns kind ≡ true → is_comb kind ≡ false

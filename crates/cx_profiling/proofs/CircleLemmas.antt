@@ -25,7 +25,6 @@ use Rattle.cx_profiling.proofs.PortLemmas.{IsInside, moved_apart, grown_number}
 use Rattle.cx_profiling.proofs.CellPorts.{IsGiven, given_output, given_done, part_given}
 use Rattle.cx_profiling.proofs.GainedLemmas.{grown_at}
 use Rattle.cx_profiling.proofs.InsideLemmas.{inside_closed}
-use Rattle.cx_profiling.proofs.GrownTrees.{InTree}
 use Rattle.cx_profiling.proofs.PairLemmas.{drives_moved, CellPair, row_pair, child_pair, pair_at, child_ports}
 
 -- a port from which nothing leads in more than so many steps
@@ -44,7 +43,7 @@ ends_no_circle i act zero p ends (by_way_of r l d) = ends r l
 ends_no_circle i act (suc n) p ends (at_once l) = ends_no_circle i act n p (ends p l) (at_once l)
 ends_no_circle i act (suc n) p ends (by_way_of r l d) = ends_no_circle i act n r (ends r l) (further d l)
 
-module _ (d : PlainDesign) (design : IsDesign d) (m k : ℕ) (at : InTree d (suc m) k) (act : Active) where
+module _ (d : PlainDesign) (design : IsDesign d) (m k : ℕ) (within : k < length d.components) (act : Active) where
   abbrev part : PlainComponent
   part = component_at d k
 
@@ -65,7 +64,7 @@ module _ (d : PlainDesign) (design : IsDesign d) (m k : ℕ) (at : InTree d (suc
 
   targets_back : (p r q : PortRef) → IsInside d part p → mv p ≡ r → Mentions (drivers other act r) q → Back (Mentions (drivers part act p)) q
   targets_back p r q here e l =
-      mentions_back mv (drivers part act p) q (subst (λ acts. Mentions acts q) (ap (drivers other act) (sym e) ∙ drives_moved d design k at.within act p here) l)
+      mentions_back mv (drivers part act p) q (subst (λ acts. Mentions acts q) (ap (drivers other act) (sym e) ∙ drives_moved d design k within act p here) l)
 
   side_back : (c p : ℕ) (row : Row) (side : Side) (q : PortRef) → IsInside d part (ports.Cell c p) → ((n : ℕ) → mv (ports.Cell c n) ≡ ports.Cell c n)
       → SideLeads other act row c p side q → Back (SideLeads part act row c p side) q
@@ -81,7 +80,7 @@ module _ (d : PlainDesign) (design : IsDesign d) (m k : ℕ) (at : InTree d (suc
   part_back c p r (AnOutput n) q here moved l = absurd l
   part_back c p r ItsDone q here moved l = absurd l
 
-  cell_back : (c p : ℕ) (q : PortRef) → IsInside d part (ports.Cell c p) → CellPair d design m k at c → Leads j act (mv (ports.Cell c p)) q → Back (Leads i act (ports.Cell c p)) q
+  cell_back : (c p : ℕ) (q : PortRef) → IsInside d part (ports.Cell c p) → CellPair d design m k within c → Leads j act (mv (ports.Cell c p)) q → Back (Leads i act (ports.Cell c p)) q
   cell_back c p q here (row_pair row first second moved) l =
       let there : CellLeads other act c p (cell_at (cells_of j) c) q = subst (λ x. Leads j act x q) (moved p) l in
       let leads : SideLeads other act row c p (side_of row p) q = subst (λ x. CellLeads other act c p x q) second there in
@@ -91,24 +90,24 @@ module _ (d : PlainDesign) (design : IsDesign d) (m k : ℕ) (at : InTree d (suc
       let r = grown_number d (first_gained (component_at d e)) (gained d e) p in
       let there : CellLeads other act c r (cell_at (cells_of j) c) q = subst (λ x. Leads j act x q) (moved p) l in
       let leads : PartLeads other act c r (part_port (part_of (tree_within (with_counts d) m e)) r) q = subst (λ x. CellLeads other act c r x q) second there in
-      let old : PartLeads other act c r (part_port (part_of (tree_within d m e)) p) q = subst (λ x. PartLeads other act c r x q) (child_ports d design m k at e p below.within (here.1 cell e stands is)) leads in
+      let old : PartLeads other act c r (part_port (part_of (tree_within d m e)) p) q = subst (λ x. PartLeads other act c r x q) (child_ports d design m k within e p below (here.1 cell e stands is)) leads in
       let back : Back (PartLeads part act c p (part_port (part_of (tree_within d m e)) p)) q = part_back c p r (part_port (part_of (tree_within d m e)) p) q here (moved p) old in
       (back.0, back.1, subst (λ x. CellLeads part act c p x back.0) (sym first) back.2)
 
   leads_back : (p q : PortRef) → IsInside d part p → Leads j act (mv p) q → Back (Leads i act p) q
-  leads_back (ports.Cell c p) q here l = cell_back c p q here (pair_at d design m k at c here.0) l
+  leads_back (ports.Cell c p) q here l = cell_back c p q here (pair_at d design m k within c here.0) l
   leads_back (ports.Input n) q here l = absurd l
   leads_back (ports.Output n) q here l = targets_back (ports.Output n) (ports.Output n) q here refl l
   leads_back (ports.Done g) q here l = targets_back (ports.Done g) (ports.Done g) q here refl l
   leads_back (ports.Literal w v) q here l = absurd l
 
-  depends_back : (p r q : PortRef) → IsInside d part p → mv p ≡ r → Depends j act r q → (port : PortRef) × (mv port ≡ q) × Depends i act p port × IsInside d part port
+  pub depends_back : (p r q : PortRef) → IsInside d part p → mv p ≡ r → Depends j act r q → (port : PortRef) × (mv port ≡ q) × Depends i act p port × IsInside d part port
   depends_back p r q here e (at_once l) =
       let x = leads_back p q here (subst (λ z. Leads j act z q) (sym e) l) in
-      (x.0, x.1, at_once x.2, inside_closed d design k at.within m act p x.0 here x.2)
+      (x.0, x.1, at_once x.2, inside_closed d design k within m act p x.0 here x.2)
   depends_back p r q here e (by_way_of n l rest) =
       let x = leads_back p n here (subst (λ z. Leads j act z n) (sym e) l) in
-      let y = depends_back x.0 n q (inside_closed d design k at.within m act p x.0 here x.2) x.1 rest in
+      let y = depends_back x.0 n q (inside_closed d design k within m act p x.0 here x.2) x.1 rest in
       (y.0, y.1, by_way_of x.0 x.2 y.2, y.3)
 
   -- a port of the component, moved, or one from which nothing leads in a few steps
@@ -127,7 +126,7 @@ module _ (d : PlainDesign) (design : IsDesign d) (m k : ℕ) (at : InTree d (suc
 
   -- an old port is known
   pub old_known : (c p : ℕ) → c < length part.cells → IsKnown (ports.Cell c p)
-  old_known c p few = by (pair_at d design m k at c few)
+  old_known c p few = by (pair_at d design m k within c few)
     where
       none_leads : (port : PartPort) (q : PortRef) → IsGiven port → PartLeads other act c p port q → ⊥
       none_leads port q (given_output n) l = l
@@ -154,7 +153,7 @@ module _ (d : PlainDesign) (design : IsDesign d) (m k : ℕ) (at : InTree d (suc
       grown_same : (first more : ℕ) → p < first → grown_number d first more p ≡ p
       grown_same first more less = ap (λ b. if b then p + more else p) (ne_eqb p first (λ e. omega (arith, less, e)))
 
-      by : CellPair d design m k at c → IsKnown (ports.Cell c p)
+      by : CellPair d design m k within c → IsKnown (ports.Cell c p)
       by (row_pair row first second moved) = moved_from (ports.Cell c p) (row_inside row first) (moved p)
       by (child_pair cell e stands is below first second moved) =
           ⊎_elim
@@ -162,7 +161,7 @@ module _ (d : PlainDesign) (design : IsDesign d) (m k : ℕ) (at : InTree d (suc
           moved_from (ports.Cell c p) (child_inside cell e stands is (omega (arith, less))) (moved p ∙ ap (ports.Cell c) (grown_same (first_gained (component_at d e)) (gained d e) less)))
           (λ (past : first_gained (component_at d e) ≤ p).
           let inputs : length (part_of (tree_within (with_counts d) m e)).inputs ≡ length (component_at d e).inputs =
-          ap (λ (x : PlainComponent). length x.inputs) (same_part (with_counts d) m e) ∙ ap length ((grown_at d e below.within).inputs) in
+          ap (λ (x : PlainComponent). length x.inputs) (same_part (with_counts d) m e) ∙ ap length ((grown_at d e below).inputs) in
           let far : suc (length (part_of (tree_within (with_counts d) m e)).inputs) ≤ p = omega (arith, past, inputs) in
           ending 0 (λ q l. none_leads (part_port (part_of (tree_within (with_counts d) m e)) p) q (part_given (part_of (tree_within (with_counts d) m e)) p far) (subst (λ x. CellLeads other act c p x q) second l)))
           (cases_lt p (first_gained (component_at d e)))

@@ -39,7 +39,7 @@ use Rattle.cx_profiling.specs.Instrumented.{is_reached, moved_in, counter_cells,
 use Rattle.cx_profiling.proofs.PortLemmas.{IsInside, there_inside}
 use Rattle.cx_profiling.proofs.CounterLemmas.{counter_cells-length}
 use Rattle.cx_profiling.proofs.RoleLemmas.{Role, as_main, as_child, as_kept, role}
-use Rattle.cx_profiling.proofs.GrownTrees.{InTree, in_reach, no_main_below}
+use Rattle.cx_profiling.proofs.GrownTrees.{InTree, in_reach, child_in_tree, no_main_below}
 use Rattle.cx_profiling.proofs.PairLemmas.{CellPair, row_pair, child_pair, pair_at}
 use Rattle.cx_profiling.proofs.AcyclicLemmas.{ActsWithin, child_few, child_acyclic}
 use Rattle.cx_profiling.proofs.EnabledLemmas.{Known, statement_known}
@@ -140,7 +140,7 @@ module _ (d : PlainDesign) (design : IsDesign d) (accepted : IsAccepted d) (grow
     of_call : (g : ℕ) (kind : GroupKind) → g < length node.groups → (group_at node g).kind ≡ kind → kind_length kind ≡ None → (o : Option ℕ) → called i g ≡ o
         → Carries Exact (Grown i) (λ f. f) (count_call_or_turns i (count_below (cells_of i)) held g o) (call_or_turns i (control_below (cells_of i)) held g o) (call_or_turns j (control_below (cells_of j)) twin g o)
     of_call g kind few is dynamic None calls = group_leaf d design accepted grown_accepted m k at entries_there further held twin same g few
-    of_call g kind few is dynamic (Some c) calls = by (pair_at d design m k at c here)
+    of_call g kind few is dynamic (Some c) calls = by (pair_at d design m k at.within c here)
       where
         child : (x : Instance) × (cell_at (cells_of i) c ≡ OfInstance x)
         child = called_instance (cells_of i) (group_at node g).assigns c calls
@@ -148,17 +148,17 @@ module _ (d : PlainDesign) (design : IsDesign d) (accepted : IsAccepted d) (grow
         here : c < length node.cells
         here = child_few (tree_within d m) node.cells c child.0 child.1
 
-        by : CellPair d design m k at c
+        by : CellPair d design m k at.within c
             → Carries Exact (Grown i) (λ f. f) (count_call_or_turns i (count_below (cells_of i)) held g (Some c)) (call_or_turns i (control_below (cells_of i)) held g (Some c)) (call_or_turns j (control_below (cells_of j)) twin g (Some c))
         by (row_pair row first second moved) = absurd (row_instance row child.0 (sym first ∙ child.1))
-        by (child_pair cell e stands comp inner first second moved) =
+        by (child_pair cell e stands comp below first second moved) =
             call_leaf d design accepted grown_accepted m k at entries_there further held twin same g c kind few is dynamic calls cell e stands comp (control_below (cells_of i)) (control_below (cells_of j)) (λ own. count_below (cells_of i) c own)
             (λ own twin_own alike.
             equal_carries (Grown (tree_within d m e)) (count_control (tree_within d m e) own) (count_below (cells_of i) c own) (run_control (tree_within d m e) own) (control_below (cells_of i) c own)
             (run_control (tree_within (with_counts d) m e) twin_own) (control_below (cells_of j) c twin_own)
             (λ s n. count_child (cells_of i) c (tree_within d m e) first own s n) (λ s n. control_child (cells_of i) c (tree_within d m e) first own s n)
             (λ s n. control_child (cells_of j) c (tree_within (with_counts d) m e) second twin_own s n)
-            (kids e inner (no_main_below d design at cell e (in_at node.cells c cell stands) comp) own twin_own alike))
+            (kids e (child_in_tree d design at cell e (in_at node.cells c cell stands) comp) (no_main_below d design at cell e (in_at node.cells c cell stands) comp) own twin_own alike))
 
     of_kind : (g : ℕ) (kind : GroupKind) → IsKnown g → (group_at node g).kind ≡ kind
         → Carries Exact (Grown i) (λ f. f) (count_enable i (count_below (cells_of i)) held g kind) (enable_kind i (control_below (cells_of i)) held g kind) (enable_kind j (control_below (cells_of j)) twin g kind)

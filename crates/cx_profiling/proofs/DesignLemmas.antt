@@ -31,7 +31,7 @@ use Rattle.cx_profiling.proofs.NewAssigns.{store_groups-at}
 use Rattle.cx_profiling.proofs.ComponentLemmas.{IsPart, AreNew, kept_part, child_part, main_part}
 
 -- SIZES
-size_within : (parts : List PlainComponent) (k : ℕ) → k < length parts → size_of (get_or parts k no_component) < sizes_of parts
+pub size_within : (parts : List PlainComponent) (k : ℕ) → k < length parts → size_of (get_or parts k no_component) < sizes_of parts
 size_within [] k less = absurd (omega arith)
 size_within (x ∷ parts) zero less = let z : size_of x < size_of x + 1 + sizes_of parts = omega arith in z
 size_within (x ∷ parts) (suc k) less = let z : size_of (get_or parts k no_component) < sizes_of parts = size_within parts k (omega arith) in let y : size_of (get_or parts k no_component) < size_of x + 1 + sizes_of parts = omega arith in y
@@ -41,10 +41,10 @@ many_groups [] = omega arith
 many_groups (g ∷ gs) = let z : length gs ≤ groups_size gs = many_groups gs in omega arith
 
 -- the signature ports, cells and groups of a component are no more than its size
-many_parts : (part : PlainComponent) → length part.inputs + length part.outputs + length part.cells + length part.groups ≤ size_of part
+pub many_parts : (part : PlainComponent) → length part.inputs + length part.outputs + length part.cells + length part.groups ≤ size_of part
 many_parts part = let z : length part.groups ≤ groups_size part.groups = many_groups part.groups in omega arith
 
-names-length : (part : PlainComponent) → length (names_of part) ≡ length part.inputs + length part.outputs + (length part.cells + length part.groups)
+pub names-length : (part : PlainComponent) → length (names_of part) ≡ length part.inputs + length part.outputs + (length part.cells + length part.groups)
 names-length part =
     length-append (map (λ port. port.name) (part.inputs ++ part.outputs)) (map (λ cell. cell.name) part.cells ++ map (λ group. group.name) part.groups)
     ∙ ap (λ n. n + length (map (λ cell. cell.name) part.cells ++ map (λ group. group.name) part.groups)) (length-map (λ port. port.name) (part.inputs ++ part.outputs) ∙ length-append part.inputs part.outputs)
@@ -145,7 +145,7 @@ module _ (d : PlainDesign) (rules : IsDesign d) (k : ℕ) (there : k < length d.
     abbrev old_groups : List PlainGroup
     old_groups = counted_groups d part (cells_of (component_of d k)) (length part.cells) part.groups
 
-    groups-length : length made.groups ≡ length part.groups + length shown
+    pub groups-length : length made.groups ≡ length part.groups + length shown
     groups-length = length-append old_groups stores ∙ ap (λ n. n + length stores) (counted_groups-length d part (cells_of (component_of d k)) (length part.cells) part.groups)
         ∙ ap (λ n. length part.groups + n) (store_groups-length part.place names (length part.cells + 2 * own) (address_width (length shown)) (suc (2 * own)) (length part.groups) 0 shown)
 

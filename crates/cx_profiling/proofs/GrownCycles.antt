@@ -147,9 +147,9 @@ module _ (d : PlainDesign) (design : IsDesign d) (m k : ℕ) (at : InTree d (suc
       follows_same c row (Stops kind p) w first e = (p, sym e, fixed c p row kind first)
 
       follows : (c : ℕ) → c < length node.cells → OutcomeFollows faults c (comes_to i held act s c) c (comes_to j twin act t c)
-      follows c few = by (pair_at d design m k at c few)
+      follows c few = by (pair_at d design m k at.within c few)
         where
-          by : CellPair d design m k at c → OutcomeFollows faults c (comes_to i held act s c) c (comes_to j twin act t c)
+          by : CellPair d design m k at.within c → OutcomeFollows faults c (comes_to i held act s c) c (comes_to j twin act t c)
           by (row_pair row first second moved) =
               follows_same c row (comes_to i held act s c) (comes_to j twin act t c) first (same_outcome i j held twin act act s t c c (alike c row first second moved few))
           by (child_pair cell e stands is below first second moved) =
@@ -199,20 +199,20 @@ module _ (d : PlainDesign) (design : IsDesign d) (m k : ℕ) (at : InTree d (suc
 
       module _ (after : State) (goes : cycle i held act s ≡ Goes after) where
         rows_left : (c : ℕ) (row : Row) → cell_at (cells_of i) c ≡ OfRow row → left_by j twin act t (c ∷ []) ≡ after (c ∷ [])
-        rows_left c row e = by (pair_at d design m k at c few)
+        rows_left c row e = by (pair_at d design m k at.within c few)
           where
             few : c < length node.cells
             few = subst (λ n. c < n) (count_listed (tree_within d m) node.cells) (row_within (cells_of i) c row e)
 
-            by : CellPair d design m k at c → left_by j twin act t (c ∷ []) ≡ after (c ∷ [])
+            by : CellPair d design m k at.within c → left_by j twin act t (c ∷ []) ≡ after (c ∷ [])
             by (row_pair r first second moved) = cell_left i j held twin act act s t c c (alike c r first second moved few) after goes
             by (child_pair cell f stands is below first second moved) = absurd (instance_row (tree_within d m f) row (sym first ∙ e))
 
         stays : (c : ℕ) (child : Instance) → cell_at (cells_of i) c ≡ OfInstance child → (path : Path) → t (c ∷ path) ≡ left_by j twin act t (c ∷ path)
         stays c child e (f ∷ path) = refl
-        stays c child e [] = by (pair_at d design m k at c (child_few (tree_within d m) node.cells c child e))
+        stays c child e [] = by (pair_at d design m k at.within c (child_few (tree_within d m) node.cells c child e))
           where
-            by : CellPair d design m k at c → t (c ∷ []) ≡ left_by j twin act t (c ∷ [])
+            by : CellPair d design m k at.within c → t (c ∷ []) ≡ left_by j twin act t (c ∷ [])
             by (row_pair r first second moved) = absurd (row_instance r child (sym first ∙ e))
             by (child_pair cell f stands is below first second moved) =
                 sym (ap (stepped (t (c ∷ []))) (ap (λ a. outcome_at (seen j twin act t) c a (t (c ∷ []))) second))

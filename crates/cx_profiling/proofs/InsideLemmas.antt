@@ -17,7 +17,7 @@ use Rattle.cx_rewrites.proofs.ClosedLemmas.{is_closed}
 use Rattle.cx_profiling.proofs.ListedCells.{at_component}
 use Rattle.cx_profiling.proofs.PortLemmas.{IsInside, there_inside}
 
-stands_in : (part : PlainComponent) (o : Owned) → In (assigns_of part) o → StandsIn part o.owner o.assign
+pub stands_in : (part : PlainComponent) (o : Owned) → In (assigns_of part) o → StandsIn part o.owner o.assign
 stands_in part o i =
     ⊎_elim
     (λ j. let r = owned_among None part.always o j in subst (λ x. StandsIn part x o.assign) (sym r.0) r.1)

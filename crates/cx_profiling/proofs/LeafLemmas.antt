@@ -120,9 +120,9 @@ module _ (d : PlainDesign) (design : IsDesign d) (accepted : IsAccepted d) (grow
 
   -- the ports of a primitive cell stay
   pub row_stays : (c p : ℕ) (row : Row) → cell_at (cells_of i) c ≡ OfRow row → c < length node.cells → mv (ports.Cell c p) ≡ ports.Cell c p
-  row_stays c p row e few = by (pair_at d design m k at c few)
+  row_stays c p row e few = by (pair_at d design m k at.within c few)
     where
-      by : CellPair d design m k at c → mv (ports.Cell c p) ≡ ports.Cell c p
+      by : CellPair d design m k at.within c → mv (ports.Cell c p) ≡ ports.Cell c p
       by (row_pair r first second moved) = moved p
       by (child_pair cell f stands is below first second moved) = absurd (instance_row (tree_within d m f) row (sym first ∙ e))
 
@@ -149,9 +149,9 @@ module _ (d : PlainDesign) (design : IsDesign d) (accepted : IsAccepted d) (grow
   group_inside g few a i = there_inside d k at.within a.target ((design.components k at.within).assigns (Some g) a (few, i)).target
 
   cell_called : (c : ℕ) (o : Option ℕ) → c < length node.cells → if_instance (cell_at (cells_of j) c) c o ≡ if_instance (cell_at (cells_of i) c) c o
-  cell_called c o few = by (pair_at d design m k at c few)
+  cell_called c o few = by (pair_at d design m k at.within c few)
     where
-      by : CellPair d design m k at c → if_instance (cell_at (cells_of j) c) c o ≡ if_instance (cell_at (cells_of i) c) c o
+      by : CellPair d design m k at.within c → if_instance (cell_at (cells_of j) c) c o ≡ if_instance (cell_at (cells_of i) c) c o
       by (row_pair row first second moved) = ap (λ x. if_instance x c o) second ∙ ap (λ x. if_instance x c o) (sym first)
       by (child_pair cell f stands is below first second moved) = ap (λ x. if_instance x c o) second ∙ ap (λ x. if_instance x c o) (sym first)
 
@@ -190,9 +190,9 @@ module _ (d : PlainDesign) (design : IsDesign d) (accepted : IsAccepted d) (grow
       by (plain_group is e) = ap (λ (x : PlainGroup). called_in (cells_of j) x.assigns) e ∙ moved_called (group_at node g).assigns [] (group_inside g few) refl
 
   cell_enables : (c p : ℕ) → c < length node.cells → enables_primitive (cells_of j) (mv (ports.Cell c p)) ≡ enables_primitive (cells_of i) (ports.Cell c p)
-  cell_enables c p few = by (pair_at d design m k at c few)
+  cell_enables c p few = by (pair_at d design m k at.within c few)
     where
-      by : CellPair d design m k at c → enables_primitive (cells_of j) (mv (ports.Cell c p)) ≡ enables_primitive (cells_of i) (ports.Cell c p)
+      by : CellPair d design m k at.within c → enables_primitive (cells_of j) (mv (ports.Cell c p)) ≡ enables_primitive (cells_of i) (ports.Cell c p)
       by (row_pair row first second moved) = ap (enables_primitive (cells_of j)) (moved p) ∙ ap (λ x. enables_at x p) second ∙ ap (λ x. enables_at x p) (sym first)
       by (child_pair cell f stands is below first second moved) =
           ap (enables_primitive (cells_of j)) (moved p) ∙ ap (λ x. enables_at x (grown_number d (first_gained (component_at d f)) (gained d f) p)) second ∙ ap (λ x. enables_at x p) (sym first)
@@ -313,9 +313,9 @@ module _ (d : PlainDesign) (design : IsDesign d) (accepted : IsAccepted d) (grow
     left_or_bit act acyclic s (ports.Output n) here = inl refl
     left_or_bit act acyclic s (ports.Done g) here = inl refl
     left_or_bit act acyclic s (ports.Literal w v) here = inl refl
-    left_or_bit act acyclic s (ports.Cell c p) here = by (pair_at d design m k at c here.0)
+    left_or_bit act acyclic s (ports.Cell c p) here = by (pair_at d design m k at.within c here.0)
       where
-        by : CellPair d design m k at c → IsLeft mv (seen i held act s) (ports.Cell c p)
+        by : CellPair d design m k at.within c → IsLeft mv (seen i held act s) (ports.Cell c p)
         by (row_pair row first second moved) = inl (moved p)
         by (child_pair cell e stands is inner first second moved) =
             ⊎_elim

@@ -10,7 +10,6 @@ pub mod CellLemmas
 pub mod NewAssigns
 pub mod ComponentLemmas
 pub mod DesignLemmas
-pub mod AssignTable
 pub mod SortLemmas
 pub mod WidthsKept
 pub mod NewSorts
@@ -36,6 +35,13 @@ pub mod CircleLemmas
 pub mod SightLemmas
 pub mod RowLemmas
 pub mod AcyclicLemmas
+pub mod PartTable
+pub mod PortsKept
+pub mod ShapesKept
+pub mod MovedCalls
+pub mod CallsKept
+pub mod CirclesKept
+pub mod RacesKept
 pub mod CounterLooks
 pub mod GrownCycles
 pub mod SeenOutputs
@@ -54,3 +60,6 @@ pub mod StoreLemmas
 pub mod StartsGrown
 pub mod MainLemmas
 pub mod AlikeLemmas
+pub mod AcceptedStages
+pub mod MemoryNames
+pub mod PathsKept

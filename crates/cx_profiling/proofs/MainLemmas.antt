@@ -41,7 +41,8 @@ use Rattle.cx_profiling.specs.Instrumented.{moved_in, store_enables, address_wid
 use Rattle.cx_profiling.specs.RunsAlike.{Owes}
 use Rattle.cx_profiling.proofs.GrownLemmas.{grown_numbers}
 use Rattle.cx_profiling.proofs.GrownTrees.{InTree, in_reach}
-use Rattle.cx_profiling.proofs.AcyclicLemmas.{ActsWithin, main_acyclic, main_silent}
+use Rattle.cx_profiling.proofs.AcyclicLemmas.{ActsWithin, main_silent}
+use Rattle.cx_profiling.proofs.CirclesKept.{main_acyclic}
 use Rattle.cx_profiling.proofs.GroupLemmas.{behind_undriven}
 use Rattle.cx_profiling.proofs.ArmLemmas.{moved_groups, all_forms, no_cell}
 use Rattle.cx_profiling.proofs.EnabledLemmas.{Known, statement_known}
@@ -165,11 +166,11 @@ module _ (d : PlainDesign) (design : IsDesign d) (accepted : IsAccepted d) (grow
 
   -- UNDER GROUPS OF THE DESIGN the memory rests
   at_memory : cell_at (cells_of j) memory ≡ OfRow (memory_row 64 (size ∷ []) (address_width size ∷ []))
-  at_memory = memory_at d k at.within names is grown_accepted m some
+  at_memory = memory_at d k at.within names is grown_accepted.limits m some
 
   memory_rests : (act : Active) → ActsWithin node act → IsAcyclic j act → (twin : Held) (t : State) (e : ℕ) → memory ≤ e → e < length other.cells → (after : CellState) × (comes_to j twin act t e ≡ Next after)
   memory_rests act acts acyclic twin t e past less =
-      let total : length other.cells ≡ suc memory = cells_total d k at.within names is grown_accepted in
+      let total : length other.cells ≡ suc memory = cells_total d k at.within names is grown_accepted.limits in
       let same : memory ≡ e = omega (arith, past, less, total) in
       subst (λ c. (after : CellState) × (comes_to j twin act t c ≡ Next after)) same (
         row.idle (t (memory ∷ [])),
@@ -185,7 +186,7 @@ module _ (d : PlainDesign) (design : IsDesign d) (accepted : IsAccepted d) (grow
   old_control : Carries Exact (Grown i) (λ f. f) (count_control i unheld) (run_control i unheld) (run M (moved_statement (λ p. moved_in d node p) node.control))
   old_control =
       control_carries d design accepted grown_accepted m k at
-      (λ act acts acyclic. main_acyclic d design m k at act names is acts size (address_width size) at_memory acyclic) memory_rests (child_control d design accepted grown_accepted m) unheld unheld (λ n less. refl)
+      (λ act acts acyclic. main_acyclic d design m k at act names is size (address_width size) at_memory acyclic) memory_rests (child_control d design accepted grown_accepted m) unheld unheld (λ n less. refl)
 
   -- which drives no cell behind the counters
   control_spares : drives other (moved_statement (λ p. moved_in d node p) node.control) memory ≡ false

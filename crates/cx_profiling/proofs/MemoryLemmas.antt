@@ -16,7 +16,7 @@ use Rattle.cx_meaning.specs.Sights.{Look, bit_of, of_option}
 use Rattle.cx_meaning.specs.Cycles.{Next, cell_outcome}
 use Rattle.cx_rules.specs.Ports.{component_of}
 use Rattle.cx_rules.specs.Spots.{Itself}
-use Rattle.cx_rules.specs.Accepted.{IsAccepted}
+use Rattle.cx_rules.specs.Accepted.{KeepsStage}
 use Rattle.cx_profiling.specs.Counters.{counters, shown_in}
 use Rattle.cx_profiling.specs.Instrumented.{address_width, memory_cell, counter_cells, name_at, counted_groups, store_groups, main_component, with_counts}
 use Rattle.cx_profiling.proofs.CellLemmas.{memory_row-is}
@@ -40,7 +40,7 @@ memory_stores look c k a j v words done less write address input =
     let word : j * 1 + 0 ≡ j = omega arith in
     rw (write, address, input, write, lt-ltb j k less, word) refl
 
-module _ (d : PlainDesign) (k : ℕ) (within : k < length d.components) (names : List (List ℕ)) (is : component_at (with_counts d) k ≡ main_component d k names) (grown_accepted : IsAccepted (with_counts d)) where
+module _ (d : PlainDesign) (k : ℕ) (within : k < length d.components) (names : List (List ℕ)) (is : component_at (with_counts d) k ≡ main_component d k names) (limits : KeepsStage 7 (with_counts d)) where
   abbrev part : PlainComponent
   part = component_at d k
 
@@ -55,7 +55,7 @@ module _ (d : PlainDesign) (k : ℕ) (within : k < length d.components) (names :
   few_groups =
       ⊎_elim
       (λ (past : 4096 < length (component_at (with_counts d) k).groups).
-      absurd (grown_accepted.limits Limit (record { component = k; part = Itself 1 }) (component_at (with_counts d) k).place (codes "groups") refl
+      absurd (limits Limit (record { component = k; part = Itself 1 }) (component_at (with_counts d) k).place (codes "groups") refl
       (inr (inl (record { within = subst (λ n. k < n) (sym (components-length d)) within; is = refl; exceeds = past; tells = (refl, refl) })))))
       (λ few. few) (cases_lt 4096 (length (component_at (with_counts d) k).groups))
 

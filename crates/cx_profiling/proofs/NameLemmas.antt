@@ -168,11 +168,15 @@ in_numbered a (suc n) name (inr i) = by (in_numbered (a + 1) n name i)
     by : (m : ℕ) × (name ≡ profile_name m) × (a + 1 ≤ m) × (m < a + 1 + n) → (m : ℕ) × (name ≡ profile_name m) × (a ≤ m) × (m < a + suc n)
     by (m, e, from, to) = (m, e, omega arith, omega arith)
 
-pub free_names-numbered : (taken : List (List ℕ)) (k : ℕ) (name : List ℕ) → In (free_names taken k) name → (m : ℕ) × (name ≡ profile_name m)
-free_names-numbered taken k name i =
+pub free_names-bounded : (taken : List (List ℕ)) (k : ℕ) (name : List ℕ) → In (free_names taken k) name → (m : ℕ) × (name ≡ profile_name m) × (m < k + length taken)
+free_names-bounded taken k name i =
     let passes = in_filter (λ n. not (is_among n taken)) (map profile_name (range_with_len 0 (k + length taken))) name (in_take k (candidates taken (k + length taken)) name i) in
     let n = in_numbered 0 (k + length taken) name passes.0 in
-    (n.0, n.1)
+    let less : n.0 < 0 + (k + length taken) = n.3 in
+    (n.0, n.1, omega (arith, less))
+
+pub free_names-numbered : (taken : List (List ℕ)) (k : ℕ) (name : List ℕ) → In (free_names taken k) name → (m : ℕ) × (name ≡ profile_name m)
+free_names-numbered taken k name i = let n = free_names-bounded taken k name i in (n.0, n.1)
 
 -- no two of a list are the same
 abbrev pub AllApart : {A : Type 0} → List A → Type 0

@@ -29,7 +29,6 @@ use Rattle.cx_profiling.proofs.GainedLemmas.{by_kind, components-length, compone
 use Rattle.cx_profiling.proofs.NewAssigns.{HasCounters, counters-is, shown_in-is}
 use Rattle.cx_profiling.proofs.CellLemmas.{memory_row_of, width_from-ge, width_from-le}
 use Rattle.cx_profiling.proofs.SortLemmas.{kind_width, is_kind_output, width_at, output_at}
-use Rattle.cx_profiling.proofs.AssignTable.{HasInstance}
 
 -- an address names each word
 width_from-enough : (fuel w k : ℕ) → k ≤ 2 ^ (w + fuel) → k ≤ 2 ^ width_from fuel w k
@@ -68,6 +67,10 @@ module _ (d : PlainDesign) (k : ℕ) where
   abbrev shown : List Shown
   shown = shown_in (component_of d k)
 
+  -- main, or a component with an instance
+  abbrev pub HasInstance : Type 0
+  HasInstance = (nat_eq k d.main ≡ true) ⊎ (is_reached d k ≡ true)
+
   counters_with : (more : List PlainCell) (names : List (List ℕ)) (new : PlainComponent) → new.cells ≡ part.cells ++ (counter_cells part.place names 0 own ++ more) → HasCounters d k new
   counters_with more names new cells = record {
     register = λ m less. let r = register_at part.place names 0 own m less in (
@@ -82,8 +85,8 @@ module _ (d : PlainDesign) (k : ℕ) where
     );
   }
 
-  has_counters : HasInstance d k → HasCounters d k (instrumented_component d k)
-  has_counters has = by_kind d (λ new. HasInstance d k → HasCounters d k new) k
+  has_counters : HasInstance → HasCounters d k (instrumented_component d k)
+  has_counters has = by_kind d (λ new. HasInstance → HasCounters d k new) k
       (λ names e f h. counters_with (memory_cell part.place (name_at names (2 * own)) (length shown) ∷ []) names (main_component d k names) refl)
       (λ names e f r h. counters_with [] names (child_component d k names) (ap (λ cs. part.cells ++ cs) (sym (append_nothing (counter_cells part.place names 0 own)))))
       (λ f e h. absurd (neither f e h)) has
@@ -92,7 +95,7 @@ module _ (d : PlainDesign) (k : ℕ) where
       append_nothing [] = refl
       append_nothing (x ∷ xs) = ap (λ l. x ∷ l) (append_nothing xs)
 
-      neither : nat_eq k d.main ≡ false → is_reached d k ≡ false → HasInstance d k → ⊥
+      neither : nat_eq k d.main ≡ false → is_reached d k ≡ false → HasInstance → ⊥
       neither f e (inl m) = true_false (sym m ∙ f)
       neither f e (inr r) = true_false (sym r ∙ e)
 

@@ -23,7 +23,7 @@ use Rattle.cx_profiling.proofs.GainedLemmas.{gained_child}
 use Rattle.cx_profiling.proofs.RoleLemmas.{Role, as_main, as_child, as_kept, role}
 use Rattle.cx_profiling.proofs.CellPorts.{gained_port}
 use Rattle.cx_profiling.proofs.InsideLemmas.{targets_inside}
-use Rattle.cx_profiling.proofs.GrownTrees.{InTree, in_reach, is_whole, no_main_below}
+use Rattle.cx_profiling.proofs.GrownTrees.{InTree, in_reach, is_whole, child_in_tree, no_main_below}
 use Rattle.cx_profiling.proofs.PairLemmas.{CellPair, row_pair, child_pair, pair_at}
 use Rattle.cx_profiling.proofs.ShownLemmas.{IsBelow, WhereShown, own_count, child_count, where_shown}
 use Rattle.cx_profiling.proofs.OutputDrives.{output_driven}
@@ -62,11 +62,12 @@ module _ (d : PlainDesign) (design : IsDesign d) (accepted : IsAccepted d) (grow
     look = seen j twin act t
 
     below_shows : (x : Shown) → (b : IsBelow (cells_of i) 0 x) → look x.port ≡ number 64 (counted_of τ x)
-    below_shows x b = by (pair_at d design m k at b.cell (child_few (tree_within d m) node.cells b.cell b.child b.stands))
+    below_shows x b = by (pair_at d design m k at.within b.cell (child_few (tree_within d m) node.cells b.cell b.child b.stands))
       where
-        by : CellPair d design m k at b.cell → look x.port ≡ number 64 (counted_of τ x)
+        by : CellPair d design m k at.within b.cell → look x.port ≡ number 64 (counted_of τ x)
         by (row_pair row first second moved) = absurd (row_instance row b.child (sym first ∙ b.stands))
-        by (child_pair cell e stands is inner first second moved) =
+        by (child_pair cell e stands is below first second moved) =
+            let inner : InTree d m e = child_in_tree d design at cell e (in_at node.cells b.cell cell stands) is in
             let other_main = no_main_below d design at cell e (in_at node.cells b.cell cell stands) is in
             let same : tree_within d m e ≡ b.child = instance_is (tree_within d m e) b.child (sym first ∙ b.stands) in
             let listed : slice_get (shown_in (tree_within d m e)) b.number ≡ Some b.inner = ap (λ tree. slice_get (shown_in tree) b.number) same ∙ b.listed in

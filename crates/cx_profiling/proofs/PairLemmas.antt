@@ -24,7 +24,7 @@ use Rattle.cx_profiling.proofs.GainedLemmas.{grown_at, counted_groups-length}
 use Rattle.cx_profiling.proofs.RoleLemmas.{Role, as_main, as_child, as_kept, role}
 use Rattle.cx_profiling.proofs.CellPorts.{ports_alike}
 use Rattle.cx_profiling.proofs.InsideLemmas.{targets_inside}
-use Rattle.cx_profiling.proofs.GrownTrees.{InTree, child_in_tree}
+use Rattle.cx_profiling.proofs.TreeLemmas.{child_there}
 
 module _ (d : PlainDesign) (design : IsDesign d) (k : ℕ) (within : k < length d.components) where
   abbrev part : PlainComponent
@@ -72,12 +72,12 @@ module _ (d : PlainDesign) (design : IsDesign d) (k : ℕ) (within : k < length 
   pub drives_moved : (act : Active) (p : PortRef) → IsInside d part p → drivers other act (moved_in d part p) ≡ map (moved_acting (moved_in d part)) (drivers part act p)
   drives_moved act p inside = walk_drives d part act p inside other whole_walk
 
-module _ (d : PlainDesign) (design : IsDesign d) (m k : ℕ) (at : InTree d (suc m) k) where
+module _ (d : PlainDesign) (design : IsDesign d) (m k : ℕ) (within : k < length d.components) where
   -- a cell of both trees: a primitive, or of one component
   pub data CellPair (c : ℕ) : Type 0 where
     row_pair : (row : Row) → cell_at (cells_of (tree_within d (suc m) k)) c ≡ OfRow row → cell_at (cells_of (tree_within (with_counts d) (suc m) k)) c ≡ OfRow row
         → ((p : ℕ) → moved_in d (component_at d k) (ports.Cell c p) ≡ ports.Cell c p) → CellPair c
-    child_pair : (cell : PlainCell) (e : ℕ) → slice_get (component_at d k).cells c ≡ Some cell → cell.kind ≡ OfComponent e → InTree d m e
+    child_pair : (cell : PlainCell) (e : ℕ) → slice_get (component_at d k).cells c ≡ Some cell → cell.kind ≡ OfComponent e → e < length d.components
         → cell_at (cells_of (tree_within d (suc m) k)) c ≡ OfInstance (tree_within d m e) → cell_at (cells_of (tree_within (with_counts d) (suc m) k)) c ≡ OfInstance (tree_within (with_counts d) m e)
         → ((p : ℕ) → moved_in d (component_at d k) (ports.Cell c p) ≡ ports.Cell c (grown_number d (first_gained (component_at d e)) (gained d e) p)) → CellPair c
 
@@ -91,16 +91,16 @@ module _ (d : PlainDesign) (design : IsDesign d) (m k : ℕ) (at : InTree d (suc
       by (is_none e) = let r = there_at (component_at d k).cells c few in absurd (none_some r.0 e r.1)
       by (is_primitive cell primitive e is) =
           row_pair (row_of primitive) (at_row (tree_within d m) (component_at d k).cells c cell primitive e is)
-          (at_row (tree_within (with_counts d) m) (component_at (with_counts d) k).cells c cell primitive ((grown_at d k at.within).cells c cell e) is)
+          (at_row (tree_within (with_counts d) m) (component_at (with_counts d) k).cells c cell primitive ((grown_at d k within).cells c cell e) is)
           (λ p. ap (ports.Cell c) (ap (λ o. moved_number d o p) e ∙ moved-primitive d cell primitive p is))
       by (is_component cell j e is) =
-          child_pair cell j e is (child_in_tree d design at cell j (in_at (component_at d k).cells c cell e) is)
+          child_pair cell j e is (child_there d design k j cell within (in_at (component_at d k).cells c cell e) is)
           (at_component (tree_within d m) (component_at d k).cells c cell j e is)
-          (at_component (tree_within (with_counts d) m) (component_at (with_counts d) k).cells c cell j ((grown_at d k at.within).cells c cell e) is)
+          (at_component (tree_within (with_counts d) m) (component_at (with_counts d) k).cells c cell j ((grown_at d k within).cells c cell e) is)
           (λ p. ap (ports.Cell c) (ap (λ o. moved_number d o p) e ∙ moved-component d cell j p is))
 
   -- a port of a component's cell
   pub child_ports : (e p : ℕ) → e < length d.components → p ≤ first_gained (component_at d e)
       → part_port (part_of (tree_within (with_counts d) m e)) (grown_number d (first_gained (component_at d e)) (gained d e) p) ≡ part_port (part_of (tree_within d m e)) p
-  child_ports e p within few =
-      ap (λ x. part_port x (grown_number d (first_gained (component_at d e)) (gained d e) p)) (same_part (with_counts d) m e) ∙ ports_alike d e within p few ∙ ap (λ x. part_port x p) (sym (same_part d m e))
+  child_ports e p there few =
+      ap (λ x. part_port x (grown_number d (first_gained (component_at d e)) (gained d e) p)) (same_part (with_counts d) m e) ∙ ports_alike d e there p few ∙ ap (λ x. part_port x p) (sym (same_part d m e))

@@ -107,7 +107,7 @@ module _ (d : PlainDesign) where
         by (as_child names is r e) = of_list names [] P c i (ap (λ part. part.cells) e ∙ ap (λ list. (component_at d k).cells ++ list) (no_more (counter_cells (component_at d k).place names 0 own))) number (known names)
         by (as_kept is r e) = absurd (both (is_reached d k) reached r)
 
-    counter_number : (x : Counter) → In (counters (component_of d k)) x → (i : ℕ) × (i < own) × (x.register ≡ length (component_at d k).cells + 2 * i)
+    pub counter_number : (x : Counter) → In (counters (component_of d k)) x → (i : ℕ) × (i < own) × (x.register ≡ length (component_at d k).cells + 2 * i)
     counter_number x i =
         let r = in_counters (cells_of (component_of d k)) (length (component_at d k).cells) 0 (component_at d k).groups x (subst (λ list. In list x) (own_counters k) i) in
         (r.0, subst (λ list. r.0 < length list) (sym (own_counters k)) r.1, r.2)

@@ -92,14 +92,14 @@ module _ (d : PlainDesign) (design : IsDesign d) (m k : ℕ) (at : InTree d (suc
     part_steps below c p r (AnOutput n) moved here outs = outs n refl
     part_steps below c p r ItsDone moved here outs = refl
 
-    cell_steps : (below : Below) (c p : ℕ) → IsInside d part (ports.Cell c p) → IsSeenBelow i s (ports.Cell c p) below → CellPair d design m k at c
+    cell_steps : (below : Below) (c p : ℕ) → IsInside d part (ports.Cell c p) → IsSeenBelow i s (ports.Cell c p) below → CellPair d design m k at.within c
         → step j twin act t look there (mv (ports.Cell c p)) ≡ cell_step part act s back below c p (cell_at (cells_of i) c)
     cell_steps below c p here known (row_pair row first second moved) =
         ap (step j twin act t look there) (moved p) ∙ ap (cell_step other act t look there c p) second
         ∙ side_steps below row c p (side_of row p) moved here (rows c row first) ∙ ap (cell_step part act s back below c p) (sym first)
-    cell_steps below c p here known (child_pair cell e stands is inner first second moved) =
+    cell_steps below c p here known (child_pair cell e stands is there_below first second moved) =
         ap (step j twin act t look there) (moved p) ∙ ap (cell_step other act t look there c (grown_number d (first_gained (component_at d e)) (gained d e) p)) second
-        ∙ ap (part_step other act t look there c (grown_number d (first_gained (component_at d e)) (gained d e) p)) (child_ports d design m k at e p inner.within (here.1 cell e stands is))
+        ∙ ap (part_step other act t look there c (grown_number d (first_gained (component_at d e)) (gained d e) p)) (child_ports d design m k at.within e p there_below (here.1 cell e stands is))
         ∙ part_steps below c p (grown_number d (first_gained (component_at d e)) (gained d e) p) (part_port (part_of (tree_within d m e)) p) (moved p) here
         (λ n port. child_output (cells_of j) (λ x. under x t) c n (tree_within (with_counts d) m e) second
         ∙ kids c cell e stands is n (below c n)
@@ -107,7 +107,7 @@ module _ (d : PlainDesign) (design : IsDesign d) (m k : ℕ) (at : InTree d (suc
         ∙ ap (cell_step part act s back below c p) (sym first)
 
     one_step : (p : PortRef) (below : Below) → IsInside d part p → IsSeenBelow i s p below → step j twin act t look there (mv p) ≡ step i held act s back below p
-    one_step (ports.Cell c p) below here known = cell_steps below c p here known (pair_at d design m k at c here.0)
+    one_step (ports.Cell c p) below here known = cell_steps below c p here known (pair_at d design m k at.within c here.0)
     one_step (ports.Input n) below here known = same n here
     one_step (ports.Output n) below here known = driven (ports.Output n) (ports.Output n) Undefined here refl
     one_step (ports.Done g) below here known = driven (ports.Done g) (ports.Done g) (bit_of false) here refl

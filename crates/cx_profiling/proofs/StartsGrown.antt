@@ -24,7 +24,7 @@ use Rattle.cx_profiling.proofs.ListedCells.{at_row, count_listed}
 use Rattle.cx_profiling.proofs.RestLemmas.{counter_row}
 use Rattle.cx_profiling.proofs.CounterLemmas.{counter_cells-length, in_counters}
 use Rattle.cx_profiling.proofs.RoleLemmas.{register_there, own_counters}
-use Rattle.cx_profiling.proofs.GrownTrees.{InTree, in_reach, is_whole}
+use Rattle.cx_profiling.proofs.GrownTrees.{InTree, in_reach, is_whole, child_in_tree}
 use Rattle.cx_profiling.proofs.PairLemmas.{CellPair, row_pair, child_pair, pair_at}
 use Rattle.cx_profiling.proofs.SightLemmas.{RowsAlike}
 use Rattle.cx_profiling.proofs.AcyclicLemmas.{child_few}
@@ -55,13 +55,13 @@ module _ (d : PlainDesign) (design : IsDesign d) where
       (s t : State) (rows : RowsAlike d design m k at s t) (here : StartsBelow (tree_within d (suc m) k) s) (there : StartsBelow (tree_within (with_counts d) (suc m) k) t)
       (registers : (x : Counter) → In (counters (tree_within d (suc m) k)) x → t (x.register ∷ []) ≡ Register 0 false) where
     kids_start : (c : ℕ) (child : Instance) → cell_at (cells_of (tree_within d (suc m) k)) c ≡ OfInstance child → Grown child (at_cell c none) (under c s) (under c t)
-    kids_start c child e = by (pair_at d design m k at c (child_few (tree_within d m) (component_at d k).cells c child e))
+    kids_start c child e = by (pair_at d design m k at.within c (child_few (tree_within d m) (component_at d k).cells c child e))
       where
-        by : CellPair d design m k at c → Grown child (at_cell c none) (under c s) (under c t)
+        by : CellPair d design m k at.within c → Grown child (at_cell c none) (under c s) (under c t)
         by (row_pair row first second moved) = absurd (row_instance row child (sym first ∙ e))
         by (child_pair cell f stands is below first second moved) =
             subst (λ x. Grown x none (under c s) (under c t)) (instance_is (tree_within d m f) child (sym first ∙ e))
-            (kids f below (under c s) (under c t)
+            (kids f (child_in_tree d design at cell f (in_at (component_at d k).cells c cell stands) is) (under c s) (under c t)
             (λ x path. here c x path ∙ start_child (cells_of (tree_within d (suc m) k)) c (tree_within d m f) (x ∷ path) first)
             (λ x path. there c x path ∙ start_child (cells_of (tree_within (with_counts d) (suc m) k)) c (tree_within (with_counts d) m f) (x ∷ path) second))
 
@@ -76,9 +76,9 @@ module _ (d : PlainDesign) (design : IsDesign d) where
 
   rows_start : (m k : ℕ) (at : InTree d (suc m) k) (c : ℕ) (row : Row) → cell_at (cells_of (tree_within d (suc m) k)) c ≡ OfRow row
       → start_at (tree_within (with_counts d) (suc m) k) (c ∷ []) ≡ start_at (tree_within d (suc m) k) (c ∷ [])
-  rows_start m k at c row e = by (pair_at d design m k at c (subst (λ n. c < n) (count_listed (tree_within d m) (component_at d k).cells) (row_within (cells_of (tree_within d (suc m) k)) c row e)))
+  rows_start m k at c row e = by (pair_at d design m k at.within c (subst (λ n. c < n) (count_listed (tree_within d m) (component_at d k).cells) (row_within (cells_of (tree_within d (suc m) k)) c row e)))
     where
-      by : CellPair d design m k at c → start_at (tree_within (with_counts d) (suc m) k) (c ∷ []) ≡ start_at (tree_within d (suc m) k) (c ∷ [])
+      by : CellPair d design m k at.within c → start_at (tree_within (with_counts d) (suc m) k) (c ∷ []) ≡ start_at (tree_within d (suc m) k) (c ∷ [])
       by (row_pair r first second moved) = start_row (cells_of (tree_within (with_counts d) (suc m) k)) c r second ∙ sym (start_row (cells_of (tree_within d (suc m) k)) c r first)
       by (child_pair cell f stands is below first second moved) = absurd (instance_row (tree_within d m f) row (sym first ∙ e))
 

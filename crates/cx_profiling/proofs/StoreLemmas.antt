@@ -85,7 +85,7 @@ module _ (d : PlainDesign) (design : IsDesign d) (accepted : IsAccepted d) (grow
   row = memory_row 64 (size ∷ []) (address_width size ∷ [])
 
   at_memory : cell_at (cells_of j) memory ≡ OfRow row
-  at_memory = memory_at d k at.within names is grown_accepted m some
+  at_memory = memory_at d k at.within names is grown_accepted.limits m some
 
   -- a state between two stores, and what differs from an earlier one
   pub record Between (words : List ℕ) (τ : Tally) (s u : State) : Type 0 where

@@ -1,8 +1,9 @@
 -- AN INSTRUMENTED DESIGN KEEPS THE THIRD STAGE: widths, widths of guards, literals, targets and sources.
-use Rattle.std.proofs.Common.{◌≡◌, ℕ, suc, ◌+◌, ◌*◌, ◌^◌, ◌<◌, ◌≤◌, Bool, true, false, not, inl, inr, ◌⊎◌, List, [], ◌∷◌, ◌++◌, length, Option, Some, None, refl, sym, ap, ◌∙◌, subst, arith}
+use Rattle.std.proofs.Common.{◌≡◌, ℕ, suc, ◌+◌, ◌*◌, ◌^◌, ◌<◌, ◌≤◌, Bool, true, false, not, inl, inr, ◌⊎◌, List, [], length, Some, None, refl, sym, ap, ◌∙◌, subst, arith}
 use Rattle.std.specs.Prelude.{nat_eq, option_map, if◌then◌else◌}
 use Rattle.std.specs.List.{slice_get}
-use Rattle.std.proofs.lemmas.Bool.{eq-eqb, eqb-true, eqb-false}
+use Rattle.std.proofs.lemmas.Bool.{eq-eqb, ne_eqb, eqb-true, eqb-false}
+use Rattle.std.proofs.lemmas.Option.{slice_get_within}
 use Rattle.cx_text.proofs.NumberLaws.{true_false}
 use Rattle.cx_text.proofs.OptionLaws.{none_is_some, map_some}
 use Rattle.cx_text.specs.declared.places.Place.{Place}
@@ -10,28 +11,32 @@ use Rattle.cx_text.specs.declared.rules.Rule.TheVariants as words
 use Rattle.cx_meaning.specs.declared.ports.PortRef.{PortRef}
 use Rattle.cx_meaning.specs.declared.ports.PortRef.TheVariants as ports
 use Rattle.cx_meaning.specs.declared.ports.PlacedPort.{PlacedPort}
-use Rattle.cx_meaning.specs.Designs.{PlainAssign, PlainComponent, PlainDesign, component_at, Seq, a_statement, statements_of}
+use Rattle.cx_meaning.specs.Designs.{PlainAssign, PlainDesign, component_at}
 use Rattle.cx_meaning.specs.Instances.{Instance}
 use Rattle.cx_meaning.specs.Active.{Owned, source_order}
 use Rattle.cx_meaning.specs.Sights.{In}
-use Rattle.cx_meaning.proofs.SightsLaws.{in_at, in_either, image_in, number_in}
+use Rattle.cx_meaning.proofs.SightsLaws.{in_at, number_in}
 use Rattle.cx_rules.specs.Accepted.{IsAccepted, KeepsStage}
-use Rattle.cx_rules.specs.Items.{Dynamic, Visited, atoms_of, sources_of, statements_in, test_in, visit, visit_all}
+use Rattle.cx_rules.specs.Items.{Visited, atoms_of, sources_of, statements_in, test_in}
 use Rattle.cx_rules.specs.Ports.{component_of, keeps_literal, width_of, path_of, is_source_only, is_target_only}
 use Rattle.cx_rules.specs.Spots.{AStatement, Spot, AssignRule, StatementRule, OnAssign, OnStatement}
 use Rattle.cx_rules.specs.WidthRules.{differ, pairs_of, first_unequal, is_wide, first_wide, IsBadLiteral, BreaksWidth, BreaksGuardWidth, TestBreaksGuardWidth, BreaksLiteral, TestBreaksLiteral, BreaksNotATarget, BreaksNotASource, TestBreaksNotASource}
-use Rattle.cx_rules.specs.Wellformed.{IsDesign}
-use Rattle.cx_rewrites.specs.Moving.{moved_port, moved_statement}
+use Rattle.cx_rules.specs.Wellformed.{IsDesign, StandsIn}
+use Rattle.cx_rules.proofs.ForeignLemmas.{sorted_among}
+use Rattle.cx_rewrites.specs.Driving.{assigns_of}
+use Rattle.cx_rewrites.specs.Moving.{moved_port}
 use Rattle.cx_profiling.specs.Counters.{counters, Shown, shown_in, entry_count}
-use Rattle.cx_profiling.specs.Instrumented.{drive, counter_assigns, store_assigns, store_enables, address_width, moved_in, instrumented_component, with_counts, instrumented}
-use Rattle.cx_profiling.proofs.MovedParts.{moved_visited, visit-moved, test_in-moved}
+use Rattle.cx_profiling.specs.Instrumented.{drive, counter_assigns, store_assigns, address_width, moved_in, with_counts, instrumented}
+use Rattle.cx_profiling.proofs.MovedParts.{test_in-moved}
 use Rattle.cx_profiling.proofs.ThereLemmas.{Names}
 use Rattle.cx_profiling.proofs.FitLemmas.{fits_statement, moved_literal}
-use Rattle.cx_profiling.proofs.GainedLemmas.{by_kind, components-length, component_at-with_counts}
-use Rattle.cx_profiling.proofs.AssignTable.{IsMade, moved, of_counter, of_output, of_store, made_in_order, HasInstance}
+use Rattle.cx_profiling.proofs.GainedLemmas.{components-length}
+use Rattle.cx_profiling.proofs.InsideLemmas.{stands_in}
+use Rattle.cx_profiling.proofs.PartTable.{OwnedMade, old_owned, showing, counting, storing, owned_made, StatementMade, old_statement, new_statement, statement_made}
+use Rattle.cx_profiling.proofs.RoleLemmas.{counter_number}
 use Rattle.cx_profiling.proofs.SortLemmas.{written_width-moved, is_target_only-moved}
 use Rattle.cx_profiling.proofs.WidthsKept.{width_kept, guard_width_kept, literal_kept, target_kept, source_kept}
-use Rattle.cx_profiling.proofs.NewSorts.{IsTarget, IsSource, register_in, register_write, register_out, adder_left, adder_right, adder_out, shown_source, shown_output, memory_address, memory_data, memory_write, memory_done, address_source}
+use Rattle.cx_profiling.proofs.NewSorts.{HasInstance, IsTarget, IsSource, register_in, register_write, register_out, adder_left, adder_right, adder_out, shown_source, shown_output, memory_address, memory_data, memory_write, memory_done, address_source}
 
 -- an assignment that breaks none of the five rules
 pub record IsSound (i : Instance) (a : PlainAssign) : Type 0 where
@@ -103,57 +108,40 @@ module _ (d : PlainDesign) (rules : IsDesign d) (accepted : IsAccepted d) (count
       by (inr (inr (inr (inl e)))) = driven (ports.Done (length (component_at d k).groups + n)) (ports.Cell (length (component_at d k).cells + 2 * length (counters (component_of d k))) 4) 1 a (refl, refl) (memory_done d rules k there is_main some few) e
       by (inr (inr (inr (inr h)))) = absurd h
 
-  made_sound : (owner : Option ℕ) (a : PlainAssign) → IsMade d k owner a → IsSound i a
-  made_sound owner a (moved old stands e) = subst (IsSound i) e (record {
-    width = width_kept d rules accepted k there owner old stands;
-    guard_width = guard_width_kept d rules accepted k there owner old stands;
-    literal = literal_kept d rules accepted k there owner old stands;
-    target = target_kept d rules accepted k there owner old stands;
-    source = source_kept d rules accepted k there owner old stands;
+  made_sound : (o : Owned) → OwnedMade d rules k there o → IsSound i o.assign
+  made_sound o (old_owned w stands e) = subst (λ (x : Owned). IsSound i x.assign) e (record {
+    width = width_kept d rules accepted k there w.owner w.assign (ours w stands);
+    guard_width = guard_width_kept d rules accepted k there w.owner w.assign (ours w stands);
+    literal = literal_kept d rules accepted k there w.owner w.assign (ours w stands);
+    target = target_kept d rules accepted k there w.owner w.assign (ours w stands);
+    source = source_kept d rules accepted k there w.owner w.assign (ours w stands);
   })
-  made_sound owner a (of_counter m less has h) = counter_sound m has less a h
-  made_sound owner a (of_output n x h f r from to e) = driven (ports.Output n) x.port 64 a (shown_output d rules k there f r n from to) (shown_source d rules k there (inr r) x h) e
-  made_sound owner a (of_store n x h is_main less s) = store_sound n x h is_main less a s
+    where
+      ours : (w : Owned) → In (source_order (component_at d k)) w → StandsIn (component_at d k) w.owner w.assign
+      ours w stands = stands_in (component_at d k) w (sorted_among (assigns_of (component_at d k)) w stands)
+  made_sound o (counting g r owner own reached few is h) =
+      let n = counter_number d k there reached (record { group = g; register = r }) own in
+      counter_sound n.0 (inr reached) n.1 o.assign (subst (λ z. In (counter_assigns place z) o.assign) n.2 h)
+  made_sound o (showing none n x main reached at e) =
+      let less : n < length (shown_in (component_of d k)) = slice_get_within (shown_in (component_of d k)) n x at in
+      driven (ports.Output (length (component_at d k).outputs + n)) x.port 64 o.assign
+      (shown_output d rules k there (ne_eqb k d.main main) reached (length (component_at d k).outputs + n) (omega arith) (omega (arith, less)))
+      (shown_source d rules k there (inr reached) x (in_at (shown_in (component_of d k)) n x at)) e
+  made_sound o (storing n x main at owner h) =
+      store_sound n x (in_at (shown_in (component_of d k)) n x at) (eq-eqb k d.main main) (slice_get_within (shown_in (component_of d k)) n x at) o.assign h
 
   pub sound : (n : ℕ) (o : Owned) → slice_get (source_order (component_at (with_counts d) k)) n ≡ Some o → IsSound i o.assign
-  sound n o at = made_sound o.owner o.assign (made_in_order d k there o (in_at (source_order (component_at (with_counts d) k)) n o at))
-
-  -- STATEMENTS: an old one, moved, or one without a condition
-  abbrev IsOldOrBare : PlainComponent → Type 0
-  IsOldOrBare new = (v : Visited) → In (statements_in new) v → ((w : Visited) × In (statements_in (component_at d k)) w × (moved_visited (moved_in d (component_at d k)) w ≡ v)) ⊎ (test_in v.form ≡ None)
-
-  old_statements : (v : Visited) → In (visit Dynamic (moved_statement (moved_in d (component_at d k)) (component_at d k).control)) v → (w : Visited) × In (statements_in (component_at d k)) w × (moved_visited (moved_in d (component_at d k)) w ≡ v)
-  old_statements v h = image_in (moved_visited (moved_in d (component_at d k))) (statements_in (component_at d k)) v (subst (λ list. In list v) (visit-moved (moved_in d (component_at d k)) Dynamic (component_at d k).control) h)
-
-  enables_bare : (g : ℕ) (xs : List Shown) (v : Visited) → In (visit_all Dynamic (statements_of (store_enables place g xs))) v → test_in v.form ≡ None
-  enables_bare g [] v h = absurd h
-  enables_bare g (x ∷ xs) v (inl e) = ap (λ w. test_in w.form) (sym e)
-  enables_bare g (x ∷ xs) v (inr h) = enables_bare (suc g) xs v h
-
-  old_or_bare : IsOldOrBare (instrumented_component d k)
-  old_or_bare = by_kind d IsOldOrBare k (λ names e f v h. main v h) (λ names e f r v h. inl (old_statements v h)) (λ f e v h. inl (old_statements v h))
-    where
-      behind : (v : Visited) → In (visit Dynamic (moved_statement (moved_in d (component_at d k)) (component_at d k).control)) v
-          ⊎ In (visit_all Dynamic (statements_of (store_enables (component_at d k).place (length (component_at d k).groups) (shown_in (component_of d k))))) v
-          → ((w : Visited) × In (statements_in (component_at d k)) w × (moved_visited (moved_in d (component_at d k)) w ≡ v)) ⊎ (test_in v.form ≡ None)
-      behind v (inl h) = inl (old_statements v h)
-      behind v (inr h) = inr (enables_bare (length (component_at d k).groups) (shown_in (component_of d k)) v h)
-
-      main : (v : Visited) → In (record { context = Dynamic; form = Seq (a_statement (moved_statement (moved_in d (component_at d k)) (component_at d k).control) (statements_of (store_enables (component_at d k).place (length (component_at d k).groups) (shown_in (component_of d k))))); place = (component_at d k).place }
-          ∷ (visit Dynamic (moved_statement (moved_in d (component_at d k)) (component_at d k).control) ++ visit_all Dynamic (statements_of (store_enables (component_at d k).place (length (component_at d k).groups) (shown_in (component_of d k)))))) v
-          → ((w : Visited) × In (statements_in (component_at d k)) w × (moved_visited (moved_in d (component_at d k)) w ≡ v)) ⊎ (test_in v.form ≡ None)
-      main v (inl e) = inr (ap (λ w. test_in w.form) (sym e))
-      main v (inr h) = behind v (in_either (visit Dynamic (moved_statement (moved_in d (component_at d k)) (component_at d k).control)) (visit_all Dynamic (statements_of (store_enables (component_at d k).place (length (component_at d k).groups) (shown_in (component_of d k))))) v h)
+  sound n o at = made_sound o (owned_made d rules k there o (in_at (source_order (component_at (with_counts d) k)) n o at))
 
   -- a condition of the new component is one of the old, moved
   old_test : (n : ℕ) (v : Visited) → slice_get (statements_in (component_at (with_counts d) k)) n ≡ Some v → (test : PlacedPort) → test_in v.form ≡ Some test
       → (w : Visited) × (m : ℕ) × (slice_get (statements_in (component_at d k)) m ≡ Some w) × ((old : PlacedPort) × (test_in w.form ≡ Some old) × (moved_port (moved_in d (component_at d k)) old ≡ test))
-  old_test n v at test e = by (old_or_bare v (subst (λ part. In (statements_in part) v) (component_at-with_counts d k there) (in_at (statements_in (component_at (with_counts d) k)) n v at)))
+  old_test n v at test e = by (statement_made d rules k there v (in_at (statements_in (component_at (with_counts d) k)) n v at))
     where
-      by : ((w : Visited) × In (statements_in (component_at d k)) w × (moved_visited (moved_in d (component_at d k)) w ≡ v)) ⊎ (test_in v.form ≡ None)
+      by : StatementMade d rules k there v
           → (w : Visited) × (m : ℕ) × (slice_get (statements_in (component_at d k)) m ≡ Some w) × ((old : PlacedPort) × (test_in w.form ≡ Some old) × (moved_port (moved_in d (component_at d k)) old ≡ test))
-      by (inr bare) = absurd (none_is_some test (sym bare ∙ e))
-      by (inl (w, h, same)) =
+      by (new_statement fresh) = absurd (none_is_some test (sym fresh.tested ∙ e))
+      by (old_statement w h same) =
           let m = number_in (statements_in (component_at d k)) w h in
           let told : option_map (moved_port (moved_in d (component_at d k))) (test_in w.form) ≡ Some test = sym (test_in-moved (moved_in d (component_at d k)) w.form) ∙ ap (λ u. test_in u.form) same ∙ e in
           (w, m.0, m.1, map_some (moved_port (moved_in d (component_at d k))) (test_in w.form) test told)

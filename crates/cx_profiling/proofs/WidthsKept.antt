@@ -1,20 +1,16 @@
 -- An instrumented design keeps the rules on widths, literals, targets and sources.
-use Rattle.std.proofs.Common.{◌≡◌, ℕ, zero, suc, ◌+◌, ◌<◌, Bool, true, false, inl, inr, List, [], ◌∷◌, ◌++◌, length, map, Option, Some, None, refl, sym, ap, ◌∙◌, subst, arith}
+use Rattle.std.proofs.Common.{◌≡◌, ℕ, ◌<◌, Bool, true, false, inl, inr, List, [], ◌∷◌, length, map, Option, Some, None, refl, sym, ap, ◌∙◌, subst, arith}
 use Rattle.std.specs.Prelude.{option_map, if◌then◌else◌}
-use Rattle.std.specs.List.{slice_get}
-use Rattle.cx_text.proofs.OptionLaws.{same_some}
 use Rattle.cx_text.specs.declared.places.Place.{Place}
 use Rattle.cx_text.specs.declared.rules.Rule.TheVariants.{Width, GuardWidth, Literal, NotATarget, NotASource}
 use Rattle.cx_meaning.specs.declared.ports.PortRef.{PortRef}
 use Rattle.cx_meaning.specs.declared.ports.PortRef.TheVariants as ports
 use Rattle.cx_meaning.specs.declared.ports.PlacedPort.{PlacedPort}
-use Rattle.cx_meaning.specs.Designs.{PlainAssign, PlainGroup, group_at, PlainComponent, PlainDesign, component_at}
+use Rattle.cx_meaning.specs.Designs.{PlainAssign, PlainComponent, PlainDesign, component_at}
 use Rattle.cx_meaning.specs.Instances.{Instance}
-use Rattle.cx_meaning.specs.Active.{Owned, owned, owned_by_groups, by_place, source_order}
+use Rattle.cx_meaning.specs.Active.{Owned, source_order}
 use Rattle.cx_meaning.specs.Sights.{In}
-use Rattle.cx_meaning.proofs.ActiveLemmas.{placed_still, placed_first}
-use Rattle.cx_meaning.proofs.DesignsLemmas.{owned_has, there_below}
-use Rattle.cx_meaning.proofs.SightsLaws.{number_in, in_left, in_right, image_in}
+use Rattle.cx_meaning.proofs.SightsLaws.{number_in, image_in}
 use Rattle.cx_rules.specs.Accepted.{IsAccepted}
 use Rattle.cx_rules.specs.Items.{Pair, atoms_of, sources_of}
 use Rattle.cx_rules.specs.Ports.{component_of, width_of, path_of, is_source_only, is_target_only}
@@ -26,32 +22,8 @@ use Rattle.cx_profiling.specs.Instrumented.{moved_in, with_counts}
 use Rattle.cx_profiling.proofs.MovedParts.{sources_of-moved, atoms_of-moved, comparisons_of-moved, moved_pair, atoms_are_operands, comparisons_are_operands}
 use Rattle.cx_profiling.proofs.ThereLemmas.{Names}
 use Rattle.cx_profiling.proofs.FitLemmas.{FitsAssign, fits_assign, moved_literal}
+use Rattle.cx_profiling.proofs.PartTable.{in_order}
 use Rattle.cx_profiling.proofs.SortLemmas.{width_of-moved, written_width-moved, is_source_only-moved, is_target_only-moved}
-
--- what stands in a component stands in its source order
-sorted_has : (list : List Owned) (o : Owned) → In list o → In (by_place list) o
-sorted_has [] o i = i
-sorted_has (a ∷ rest) o (inl e) = subst (In (by_place (a ∷ rest))) e (placed_first a (by_place rest))
-sorted_has (a ∷ rest) o (inr i) = placed_still a (by_place rest) o (sorted_has rest o i)
-
-groups_have : (k : ℕ) (groups : List PlainGroup) (g : ℕ) (x : PlainGroup) (a : PlainAssign) → slice_get groups g ≡ Some x → In x.assigns a → In (owned_by_groups k groups) (record { owner = Some (k + g); assign = a })
-groups_have k [] g x a at i = absurd cc
-groups_have k (y ∷ groups) zero x a at i =
-    let z : k ≡ k + 0 = omega arith in
-    in_left (owned (Some k) y.assigns) (owned_by_groups (suc k) groups) (record { owner = Some (k + 0); assign = a })
-    (subst (λ n. In (owned (Some k) y.assigns) (record { owner = Some n; assign = a })) z (owned_has (Some k) y.assigns a (subst (λ w. In w.assigns a) (sym (same_some y x at)) i)))
-groups_have k (y ∷ groups) (suc g) x a at i =
-    let z : suc k + g ≡ k + suc g = omega arith in
-    in_right (owned (Some k) y.assigns) (owned_by_groups (suc k) groups) (record { owner = Some (k + suc g); assign = a })
-    (subst (λ n. In (owned_by_groups (suc k) groups) (record { owner = Some n; assign = a })) z (groups_have (suc k) groups g x a at i))
-
-in_order : (part : PlainComponent) (owner : Option ℕ) (a : PlainAssign) → StandsIn part owner a → In (source_order part) (record { owner = owner; assign = a })
-in_order part None a i = sorted_has (owned None part.always ++ owned_by_groups 0 part.groups) (record { owner = None; assign = a }) (in_left (owned None part.always) (owned_by_groups 0 part.groups) (record { owner = None; assign = a }) (owned_has None part.always a i))
-in_order part (Some g) a (less, i) =
-    let z : 0 + g ≡ g = omega arith in
-    sorted_has (owned None part.always ++ owned_by_groups 0 part.groups) (record { owner = Some g; assign = a })
-    (in_right (owned None part.always) (owned_by_groups 0 part.groups) (record { owner = Some g; assign = a })
-    (subst (λ n. In (owned_by_groups 0 part.groups) (record { owner = Some n; assign = a })) z (groups_have 0 part.groups g (group_at part g) a (there_below part.groups g less) i)))
 
 -- of ports that are moved the first that is wide, and of pairs the first that are unequal, is that of the ports
 module _ (i j : Instance) (move : PortRef → PortRef) where

@@ -19,3 +19,9 @@ pub fn instrumented_is_a_design()
 pub fn instrumented_keeps_the_widths()
     ensures { (d : PlainDesign) → IsDesign d → IsAccepted d → entry_count d < 2 ^ 32 → KeepsStage 3 (instrumented d) }
 {}
+
+/// The instrumented design of an accepted design is accepted, where it keeps the limits: it breaks no rule on widths, on shapes,
+/// on circles or on races.
+pub fn instrumented_is_accepted()
+    ensures { (d : PlainDesign) → IsDesign d → IsAccepted d → KeepsStage 7 (instrumented d) → IsAccepted (instrumented d) }
+{}

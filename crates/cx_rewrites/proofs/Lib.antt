@@ -4,11 +4,12 @@ pub mod CarryLemmas
 mod PartLemmas
 pub mod BesideLemmas
 pub mod MovedLemmas
+pub mod MovedLists
 pub mod FollowLemmas
 pub mod SolvedLemmas
 pub mod TargetLemmas
 pub mod MoveLemmas
-mod OrderLemmas
+pub mod OrderLemmas
 pub mod DriverLemmas
 pub mod RenamedLemmas
 pub mod TurnLemmas

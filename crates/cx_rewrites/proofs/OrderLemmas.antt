@@ -4,26 +4,26 @@ use Rattle.std.specs.Prelude.{if◌then◌else◌}
 use Rattle.cx_text.specs.declared.places.Place.{Place}
 use Rattle.cx_meaning.specs.Active.{Owned, no_later, placed_in, by_place}
 
-total : (a b : Place) → no_later a b ≡ false → no_later b a ≡ true
+pub total : (a b : Place) → no_later a b ≡ false → no_later b a ≡ true
 total a b e = grind (arith, tests)
 
-transitive : (a b c : Place) → no_later a b ≡ true → no_later b c ≡ true → no_later a c ≡ true
+pub transitive : (a b c : Place) → no_later a b ≡ true → no_later b c ≡ true → no_later a c ≡ true
 transitive a b c e f = grind (arith, tests)
 
 -- all stand no earlier than a
-abbrev AllAfter : Owned → List Owned → Type 0
+abbrev pub AllAfter : Owned → List Owned → Type 0
 AllAfter a [] = Unit {0}
 AllAfter a (b ∷ bs) = (no_later a.assign.place b.assign.place ≡ true) × AllAfter a bs
 
-abbrev IsSorted : List Owned → Type 0
+abbrev pub IsSorted : List Owned → Type 0
 IsSorted [] = Unit {0}
 IsSorted (b ∷ bs) = AllAfter b bs × IsSorted bs
 
-all_later : (a b : Owned) (list : List Owned) → no_later a.assign.place b.assign.place ≡ true → AllAfter b list → AllAfter a list
+pub all_later : (a b : Owned) (list : List Owned) → no_later a.assign.place b.assign.place ≡ true → AllAfter b list → AllAfter a list
 all_later a b [] e h = tt
 all_later a b (c ∷ list) e (f, h) = (transitive a.assign.place b.assign.place c.assign.place e f, all_later a b list e h)
 
-placed_after : (b a : Owned) (list : List Owned) → no_later b.assign.place a.assign.place ≡ true → AllAfter b list → AllAfter b (placed_in a list)
+pub placed_after : (b a : Owned) (list : List Owned) → no_later b.assign.place a.assign.place ≡ true → AllAfter b list → AllAfter b (placed_in a list)
 placed_after b a [] e h = (e, tt)
 placed_after b a (c ∷ list) e (f, h) = choice (no_later a.assign.place c.assign.place) (placed_after b a list e h)
   where
@@ -31,7 +31,7 @@ placed_after b a (c ∷ list) e (f, h) = choice (no_later a.assign.place c.assig
     choice true k = (e, (f, h))
     choice false k = (f, k)
 
-placed_sorted : (a : Owned) (list : List Owned) → IsSorted list → IsSorted (placed_in a list)
+pub placed_sorted : (a : Owned) (list : List Owned) → IsSorted list → IsSorted (placed_in a list)
 placed_sorted a [] h = (tt, tt)
 placed_sorted a (b ∷ list) (f, h) = choice (no_later a.assign.place b.assign.place) refl (placed_sorted a list h)
   where
@@ -39,11 +39,11 @@ placed_sorted a (b ∷ list) (f, h) = choice (no_later a.assign.place b.assign.p
     choice true e k = ((e, all_later a b list e f), (f, h))
     choice false e k = (placed_after b a list (total a.assign.place b.assign.place e) f, k)
 
-by_place_sorted : (list : List Owned) → IsSorted (by_place list)
+pub by_place_sorted : (list : List Owned) → IsSorted (by_place list)
 by_place_sorted [] = tt
 by_place_sorted (a ∷ list) = placed_sorted a (by_place list) (by_place_sorted list)
 
-placed_front : (a : Owned) (list : List Owned) → AllAfter a list → placed_in a list ≡ a ∷ list
+pub placed_front : (a : Owned) (list : List Owned) → AllAfter a list → placed_in a list ≡ a ∷ list
 placed_front a [] h = refl
 placed_front a (b ∷ list) (e, h) = ap (λ t. if t then a ∷ b ∷ list else b ∷ placed_in a list) e
 

@@ -27,7 +27,7 @@ use Rattle.cx_frames.proofs.ShareLemmas.{unshared}
 use Rattle.cx_rewrites.specs.Moving.{moved_owned}
 use Rattle.cx_sharing.specs.SharedDesign.{shared_design}
 use Rattle.cx_sharing.proofs.TwinLemmas.{shared_component}
-use Rattle.cx_sharing.proofs.MovedLists.{moved_visited}
+use Rattle.cx_rewrites.proofs.MovedLists.{moved_visited}
 use Rattle.cx_sharing.proofs.SharedParts.{Shares, new_port, as_many_parts, component-shares, source_order-shared, statements_in-shared}
 use Rattle.cx_sharing.proofs.RulesShared as kept
 use Rattle.cx_sharing.proofs.RulesShared.{ByAssign, ByStatement, ByGroup}

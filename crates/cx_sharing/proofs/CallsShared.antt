@@ -36,7 +36,7 @@ use Rattle.cx_sharing.proofs.RowLemmas.{stateless_row}
 use Rattle.cx_sharing.proofs.TwinLemmas.{part_other, candidate_holds_nothing, stays_is}
 use Rattle.cx_sharing.proofs.CandidateLemmas.{candidate_is}
 use Rattle.cx_sharing.proofs.ReadLemmas.{started_none}
-use Rattle.cx_sharing.proofs.MovedLists.{some_target-moved}
+use Rattle.cx_rewrites.proofs.MovedLists.{some_target-moved}
 use Rattle.cx_sharing.proofs.SharedParts.{shared_kind, AtShared, no_cell, a_row, a_part, Shares, is_primitive_enable-shared, is_part_port-shared, group_at-shared, own_assigns}
 use Rattle.cx_sharing.proofs.RulesShared.{ByAssign, ByGroup, in_map, hole_of_kept}
 use Rattle.cx_sharing.proofs.RestsShared.{stands_for}

@@ -18,7 +18,6 @@ pub mod GrowLemmas
 pub mod SharedOnce
 pub mod CandidateLemmas
 pub mod ReadLemmas
-pub mod MovedLists
 pub mod SharedParts
 pub mod RulesShared
 pub mod RestsShared

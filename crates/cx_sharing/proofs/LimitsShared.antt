@@ -21,8 +21,8 @@ use Rattle.cx_sharing.proofs.RemainingLemmas.{length_left}
 use Rattle.cx_sharing.proofs.SharedMain.{staying_most}
 use Rattle.cx_sharing.proofs.TwinLemmas.{candidate_holds_nothing}
 use Rattle.cx_sharing.proofs.CandidateLemmas.{candidate_is}
-use Rattle.cx_sharing.proofs.MovedLists as lists
-use Rattle.cx_sharing.proofs.MovedLists.{moved_group_at}
+use Rattle.cx_rewrites.proofs.MovedLists as lists
+use Rattle.cx_rewrites.proofs.MovedLists.{moved_group_at}
 use Rattle.cx_sharing.proofs.SharedParts.{as_many_parts}
 use Rattle.cx_sharing.proofs.TwinLemmas.{shared_component}
 

@@ -16,7 +16,7 @@ use Rattle.cx_rewrites.specs.Moving.{moved_port, moved_assign, moved_group, move
 use Rattle.cx_rewrites.specs.Renaming.{renamed}
 use Rattle.cx_sharing.specs.Uses.{assign_uses, assigns_use, group_uses, uses, comb_uses, test_uses}
 use Rattle.cx_sharing.specs.Meeting.{has_both, arms_meet, form_meets, meet}
-use Rattle.cx_sharing.proofs.MovedLists.{moved_visited, sources_of-moved, visit-moved, groups_of-moved, tests_of-moved, moved_group_at}
+use Rattle.cx_rewrites.proofs.MovedLists.{moved_visited, sources_of-moved, visit-moved, groups_of-moved, tests_of-moved, moved_group_at}
 
 any_moved : {A B : Type 0} (f : A → B) (test : A → Bool) (other : B → Bool) → ((x : A) → test x ≡ true → other (f x) ≡ true) → (list : List A) → list_any test list ≡ true → list_any other (map f list) ≡ true
 any_moved f test other h [] e = absurd (cc)

@@ -23,8 +23,8 @@ use Rattle.cx_sharing.specs.Giving.{new_cell}
 use Rattle.cx_sharing.proofs.KeptLemmas.{new_apart}
 use Rattle.cx_sharing.proofs.UsedLemmas.{any_of, target_used, named_used, no_candidate, statement_meets}
 use Rattle.cx_sharing.proofs.MeetLemmas.{arms_meet-true, in_form}
-use Rattle.cx_sharing.proofs.MovedLists as lists
-use Rattle.cx_sharing.proofs.MovedLists.{moved_visited}
+use Rattle.cx_rewrites.proofs.MovedLists as lists
+use Rattle.cx_rewrites.proofs.MovedLists.{moved_visited}
 use Rattle.cx_sharing.proofs.SharedParts.{Shares, new_port, own_assigns, own_always}
 use Rattle.cx_sharing.proofs.RulesShared.{in_map, at_map, ByStatement}
 use Rattle.cx_sharing.proofs.RestsShared.{stands_for, driver_in, always_apart}

@@ -22,8 +22,8 @@ use Rattle.cx_rewrites.specs.Moving.{moved_port, moved_assign, moved_owned, move
 use Rattle.cx_rewrites.specs.Renaming.{renamed}
 use Rattle.cx_rewrites.proofs.IslandLemmas.{form_length-moved}
 use Rattle.cx_sharing.specs.Giving.{new_cell}
-use Rattle.cx_sharing.proofs.MovedLists as lists
-use Rattle.cx_sharing.proofs.MovedLists.{moved_pair, moved_visited}
+use Rattle.cx_rewrites.proofs.MovedLists as lists
+use Rattle.cx_rewrites.proofs.MovedLists.{moved_pair, moved_visited}
 use Rattle.cx_sharing.proofs.SharedParts.{Shares, new_port, width_of-shared, written_width-shared, is_source_only-shared, is_target_only-shared, is_primitive_enable-shared, is_part_port-shared, group_at-shared, group_length-shared}
 
 -- a break of a rule, whatever is told

@@ -13,7 +13,7 @@ use Rattle.cx_rewrites.specs.Moving.{moved_assign, moved_group, moved_statement}
 use Rattle.cx_rewrites.specs.Renaming.{renamed}
 use Rattle.cx_sharing.specs.Uses.{is_candidate}
 use Rattle.cx_sharing.specs.Giving.{new_cell}
-use Rattle.cx_sharing.proofs.MovedLists.{moved_group_at, groups_of-moved}
+use Rattle.cx_rewrites.proofs.MovedLists.{moved_group_at, groups_of-moved}
 use Rattle.cx_sharing.proofs.TwinLemmas.{AtTwin, no_twins, twin_rows, twin_parts, IsTwin, own_equal_back}
 
 -- a cell that is called is a component's

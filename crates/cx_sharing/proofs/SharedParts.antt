@@ -26,7 +26,7 @@ use Rattle.cx_sharing.proofs.KeptLemmas.{keeper_stays}
 use Rattle.cx_sharing.proofs.KeeperLemmas.{keeper_kind, keeper_within, keeper_past}
 use Rattle.cx_sharing.proofs.RemainingLemmas.{kind_left, length_left, staying_within, staying_past, at_kind, cell_is, none_past}
 use Rattle.cx_sharing.proofs.TwinLemmas.{shared_component}
-use Rattle.cx_sharing.proofs.MovedLists.{moved_visited, moved_group_at, visit-moved}
+use Rattle.cx_rewrites.proofs.MovedLists.{moved_visited, moved_group_at, visit-moved}
 
 -- what stands at a cell, and at its new number
 pub data AtShared (part : PlainComponent) (c : ℕ) : At → At → Type 0 where

@@ -15,7 +15,7 @@ use Rattle.cx_rewrites.specs.Renaming.{renamed}
 use Rattle.cx_rewrites.proofs.ReflectLemmas.{names_back}
 use Rattle.cx_sharing.specs.Giving.{new_cell}
 use Rattle.cx_sharing.proofs.UsedLemmas.{Inside}
-use Rattle.cx_sharing.proofs.MovedLists.{moved_visited}
+use Rattle.cx_rewrites.proofs.MovedLists.{moved_visited}
 use Rattle.cx_sharing.proofs.SharedParts.{Shares, new_port}
 use Rattle.cx_sharing.proofs.RulesShared.{ByAssign, ByStatement}
 use Rattle.cx_sharing.proofs.RestsShared.{HasInputs, rests_shared}

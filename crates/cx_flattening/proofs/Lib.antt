@@ -1,0 +1,20 @@
+mod BareIslands
+mod BareRuns
+mod BareDesigns
+pub mod KnownInvokes
+pub mod KnownNested
+mod Sorting
+mod MovedDrivers
+mod CopiedAssigns
+mod FirstFaults
+mod Placing
+mod PortLemmas
+mod FlatAssigns
+mod FlatDrivers
+mod FlatDesigns
+mod LevelSights
+mod RestingPorts
+mod MovedTwice
+mod Standing
+mod StillPorts
+mod FlatOutputs

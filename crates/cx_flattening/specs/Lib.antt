@@ -1,0 +1,13 @@
+pub mod Invokes
+pub mod Events
+pub mod Deeds
+pub mod Whole
+pub mod Copies
+pub mod Flattened
+pub mod FlatDesign
+pub mod Told
+pub mod Acting
+pub mod Embedded
+pub mod Targets
+pub mod Levels
+pub mod Fair

@@ -1,0 +1,5 @@
+pub mod GuardLemmas
+pub mod DepthLemmas
+pub mod WordLemmas
+pub mod KeptParts
+pub mod KeptTexts

@@ -1,0 +1,8 @@
+use Rattle.cx_instrumented.proofs.KeptTexts.{emits_within, short_within}
+use Rattle.cx_instrumented.proofs.laws.instrumented_is_written.Goals as goal
+
+pub returns-clause-emitted : goal.returns-clause-emitted
+returns-clause-emitted c = emits_within
+
+pub returns-clause-short : goal.returns-clause-short
+returns-clause-short c = short_within
