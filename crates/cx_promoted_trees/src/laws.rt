@@ -16,7 +16,7 @@ ghost use Rattle.cx_check.specs.Unbuilt.{first_unbuilt};
 
 /// The design of a promoted tree is one that promotion makes of the tree's design.
 pub fn promoted_trees_have_promoted_designs()
-    ensures { (tree new : PlainTree) (rows : List PromotedRow) → IsPromotedTree tree new rows → DesignMade (design_of tree) (design_of new) }
+    ensures made { (tree new : PlainTree) (rows : List PromotedRow) → IsPromotedTree tree new rows → DesignMade (design_of tree) (design_of new) }
 {}
 
 /// The promoted tree of an accepted tree is accepted. The tree that is made, whatever its size, has nothing that is left out as a whole,

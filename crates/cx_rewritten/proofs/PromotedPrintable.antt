@@ -62,7 +62,7 @@ module _ (long : List ℕ → Bool) where
   closed_printable : (n : ℕ) (piece : List statements.PlainStatement) (later : statements.PlainStatements) → AllByRecursion Anywhere piece → AreStatements later (suc n) → AreStatements (close long piece later) (suc n)
   closed_printable n [] later h k = k
   closed_printable n (s ∷ []) later h k = (h.0 (suc n), k)
-  closed_printable n (s ∷ t ∷ rest) later h k = ((tt, tt, tt, piece_printable (s ∷ t ∷ rest) h n), k)
+  closed_printable n (s ∷ t ∷ rest) later h k = ((tt, (tt, tt, piece_printable (s ∷ t ∷ rest) h n)), k)
 
   abbrev Cuts : ℕ → List statements.PlainStatement → ℕ → statements.PlainStatements → Type 0
   Cuts n piece count ss = AllByRecursion Anywhere piece → AreStatements (cut long piece count ss) (suc n)
