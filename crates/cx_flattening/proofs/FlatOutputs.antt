@@ -168,15 +168,15 @@ module _ (part : PlainComponent) (cells : Cells) (fair : IsFair (Node part cells
       pub child_hosted : IsHosted host held more z child (first + start_of kids part c) (λ q. f (move q)) (under c s)
       child_hosted = record {
         base = record {
-        cells = λ e p. base.cells (start_of kids part c + e) p ∙ ap (λ k. ports.Cell k p) (sum first (start_of kids part c) e);
-        literals = base.literals;
-        drives = λ q target still.
-            base.drives (move q) (inside q target) (block_still kids part fair.targets (flat_part (Node part cells)) refl c kid its (λ n. ports.Input n) q target still)
-            ∙ ap (map (moved_acting f)) (idle_drivers kids part fair.targets nothing (flat_part (Node part cells)) refl refl c kid its [] nothing
-            (record { unfed = refl; none_below = refl; still = λ g. refl; copies = λ j g is u. refl }) (λ n. ports.Input n) q target)
-            ∙ moved_twice f move (drivers kid nothing q);
-        embedded = stood.0;
-        stands = subst (λ k. Stands child (first + start_of kids part k) (under k s) z) (zero_plus c) (stands_static kids part first s z cells 0 c child base.stands at static);
+          cells = λ e p. base.cells (start_of kids part c + e) p ∙ ap (λ k. ports.Cell k p) (sum first (start_of kids part c) e);
+          literals = base.literals;
+          drives = λ q target still.
+              base.drives (move q) (inside q target) (block_still kids part fair.targets (flat_part (Node part cells)) refl c kid its (λ n. ports.Input n) q target still)
+              ∙ ap (map (moved_acting f)) (idle_drivers kids part fair.targets nothing (flat_part (Node part cells)) refl refl c kid its [] nothing
+              (record { unfed = refl; none_below = refl; still = λ g. refl; copies = λ j g is u. refl }) (λ n. ports.Input n) q target)
+              ∙ moved_twice f move (drivers kid nothing q);
+          embedded = stood.0;
+          stands = subst (λ k. Stands child (first + start_of kids part k) (under k s) z) (zero_plus c) (stands_static kids part first s z cells 0 c child base.stands at static);
         };
         outputs = λ n less.
             let w = wire_is n less in
