@@ -182,7 +182,7 @@ NoStatic no_cells = Unit {0}
 NoStatic (a_primitive row rest) = NoStatic rest
 NoStatic (an_instance child rest) = (is_static child ≡ false) × NoStatic rest
 
-no_cycles :  (cells : Cells) → NoStatic cells → (c : ℕ) (look : Look) (deeds : List Deed) (s : State) (before : Ended) → cycles_below cells c look deeds s before ≡ before
+no_cycles : (cells : Cells) → NoStatic cells → (c : ℕ) (look : Look) (deeds : List Deed) (s : State) (before : Ended) → cycles_below cells c look deeds s before ≡ before
 no_cycles no_cells u c look deeds s before = refl
 no_cycles (a_primitive row rest) u c look deeds s before = no_cycles rest u (suc c) look deeds s before
 no_cycles (an_instance child rest) u c look deeds s before =
@@ -190,5 +190,5 @@ no_cycles (an_instance child rest) u c look deeds s before =
     ∙ no_cycles rest u.1 (suc c) look deeds s before
 
 -- A CYCLE is the landed one
-pub whole_is_cycle :  (i : Instance) → NoStatic (cells_of i) → (held : Held) (act : Active) (deeds : List Deed) (s : State) → whole_cycle i held act deeds s ≡ cycle i held act s
+pub whole_is_cycle : (i : Instance) → NoStatic (cells_of i) → (held : Held) (act : Active) (deeds : List Deed) (s : State) → whole_cycle i held act deeds s ≡ cycle i held act s
 whole_is_cycle (Node part cells) u held act deeds s = no_cycles cells u 0 (seen (Node part cells) held act s) deeds s (cycle (Node part cells) held act s)

@@ -161,10 +161,10 @@ abbrev mutual
   BareCells (an_instance child rest) = BareTree child × BareCells rest
 
 mutual
-  pub control_same :  (i : Instance) → BareTree i → (held : Held) (s : State) (n : ℕ) → whole_control i held s n ≡ run_control i held s n
+  pub control_same : (i : Instance) → BareTree i → (held : Held) (s : State) (n : ℕ) → whole_control i held s n ≡ run_control i held s n
   control_same (Node part cells) b held s n = run_same part cells b.1.0 held (whole_below cells) (control_below cells) (below_same cells b.1.1) part.control b.0 s n
 
-  below_same :  (cells : Cells) → BareCells cells → (c : ℕ) (held : Held) (s : State) (n : ℕ) → whole_below cells c held s n ≡ control_below cells c held s n
+  below_same : (cells : Cells) → BareCells cells → (c : ℕ) (held : Held) (s : State) (n : ℕ) → whole_below cells c held s n ≡ control_below cells c held s n
   below_same no_cells b c held s n = refl
   below_same (a_primitive row rest) b zero held s n = refl
   below_same (a_primitive row rest) b (suc c) held s n = below_same rest b c held s n
@@ -172,5 +172,5 @@ mutual
   below_same (an_instance child rest) b (suc c) held s n = below_same rest b.1 c held s n
 
 -- THE RUN OF MAIN is the landed one
-pub main_same :  (d : PlainDesign) → BareTree (tree_of d) → (words : List (List ℕ)) (n : ℕ) → whole_main d words n ≡ run_main d words n
+pub main_same : (d : PlainDesign) → BareTree (tree_of d) → (words : List (List ℕ)) (n : ℕ) → whole_main d words n ≡ run_main d words n
 main_same d b words n = control_same (tree_of d) b unheld (start (tree_of d) words) n

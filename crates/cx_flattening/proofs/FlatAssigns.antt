@@ -74,8 +74,10 @@ module _ (f : PortRef → PortRef) (act more : Active) (p q : PortRef) where
     where
       plus : (a b : ℕ) → a + suc b ≡ suc a + b
       plus a b = omega arith
+
       zero_plus : (a : ℕ) → a + 0 ≡ a
       zero_plus a = omega arith
+
       here : more.offset n ≡ act.offset n
       here = subst (λ k. more.offset k ≡ act.offset k) (zero_plus n) (same 0 (omega arith))
 

@@ -27,7 +27,7 @@ use Rattle.cx_flattening.proofs.FlatAssigns.{length-both}
 use Rattle.cx_flattening.proofs.FlatDrivers.{own_drivers, idle_drivers}
 use Rattle.cx_flattening.proofs.StillPorts.{own_still, block_still}
 use Rattle.cx_flattening.proofs.MovedTwice.{moved_twice, moved_still}
-use Rattle.cx_flattening.proofs.Standing.{TwinAt, embedded_row, embedded_static, embedded_dynamic, stands_row, stands_static, stands_dynamic, wire_there, in_flat_cells, acyclic_child, outputs_at}
+use Rattle.cx_flattening.proofs.Standing.{TwinAt, embedded_row, embedded_static, embedded_dynamic, stands_row, stands_static, stands_dynamic, wire_there, in_flat_cells, within_child, acyclic_child, outputs_at}
 use Rattle.cx_flattening.proofs.RestingPorts.{Resting, an_output, at_rest, is_read, none_drives, resting_closed}
 use Rattle.cx_flattening.proofs.LevelSights.{kid-static, kid-dynamic, flat-inputs, flat-outputs, level_seen}
 use Rattle.cx_flattening.specs.Flattened.{kept, blocks}
@@ -168,15 +168,15 @@ module _ (part : PlainComponent) (cells : Cells) (fair : IsFair (Node part cells
       pub child_hosted : IsHosted host held more z child (first + start_of kids part c) (λ q. f (move q)) (under c s)
       child_hosted = record {
         base = record {
-        cells = λ e p. base.cells (start_of kids part c + e) p ∙ ap (λ k. ports.Cell k p) (sum first (start_of kids part c) e);
-        literals = base.literals;
-        drives = λ q target still.
-            base.drives (move q) (inside q target) (block_still kids part fair.targets (flat_part (Node part cells)) refl c kid its (λ n. ports.Input n) q target still)
-            ∙ ap (map (moved_acting f)) (idle_drivers kids part fair.targets nothing (flat_part (Node part cells)) refl refl c kid its [] nothing
-            (record { unfed = refl; still = λ g. refl; copies = λ j g is u. refl }) (λ n. ports.Input n) q target)
-            ∙ moved_twice f move (drivers kid nothing q);
-        embedded = stood.0;
-        stands = subst (λ k. Stands child (first + start_of kids part k) (under k s) z) (zero_plus c) (stands_static kids part first s z cells 0 c child base.stands at static);
+          cells = λ e p. base.cells (start_of kids part c + e) p ∙ ap (λ k. ports.Cell k p) (sum first (start_of kids part c) e);
+          literals = base.literals;
+          drives = λ q target still.
+              base.drives (move q) (inside q target) (block_still kids part fair.targets (flat_part (Node part cells)) refl c kid its (λ n. ports.Input n) q target still)
+              ∙ ap (map (moved_acting f)) (idle_drivers kids part fair.targets nothing (flat_part (Node part cells)) refl refl c kid its [] nothing
+              (record { unfed = refl; none_below = refl; still = λ g. refl; copies = λ j g is u. refl }) (λ n. ports.Input n) q target)
+              ∙ moved_twice f move (drivers kid nothing q);
+          embedded = stood.0;
+          stands = subst (λ k. Stands child (first + start_of kids part k) (under k s) z) (zero_plus c) (stands_static kids part first s z cells 0 c child base.stands at static);
         };
         outputs = λ n less.
             let w = wire_is n less in
@@ -231,10 +231,10 @@ module _ (part : PlainComponent) (cells : Cells) (fair : IsFair (Node part cells
         states = states_there;
         children = twins_there;
         gives = λ c n child x at dynamic less sees. outputs_there c n child at dynamic less x sees;
-        dones = λ c child at dynamic. quiet (kept_at kids c) (kept_inside c (fair.within c child at) (kid-dynamic cells c child at dynamic));
+        dones = λ c child at dynamic. quiet (kept_at kids c) (kept_inside c (within_child (Node part cells) fair c child at) (kid-dynamic cells c child at dynamic));
         wires = λ c n child x at static less sees.
-            wire_seen c child at static (fair.within c child at)
-            (λ e inner. quiet (start_of kids part c + e) (in_flat_cells kids part c e (flat_part child) (fair.within c child at) (kid-static cells c child at static) inner)) n x less sees;
+            wire_seen c child at static (within_child (Node part cells) fair c child at)
+            (λ e inner. quiet (start_of kids part c + e) (in_flat_cells kids part c e (flat_part child) (within_child (Node part cells) fair c child at) (kid-static cells c child at static) inner)) n x less sees;
       }
 
       pub output_seen_there : (n : ℕ) (x : Seen) → n < length part.outputs → Sees (Node part cells) unheld nothing s (ports.Output n) x → seen host held more z (f (ports.Output n)) ≡ x

@@ -33,8 +33,11 @@ capturing source = record { cell = 1; written = false; length = None; latency = 
 
 -- mem, c = sq(), k = std_reg(32); group 0 captures y in k; 1 stores c.y, 2 stores k.out
 abbrev main_with : List PlainInvoke → PlainStatement → PlainDesign
-main_with list control = record { components = record (component (mem ∷ child_cell 1 ∷ reg 32 ∷ [])
-    (timed_group 1 (assign (Cell 2 0) (Cell 1 2) 9 ∷ assign (Cell 2 1) (one_bit 1) 9 ∷ []) ∷ store 1 (Cell 1 2) ∷ store 2 (Cell 2 2) ∷ []) [] control) { invokes = list } ∷ sq ∷ []; main = 0 }
+main_with list control = record {
+  components = record (component (mem ∷ child_cell 1 ∷ reg 32 ∷ [])
+      (timed_group 1 (assign (Cell 2 0) (Cell 1 2) 9 ∷ assign (Cell 2 1) (one_bit 1) 9 ∷ []) ∷ store 1 (Cell 1 2) ∷ store 2 (Cell 2 2) ∷ []) [] control) { invokes = list } ∷ sq ∷ [];
+  main = 0;
+}
 
 abbrev constants : List PlainInvoke
 constants = plain_invoke (number 3) ∷ plain_invoke (number 5) ∷ []

@@ -38,9 +38,12 @@ done_of_r = invoke_of 1 (assign (Cell 1 1) (Cell 2 3) 1 ∷ [])
 
 -- seq { static seq { g; static invoke c(w = r.done)(); } st; }: the done of r is 1 in the child's first cycle and 0 in its second
 abbrev falling : PlainDesign
-falling = record { components = record (component (mem ∷ child_cell 1 ∷ reg 32 ∷ [])
-    (timed_group 1 (assign (Cell 2 0) (number 7) 1 ∷ assign (Cell 2 1) (one_bit 1) 2 ∷ []) ∷ store 1 (Cell 1 2) ∷ []) []
-    (seq (st (StaticSeq None (statements_of (enable 0 ∷ st (Timed 0) ∷ []))) ∷ enable 1 ∷ []))) { invokes = done_of_r ∷ [] } ∷ dn ∷ []; main = 0 }
+falling = record {
+  components = record (component (mem ∷ child_cell 1 ∷ reg 32 ∷ [])
+      (timed_group 1 (assign (Cell 2 0) (number 7) 1 ∷ assign (Cell 2 1) (one_bit 1) 2 ∷ []) ∷ store 1 (Cell 1 2) ∷ []) []
+      (seq (st (StaticSeq None (statements_of (enable 0 ∷ st (Timed 0) ∷ []))) ∷ enable 1 ∷ []))) { invokes = done_of_r ∷ [] } ∷ dn ∷ [];
+  main = 0;
+}
 
 pub known_falling : whole_told falling ≡ Ends 6 ((2 ∷ []) ∷ [])
 known_falling = refl
@@ -63,9 +66,12 @@ with_four = invoke_of 1 (assign (Cell 1 1) (one_bit 0) 1 ∷ assign (Cell 1 2) (
 
 -- seq { static par { static repeat 2 { static invoke c(w = 0, x = 4)(); } h; } st; }: the second round samples anew
 abbrev beside : PlainDesign
-beside = record { components = record (component (mem ∷ child_cell 1 ∷ reg 32 ∷ [])
-    (timed_group 3 (guarded (Cell 2 0) (Within 0 1) (number 1) 1 ∷ guarded (Cell 2 0) (Within 1 2) (number 2) 2 ∷ guarded (Cell 2 0) (Within 2 3) (number 3) 3 ∷ assign (Cell 2 1) (one_bit 1) 4 ∷ []) ∷ store 1 (Cell 1 3) ∷ []) []
-    (seq (st (StaticPar None (statements_of (st (StaticRepeat None 2 (st (Timed 0))) ∷ enable 0 ∷ []))) ∷ enable 1 ∷ []))) { invokes = with_four ∷ [] } ∷ si ∷ []; main = 0 }
+beside = record {
+  components = record (component (mem ∷ child_cell 1 ∷ reg 32 ∷ [])
+      (timed_group 3 (guarded (Cell 2 0) (Within 0 1) (number 1) 1 ∷ guarded (Cell 2 0) (Within 1 2) (number 2) 2 ∷ guarded (Cell 2 0) (Within 2 3) (number 3) 3 ∷ assign (Cell 2 1) (one_bit 1) 4 ∷ []) ∷ store 1 (Cell 1 3) ∷ []) []
+      (seq (st (StaticPar None (statements_of (st (StaticRepeat None 2 (st (Timed 0))) ∷ enable 0 ∷ []))) ∷ enable 1 ∷ []))) { invokes = with_four ∷ [] } ∷ si ∷ [];
+  main = 0;
+}
 
 pub known_beside : whole_told beside ≡ Ends 7 ((4 ∷ []) ∷ [])
 known_beside = refl

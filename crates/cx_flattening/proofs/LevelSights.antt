@@ -55,12 +55,14 @@ output_number part (suc m) n e = by (nat_lt m (length part.inputs)) e
   where
     one : (k : ℕ) → suc m - 1 - k ≡ m - k
     one k = omega arith
+
     is_output : (outputs k : ℕ) → output_port outputs k ≡ AnOutput n → k ≡ n
     is_output outputs k f = inner (nat_lt k outputs) f
       where
         inner : (t : Bool) → (if t then AnOutput k else ItsDone) ≡ AnOutput n → k ≡ n
         inner true g = cc
         inner false g = absurd (cc)
+
     by : (t : Bool) → (if t then AnInput m else output_port (length part.outputs) (m - length part.inputs)) ≡ AnOutput n → suc m - 1 - length part.inputs ≡ n
     by true f = absurd (cc)
     by false f = one (length part.inputs) ∙ is_output (length part.outputs) (m - length part.inputs) f

@@ -18,3 +18,5 @@ mod MovedTwice
 mod Standing
 mod StillPorts
 mod FlatOutputs
+mod FlatSights
+mod FlatChildren

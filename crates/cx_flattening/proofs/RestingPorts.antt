@@ -124,11 +124,13 @@ module _ (i : Instance) (fair : IsFair i) where
   input_leads : (act : Active) (c m : ℕ) (row : Row) (q : PortRef) → cell_at (cells_of i) c ≡ OfRow row → (side_of row m ≡ sides.Enable) ⊎ (side_of row m ≡ sides.Plain)
       → (Leads i act (ports.Cell c m) q → Mentions (drivers (part_of i) act (ports.Cell c m)) q) × (Mentions (drivers (part_of i) act (ports.Cell c m)) q → Leads i act (ports.Cell c m) q)
   input_leads act c m row q at (inl side) = (
-      λ lead. subst (λ x. SideLeads (part_of i) act row c m x q) side (subst (λ x. CellLeads (part_of i) act c m x q) at lead),
-      λ h. subst (λ x. CellLeads (part_of i) act c m x q) (sym at) (subst (λ x. SideLeads (part_of i) act row c m x q) (sym side) h))
+    λ lead. subst (λ x. SideLeads (part_of i) act row c m x q) side (subst (λ x. CellLeads (part_of i) act c m x q) at lead),
+    λ h. subst (λ x. CellLeads (part_of i) act c m x q) (sym at) (subst (λ x. SideLeads (part_of i) act row c m x q) (sym side) h),
+  )
   input_leads act c m row q at (inr side) = (
-      λ lead. subst (λ x. SideLeads (part_of i) act row c m x q) side (subst (λ x. CellLeads (part_of i) act c m x q) at lead),
-      λ h. subst (λ x. CellLeads (part_of i) act c m x q) (sym at) (subst (λ x. SideLeads (part_of i) act row c m x q) (sym side) h))
+    λ lead. subst (λ x. SideLeads (part_of i) act row c m x q) side (subst (λ x. CellLeads (part_of i) act c m x q) at lead),
+    λ h. subst (λ x. CellLeads (part_of i) act c m x q) (sym at) (subst (λ x. SideLeads (part_of i) act row c m x q) (sym side) h),
+  )
 
   always_rests : (c p m : ℕ) (row : Row) → cell_at (cells_of i) c ≡ OfRow row → side_of row p ≡ sides.Output → row.reads p m ≡ true → Rests i (ports.Cell c p)
       → (a : PlainAssign) (q : PortRef) → In (part_of i).always a → a.target ≡ ports.Cell c m → AssignNames a q → Rests i q

@@ -7,6 +7,7 @@ use Rattle.cx_meaning.specs.Designs.{PlainCell, PlainComponent}
 use Rattle.cx_meaning.specs.Instances.{Instance, Node, Cells, no_cells, a_primitive, an_instance, OfRow, OfInstance, part_of, cells_of, cell_at, State, under}
 use Rattle.cx_meaning.specs.Sights.{unheld, seen, outputs_below}
 use Rattle.cx_meaning.specs.Active.{nothing}
+use Rattle.cx_meaning.proofs.InstancesLemmas.{nothing_instance, nothing_row}
 use Rattle.cx_rules.specs.Circles.{AreAcyclic, AcyclicBelow}
 use Rattle.cx_flattening.specs.Whole.{is_static}
 use Rattle.cx_flattening.specs.Flattened.{Kids, kid_at, kept_if, kept, block, blocks, flat_cells, block_size, block_at, inner_cell, wire_of, flat_part, kept_at, start_of, wire_at}
@@ -121,6 +122,12 @@ in_flat_cells kids part c m child less e inside =
 -- children
 pub fair_own : (i : Instance) → AllFair i → IsFair i
 fair_own (Node part cells) h = h.0
+
+pub within_child : (i : Instance) → IsFair i → (c : ℕ) (child : Instance) → cell_at (cells_of i) c ≡ OfInstance child → c < length (part_of i).cells
+within_child i fair c child at = fair.within c (λ none. nothing_instance child (sym none ∙ at))
+
+pub within_row : (i : Instance) → IsFair i → (c : ℕ) (row : Row) → cell_at (cells_of i) c ≡ OfRow row → c < length (part_of i).cells
+within_row i fair c row at = fair.within c (λ none. nothing_row row (sym none ∙ at))
 
 pub acyclic_child : (cells : Cells) (c : ℕ) (child : Instance) → AcyclicBelow cells → cell_at cells c ≡ OfInstance child → AreAcyclic child
 acyclic_child no_cells c child h e = absurd (cc)

@@ -95,16 +95,17 @@ module _ (kids : Kids) (part : PlainComponent) (has : HasTargets kids part) wher
         other_cell copied apart =
             block_apart kids part copied.child child copied.invoke.cell c a.target (child_port kids part child c sources q) apart copied.its its
             (subst (InBlock kids part copied.child copied.invoke.cell) (sym copied.is) (in_block kids part copied.child copied.invoke.cell _ copied.assign.target copied.target)) (in_block kids part child c sources q there) e
+
         same_cell : (copied : IsCopied kids part a) → copied.invoke.cell ≡ c → ⊥
         same_cell copied at =
             let same : copied.child ≡ child = some_is copied.child child (sym copied.its ∙ ap (kid_at kids) at ∙ its) in
             let target : BlockTarget child copied.assign.target = subst (λ k. BlockTarget k copied.assign.target) same copied.target in
             let moved : child_port kids part child c sources copied.assign.target ≡ child_port kids part child c sources q =
-                alike_block child c sources (λ n. own_port kids part (source_to copied.invoke.cell copied.invoke.inputs n)) copied.assign.target target
-                ∙ ap (λ k. child_port kids part child k (λ n. own_port kids part (source_to copied.invoke.cell copied.invoke.inputs n)) copied.assign.target) (sym at)
-                ∙ ap (λ k. invoke_port kids part k copied.invoke copied.assign.target) (sym same) ∙ sym copied.is ∙ e in
+            alike_block child c sources (λ n. own_port kids part (source_to copied.invoke.cell copied.invoke.inputs n)) copied.assign.target target
+            ∙ ap (λ k. child_port kids part child k (λ n. own_port kids part (source_to copied.invoke.cell copied.invoke.inputs n)) copied.assign.target) (sym at)
+            ∙ ap (λ k. invoke_port kids part k copied.invoke copied.assign.target) (sym same) ∙ sym copied.is ∙ e in
             let alike : same_port copied.assign.target q ≡ true =
-                sym (child_same kids part child c sources copied.assign.target q target there) ∙ ap (λ t. same_port t (child_port kids part child c sources q)) moved ∙ same_self (child_port kids part child c sources q) in
+            sym (child_same kids part child c sources copied.assign.target q target there) ∙ ap (λ t. same_port t (child_port kids part child c sources q)) moved ∙ same_self (child_port kids part child c sources q) in
             still copied.group copied.assign (subst (λ k. In k.groups copied.group) same copied.among) copied.stands (same_is copied.assign.target q alike)
           where
             some_is : (m n : PlainComponent) → Some m ≡ Some n → m ≡ n

@@ -30,6 +30,7 @@ module _ (kids : Kids) (part : PlainComponent) (c : ℕ) (child : PlainComponent
   -- a static child that is not fed: nothing of it acts, and no copy for it
   pub record IsIdle : Type 0 where
     pub unfed : fed_by c deeds ≡ None
+    pub none_below : deeds_below c deeds ≡ []
     pub still : (g : ℕ) → inner.offset g ≡ None
     pub copies : (j g : ℕ) → IsOf part c j → IsUsed child g → more.offset (copy_of kids part child j g) ≡ None
 

@@ -11,6 +11,8 @@ use Rattle.cx_meaning.specs.Rows.{side_of}
 use Rattle.cx_rules.specs.Ports.{is_source_only}
 use Rattle.cx_rules.specs.Footprints.{AssignNames, Rests}
 use Rattle.cx_rules.specs.ShapeRules.{LeadsToInput}
+use Rattle.cx_flattening.specs.Invokes.{invoke_at}
+use Rattle.cx_flattening.specs.Events.{source_to}
 use Rattle.cx_flattening.specs.Whole.{is_static}
 use Rattle.cx_flattening.specs.Flattened.{flat_kids}
 use Rattle.cx_flattening.specs.Targets.{HasTargets}
@@ -32,9 +34,11 @@ IsNamed i (ports.Literal w v) = Unit {0}
 -- no input
 pub record IsFair (i : Instance) : Type 0 where
   pub counts : (c : ℕ) → c < length (part_of i).cells → (cell_at (cells_of i) c ≡ Nothing → ⊥)
-  pub within : (c : ℕ) (child : Instance) → cell_at (cells_of i) c ≡ OfInstance child → c < length (part_of i).cells
+  pub within : (c : ℕ) → (cell_at (cells_of i) c ≡ Nothing → ⊥) → c < length (part_of i).cells
   pub targets : HasTargets (flat_kids (cells_of i)) (part_of i)
   pub names : (a : PlainAssign) (q : PortRef) → IsAssignOf (part_of i) a → AssignNames a q → IsNamed i q
+  pub sources : (j n : ℕ) (child : Instance) → j < length (part_of i).invokes → cell_at (cells_of i) (invoke_at (part_of i) j).cell ≡ OfInstance child → n < length (part_of child).inputs
+      → IsNamed i (source_to (invoke_at (part_of i) j).cell (invoke_at (part_of i) j).inputs n)
   pub kept : is_static i ≡ true → (a : PlainAssign) (n : ℕ) → In (part_of i).always a → AssignNames a (ports.Input n) → ⊥
   pub not_source : (a : PlainAssign) → IsAssignOf (part_of i) a → is_source_only i a.target ≡ false
   pub reads : (c p m : ℕ) (row : Row) → cell_at (cells_of i) c ≡ OfRow row → row.reads p m ≡ true → (side_of row m ≡ sides.Enable) ⊎ (side_of row m ≡ sides.Plain)

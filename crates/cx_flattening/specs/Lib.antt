@@ -11,3 +11,4 @@ pub mod Embedded
 pub mod Targets
 pub mod Levels
 pub mod Fair
+pub mod Seeing

@@ -1,6 +1,6 @@
 -- THE INSTANCES of an instrumented design stand at the paths of those of the design, and its external memories are those of the design and that of
 -- the counts.
-use Rattle.std.proofs.Common.{◌≡◌, ℕ, zero, suc, ◌*◌, ◌<◌, inl, inr, true, false, List, [], ◌∷◌, ◌++◌, length, refl, sym, ap, ap₂, ◌∙◌, subst, arith}
+use Rattle.std.proofs.Common.{◌≡◌, ℕ, zero, suc, ◌*◌, ◌<◌, inl, inr, true, false, List, [], ◌∷◌, ◌++◌, length, refl, sym, ap, ap₂, ◌∙◌}
 use Rattle.std.specs.Prelude.{Bool}
 use Rattle.cx_text.specs.Loading.{PlainRow}
 use Rattle.cx_text.specs.declared.places.Place.{Place}
@@ -8,7 +8,7 @@ use Rattle.cx_prim.specs.Table.{PrimitiveRow}
 use Rattle.cx_meaning.specs.Designs.{PlainKind, OfPrimitive, OfComponent, PlainCell, PlainComponent, PlainDesign, component_at}
 use Rattle.cx_meaning.specs.Instances.{Instance, add_cell, cells_for, tree_within, tree_of, paths_of, paths_below, behind}
 use Rattle.cx_meaning.specs.Sights.{In}
-use Rattle.cx_rules.specs.Externals.{row_for, if_external, rows_of, external_rows}
+use Rattle.cx_rules.specs.Externals.{if_external, rows_of, external_rows}
 use Rattle.cx_rules.specs.Ports.{component_of}
 use Rattle.cx_rules.specs.Wellformed.{IsDesign}
 use Rattle.cx_profiling.specs.Counters.{counters, shown_in, entry_count}
