@@ -36,7 +36,9 @@ InLine row = (list_all is_in_line row.component ≡ true) × (list_all is_in_lin
 row_is_comment : (row : PromotedRow) → InLine row → IsComment (row_line row)
 row_is_comment row h = record {
   body = codes " promoted" ++ (32 ∷ row.component) ++ (32 ∷ row.group) ++ (32 ∷ decimal row.cycles);
-  in_line = joined_in_line _ (32 ∷ decimal row.cycles) (joined_in_line _ (32 ∷ row.group) (joined_in_line (codes " promoted") (32 ∷ row.component) refl h.0) h.1) h.2;
+  in_line =
+      joined_in_line (codes " promoted" ++ (32 ∷ row.component) ++ (32 ∷ row.group)) (32 ∷ decimal row.cycles)
+      (joined_in_line (codes " promoted" ++ (32 ∷ row.component)) (32 ∷ row.group) (joined_in_line (codes " promoted") (32 ∷ row.component) refl h.0) h.1) h.2;
   is = simp append_assoc;
 }
 

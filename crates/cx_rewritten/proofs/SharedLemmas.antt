@@ -70,7 +70,9 @@ rows_in_line part name h c (suc more) = by (stays part c) (rows_in_line part nam
 row_is_comment : (row : SharedRow) → InLine row → IsComment (row_line row)
 row_is_comment row h = record {
   body = codes " shared" ++ (32 ∷ row.component) ++ (32 ∷ row.cell) ++ (32 ∷ row.kept);
-  in_line = joined_in_line _ (32 ∷ row.kept) (joined_in_line _ (32 ∷ row.cell) (joined_in_line (codes " shared") (32 ∷ row.component) refl h.0.0) h.0.1) h.0.2;
+  in_line =
+      joined_in_line (codes " shared" ++ (32 ∷ row.component) ++ (32 ∷ row.cell)) (32 ∷ row.kept)
+      (joined_in_line (codes " shared" ++ (32 ∷ row.component)) (32 ∷ row.cell) (joined_in_line (codes " shared") (32 ∷ row.component) refl h.0.0) h.0.1) h.0.2;
   is = simp append_assoc;
 }
 
