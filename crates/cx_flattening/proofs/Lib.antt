@@ -19,3 +19,9 @@ mod StillPorts
 mod FlatOutputs
 mod FlatSights
 mod FlatChildren
+mod FlatSeen
+mod FlatCycles
+mod FlatTops
+mod CopiedControl
+mod FlatGroups
+mod FlatLengths

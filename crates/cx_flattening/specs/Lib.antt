@@ -12,3 +12,6 @@ pub mod Targets
 pub mod Levels
 pub mod Fair
 pub mod Seeing
+pub mod FlatFaults
+pub mod Beside
+pub mod Controlled
