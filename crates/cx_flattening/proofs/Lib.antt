@@ -25,3 +25,4 @@ mod FlatTops
 mod CopiedControl
 mod FlatGroups
 mod FlatLengths
+mod FlatTurns

@@ -15,3 +15,4 @@ pub mod Seeing
 pub mod FlatFaults
 pub mod Beside
 pub mod Controlled
+pub mod Turning
