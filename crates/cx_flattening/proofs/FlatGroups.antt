@@ -67,6 +67,7 @@ enabled_grows used g (suc n) = subst (λ k. enabled_below used g ≤ enabled_bel
   where
     plus : (a b : ℕ) → suc (a + b) ≡ a + suc b
     plus a b = omega arith
+
     choice : (b : Bool) → enabled_below used g ≤ enabled_below used (g + n) → enabled_below used g ≤ count_if b (enabled_below used (g + n))
     choice true ih = omega (arith, ih)
     choice false ih = ih
@@ -79,8 +80,10 @@ enabled_get used g (x ∷ xs) zero m is less e = choice (is_one_of g used) (ap (
   where
     plus : (a : ℕ) → a ≡ a + 0
     plus a = omega arith
+
     none : m ≡ 0
     none = let same : enabled_below used (g + 0) ≡ enabled_below used g = ap (enabled_below used) (sym (plus g)) in omega (arith, e, same)
+
     choice : (b : Bool) → b ≡ true → m ≡ 0 → (m < length (group_if b x (enabled_groups used (suc g) xs))) × (get_or (group_if b x (enabled_groups used (suc g) xs)) m no_group ≡ x)
     choice true f z = subst (λ k. (k < length (x ∷ enabled_groups used (suc g) xs)) × (get_or (x ∷ enabled_groups used (suc g) xs) k no_group ≡ x)) (sym z) (omega arith, refl)
     choice false f z = absurd (cc)
@@ -88,8 +91,10 @@ enabled_get used g (x ∷ xs) (suc n) m is less e = choice (is_one_of g used) re
   where
     plus : (a b : ℕ) → a + suc b ≡ suc a + b
     plus a b = omega arith
+
     all : enabled_below used g + m ≡ enabled_below used (suc g + n)
     all = e ∙ ap (enabled_below used) (plus g n)
+
     choice : (b : Bool) → is_one_of g used ≡ b
         → ((k : ℕ) → enabled_below used (suc g) + k ≡ enabled_below used (suc g + n) → (k < length (enabled_groups used (suc g) xs)) × (get_or (enabled_groups used (suc g) xs) k no_group ≡ get_or xs n no_group))
         → (m < length (group_if b x (enabled_groups used (suc g) xs))) × (get_or (group_if b x (enabled_groups used (suc g) xs)) m no_group ≡ get_or xs n no_group)
@@ -98,6 +103,7 @@ enabled_get used g (x ∷ xs) (suc n) m is less e = choice (is_one_of g used) re
       where
         here : enabled_below used (suc g) ≡ suc (enabled_below used g)
         here = ap (λ b. count_if b (enabled_below used g)) f
+
         positive : (k : ℕ) → enabled_below used g + k ≡ enabled_below used (suc g + n) → (k < length (x ∷ enabled_groups used (suc g) xs)) × (get_or (x ∷ enabled_groups used (suc g) xs) k no_group ≡ get_or xs n no_group)
         positive zero h = absurd (let grows = enabled_grows used (suc g) n in let one = here in omega (arith, grows, one, h))
         positive (suc k) h = let r = later k (let one = here in omega (arith, one, h)) in let inside = r.0 in (omega (arith, inside), r.1)
@@ -129,7 +135,9 @@ module _ (kids : Kids) (part : PlainComponent) where
     where
       zero_plus : (a : ℕ) → 0 + a ≡ a
       zero_plus a = omega arith
+
       zero_sum : (a : ℕ) → 0 + a ≡ a
       zero_sum a = omega arith
+
       place : (a b c : ℕ) → {d : ℕ} → a ≡ d → a + b + c ≡ d + (b + c)
       place a b c {d} e = omega (arith, e)

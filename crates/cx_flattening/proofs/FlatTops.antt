@@ -92,10 +92,11 @@ module _ (part : PlainComponent) (cells : Cells) (flat : Instance) (held : Held)
     where
       choice : (x : Ended) → EndsAs (Node part cells) 0 (outcome_of every_cell (seen flat held more z) (cells_of flat) z) z (length (flat_part (Node part cells)).cells) x → CycleAs (Node part cells) x (cycle flat held more z)
       choice (Goes after) h = (
-          state_after (outcome_of every_cell (seen flat held more z) (cells_of flat) z) z,
-          ap (λ n. unless_fault (first_fault (outcome_of every_cell (seen flat held more z) (cells_of flat) z) 0 n) (state_after (outcome_of every_cell (seen flat held more z) (cells_of flat) z) z)) beside.flattened.2
-          ∙ ap (λ f. unless_fault f (state_after (outcome_of every_cell (seen flat held more z) (cells_of flat) z) z)) h.0,
-          h.1)
+        state_after (outcome_of every_cell (seen flat held more z) (cells_of flat) z) z,
+        ap (λ n. unless_fault (first_fault (outcome_of every_cell (seen flat held more z) (cells_of flat) z) 0 n) (state_after (outcome_of every_cell (seen flat held more z) (cells_of flat) z) z)) beside.flattened.2
+            ∙ ap (λ f. unless_fault f (state_after (outcome_of every_cell (seen flat held more z) (cells_of flat) z) z)) h.0,
+        h.1,
+      )
       choice (Faults f) h =
           ap (λ n. unless_fault (first_fault (outcome_of every_cell (seen flat held more z) (cells_of flat) z) 0 n) (state_after (outcome_of every_cell (seen flat held more z) (cells_of flat) z) z)) beside.flattened.2
           ∙ ap (λ f. unless_fault f (state_after (outcome_of every_cell (seen flat held more z) (cells_of flat) z) z)) h

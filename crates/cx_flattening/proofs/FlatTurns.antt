@@ -34,8 +34,9 @@ mutual
   all_still kids part more still no_cells c = tt
   all_still kids part more still (a_primitive row rest) c = all_still kids part more still rest (suc c)
   all_still kids part more still (an_instance child rest) c = (
-      λ static. (nothing, refl, still_acts child, inl (record { unfed = refl; none_below = refl; still = λ g. refl; copies = λ j g its used. still c j g (flat_part child) its used })),
-      all_still kids part more still rest (suc c))
+    λ static. (nothing, refl, still_acts child, inl (record { unfed = refl; none_below = refl; still = λ g. refl; copies = λ j g its used. still c j g (flat_part child) its used })),
+    all_still kids part more still rest (suc c),
+  )
 
 -- a group alone
 only_still : (kids : Kids) (part : PlainComponent) (h : ℕ) → h < length part.groups → (c j g : ℕ) (kid : PlainComponent) → IsOf part c j → IsUsed kid g → only_at h (copy_of kids part kid j g) ≡ None
@@ -66,6 +67,7 @@ flat_turn (Node part cells) flat held g s z less flattened fair stands calm acyc
       acyclic = acyclic;
       deeper = deeper;
     }
+
     by_hole : (t u : Truth) → u ≡ t → (x y : Ended) → CycleAs (Node part cells) x y → TurnAs (Node part cells) (hole_turn g x t) (hole_turn g y u)
     by_hole truths.One u e x y h = ap (hole_turn g y) e
     by_hole truths.Conflict u e x y h = ap (hole_turn g y) e
