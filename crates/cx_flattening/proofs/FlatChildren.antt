@@ -19,7 +19,7 @@ use Rattle.cx_flattening.specs.Whole.{is_static}
 use Rattle.cx_flattening.specs.Flattened.{Kids, kid_at, kept_at, block_size, start_of, wire_at, flat_part, flat_kids, own_port, child_port, invoke_port}
 use Rattle.cx_flattening.specs.Targets.{BlockTarget}
 use Rattle.cx_flattening.specs.Acting.{fed_by, IsIdle, IsFed, ActsAs, AllActAs}
-use Rattle.cx_flattening.specs.Levels.{InFlat, Asked, IsBase, IsHosted, IsPlayed}
+use Rattle.cx_flattening.specs.Levels.{OutputsSeen, InFlat, Asked, IsBase, IsHosted, IsPlayed}
 use Rattle.cx_flattening.specs.Fair.{IsNamed, IsFair, AllFair, AllFairBelow}
 use Rattle.cx_flattening.specs.Seeing.{CellsSeen, AllSeen, NoCircle, NoneBelow}
 use Rattle.cx_flattening.proofs.FlatDrivers.{fed_drivers, idle_drivers}
@@ -30,7 +30,7 @@ use Rattle.cx_flattening.proofs.Placing.{kept_less}
 use Rattle.cx_flattening.proofs.Standing.{in_flat_cells, within_child, within_row, fair_own}
 use Rattle.cx_flattening.proofs.RestingPorts.{OfOne, owner_of}
 use Rattle.cx_flattening.proofs.LevelSights.{kid-static, kid-dynamic, kid-row, flat-inputs, flat-outputs}
-use Rattle.cx_flattening.proofs.FlatOutputs.{OutputsSeen, kept_inside, child_hosted, kids_seen}
+use Rattle.cx_flattening.proofs.FlatOutputs.{kept_inside, child_hosted, kids_seen}
 use Rattle.cx_flattening.proofs.FlatSights.{assign_of, played_base, asked_of, played_found}
 
 -- the inputs of a child that is fed are its sources as they are seen

@@ -19,7 +19,7 @@ use Rattle.cx_flattening.specs.Whole.{is_static}
 use Rattle.cx_flattening.specs.Flattened.{Kids, kid_at, kept_at, block_size, start_of, wire_at, flat_part, flat_kids, own_port, child_port}
 use Rattle.cx_flattening.specs.Targets.{OwnTarget, BlockTarget}
 use Rattle.cx_flattening.specs.Embedded.{IsLike, wire_row, HasWires, IsEmbedded, Stands}
-use Rattle.cx_flattening.specs.Levels.{IsKnown, own_of, IsLevel, IsStill, IsBase, IsHosted}
+use Rattle.cx_flattening.specs.Levels.{IsKnown, own_of, IsLevel, IsStill, IsBase, IsHosted, OutputsSeen}
 use Rattle.cx_flattening.specs.Fair.{IsNamed, IsFair, AllFair, AllFairBelow}
 use Rattle.cx_flattening.proofs.Placing.{kept_less}
 use Rattle.cx_flattening.proofs.PortLemmas.{own-kept}
@@ -54,12 +54,6 @@ ports_like a b e f (suc n) = ap (λ i. later_port (length i) (length a.outputs) 
 pub drivers_like : (a b : PlainComponent) → IsLike a b → (act : Active) (p : PortRef) → drivers a act p ≡ drivers b act p
 drivers_like a b like act p =
     ap (λ l. acting act p (by_place (owned None l ++ owned_by_groups 0 a.groups))) like.always ∙ ap (λ l. acting act p (by_place (owned None b.always ++ owned_by_groups 0 l))) like.groups
-
--- WHAT IS CLAIMED of an instance: wherever its flat component stands, and whatever acts there, each output is seen as in the instance
-abbrev pub OutputsSeen : Instance → Type 0
-OutputsSeen i = (host : Instance) (held : Held) (more : Active) (z : State) → IsAcyclic host more → AcyclicBelow (cells_of host)
-    → (first : ℕ) (f : PortRef → PortRef) (s : State) → IsHosted host held more z i first f s
-    → (n : ℕ) (x : Seen) → n < length (part_of i).outputs → Sees i unheld nothing s (ports.Output n) x → seen host held more z (f (ports.Output n)) ≡ x
 
 -- the twin of a dynamic child is a host of its own
 pub twin_hosted : (twin child : Instance) (s z : State) → IsAcyclic twin nothing → AcyclicBelow (cells_of twin) → IsLike (part_of twin) (flat_part child) → IsEmbedded child 0 (cells_of twin) → Stands child 0 s z

@@ -18,14 +18,14 @@ use Rattle.cx_rewrites.proofs.ClosedLemmas.{is_closed}
 use Rattle.cx_flattening.specs.Whole.{is_static}
 use Rattle.cx_flattening.specs.Flattened.{Kids, kid_at, flat_part, flat_kids, own_port}
 use Rattle.cx_flattening.specs.Targets.{OwnTarget, BlockTarget}
-use Rattle.cx_flattening.specs.Levels.{IsKnown, IsLevel, IsStill, IsBase, InFlat, Asked, IsPlayed}
+use Rattle.cx_flattening.specs.Levels.{OutputsSeen, IsKnown, IsLevel, IsStill, IsBase, InFlat, Asked, IsPlayed}
 use Rattle.cx_flattening.specs.Fair.{IsAssignOf, IsNamed, IsFair}
 use Rattle.cx_flattening.proofs.PortLemmas.{own-kept}
 use Rattle.cx_flattening.proofs.FlatDrivers.{own_drivers}
 use Rattle.cx_flattening.proofs.Standing.{within_child}
 use Rattle.cx_flattening.proofs.RestingPorts.{OfOne, owner_of}
 use Rattle.cx_flattening.proofs.LevelSights.{kid-static, level_seen}
-use Rattle.cx_flattening.proofs.FlatOutputs.{OutputsSeen, rows_there, states_there, twins_there, kept_inside, outputs_there, wire_seen}
+use Rattle.cx_flattening.proofs.FlatOutputs.{rows_there, states_there, twins_there, kept_inside, outputs_there, wire_seen}
 
 -- what no group drives is driven alike whatever acts
 pub still_drivers : (part : PlainComponent) (act : Active) (q : PortRef) → IsStill part q → drivers part act q ≡ drivers part nothing q

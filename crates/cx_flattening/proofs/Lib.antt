@@ -20,3 +20,10 @@ mod StillPorts
 mod FlatOutputs
 mod FlatSights
 mod FlatChildren
+mod FlatSeen
+mod FlatCycles
+mod FlatTops
+mod CopiedControl
+mod FlatGroups
+mod FlatLengths
+mod FlatTurns

@@ -94,7 +94,7 @@ length-map : {A B : Type 0} (f : A → B) (xs : List A) → length (map f xs) �
 length-map f [] = refl
 length-map f (x ∷ xs) = ap suc (length-map f xs)
 
-length-block : (k : Option PlainComponent) (x : PlainCell) → length (block k x) ≡ block_size k
+pub length-block : (k : Option PlainComponent) (x : PlainCell) → length (block k x) ≡ block_size k
 length-block None x = refl
 length-block (Some child) x =
     length-both (map (inner_cell x) child.cells) (map (wire_of x) child.outputs)

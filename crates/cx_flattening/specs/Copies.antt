@@ -1,5 +1,5 @@
 -- Copies of groups and of static control, in which each port and each group becomes another.
-use Rattle.std.specs.Prelude.{ℕ, zero, suc, Bool, true, false, ◌||◌, nat_eq, List, [], ◌∷◌, map}
+use Rattle.std.specs.Prelude.{ℕ, zero, suc, Bool, true, false, ◌||◌, nat_eq, List, [], ◌∷◌, Option, Some, None, map}
 use Rattle.cx_meaning.specs.declared.ports.PortRef.{PortRef}
 use Rattle.cx_meaning.specs.Designs.{PlainGroup, PlainForm, Empty, Enable, Seq, Par, If, While, Repeat, StaticSeq, StaticPar, StaticIf, StaticRepeat, Timed, PlainStatement, Placed, PlainStatements, no_statements, a_statement}
 use Rattle.cx_rewrites.specs.Moving.{moved_port, moved_assign}
@@ -9,6 +9,10 @@ abbrev pub copied_group : (PortRef → PortRef) → PlainGroup → PlainGroup
 copied_group move g = record { name = []; kind = g.kind; assigns = map (moved_assign move) g.assigns; place = g.place }
 
 -- a copy of control, with each group by its copy
+abbrev pub copied_comb : (ℕ → ℕ) → Option ℕ → Option ℕ
+copied_comb copy None = None
+copied_comb copy (Some g) = Some (copy g)
+
 module _ (move : PortRef → PortRef) (copy : ℕ → ℕ) where
   abbrev mutual
     pub copied_form : PlainForm → PlainForm
@@ -16,8 +20,8 @@ module _ (move : PortRef → PortRef) (copy : ℕ → ℕ) where
     copied_form (Enable g) = Enable (copy g)
     copied_form (Seq parts) = Seq (copied_statements parts)
     copied_form (Par arms) = Par (copied_statements arms)
-    copied_form (If test comb a b) = If (moved_port move test) comb (copied_statement a) (copied_statement b)
-    copied_form (While test comb a) = While (moved_port move test) comb (copied_statement a)
+    copied_form (If test comb a b) = If (moved_port move test) (copied_comb copy comb) (copied_statement a) (copied_statement b)
+    copied_form (While test comb a) = While (moved_port move test) (copied_comb copy comb) (copied_statement a)
     copied_form (Repeat count a) = Repeat count (copied_statement a)
     copied_form (StaticSeq length parts) = StaticSeq length (copied_statements parts)
     copied_form (StaticPar length arms) = StaticPar length (copied_statements arms)

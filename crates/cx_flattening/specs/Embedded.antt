@@ -39,7 +39,7 @@ abbrev mutual
 
 -- THE FLAT INSTANCE of an instance
 abbrev pub IsFlattened : Instance → Instance → Type 0
-IsFlattened i flat = IsLike (part_of flat) (flat_part i) × IsEmbedded i 0 (cells_of flat)
+IsFlattened i flat = IsLike (part_of flat) (flat_part i) × IsEmbedded i 0 (cells_of flat) × (cell_count (cells_of flat) ≡ length (flat_part i).cells)
 
 -- THE SAME STATE of all its cells, in a state of the host
 abbrev mutual

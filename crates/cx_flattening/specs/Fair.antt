@@ -5,7 +5,7 @@ use Rattle.cx_prim.specs.Rows.{Row}
 use Rattle.cx_meaning.specs.declared.ports.PortRef.{PortRef}
 use Rattle.cx_meaning.specs.declared.ports.PortRef.TheVariants as ports
 use Rattle.cx_meaning.specs.Designs.{PlainAssign, PlainGroup, PlainComponent}
-use Rattle.cx_meaning.specs.Instances.{Instance, Node, Cells, no_cells, a_primitive, an_instance, Nothing, OfRow, OfInstance, part_of, cells_of, cell_at}
+use Rattle.cx_meaning.specs.Instances.{Instance, Node, Cells, no_cells, a_primitive, an_instance, Nothing, OfRow, OfInstance, part_of, cells_of, cell_at, cell_count}
 use Rattle.cx_meaning.specs.Sights.{In}
 use Rattle.cx_meaning.specs.Rows.{side_of}
 use Rattle.cx_rules.specs.Ports.{is_source_only}
@@ -33,6 +33,7 @@ IsNamed i (ports.Literal w v) = Unit {0}
 -- an instance: its cells are there, what is driven and what is named may be, cells read inputs, and its outputs rest on state and lead to
 -- no input
 pub record IsFair (i : Instance) : Type 0 where
+  pub count : cell_count (cells_of i) ≡ length (part_of i).cells
   pub counts : (c : ℕ) → c < length (part_of i).cells → (cell_at (cells_of i) c ≡ Nothing → ⊥)
   pub within : (c : ℕ) → (cell_at (cells_of i) c ≡ Nothing → ⊥) → c < length (part_of i).cells
   pub targets : HasTargets (flat_kids (cells_of i)) (part_of i)

@@ -74,6 +74,11 @@ block_at [] c = 0
 block_at (k ∷ ks) zero = 0
 block_at (k ∷ ks) (suc c) = block_size k + block_at ks c
 
+-- a statement, and the group that captures after it
+abbrev pub with_capture : Option ℕ → PlainStatement → PlainForm
+with_capture None (Placed form place) = form
+with_capture (Some g) s = StaticSeq None (a_statement s (a_statement (Placed (Enable g) no_place) no_statements))
+
 module _ (kids : Kids) (part : PlainComponent) where
   abbrev pub start_of : ℕ → ℕ
   start_of c = length (kept kids part.cells) + block_at kids c
@@ -132,10 +137,6 @@ module _ (kids : Kids) (part : PlainComponent) where
   copy_of child k g = first_copy k + enabled_below (groups_of child.control) g
 
   -- CONTROL: an invoke is a copy of the child's control, and the group that captures after it
-  abbrev pub with_capture : Option ℕ → PlainStatement → PlainForm
-  with_capture None (Placed form place) = form
-  with_capture (Some g) s = StaticSeq None (a_statement s (a_statement (Placed (Enable g) no_place) no_statements))
-
   abbrev pub inlined : Option PlainComponent → ℕ → PlainInvoke → PlainForm
   inlined None k v = Empty
   inlined (Some child) k v = with_capture v.captures (copied_statement (invoke_port child v) (copy_of child k) child.control)

@@ -9,6 +9,7 @@ use Rattle.cx_meaning.specs.Designs.{PlainAssign, PlainGroup, PlainComponent}
 use Rattle.cx_meaning.specs.Instances.{Instance, Nothing, OfRow, OfInstance, part_of, cells_of, cell_at, State, under}
 use Rattle.cx_meaning.specs.Active.{Active, nothing, Owned, source_order, offset_of, drivers}
 use Rattle.cx_meaning.specs.Sights.{Held, unheld, PartPort, AnOutput, part_port, is_done_cell, bit_of, target_seen, In, Sees, seen, outputs_below}
+use Rattle.cx_rules.specs.Circles.{IsAcyclic, AcyclicBelow}
 use Rattle.cx_rules.specs.Footprints.{AssignNames, Leads}
 use Rattle.cx_rewrites.specs.Moving.{moved_acting}
 use Rattle.cx_flattening.specs.Whole.{is_static}
@@ -74,6 +75,12 @@ module _ (host : Instance) (host_held : Held) (more : Active) (z : State) (i : I
     pub base : IsBase
     pub outputs : (n : ℕ) → n < length (part_of i).outputs → seen host host_held more z (f (ports.Output n)) ≡ target_seen Undefined (seen host host_held more z) (drivers (part_of host) more (f (ports.Output n)))
     pub quiet : (e : ℕ) → e < length (flat_part i).cells → is_done_cell more.done_cell (first + e) ≡ false
+
+-- EACH OUTPUT of an instance is seen in a host as in the instance, wherever its flat component stands and whatever acts there
+abbrev pub OutputsSeen : Instance → Type 0
+OutputsSeen i = (host : Instance) (held : Held) (more : Active) (z : State) → IsAcyclic host more → AcyclicBelow (cells_of host)
+    → (first : ℕ) (f : PortRef → PortRef) (s : State) → IsHosted host held more z i first f s
+    → (n : ℕ) (x : Seen) → n < length (part_of i).outputs → Sees i unheld nothing s (ports.Output n) x → seen host held more z (f (ports.Output n)) ≡ x
 
 -- a port of a flat component that may be driven: these outputs and holes, and ports of its cells
 abbrev pub InFlat : PlainComponent → (ℕ → Type 0) → (ℕ → Type 0) → PortRef → Type 0

@@ -12,3 +12,7 @@ pub mod Targets
 pub mod Levels
 pub mod Fair
 pub mod Seeing
+pub mod FlatFaults
+pub mod Beside
+pub mod Controlled
+pub mod Turning

@@ -30,10 +30,11 @@ abbrev pub AllUsed : (PlainAssign → Type 0) → List ℕ → ℕ → List Plai
 AllUsed P used g [] = Unit {0}
 AllUsed P used g (x ∷ xs) = (is_one_of g used ≡ true → (a : PlainAssign) → In x.assigns a → P a) × AllUsed P used (suc g) xs
 
--- a static child, flat: what it drives is there, and no continuous assignment names an input
+-- a static child, flat: what it drives is there, no continuous assignment names an input, and the groups that it enables are there
 pub record IsBlock (child : PlainComponent) : Type 0 where
   pub always : (a : PlainAssign) → In child.always a → BlockTarget child a.target
   pub no_input : (a : PlainAssign) (n : ℕ) → In child.always a → AssignNames a (ports.Input n) → ⊥
+  pub there : (g : ℕ) → is_one_of g (groups_of child.control) ≡ true → g < length child.groups
   pub used : AllUsed (λ a. BlockTarget child a.target) (groups_of child.control) 0 child.groups
 
 -- a component and its static children, flat

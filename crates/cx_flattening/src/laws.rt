@@ -1,14 +1,55 @@
-//! Laws of static components and of flat designs: each function does nothing, and its clause is the law.
+//! Laws of static components and of flat instances: each function does nothing, and its clause is the law.
 
-ghost use Rattle.std.specs.Prelude.{◌≡◌, ℕ, List};
+ghost use Rattle.std.specs.Prelude.{◌≡◌, ◌<◌, ℕ, List, [], length};
+ghost use Rattle.cx_meaning.specs.declared.ports.PortRef.{PortRef};
 ghost use Rattle.cx_meaning.specs.Designs.{PlainDesign};
+ghost use Rattle.cx_meaning.specs.Instances.{Instance, State, cells_of, part_of};
+ghost use Rattle.cx_meaning.specs.Active.{Active, group};
+ghost use Rattle.cx_meaning.specs.Sights.{Held, seen};
+ghost use Rattle.cx_meaning.specs.Cycles.{cycle};
+ghost use Rattle.cx_meaning.specs.Calls as calls;
 ghost use Rattle.cx_meaning.specs.Running.{run_main};
+ghost use Rattle.cx_rules.specs.Circles.{AcyclicBelow, IsAcyclic};
 ghost use Rattle.cx_rules.specs.Flat.{IsFlat};
 ghost use Rattle.cx_rules.specs.Wellformed.{IsDesign};
-ghost use Rattle.cx_flattening.specs.Whole.{whole_main};
+ghost use Rattle.cx_flattening.specs.Deeds.{Deed};
+ghost use Rattle.cx_flattening.specs.Whole.{group_turn, whole_cycle, whole_main};
+ghost use Rattle.cx_flattening.specs.Embedded.{IsFlattened, Stands};
+ghost use Rattle.cx_flattening.specs.Levels.{IsKnown, OutputsSeen, own_of};
+ghost use Rattle.cx_flattening.specs.Fair.{AllFair};
+ghost use Rattle.cx_flattening.specs.Seeing.{CellsSeen, NoCircle};
+ghost use Rattle.cx_flattening.specs.FlatFaults.{CycleAs};
+ghost use Rattle.cx_flattening.specs.Beside.{IsBeside};
+ghost use Rattle.cx_flattening.specs.Turning.{TurnAs};
 
 /// A design without static components means what it means without them: it ends in the same turn with the same state, has the
 /// same fault in the same turn, or needs more turns.
 pub fn means_the_same_without()
     ensures { (d : PlainDesign) (words : List (List ℕ)) (n : ℕ) → IsDesign d → IsFlat d → whole_main d words n ≡ run_main d words n }
+{}
+
+/// Each output of an instance is seen, wherever its flat component stands and whatever acts there, as in the instance.
+pub fn outputs_are_seen_alike()
+    ensures { (i : Instance) → AllFair i → OutputsSeen i }
+{}
+
+/// In a cycle the flat instance sees at each port of the caller, and at each port of each cell of a static child, what the tree
+/// sees there; and the cycle ends as that of the tree: in a state of the same cells, or with the same fault at the port that stands
+/// for the faulty one.
+pub fn flat_cycles_are_those_of_the_tree()
+    ensures seen { (i flat : Instance) (held : Held) (act more : Active) (deeds : List Deed) (s z : State) (p : PortRef)
+        → IsBeside i flat act more deeds s z → IsKnown i p → seen flat held more z (own_of i p) ≡ seen i held act s p }
+    ensures cells { (i flat : Instance) (held : Held) (act more : Active) (deeds : List Deed) (s z : State)
+        → IsBeside i flat act more deeds s z → CellsSeen (seen flat held more z) i 0 held act deeds s }
+    ensures cycle { (i flat : Instance) (held : Held) (act more : Active) (deeds : List Deed) (s z : State)
+        → IsBeside i flat act more deeds s z → CycleAs i (whole_cycle i held act deeds s) (cycle flat held more z) }
+{}
+
+/// A turn of a group of the flat instance is that of the group in the tree: the last, one that goes on to a state of the same
+/// cells, or one with the same fault. While a group acts, static children rest.
+pub fn flat_turns_are_those_of_the_tree()
+    ensures { (i flat : Instance) (held : Held) (g : ℕ) (s z : State)
+        → g < length (part_of i).groups → IsFlattened i flat → AllFair i → Stands i 0 s z
+        → NoCircle i (group g) [] → IsAcyclic flat (group g) → AcyclicBelow (cells_of flat)
+        → TurnAs i (group_turn i held g s) (calls.group_turn flat held g z) }
 {}
