@@ -1,11 +1,9 @@
 -- WHAT IS WRITTEN OF A PROMOTED TREE: its lines are comments; it is read as that tree, and its design ends no later.
-use Rattle.std.proofs.Common.{◌≡◌, inl, inr, ◌≤◌, ◌<◌, ℕ, suc, true, List, [], ◌∷◌, ◌++◌, codes, Option, Some, None, refl, sym, ◌∙◌, subst, arith, append_assoc}
+use Rattle.std.proofs.Common.{◌≡◌, inl, inr, ℕ, suc, true, List, [], ◌∷◌, ◌++◌, codes, Option, Some, None, refl, sym, ◌∙◌, subst, arith, append_assoc}
 use Rattle.std.specs.Fmt.{decimal}
 use Rattle.std.specs.List.{AllByRecursion, list_all}
 use Rattle.cx_ast.specs.PlainTree as ast
 use Rattle.cx_lex.specs.Bytes.{is_in_line}
-use Rattle.cx_meaning.specs.Answers.{End}
-use Rattle.cx_meaning.specs.Designs.{PlainDesign}
 use Rattle.cx_meaning.specs.Instances.{Instance, State, tree_of, words_of}
 use Rattle.cx_rules.specs.Ports.{component_of}
 use Rattle.cx_numbering.specs.Names.{groups_in}
@@ -17,7 +15,7 @@ use Rattle.cx_promotion.specs.declared.rows.PromotedRow.{PromotedRow}
 use Rattle.cx_promotion.specs.Made.{Quickens}
 use Rattle.cx_promotion.specs.Rewriting.{length_of, row_if, rows_in, rows_from, IsPromotedTree}
 use Rattle.cx_written.specs.Comments.{AreComments, no_line}
-use Rattle.cx_written.specs.Ordered.{StandAs, KeepsOrder}
+use Rattle.cx_written.specs.Ordered.{KeepsOrder}
 use Rattle.cx_written.specs.Written.{IsReadAs}
 use Rattle.cx_written.proofs.ReadLemmas.{written_read}
 use Rattle.cx_rewritten.specs.Sources.{IsTreeOfText}
