@@ -1,9 +1,9 @@
 -- AN INSTRUMENTED DESIGN has no static component, guards with parts, few static ifs around a statement and words for the names of its memories, where
 -- its design has.
-use Rattle.std.proofs.Common.{◌≡◌, ℕ, ◌+◌, ◌^◌, ◌<◌, ◌≤◌, inl, inr, ◌⊎◌, Bool, true, false, if◌then◌else◌, List, [], ◌∷◌, length, map, None, refl, sym, ap, ◌∙◌, subst, arith}
+use Rattle.std.proofs.Common.{◌≡◌, ℕ, ◌+◌, ◌^◌, ◌<◌, inl, inr, ◌⊎◌, Bool, true, false, if◌then◌else◌, [], length, map, refl, sym, ap, ◌∙◌, subst}
 use Rattle.std.specs.Prelude.{nat_eq}
-use Rattle.cx_meaning.specs.Active.{Owned, source_order}
-use Rattle.cx_meaning.specs.Designs.{PlainGuard, Always, PlainAssign, PlainInvoke, PlainCell, PlainComponent, PlainDesign, component_at}
+use Rattle.cx_meaning.specs.Active.{Owned}
+use Rattle.cx_meaning.specs.Designs.{PlainAssign, PlainCell, PlainComponent, PlainDesign, component_at}
 use Rattle.cx_meaning.specs.Sights.{In}
 use Rattle.cx_rules.specs.Flat.{IsFlat, IsFlatPart}
 use Rattle.cx_rules.specs.Sizes.{design_size}

@@ -1,6 +1,6 @@
 //! Laws of what is written of an instrumented design: each function does nothing, and its clause is the law.
 
-ghost use Rattle.std.specs.Prelude.{◌<◌, ◌^◌};
+ghost use Rattle.std.specs.Prelude.{◌<◌, ◌^◌, ℕ, List};
 ghost use Rattle.cx_meaning.specs.Designs.{PlainDesign};
 ghost use Rattle.cx_rules.specs.Accepted.{IsAccepted, KeepsStage};
 ghost use Rattle.cx_rules.specs.Flat.{IsFlat};
@@ -8,7 +8,7 @@ ghost use Rattle.cx_rules.specs.Sizes.{design_size};
 ghost use Rattle.cx_rules.specs.Wellformed.{IsDesign};
 ghost use Rattle.cx_bytes.specs.Laws.{HasGuards};
 ghost use Rattle.cx_bytes.specs.Shallow.{IsShallow};
-ghost use Rattle.cx_compiler.specs.Compiled.{EmitsWithin, IsShortWithin};
+ghost use Rattle.cx_compiler.specs.Compiled.{EmitsWithin, IsDesignWritten, IsRealised, IsShortWithin, IsTextOf};
 ghost use Rattle.cx_compiler.proofs.WrittenNets.{HasWords};
 ghost use Rattle.cx_profiling.specs.Instrumented.{instrumented};
 
@@ -32,9 +32,11 @@ pub fn instrumented_is_shallow()
     ensures { (d : PlainDesign) → IsDesign d → IsShallow d → IsShallow (instrumented d) }
 {}
 
-/// So the net of an instrumented design of an accepted design can be emitted, and its text is short, where it is within the size that
-/// is compiled and keeps the limits.
+/// So the net of an instrumented design of an accepted design can be emitted, its text is short, and what spells its source is its
+/// text, where it is within the size that is compiled and keeps the limits.
 pub fn instrumented_is_written()
     ensures emitted { (d : PlainDesign) → IsDesign d → IsFlat d → IsAccepted d → KeepsStage 7 (instrumented d) → HasGuards d → HasWords d → EmitsWithin (instrumented d) }
     ensures short { (d : PlainDesign) → IsDesign d → IsFlat d → IsAccepted d → KeepsStage 7 (instrumented d) → HasGuards d → HasWords d → IsShallow d → IsShortWithin (instrumented d) }
+    ensures text { (d : PlainDesign) → IsDesign d → IsFlat d → IsAccepted d → KeepsStage 7 (instrumented d) → HasGuards d → HasWords d → IsShallow d → IsRealised (instrumented d)
+        → (answer : List ℕ) → IsDesignWritten (instrumented d) answer → IsTextOf (instrumented d) answer }
 {}
