@@ -53,12 +53,12 @@ get_or-mapped f [] n a b less = absurd (omega (arith, less))
 get_or-mapped f (x ∷ xs) zero a b less = refl
 get_or-mapped f (x ∷ xs) (suc n) a b less = get_or-mapped f xs n a b (omega (arith, less))
 
-length-mapped : {A B : Type 0} (f : A → B) (xs : List A) → length (map f xs) ≡ length xs
+pub length-mapped : {A B : Type 0} (f : A → B) (xs : List A) → length (map f xs) ≡ length xs
 length-mapped f [] = refl
 length-mapped f (x ∷ xs) = ap suc (length-mapped f xs)
 
 -- how many are enabled below grows
-enabled_grows : (used : List ℕ) (g n : ℕ) → enabled_below used g ≤ enabled_below used (g + n)
+pub enabled_grows : (used : List ℕ) (g n : ℕ) → enabled_below used g ≤ enabled_below used (g + n)
 enabled_grows used g zero = subst (λ k. enabled_below used g ≤ enabled_below used k) (plus g) (omega arith)
   where
     plus : (a : ℕ) → a ≡ a + 0

@@ -26,3 +26,5 @@ mod CopiedControl
 mod FlatGroups
 mod FlatLengths
 mod FlatTurns
+mod Windows
+mod FlatDeeds
