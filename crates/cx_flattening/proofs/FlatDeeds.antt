@@ -20,6 +20,7 @@ use Rattle.cx_flattening.specs.Flattened.{Kids, kid_at, kept_at, start_of, wire_
 use Rattle.cx_flattening.specs.Acting.{IsUsed}
 use Rattle.cx_flattening.specs.Levels.{IsKnown, own_of}
 use Rattle.cx_flattening.specs.Fair.{IsNamed, IsFair, AllFair, AllFairBelow}
+use Rattle.cx_flattening.specs.Sampling.{placed, IsOwn, AgreesAt, AgreesBelow}
 use Rattle.cx_flattening.specs.Controlled.{timed_in, timed_of, timed_all, tested_in, tested_of, tested_all, IsInvoked, IsControlled, AllControlled, AllControlledBelow}
 use Rattle.cx_flattening.proofs.CopiedControl.{statement_twice}
 use Rattle.cx_flattening.proofs.FlatGroups.{in_one_of, own-length}
@@ -106,50 +107,24 @@ active-both h t (islands.Runs g from to conditions ∷ xs) ys = choice (nat_le f
     choice false ih = ih
 active-both h t (islands.Looks port at conditions ∷ xs) ys = active-both h t xs ys
 
--- a port of the flat component, where its cells stand in a host from cell `first` on
-abbrev pub placed : ℕ → PortRef → PortRef
-placed first (ports.Cell e p) = ports.Cell (first + e) p
-placed first (ports.Input n) = ports.Input n
-placed first (ports.Output n) = ports.Output n
-placed first (ports.Done g) = ports.Done g
-placed first (ports.Literal w v) = ports.Literal w v
-
-abbrev pub IsOwn : PortRef → Type 0
-IsOwn (ports.Cell c p) = Unit {0}
-IsOwn (ports.Input n) = ⊥
-IsOwn (ports.Output n) = Unit {0}
-IsOwn (ports.Done g) = Unit {0}
-IsOwn (ports.Literal w v) = Unit {0}
-
 module _ (h : History) (k : islands.History) where
-  -- THE SAMPLES ARE THE SAME, of each port of the tree that may be tested, at its place in the host
-  abbrev mutual
-    pub AgreesAt : Instance → ℕ → Path → Type 0
-    AgreesAt (Node part cells) first at =
-        ((p : PortRef) → IsNamed (Node part cells) p → IsOwn p → (u : ℕ) → k (placed first (own_port (flat_kids cells) part p)) u ≡ h (spot at p) u) × AgreesBelow (flat_kids cells) part cells 0 first at
-
-    pub AgreesBelow : Kids → PlainComponent → Cells → ℕ → ℕ → Path → Type 0
-    AgreesBelow kids part no_cells c first at = Unit {0}
-    AgreesBelow kids part (a_primitive row rest) c first at = AgreesBelow kids part rest (suc c) first at
-    AgreesBelow kids part (an_instance child rest) c first at = (is_static child ≡ true → AgreesAt child (first + start_of kids part c) (at ++ (c ∷ []))) × AgreesBelow kids part rest (suc c) first at
-
-  agrees_child : (kids : Kids) (part : PlainComponent) (rest : Cells) (c n first : ℕ) (at : Path) (child : Instance) → AgreesBelow kids part rest c first at → cell_at rest n ≡ OfInstance child → is_static child ≡ true
-      → AgreesAt child (first + start_of kids part (c + n)) (at ++ ((c + n) ∷ []))
+  agrees_child : (kids : Kids) (part : PlainComponent) (rest : Cells) (c n first : ℕ) (at : Path) (child : Instance) → AgreesBelow h k kids part rest c first at → cell_at rest n ≡ OfInstance child → is_static child ≡ true
+      → AgreesAt h k child (first + start_of kids part (c + n)) (at ++ ((c + n) ∷ []))
   agrees_child kids part no_cells c n first at child agree e static = absurd (cc)
   agrees_child kids part (a_primitive row rest) c zero first at child agree e static = absurd (cc)
-  agrees_child kids part (a_primitive row rest) c (suc n) first at child agree e static = subst (λ d. AgreesAt child (first + start_of kids part d) (at ++ (d ∷ []))) (plus c n) (agrees_child kids part rest (suc c) n first at child agree e static)
+  agrees_child kids part (a_primitive row rest) c (suc n) first at child agree e static = subst (λ d. AgreesAt h k child (first + start_of kids part d) (at ++ (d ∷ []))) (plus c n) (agrees_child kids part rest (suc c) n first at child agree e static)
     where
       plus : (a b : ℕ) → suc a + b ≡ a + suc b
       plus a b = omega arith
   agrees_child kids part (an_instance other rest) c zero first at child agree e static =
-      subst (λ d. AgreesAt child (first + start_of kids part d) (at ++ (d ∷ []))) (plus_zero c)
-      (subst (λ j. is_static j ≡ true → AgreesAt j (first + start_of kids part c) (at ++ (c ∷ []))) (same_child e) agree.0 static)
+      subst (λ d. AgreesAt h k child (first + start_of kids part d) (at ++ (d ∷ []))) (plus_zero c)
+      (subst (λ j. is_static j ≡ true → AgreesAt h k j (first + start_of kids part c) (at ++ (c ∷ []))) (same_child e) agree.0 static)
     where
       plus_zero : (a : ℕ) → a ≡ a + 0
       plus_zero a = omega arith
       same_child : OfInstance other ≡ OfInstance child → other ≡ child
       same_child e = cc
-  agrees_child kids part (an_instance other rest) c (suc n) first at child agree e static = subst (λ d. AgreesAt child (first + start_of kids part d) (at ++ (d ∷ []))) (plus c n) (agrees_child kids part rest (suc c) n first at child agree.1 e static)
+  agrees_child kids part (an_instance other rest) c (suc n) first at child agree e static = subst (λ d. AgreesAt h k child (first + start_of kids part d) (at ++ (d ∷ []))) (plus c n) (agrees_child kids part rest (suc c) n first at child agree.1 e static)
     where
       plus : (a b : ℕ) → suc a + b ≡ a + suc b
       plus a b = omega arith
@@ -163,7 +138,7 @@ module _ (h : History) (k : islands.History) where
     pub own_literals : (w v : ℕ) → bound (ports.Literal w v) ≡ spot at (ports.Literal w v)
 
   -- so a port that may be tested is sampled alike
-  pub sampled : (i : Instance) (first : ℕ) (f : PortRef → PortRef) (bound : PortRef → Spot) (at : Path) → Binds i first f bound at → AgreesAt i first at → (p : PortRef) → IsNamed i p → (u : ℕ) → k (f (own_of i p)) u ≡ h (bound p) u
+  pub sampled : (i : Instance) (first : ℕ) (f : PortRef → PortRef) (bound : PortRef → Spot) (at : Path) → Binds i first f bound at → AgreesAt h k i first at → (p : PortRef) → IsNamed i p → (u : ℕ) → k (f (own_of i p)) u ≡ h (bound p) u
   sampled (Node part cells) first f bound at binds agree (ports.Cell c p) named u =
       choice (kid_at (flat_kids cells) c) ∙ agree.0 (ports.Cell c p) named tt u ∙ ap (λ x. h x u) (sym (binds.own_cells c p))
     where

@@ -103,7 +103,7 @@ enabled_get used g (x ∷ xs) (suc n) m is less e = choice (is_one_of g used) re
         positive (suc k) h = let r = later k (let one = here in omega (arith, one, h)) in let inside = r.0 in (omega (arith, inside), r.1)
 
 module _ (kids : Kids) (part : PlainComponent) where
-  copies_flat : (v : PlainInvoke) (kid : PlainComponent) → kid_at kids v.cell ≡ Some kid → copies kids part v ≡ map (copied_group (invoke_port kids part kid v)) (enabled_groups (groups_of kid.control) 0 kid.groups)
+  pub copies_flat : (v : PlainInvoke) (kid : PlainComponent) → kid_at kids v.cell ≡ Some kid → copies kids part v ≡ map (copied_group (invoke_port kids part kid v)) (enabled_groups (groups_of kid.control) 0 kid.groups)
   copies_flat v kid e = ap (λ o. copies_if kids part o v) e
 
   pub own-length : (g : ℕ) → g < length part.groups → group_length (flat_component kids part) g ≡ group_length part g

@@ -28,3 +28,6 @@ mod FlatLengths
 mod FlatTurns
 mod Windows
 mod FlatDeeds
+mod FlatActs
+mod FlatLists
+mod FlatSpots
