@@ -53,12 +53,12 @@ get_or-mapped f [] n a b less = absurd (omega (arith, less))
 get_or-mapped f (x ∷ xs) zero a b less = refl
 get_or-mapped f (x ∷ xs) (suc n) a b less = get_or-mapped f xs n a b (omega (arith, less))
 
-length-mapped : {A B : Type 0} (f : A → B) (xs : List A) → length (map f xs) ≡ length xs
+pub length-mapped : {A B : Type 0} (f : A → B) (xs : List A) → length (map f xs) ≡ length xs
 length-mapped f [] = refl
 length-mapped f (x ∷ xs) = ap suc (length-mapped f xs)
 
 -- how many are enabled below grows
-enabled_grows : (used : List ℕ) (g n : ℕ) → enabled_below used g ≤ enabled_below used (g + n)
+pub enabled_grows : (used : List ℕ) (g n : ℕ) → enabled_below used g ≤ enabled_below used (g + n)
 enabled_grows used g zero = subst (λ k. enabled_below used g ≤ enabled_below used k) (plus g) (omega arith)
   where
     plus : (a : ℕ) → a ≡ a + 0
@@ -109,7 +109,7 @@ enabled_get used g (x ∷ xs) (suc n) m is less e = choice (is_one_of g used) re
         positive (suc k) h = let r = later k (let one = here in omega (arith, one, h)) in let inside = r.0 in (omega (arith, inside), r.1)
 
 module _ (kids : Kids) (part : PlainComponent) where
-  copies_flat : (v : PlainInvoke) (kid : PlainComponent) → kid_at kids v.cell ≡ Some kid → copies kids part v ≡ map (copied_group (invoke_port kids part kid v)) (enabled_groups (groups_of kid.control) 0 kid.groups)
+  pub copies_flat : (v : PlainInvoke) (kid : PlainComponent) → kid_at kids v.cell ≡ Some kid → copies kids part v ≡ map (copied_group (invoke_port kids part kid v)) (enabled_groups (groups_of kid.control) 0 kid.groups)
   copies_flat v kid e = ap (λ o. copies_if kids part o v) e
 
   pub own-length : (g : ℕ) → g < length part.groups → group_length (flat_component kids part) g ≡ group_length part g

@@ -86,7 +86,7 @@ capture_in : (o : Option ℕ) (s : PlainStatement) (g : ℕ) → In (groups_of s
 capture_in None (Placed form place) g i = i
 capture_in (Some h) s g i = in_left (groups_of s) (h ∷ []) g i
 
-captures_in_it : (h : ℕ) (s : PlainStatement) → In (groups_in (with_capture (Some h) s)) h
+pub captures_in_it : (h : ℕ) (s : PlainStatement) → In (groups_in (with_capture (Some h) s)) h
 captures_in_it h s = in_right (groups_of s) (h ∷ []) h (inl refl)
 
 -- what is claimed of a tree

@@ -27,3 +27,8 @@ mod CopiedControl
 mod FlatGroups
 mod FlatLengths
 mod FlatTurns
+mod Windows
+mod FlatDeeds
+mod FlatActs
+mod FlatLists
+mod FlatSpots

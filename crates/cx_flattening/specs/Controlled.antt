@@ -1,5 +1,6 @@
 -- What the rules keep of the control and the static invokes of a tree, as far as flattening asks for it.
 use Rattle.std.specs.Prelude.{◌≡◌, ℕ, ◌<◌, true, List, [], ◌∷◌, ◌++◌, Some, length}
+use Rattle.cx_meaning.specs.declared.ports.PortRef.{PortRef}
 use Rattle.cx_meaning.specs.Designs.{PlainInvoke, PlainComponent, PlainForm, Empty, Enable, Seq, Par, If, While, Repeat, StaticSeq, StaticPar, StaticIf, StaticRepeat, Timed, PlainStatement, Placed, PlainStatements, no_statements, a_statement}
 use Rattle.cx_meaning.specs.Instances.{Instance, Node, Cells, no_cells, a_primitive, an_instance, OfInstance, part_of, cells_of, cell_at}
 use Rattle.cx_meaning.specs.Control.{groups_of}
@@ -7,6 +8,7 @@ use Rattle.cx_meaning.specs.Sights.{In}
 use Rattle.cx_meaning.specs.Islands.{group_length, or_zero}
 use Rattle.cx_flattening.specs.Invokes.{invoke_at, lasts}
 use Rattle.cx_flattening.specs.Whole.{is_static}
+use Rattle.cx_flattening.specs.Fair.{IsNamed}
 
 -- the numbers of the static invokes in a statement, in source order
 abbrev mutual
@@ -31,6 +33,29 @@ abbrev mutual
   timed_all no_statements = []
   timed_all (a_statement s ss) = timed_of s ++ timed_all ss
 
+-- the ports at which static ifs look, in source order
+abbrev mutual
+  pub tested_in : PlainForm → List PortRef
+  tested_in Empty = []
+  tested_in (Enable g) = []
+  tested_in (Seq ss) = tested_all ss
+  tested_in (Par arms) = tested_all arms
+  tested_in (If test comb a b) = tested_of a ++ tested_of b
+  tested_in (While test comb a) = tested_of a
+  tested_in (Repeat count a) = tested_of a
+  tested_in (StaticSeq length ss) = tested_all ss
+  tested_in (StaticPar length arms) = tested_all arms
+  tested_in (StaticIf length test a b) = test.port ∷ (tested_of a ++ tested_of b)
+  tested_in (StaticRepeat length count a) = tested_of a
+  tested_in (Timed k) = []
+
+  pub tested_of : PlainStatement → List PortRef
+  tested_of (Placed form place) = tested_in form
+
+  pub tested_all : PlainStatements → List PortRef
+  tested_all no_statements = []
+  tested_all (a_statement s ss) = tested_of s ++ tested_all ss
+
 -- an invoke is of a static child, and takes as long as the child's control; the group that captures takes one cycle
 pub record IsInvoked (i : Instance) (v : PlainInvoke) : Type 0 where
   pub child : Instance
@@ -39,10 +64,11 @@ pub record IsInvoked (i : Instance) (v : PlainInvoke) : Type 0 where
   pub latency : or_zero v.latency ≡ lasts (part_of child) (part_of child).control
   pub captures : (g : ℕ) → v.captures ≡ Some g → (g < length (part_of i).groups) × (group_length (part_of i) g ≡ Some 1)
 
--- control enables groups and has invokes that are there
+-- control enables groups and has invokes that are there, and tests ports that may be named
 pub record IsControlled (i : Instance) : Type 0 where
   pub enables : (g : ℕ) → In (groups_of (part_of i).control) g → g < length (part_of i).groups
   pub timed : (j : ℕ) → In (timed_of (part_of i).control) j → j < length (part_of i).invokes
+  pub tests : (p : PortRef) → In (tested_of (part_of i).control) p → IsNamed i p
   pub invokes : (j : ℕ) → j < length (part_of i).invokes → IsInvoked i (invoke_at (part_of i) j)
 
 abbrev mutual

@@ -16,3 +16,6 @@ pub mod FlatFaults
 pub mod Beside
 pub mod Controlled
 pub mod Turning
+pub mod FedOnce
+pub mod Sampling
+pub mod Lists

@@ -2,18 +2,25 @@
 
 ghost use Rattle.std.specs.Prelude.{◌≡◌, ◌<◌, ℕ, List, [], length};
 ghost use Rattle.cx_meaning.specs.declared.ports.PortRef.{PortRef};
-ghost use Rattle.cx_meaning.specs.Designs.{PlainDesign};
+ghost use Rattle.cx_meaning.specs.declared.ports.PortRef.TheVariants.{Input};
+ghost use Rattle.cx_meaning.specs.Designs.{PlainDesign, PlainForm};
 ghost use Rattle.cx_meaning.specs.Instances.{Instance, State, cells_of, part_of};
-ghost use Rattle.cx_meaning.specs.Active.{Active, group};
+ghost use Rattle.cx_meaning.specs.Active.{Active, entries, group};
 ghost use Rattle.cx_meaning.specs.Sights.{Held, seen};
 ghost use Rattle.cx_meaning.specs.Cycles.{cycle};
+ghost use Rattle.cx_meaning.specs.Islands.{active_in, form_flat, form_length};
+ghost use Rattle.cx_meaning.specs.Islands as islands;
 ghost use Rattle.cx_meaning.specs.Calls as calls;
 ghost use Rattle.cx_meaning.specs.Running.{run_main};
 ghost use Rattle.cx_rules.specs.Circles.{AcyclicBelow, IsAcyclic};
 ghost use Rattle.cx_rules.specs.Flat.{IsFlat};
 ghost use Rattle.cx_rules.specs.Wellformed.{IsDesign};
-ghost use Rattle.cx_flattening.specs.Deeds.{Deed};
+ghost use Rattle.cx_flattening.specs.Invokes.{form_lasts};
+ghost use Rattle.cx_flattening.specs.Events.{spot};
+ghost use Rattle.cx_flattening.specs.Deeds.{Deed, History, deeds_in, own_entries};
 ghost use Rattle.cx_flattening.specs.Whole.{group_turn, whole_cycle, whole_main};
+ghost use Rattle.cx_flattening.specs.Flattened.{flat_form, flat_kids, flat_part};
+ghost use Rattle.cx_flattening.specs.Acting.{ActsAs};
 ghost use Rattle.cx_flattening.specs.Embedded.{IsFlattened, Stands};
 ghost use Rattle.cx_flattening.specs.Levels.{IsKnown, OutputsSeen, own_of};
 ghost use Rattle.cx_flattening.specs.Fair.{AllFair};
@@ -21,6 +28,10 @@ ghost use Rattle.cx_flattening.specs.Seeing.{CellsSeen, NoCircle};
 ghost use Rattle.cx_flattening.specs.FlatFaults.{CycleAs};
 ghost use Rattle.cx_flattening.specs.Beside.{IsBeside};
 ghost use Rattle.cx_flattening.specs.Turning.{TurnAs};
+ghost use Rattle.cx_flattening.specs.Controlled.{AllControlled};
+ghost use Rattle.cx_flattening.specs.FedOnce.{FedOnce};
+ghost use Rattle.cx_flattening.specs.Sampling.{AgreesAt};
+ghost use Rattle.cx_flattening.specs.Lists.{IsStaticOf, island_events};
 
 /// A design without static components means what it means without them: it ends in the same turn with the same state, has the
 /// same fault in the same turn, or needs more turns.
@@ -43,6 +54,18 @@ pub fn flat_cycles_are_those_of_the_tree()
         → IsBeside i flat act more deeds s z → CellsSeen (seen flat held more z) i 0 held act deeds s }
     ensures cycle { (i flat : Instance) (held : Held) (act more : Active) (deeds : List Deed) (s z : State)
         → IsBeside i flat act more deeds s z → CycleAs i (whole_cycle i held act deeds s) (cycle flat held more z) }
+{}
+
+/// The list of an island of the flat component takes as many cycles as that of the tree, and in each cycle its groups and copies
+/// act as what the tree does, by samples that agree, where no static child is fed twice at once.
+pub fn flat_lists_are_those_of_the_tree()
+    ensures length { (i : Instance) (form : PlainForm) → AllFair i → AllControlled i → IsStaticOf i form
+        → form_length (flat_part i) (flat_form (flat_kids (cells_of i)) (part_of i) form) ≡ form_lasts (part_of i) form }
+    ensures acts { (i : Instance) (form : PlainForm) (h : History) (k : islands.History) (t : ℕ)
+        → AllFair i → AllControlled i → IsStaticOf i form → AgreesAt h k i 0 []
+        → ((n u : ℕ) → k (Input n) u ≡ h (spot [] (Input n)) u) → FedOnce i (deeds_in h t (island_events i form))
+        → ActsAs i (entries (own_entries (deeds_in h t (island_events i form)))) (deeds_in h t (island_events i form))
+        (entries (active_in k t (form_flat (flat_part i) (flat_form (flat_kids (cells_of i)) (part_of i) form) 0 []))) }
 {}
 
 /// A turn of a group of the flat instance is that of the group in the tree: the last, one that goes on to a state of the same
