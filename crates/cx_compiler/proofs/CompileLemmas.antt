@@ -10,6 +10,7 @@ use Rattle.cx_compiler.specs.Texts.{IsDesignOf, IsTextRefusal}
 use Rattle.cx_compiler.specs.Compiled.{IsCompiled, IsCompilable, too_large, CompileBreak, Compiles, IsCompileStop, IsDesignWritten, IsDesignTooLarge, IsRealised, written_net, written_source}
 use Rattle.cx_compiler.specs.Promise.{KeepsPromise}
 use Rattle.cx_power.proofs.SourceLemmas.{source_reset}
+use Rattle.cx_scripts.specs.Laws.{SourcesRealiseAlways}
 use Rattle.cx_compiler.proofs.PromiseLemmas.{promise_is_kept}
 use Rattle.cx_compiler.proofs.WrittenNets.{written_nets}
 use Rattle.cx_compiler.proofs.WrittenLength.{answer_few}
@@ -46,8 +47,8 @@ compile_stop text told stop b (inr own) = inr (own.2 ∙ ap (λ d. stops.Rule d)
 
 -- from a design to its text, by what the passes promise
 pub text_written : {X : Type 0} (bytes : X → List ℕ) (text : List ℕ) (d : PlainDesign) (r : Result X Stop)
-    → IsDesignOf text d → IfOk r (λ _. IsRealised d) → IfOk r (λ x. IsDesignWritten d (bytes x)) → IfOk r (λ x. IsCompiled text (bytes x))
-text_written bytes text d (Ok x) stands realised h =
+    → IsDesignOf text d → SourcesRealiseAlways → IfOk r (λ _. IsRealised d) → IfOk r (λ x. IsDesignWritten d (bytes x)) → IfOk r (λ x. IsCompiled text (bytes x))
+text_written bytes text d (Ok x) stands always realised h =
     let rules = text_rules text d stands h.0 in record {
       design = d;
       stands = stands;
@@ -56,6 +57,7 @@ text_written bytes text d (Ok x) stands realised h =
         source = written_source d;
         spelled = h.1;
         realises = realised rules.0 rules.1 rules.2;
+        always = always d rules.0 rules.1 rules.2 h.1.sound;
         reset = source_reset (written_net d);
         shape = written_shape d rules.0 rules.1 rules.2 h.1.sound;
         names = written_names d;
@@ -64,7 +66,7 @@ text_written bytes text d (Ok x) stands realised h =
       };
       exact = h.1.spelled;
     }
-text_written bytes text d (Err stop) stands realised h = tt
+text_written bytes text d (Err stop) stands always realised h = tt
 
 -- and what is written of it keeps the promise
 pub text_keeps : {X : Type 0} (bytes : X → List ℕ) (text : List ℕ) (r : Result X Stop) → IfOk r (λ x. IsCompiled text (bytes x)) → IfOk r (λ x. KeepsPromise text (bytes x))

@@ -26,6 +26,12 @@ pub record Ahead (d : PlainDesign) (own : State) {S : Type 0} (cycle : Bool → 
   pub goes_on : (budget : ℕ) → run_from d own budget ≡ More → (t : S) × Undone cycle s (suc budget) t
   pub comes : (budget : ℕ) → ComesBy cycle s budget
 
+-- A SCRIPT LEADS from a first state to one of which this is ahead
+pub record LeadsTo (d : PlainDesign) {S : Type 0} (cycle : Bool → S → Bool → S → Type 0) (words : S → List (List ℕ)) (first : S) (stays : List Stay) (own : State) : Type 0 where
+  pub now : S
+  pub passes : Passes cycle first stays now
+  pub ahead : Ahead d own cycle words now
+
 -- where one stands for the other, each cycle of the first is one of the second
 module _ {S T : Type 0} (first : Bool → S → Bool → S → Type 0) (second : Bool → T → Bool → T → Type 0) (Stands : S → T → Type 0)
     (carry : (go : Bool) (s : S) (done : Bool) (t : S) (k : T) → Stands s k → first go s done t → (l : T) × second go k done l × Stands t l) where
@@ -36,8 +42,7 @@ module _ {S T : Type 0} (first : Bool → S → Bool → S → Type 0) (second :
       let r = undone_carries rest x.0 x.2 in
       (r.0, further x.1 r.1, r.2)
 
-  -- SCRIPTS carry over
-  pub passes_carry : {s t : S} {stays : List Stay} → Passes first s stays t → (k : T) → Stands s k → (l : T) × Passes second k stays l × Stands t l
+  passes_carry : {s t : S} {stays : List Stay} → Passes first s stays t → (k : T) → Stands s k → (l : T) × Passes second k stays l × Stands t l
   passes_carry over k h = (k, over, h)
   passes_carry {s} (waits {t = t} c rest) k h =
       let x = carry false s false t k h c in
@@ -49,25 +54,30 @@ module _ {S T : Type 0} (first : Bool → S → Bool → S → Type 0) (second :
       let r = passes_carry rest x.0 x.2 in
       (r.0, runs u.1 x.1 r.1, r.2)
 
-  module _ (words : S → List (List ℕ)) (told : T → List (List ℕ)) (same : (s : S) (k : T) → Stands s k → told k ≡ words s) (s : S) (k : T) (h : Stands s k) where
-    ends_carry : (turns : ℕ) (left : List (List ℕ)) → EndsBy first words s turns left → EndsBy second told k turns left
-    ends_carry turns left e =
+  module _ (words : S → List (List ℕ)) (told : T → List (List ℕ)) (same : (s : S) (k : T) → Stands s k → told k ≡ words s) where
+    ends_carry : (s : S) (k : T) → Stands s k → (turns : ℕ) (left : List (List ℕ)) → EndsBy first words s turns left → EndsBy second told k turns left
+    ends_carry s k h turns left e =
         let u = undone_carries e.undone k h in
         let x = carry true e.last true e.next u.0 u.2 e.done in
         record { last = u.0; next = x.0; undone = u.1; done = x.1; told = same e.last u.0 u.2 ∙ e.told }
 
-    comes_carry : (bound : ℕ) → ComesBy first s bound → ComesBy second k bound
-    comes_carry bound (done_in {last = last} {next = next} turns within undone c) =
+    comes_carry : (s : S) (k : T) → Stands s k → (bound : ℕ) → ComesBy first s bound → ComesBy second k bound
+    comes_carry s k h bound (done_in {last = last} {next = next} turns within undone c) =
         let u = undone_carries undone k h in
         let x = carry true last true next u.0 u.2 c in
         done_in turns within u.1 x.1
-    comes_carry bound (none undone) = let u = undone_carries undone k h in none u.1
+    comes_carry s k h bound (none undone) = let u = undone_carries undone k h in none u.1
 
-    -- and so does what is ahead
-    pub ahead_carries : (d : PlainDesign) (own : State) → Ahead d own first words s → Ahead d own second told k
-    ahead_carries d own a = record {
+    ahead_carries : (d : PlainDesign) (own : State) (s : S) (k : T) → Stands s k → Ahead d own first words s → Ahead d own second told k
+    ahead_carries d own s k h a = record {
       told = same s k h ∙ a.told;
-      ends = λ budget turns after e. let x = a.ends budget turns after e in (x.0, ends_carry turns (words_of (tree_of d) after) x.1);
+      ends = λ budget turns after e. let x = a.ends budget turns after e in (x.0, ends_carry s k h turns (words_of (tree_of d) after) x.1);
       goes_on = λ budget e. let x = a.goes_on budget e in let u = undone_carries x.1 k h in (u.0, u.1);
-      comes = λ budget. comes_carry budget (a.comes budget);
+      comes = λ budget. comes_carry s k h budget (a.comes budget);
     }
+
+    -- SCRIPTS CARRY OVER, with what is ahead
+    pub leads_carry : (d : PlainDesign) (s : S) (k : T) (stays : List Stay) (own : State) → Stands s k → LeadsTo d first words s stays own → LeadsTo d second told k stays own
+    leads_carry d s k stays own h is =
+        let r = passes_carry is.passes k h in
+        record { now = r.0; passes = r.1; ahead = ahead_carries d own is.now r.0 r.2 is.ahead }

@@ -20,7 +20,7 @@ use Rattle.cx_vtree.specs.SimRun.{start_state}
 use Rattle.cx_vtree.specs.Sound.{is_sound}
 use Rattle.cx_vmods.proofs.TableLaws.{each_is_built}
 use Rattle.cx_net.specs.NetEdges.{net_after}
-use Rattle.cx_net.specs.NetRuns.{at_reset, net_start}
+use Rattle.cx_net.specs.NetRuns.{at_reset, net_start, net_words}
 use Rattle.cx_net.specs.NetTree.{net_component_at, net_tree}
 use Rattle.cx_net.specs.Nets.{PlainNetComponent, PlainNet}
 use Rattle.cx_static.specs.Lowering.{lowered_of}
@@ -46,12 +46,14 @@ use Rattle.cx_power.proofs.SourceLemmas.{source_reset}
 use Rattle.cx_scripts.specs.Scripts.{Stay}
 use Rattle.cx_scripts.specs.Stays.{Stays}
 use Rattle.cx_scripts.specs.Always.{RealisesAlways}
-use Rattle.cx_scripts.proofs.HoleLemmas.{holeless_passes, holeless_reset}
+use Rattle.cx_scripts.proofs.AheadLemmas.{LeadsTo}
+use Rattle.cx_scripts.proofs.NetCycles.{NetCycle}
+use Rattle.cx_scripts.proofs.HoleLemmas.{holeless_leads, holeless_reset}
 use Rattle.cx_scripts.proofs.MachineLemmas.{machine_runs_anew}
-use Rattle.cx_scripts.proofs.NetLemmas.{NetIsAt, net_passes}
-use Rattle.cx_scripts.proofs.PowerLemmas.{alike_passes, is_at}
+use Rattle.cx_scripts.proofs.NetLemmas.{net_passes}
+use Rattle.cx_scripts.proofs.PowerLemmas.{alike_leads, is_at}
 use Rattle.cx_scripts.proofs.RootLemmas.{RootGood, RootShows, script_keeps, ScriptKeeps}
-use Rattle.cx_scripts.proofs.SourceLemmas.{first_stands, source_passes}
+use Rattle.cx_scripts.proofs.SourceLemmas.{first_stands, source_leads}
 
 module _ (d : PlainDesign) (design : IsDesign d) (flat : IsFlat d) (accepted : IsAccepted d) (rules : (path : Path) → ControlRules (instance_at (tree_of d) path)) (islands : (path : Path) → IslandRules (instance_at (tree_of d) path)) where
   abbrev net : PlainNet
@@ -81,7 +83,7 @@ module _ (d : PlainDesign) (design : IsDesign d) (flat : IsFlat d) (accepted : I
     first = whole_look (net_tree net) false (net_start (net_tree net) words) (design_grounded d design flat accepted words (memories, fits, refl) false (net_start (net_tree net) words) at_reset)
 
     net_is_at : (stays : List Stay) (s : instances.State) → Stays d (start (tree_of d) words) stays s
-        → NetIsAt d (net_tree net) (net_after (net_tree net) true false (net_start (net_tree net) words) first.look) stays s
+        → LeadsTo d (NetCycle (net_tree net)) (net_words (net_tree net)) (net_after (net_tree net) true false (net_start (net_tree net) words) first.look) stays s
     net_is_at stays s script =
         net_passes d (net_tree net) (HoldsNet d design flat accepted) (RootGood d design flat accepted rules islands (design_starts_settled d)) (RootShows d design flat accepted rules islands (design_starts_settled d)) keeps
         (machine_runs_anew d rules islands) script (net_after (net_tree net) true false (net_start (net_tree net) words) first.look) (design_starts_settled d words)
@@ -94,7 +96,7 @@ module _ (d : PlainDesign) (design : IsDesign d) (flat : IsFlat d) (accepted : I
       let stand = first_stands (inlined net) sound flat_net each_is_built memories (subst (λ rows. FitsRows rows memories) (sym rows_same) fits) held.0 held.1 in
       let kept : State = state_after (instances_of source) (resetting (start_state source (words_loaded memories))) stand.0 in
       let stands = subst (λ v. StatesStand (inlined net) net.main 0 v kept) held.2 stand.1 in
-      let at_net = holeless_passes net names d (net_after (net_tree net) true false (net_start (net_tree net) (words_loaded memories)) l.look) stays s (net_is_at memories fits stays s script) in
-      let at_source = source_passes (inlined net) sound flat_net each_is_built d (net_after (net_tree net) true false (net_start (net_tree net) (words_loaded memories)) l.look) stays s at_net kept stands in
+      let at_net = holeless_leads net names d (net_after (net_tree net) true false (net_start (net_tree net) (words_loaded memories)) l.look) stays s (net_is_at memories fits stays s script) in
+      let at_source = source_leads (inlined net) sound flat_net each_is_built d (net_after (net_tree net) true false (net_start (net_tree net) (words_loaded memories)) l.look) stays s at_net kept stands in
       let alike = alike_after source (source_reset (inlined net)) (words_loaded memories) (start_state source (words_loaded memories)) power (λ i name k. refl) has 0 go stand.0 nets in
-      is_at source sound d (after_power source go nets power) stays s (alike_passes source d kept stays s at_source (after_power source go nets power) alike)
+      is_at source sound d (after_power source go nets power) stays s (alike_leads source d kept (after_power source go nets power) stays s alike at_source)

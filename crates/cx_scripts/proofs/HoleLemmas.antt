@@ -20,8 +20,8 @@ use Rattle.cx_holes.proofs.RenamedLooks.{forth_node, forth, forth_below, forth_a
 use Rattle.cx_holes.proofs.RenamedEdges.{after_same, start_same, words_same}
 use Rattle.cx_holes.proofs.RenamedRuns.{counted, part_names, tree_same}
 use Rattle.cx_scripts.specs.Scripts.{Stay}
-use Rattle.cx_scripts.proofs.AheadLemmas.{passes_carry, ahead_carries}
-use Rattle.cx_scripts.proofs.NetLemmas.{NetCycle, NetIsAt}
+use Rattle.cx_scripts.proofs.AheadLemmas.{LeadsTo, leads_carry}
+use Rattle.cx_scripts.proofs.NetCycles.{NetCycle}
 
 -- EACH NODE IS KNOWN of a net without holes where each node of the net is
 abbrev AllKnown : (Path → Node → Bool) → NetLook → Type 0
@@ -99,14 +99,9 @@ module _ (tree : NetInstance) (names : TreeNames tree) where
       )
 
   -- SCRIPTS
-  pub inlined_passes : (d : PlainDesign) (v : NetState) (stays : List Stay) (s : State) → NetIsAt d tree v stays s → NetIsAt d (inlined_tree tree) v stays s
-  inlined_passes d v stays s is =
-      let r = passes_carry (NetCycle tree) (NetCycle (inlined_tree tree)) (λ x y. x ≡ y) cycle_forth is.passes v refl in
-      record {
-        now = r.0;
-        passes = r.1;
-        ahead = ahead_carries (NetCycle tree) (NetCycle (inlined_tree tree)) (λ x y. x ≡ y) cycle_forth (net_words tree) (net_words (inlined_tree tree)) (λ x y e. words_same tree y ∙ ap (net_words tree) (sym e)) is.now r.0 r.2 d s is.ahead;
-      }
+  inlined_leads : (d : PlainDesign) (v : NetState) (stays : List Stay) (s : State) → LeadsTo d (NetCycle tree) (net_words tree) v stays s → LeadsTo d (NetCycle (inlined_tree tree)) (net_words (inlined_tree tree)) v stays s
+  inlined_leads d v stays s is =
+      leads_carry (NetCycle tree) (NetCycle (inlined_tree tree)) (λ x y. x ≡ y) cycle_forth (net_words tree) (net_words (inlined_tree tree)) (λ x y e. words_same tree y ∙ ap (net_words tree) (sym e)) d v v stays s refl is
 
 -- the components of all instances name what is there
 module _ (n : PlainNet) (names : NetNames n) where
@@ -123,9 +118,10 @@ module _ (n : PlainNet) (names : NetNames n) where
   within_names (suc levels) k = (part_names n.components k names, cells_names (net_within n levels) (within_names levels) (net_component_at n k).cells)
 
   -- SCRIPTS WITHOUT HOLES
-  pub holeless_passes : (d : PlainDesign) (v : NetState) (stays : List Stay) (s : State) → NetIsAt d (net_tree n) v stays s → NetIsAt d (net_tree (inlined n)) v stays s
-  holeless_passes d v stays s is =
-      subst (λ tree. NetIsAt d tree v stays s) (sym (tree_same n)) (inlined_passes (net_tree n) (within_names (length n.components) n.main) d v stays s is)
+  pub holeless_leads : (d : PlainDesign) (v : NetState) (stays : List Stay) (s : State) → LeadsTo d (NetCycle (net_tree n)) (net_words (net_tree n)) v stays s
+      → LeadsTo d (NetCycle (net_tree (inlined n))) (net_words (net_tree (inlined n))) v stays s
+  holeless_leads d v stays s is =
+      subst (λ tree. LeadsTo d (NetCycle tree) (net_words tree) v stays s) (sym (tree_same n)) (inlined_leads (net_tree n) (within_names (length n.components) n.main) d v stays s is)
 
   -- and the cycle of the edge with reset
   pub holeless_reset : (words : List (List ℕ)) (look : NetLook) → IsWholeLook (net_tree n) false (net_start (net_tree n) words) look

@@ -4,6 +4,7 @@ pub mod BlockLemmas
 pub mod FormLemmas
 pub mod GroundLemmas
 pub mod RootLemmas
+pub mod NetCycles
 pub mod NetLemmas
 pub mod HoleLemmas
 pub mod SourceLemmas

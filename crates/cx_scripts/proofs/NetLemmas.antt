@@ -17,22 +17,10 @@ use Rattle.cx_wiring_values.proofs.GroundedRuns.{HasLook}
 use Rattle.cx_wiring_runs.proofs.EdgeRuns.{Place, EdgeKeeps, next, after}
 use Rattle.cx_scripts.specs.Scripts.{Stay, Wait, Run, Undone, here, further, Passes, over, waits, runs}
 use Rattle.cx_scripts.specs.Stays.{run_from, Stays, at_once, after_wait, after_run}
-use Rattle.cx_scripts.proofs.AheadLemmas.{ComesBy, done_in, none, EndsBy, Ahead}
+use Rattle.cx_scripts.proofs.AheadLemmas.{ComesBy, done_in, none, EndsBy, Ahead, LeadsTo}
+use Rattle.cx_scripts.proofs.NetCycles.{NetCycle}
 use Rattle.cx_scripts.proofs.MachineLemmas.{end_settled, moment_from, EndsFrom, GoesOnFrom, RunsFromAll}
 use Rattle.cx_scripts.proofs.RootLemmas.{ScriptKeeps}
-
--- ONE CYCLE OF A NET, in which all has a value
-pub record NetCycle (tree : NetInstance) (go : Bool) (v : NetState) (done : Bool) (w : NetState) : Type 0 where
-  pub look : NetLook
-  pub whole : IsWholeLook tree go v look
-  pub shows : nets.is_done look ≡ done
-  pub leads : net_after tree false go v look ≡ w
-
--- a script that leads a net to a state of which this is ahead
-pub record NetIsAt (d : PlainDesign) (tree : NetInstance) (v : NetState) (stays : List Stay) (s : State) : Type 0 where
-  pub now : NetState
-  pub passes : Passes (NetCycle tree) v stays now
-  pub ahead : Ahead d s (NetCycle tree) (net_words tree) now
 
 true_false : true ≡ false → ⊥
 true_false e = cc
@@ -135,7 +123,7 @@ module _ (d : PlainDesign) (tree : NetInstance) (Holds : NetState → Type 0) (G
   }
 
   -- EVERY SCRIPT of the design
-  pub net_passes : {s after : State} {stays : List Stay} → Stays d s stays after → (v : NetState) → IsSettled (tree_of d) s → ShowsStart s v → NetIsAt d tree v stays after
+  pub net_passes : {s after : State} {stays : List Stay} → Stays d s stays after → (v : NetState) → IsSettled (tree_of d) s → ShowsStart s v → LeadsTo d (NetCycle tree) (net_words tree) v stays after
   net_passes {s} at_once v settled h = record { now = v; passes = over; ahead = ahead_of s v settled h }
   net_passes {s} (after_wait rest) v settled h =
       let l = keeps.looks false v (keeps.holds (Machine.start (design_machine d)) (shown unheld s) v h) in

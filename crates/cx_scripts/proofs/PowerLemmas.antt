@@ -18,8 +18,7 @@ use Rattle.cx_scripts.specs.Scripts.{Stay, Undone, here, further}
 use Rattle.cx_scripts.specs.Stays.{run_from}
 use Rattle.cx_scripts.specs.Always.{in_cycle, SourceCycle, HasAnswer, done_in, not_yet, RunsAsMain, IsAt}
 use Rattle.cx_scripts.proofs.AheadLemmas as ahead
-use Rattle.cx_scripts.proofs.AheadLemmas.{ComesBy, Ahead, passes_carry, ahead_carries}
-use Rattle.cx_scripts.proofs.SourceLemmas.{SourceIsAt}
+use Rattle.cx_scripts.proofs.AheadLemmas.{ComesBy, Ahead, LeadsTo, leads_carry}
 
 module _ (source : PlainSource) where
   -- A CYCLE from states that hold the same
@@ -35,15 +34,10 @@ module _ (source : PlainSource) where
       goes false = 0
 
   -- SCRIPTS
-  pub alike_passes : (d : PlainDesign) (first : State) (stays : List Stay) (s : instances.State) → SourceIsAt d source first stays s → (k : State) → Alike (instances_of source) first k → SourceIsAt d source k stays s
-  alike_passes d first stays s is k same =
-      let r = passes_carry (SourceCycle source) (SourceCycle source) (Alike (instances_of source)) alike_goes is.passes k same in
-      record {
-        now = r.0;
-        passes = r.1;
-        ahead = ahead_carries (SourceCycle source) (SourceCycle source) (Alike (instances_of source)) alike_goes (words_of source) (words_of source)
-            (λ x y a. sym (told_alike (instances_of source) x y a source.externals)) is.now r.0 r.2 d s is.ahead;
-      }
+  pub alike_leads : (d : PlainDesign) (s k : State) (stays : List Stay) (own : instances.State) → Alike (instances_of source) s k → LeadsTo d (SourceCycle source) (words_of source) s stays own
+      → LeadsTo d (SourceCycle source) (words_of source) k stays own
+  alike_leads d s k stays own same is =
+      leads_carry (SourceCycle source) (SourceCycle source) (Alike (instances_of source)) alike_goes (words_of source) (words_of source) (λ x y a. sym (told_alike (instances_of source) x y a source.externals)) d s k stays own same is
 
   -- RUNS BY CYCLES
   undone_ends : {s last t : State} {n : ℕ} → Undone (SourceCycle source) s n last → SourceCycle source true last true t → (cycle left : ℕ) → n ≤ left → RunsFrom source s cycle left (DoneAt (cycle + n) (words_of source last))
@@ -115,5 +109,5 @@ module _ (source : PlainSource) where
       never_stuck = λ budget. answered now budget (a.comes budget);
     }
 
-    pub is_at : (d : PlainDesign) (first : State) (stays : List Stay) (s : instances.State) → SourceIsAt d source first stays s → IsAt d source first stays s
+    pub is_at : (d : PlainDesign) (first : State) (stays : List Stay) (s : instances.State) → LeadsTo d (SourceCycle source) (words_of source) first stays s → IsAt d source first stays s
     is_at d first stays s is = record { now = is.now; passes = is.passes; words = is.ahead.told; runs = runs_as_main d s is.now is.ahead }

@@ -44,16 +44,10 @@ use Rattle.cx_emit.proofs.Situations.{main_situation}
 use Rattle.cx_emit.proofs.Standing.{tree, main_placed, cell_placed}
 use Rattle.cx_emit.proofs.StartValues.{decls_here, starts_stand}
 use Rattle.cx_emit.proofs.TextWholes.{whole_has}
-use Rattle.cx_scripts.specs.Scripts.{Stay, Passes}
+use Rattle.cx_scripts.specs.Scripts.{Stay}
 use Rattle.cx_scripts.specs.Always.{in_cycle, SourceCycle}
-use Rattle.cx_scripts.proofs.AheadLemmas.{Ahead, passes_carry, ahead_carries}
-use Rattle.cx_scripts.proofs.NetLemmas.{NetCycle, NetIsAt}
-
--- a script that leads a source to a state of which this is ahead
-pub record SourceIsAt (d : PlainDesign) (source : PlainSource) (first : State) (stays : List Stay) (s : instances.State) : Type 0 where
-  pub now : State
-  pub passes : Passes (SourceCycle source) first stays now
-  pub ahead : Ahead d s (SourceCycle source) (words_of source) now
+use Rattle.cx_scripts.proofs.AheadLemmas.{LeadsTo, leads_carry}
+use Rattle.cx_scripts.proofs.NetCycles.{NetCycle}
 
 module _ (net : PlainNet) (sound : is_sound (source_of net) ≡ true) (fit : IsFlat net) (built : EachIsBuilt) where
   abbrev the_source : PlainSource
@@ -145,12 +139,7 @@ module _ (net : PlainNet) (sound : is_sound (source_of net) ≡ true) (fit : IsF
       (w.look, edge_carries net sound fit built (resetting start) w.look w.whole true false (net_start (net_tree net) (words_loaded memories)) look stand refl refl whole)
 
   -- SCRIPTS
-  pub source_passes : (d : PlainDesign) (v : NetState) (stays : List Stay) (s : instances.State) → NetIsAt d (net_tree net) v stays s → (kept : State) → StatesStand net net.main 0 v kept
-      → SourceIsAt d the_source kept stays s
-  source_passes d v stays s is kept stand =
-      let r = passes_carry (NetCycle (net_tree net)) (SourceCycle the_source) (StatesStand net net.main 0) goes is.passes kept stand in
-      record {
-        now = r.0;
-        passes = r.1;
-        ahead = ahead_carries (NetCycle (net_tree net)) (SourceCycle the_source) (StatesStand net net.main 0) goes (net_words (net_tree net)) (words_of the_source) same_words is.now r.0 r.2 d s is.ahead;
-      }
+  pub source_leads : (d : PlainDesign) (v : NetState) (stays : List Stay) (s : instances.State) → LeadsTo d (NetCycle (net_tree net)) (net_words (net_tree net)) v stays s → (kept : State) → StatesStand net net.main 0 v kept
+      → LeadsTo d (SourceCycle the_source) (words_of the_source) kept stays s
+  source_leads d v stays s is kept stand =
+      leads_carry (NetCycle (net_tree net)) (SourceCycle the_source) (StatesStand net net.main 0) goes (net_words (net_tree net)) (words_of the_source) same_words d v kept stays s stand is
