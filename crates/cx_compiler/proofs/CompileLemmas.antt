@@ -35,7 +35,7 @@ pub compiles_once : (text answer : List ℕ) (stop : Stop) → Compiles text (Ok
 compiles_once text answer stop h k = fits_not_refused text h.design k.0 h.stands h.within k.1
 
 -- what a text is refused for is one rule, at one place, with one name
-one_refusal : (text : List ℕ) (a b : Diagnostic) → CompileBreak text a → CompileBreak text b → a ≡ b
+pub one_refusal : (text : List ℕ) (a b : Diagnostic) → CompileBreak text a → CompileBreak text b → a ≡ b
 one_refusal text a b (inl h) (inl k) = break_once text a b h k
 one_refusal text a b (inl h) (inr k) = absurd (accepted_once text a (text_of_design text k.0 k.1) h)
 one_refusal text a b (inr h) (inl k) = absurd (accepted_once text b (text_of_design text h.0 h.1) k)

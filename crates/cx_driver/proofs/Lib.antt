@@ -16,3 +16,4 @@ pub mod OrderLemmas
 pub mod TrialDepth
 pub mod FilePromise
 pub mod AlikeLemmas
+pub mod LineLemmas

@@ -6,3 +6,4 @@ pub mod Sharing
 pub mod Alike
 pub mod Outcomes
 pub mod Causes
+pub mod Lines

@@ -86,30 +86,30 @@ module _ (d : PlainDesign) (tree : NetInstance) (Holds : NetState → Type 0) (G
   -- A RUN to its end, and the cycle of done
   record Ran (s after : State) (v : NetState) (turns : ℕ) : Type 0 where
     last : NetState
-    next : NetState
+    behind : NetState
     undone : Undone (NetCycle tree) v turns last
-    done : NetCycle tree true last true next
+    done : NetCycle tree true last true behind
     told : net_words tree last ≡ words_of (tree_of d) after
     settled : IsSettled (tree_of d) after
-    shows : ShowsStart after next
+    shows : ShowsStart after behind
 
   ran : (s after : State) (v : NetState) (n turns : ℕ) → IsSettled (tree_of d) s → ShowsStart s v → run_from d s n ≡ End after turns → (turns ≤ n) × Ran s after v turns
   ran s after v n turns settled h e =
       let m = machine.ends s n turns after settled e in
       let u = undone_until turns (Machine.start (design_machine d)) (shown unheld s) v (keeps.good s settled) h m.quiet m.is_over in
       let same : Moment.store (moment_from d s turns) ≡ shown unheld after = λ t x. m.store x t in
-      let end : Shows Done (shown unheld after) u.0 = subst (λ k. Shows Done k u.0) same u.2 in
-      let l = keeps.looks true u.0 (keeps.holds Done (shown unheld after) u.0 end) in
+      let at_end : Shows Done (shown unheld after) u.0 = subst (λ k. Shows Done k u.0) same u.2 in
+      let l = keeps.looks true u.0 (keeps.holds Done (shown unheld after) u.0 at_end) in
       let left = end_settled d s after n turns settled e in (
         m.in_budget,
         record {
           last = u.0;
-          next = net_after tree false true u.0 l.look;
+          behind = net_after tree false true u.0 l.look;
           undone = u.1;
-          done = record { look = l.look; whole = l.is; shows = keeps.law.done (shown unheld after) u.0 l.look end l.is; leads = refl };
-          told = keeps.law.words Done (shown unheld after) u.0 end;
+          done = record { look = l.look; whole = l.is; shows = keeps.law.done (shown unheld after) u.0 l.look at_end l.is; leads = refl };
+          told = keeps.law.words Done (shown unheld after) u.0 at_end;
           settled = left;
-          shows = keeps.again after u.0 l.look left end l.is;
+          shows = keeps.again after u.0 l.look left at_end l.is;
         },
       )
 
@@ -117,7 +117,7 @@ module _ (d : PlainDesign) (tree : NetInstance) (Holds : NetState → Type 0) (G
   ahead_of : (s : State) (v : NetState) → IsSettled (tree_of d) s → ShowsStart s v → Ahead d s (NetCycle tree) (net_words tree) v
   ahead_of s v settled h = record {
     told = keeps.law.words (Machine.start (design_machine d)) (shown unheld s) v h;
-    ends = λ budget turns after e. let r = ran s after v budget turns settled h e in let x : Ran s after v turns = r.1 in (r.0, record { last = x.last; next = x.next; undone = x.undone; done = x.done; told = x.told });
+    ends = λ budget turns after e. let r = ran s after v budget turns settled h e in let x : Ran s after v turns = r.1 in (r.0, record { last = x.last; next = x.behind; undone = x.undone; done = x.done; told = x.told });
     goes_on = λ budget e. let m = machine.goes_on s budget settled e in undone_for budget (Machine.start (design_machine d)) (shown unheld s) v (keeps.good s settled) h m.quiet m.undone;
     comes = λ budget. comes_on budget v (keeps.holds (Machine.start (design_machine d)) (shown unheld s) v h);
   }
@@ -131,5 +131,5 @@ module _ (d : PlainDesign) (tree : NetInstance) (Holds : NetState → Type 0) (G
       record { now = r.now; passes = waits (record { look = l.look; whole = l.is; shows = keeps.quiet s v l.look h l.is; leads = refl }) r.passes; ahead = r.ahead }
   net_passes {s} (after_run {middle = middle} {turns = turns} n e rest) v settled h =
       let x : Ran s middle v turns = (ran s middle v n turns settled h e).1 in
-      let r = net_passes rest x.next x.settled x.shows in
+      let r = net_passes rest x.behind x.settled x.shows in
       record { now = r.now; passes = runs x.undone x.done r.passes; ahead = r.ahead }

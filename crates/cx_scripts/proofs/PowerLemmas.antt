@@ -1,5 +1,5 @@
 -- From any power-up state a source makes the cycles that it makes from the first one, and so passes the same scripts.
-use Rattle.std.proofs.Common.{◌≡◌, ℕ, zero, suc, ◌+◌, ◌<◌, ◌≤◌, ◌==◌, Bool, true, false, List, [], ◌∷◌, Option, Some, None, refl, sym, ap, ◌∙◌, subst, arith}
+use Rattle.std.proofs.Common.{◌≡◌, ℕ, zero, suc, ◌+◌, ◌<◌, ◌≤◌, ◌==◌, Bool, true, false, List, [], ◌∷◌, Option, Some, None, if◌then◌else◌, refl, sym, ap, ◌∙◌, subst, arith}
 use Rattle.std.specs.Prelude.{codes}
 use Rattle.std.specs.Option.{option_map_or}
 use Rattle.cx_bits.specs.BitVector.{BitVector}
@@ -25,13 +25,9 @@ module _ (source : PlainSource) where
   alike_goes : (go : Bool) (s : State) (done : Bool) (t k : State) → Alike (instances_of source) s k → SourceCycle source go s done t → (l : State) × SourceCycle source go k done l × Alike (instances_of source) t l
   alike_goes go s done t k same c = (
     state_after (instances_of source) (in_cycle go k) c.look,
-    record { look = c.look; whole = whole_alike (instances_of source) (goes go) s k same c.look c.whole; shows = c.shows; leads = refl },
-    subst (λ x. Alike (instances_of source) x (state_after (instances_of source) (in_cycle go k) c.look)) c.leads (after_alike (instances_of source) (goes go) s k same c.look),
+    record { look = c.look; whole = whole_alike (instances_of source) (if go then 1 else 0) s k same c.look c.whole; shows = c.shows; leads = refl },
+    subst (λ x. Alike (instances_of source) x (state_after (instances_of source) (in_cycle go k) c.look)) c.leads (after_alike (instances_of source) (if go then 1 else 0) s k same c.look),
   )
-    where
-      abbrev goes : Bool → ℕ
-      goes true = 1
-      goes false = 0
 
   -- SCRIPTS
   pub alike_leads : (d : PlainDesign) (s k : State) (stays : List Stay) (own : instances.State) → Alike (instances_of source) s k → LeadsTo d (SourceCycle source) (words_of source) s stays own
