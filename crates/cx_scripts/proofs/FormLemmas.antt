@@ -46,13 +46,15 @@ module _ (net : PlainNet) where
     cells = λ path g e inner p leads there of. h.cells (c ∷ path) g e inner p (cell, child, at, is, leads) there of;
   }
 
+  cell_forms : (child : ℕ → NetInstance) → ((k : ℕ) (s : NetState) → Holds net k s → AreForms (child k) s.cell) → (k : ℕ) (s : NetState) → Holds net k s
+      → (c : ℕ) (cell : PlainCell) → slice_get (net_component_at net k).cells c ≡ Some cell → (kind : PlainKind) → cell.kind ≡ kind → HasForms child kind (λ path. s.cell (c ∷ path))
+  cell_forms child each k s h c cell at (OfPrimitive p) is = state_form (row_of p).shape (s.cell (c ∷ [])) (h.cells [] k c cell p refl at is)
+  cell_forms child each k s h c cell at (OfComponent j) is = each j (below_cell c s) (holds_below k s h c cell j at is)
+
   within_forms : (levels k : ℕ) (s : NetState) → Holds net k s → AreForms (net_within net levels k) s.cell
   within_forms zero k s h = tt
-  within_forms (suc levels) k s h = cells_forms (net_within net levels) (net_component_at net k).cells (λ c path. s.cell (c ∷ path)) (λ c cell at. by c cell at cell.kind refl)
-    where
-      by : (c : ℕ) (cell : PlainCell) → slice_get (net_component_at net k).cells c ≡ Some cell → (kind : PlainKind) → cell.kind ≡ kind → HasForms (net_within net levels) kind (λ path. s.cell (c ∷ path))
-      by c cell at (OfPrimitive p) is = state_form (row_of p).shape (s.cell (c ∷ [])) (h.cells [] k c cell p refl at is)
-      by c cell at (OfComponent child) is = within_forms levels child (below_cell c s) (holds_below k s h c cell child at is)
+  within_forms (suc levels) k s h =
+      cells_forms (net_within net levels) (net_component_at net k).cells (λ c path. s.cell (c ∷ path)) (λ c cell at. cell_forms (net_within net levels) (within_forms levels) k s h c cell at cell.kind refl)
 
   pub net_forms : (s : NetState) → Holds net net.main s → AreForms (net_tree net) s.cell
   net_forms s h = within_forms (length net.components) net.main s h
