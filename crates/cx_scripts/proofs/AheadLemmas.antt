@@ -1,9 +1,9 @@
 -- What runs from a state come to, told by cycles; and that it carries over, with the scripts, to what makes the same cycles.
-use Rattle.std.proofs.Common.{◌≡◌, ℕ, zero, suc, ◌≤◌, Bool, true, false, List, [], ◌∷◌, ◌∙◌}
+use Rattle.std.proofs.Common.{◌≡◌, ℕ, suc, ◌≤◌, Bool, true, false, List, ◌∙◌}
 use Rattle.cx_meaning.specs.Answers.{End, More}
 use Rattle.cx_meaning.specs.Designs.{PlainDesign}
 use Rattle.cx_meaning.specs.Instances.{State, tree_of, words_of}
-use Rattle.cx_scripts.specs.Scripts.{Stay, Wait, Run, Undone, here, further, Passes, over, waits, runs}
+use Rattle.cx_scripts.specs.Scripts.{Stay, Undone, here, further, Passes, over, waits, runs}
 use Rattle.cx_scripts.specs.Stays.{run_from}
 
 -- done comes in a cycle up to this number, or in none

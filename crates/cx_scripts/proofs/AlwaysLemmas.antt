@@ -1,7 +1,7 @@
 -- THE SOURCE OF AN ACCEPTED DESIGN realises it always: by its net, the net without holes, and the first power-up state.
-use Rattle.std.proofs.Common.{◌≡◌, ℕ, true, List, refl, sym, ap, ◌∙◌, subst}
+use Rattle.std.proofs.Common.{◌≡◌, ℕ, true, false, List, refl, sym, ap, ◌∙◌, subst}
 use Rattle.cx_text.specs.Loading.{PlainMemory, FitsRows, words_loaded}
-use Rattle.cx_meaning.specs.Designs.{PlainCell, PlainDesign}
+use Rattle.cx_meaning.specs.Designs.{PlainDesign}
 use Rattle.cx_meaning.specs.Instances as instances
 use Rattle.cx_meaning.specs.Instances.{Path, tree_of, instance_at, start}
 use Rattle.cx_laws.proofs.StartLemmas.{design_starts_settled}
@@ -12,7 +12,7 @@ use Rattle.cx_rules.specs.Wellformed.{IsDesign}
 use Rattle.cx_control.specs.ControlRules.{ControlRules}
 use Rattle.cx_control.specs.IslandRules.{IslandRules}
 use Rattle.cx_vtree.specs.Plain.{PlainSource}
-use Rattle.cx_vtree.specs.Meaning.{State, Look, resetting}
+use Rattle.cx_vtree.specs.Meaning.{State, resetting}
 use Rattle.cx_vtree.specs.InstanceTree.{instances_of}
 use Rattle.cx_vtree.specs.Edges.{state_after}
 use Rattle.cx_vtree.specs.PlainParts as parts
@@ -21,7 +21,7 @@ use Rattle.cx_vtree.specs.Sound.{is_sound}
 use Rattle.cx_vmods.proofs.TableLaws.{each_is_built}
 use Rattle.cx_net.specs.NetEdges.{net_after}
 use Rattle.cx_net.specs.NetRuns.{at_reset, net_start, net_words}
-use Rattle.cx_net.specs.NetTree.{net_component_at, net_tree}
+use Rattle.cx_net.specs.NetTree.{net_tree}
 use Rattle.cx_net.specs.Nets.{PlainNetComponent, PlainNet}
 use Rattle.cx_static.specs.Lowering.{lowered_of}
 use Rattle.cx_wiring.specs.Wiring.{net_of}

@@ -1,5 +1,5 @@
 -- A state that holds what the rows of a net can has their forms.
-use Rattle.std.proofs.Common.{◌≡◌, ℕ, zero, suc, true, List, [], ◌∷◌, length, Some, slice_get, refl, subst}
+use Rattle.std.proofs.Common.{◌≡◌, ℕ, zero, suc, true, List, [], ◌∷◌, length, Some, slice_get, refl}
 use Rattle.cx_prim.specs.CellStates as states
 use Rattle.cx_prim.specs.CellStates.{CellState, StateShape, IsState}
 use Rattle.cx_prim.specs.Table.{row_of}

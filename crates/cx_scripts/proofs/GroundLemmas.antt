@@ -1,5 +1,5 @@
 -- In the net of an accepted design every node has a value in each state that holds what its rows and registers can, whatever go is.
-use Rattle.std.proofs.Common.{◌≡◌, ℕ, zero, suc, ◌<◌, ◌≤◌, ◌==◌, Bool, true, false, List, [], ◌∷◌, length, Some, sym, ap, ◌∙◌, subst, refl, arith}
+use Rattle.std.proofs.Common.{◌≡◌, ℕ, zero, suc, ◌<◌, ◌≤◌, ◌==◌, Bool, true, false, List, [], ◌∷◌, length, sym, ap, ◌∙◌, subst, refl, arith}
 use Rattle.std.specs.Option.{option_map_or}
 use Rattle.cx_bits.specs.BitVector.{BitVector}
 use Rattle.cx_prim.specs.Rows.{Row}

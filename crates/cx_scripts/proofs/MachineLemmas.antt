@@ -1,5 +1,5 @@
 -- The machine of a design runs as main from every settled state, the end of a run included.
-use Rattle.std.proofs.Common.{◌≡◌, ℕ, zero, suc, ◌⊎◌, inl, inr, ◌<◌, ◌≤◌, Bool, true, false, List, [], ◌∷◌, refl, sym, ap, subst, arith}
+use Rattle.std.proofs.Common.{◌≡◌, ℕ, zero, suc, ◌⊎◌, inl, inr, ◌<◌, ◌≤◌, Bool, true, false, refl, sym, ap, subst, arith}
 use Rattle.cx_meaning.specs.Designs.{PlainDesign, PlainComponent}
 use Rattle.cx_meaning.specs.Instances.{Instance, Node, State, tree_of, Path, instance_at, part_of, IsSettled}
 use Rattle.cx_meaning.specs.Sights.{Held, unheld}
@@ -17,7 +17,7 @@ use Rattle.cx_lockstep.specs.Doing.{Does, Meets}
 use Rattle.cx_lockstep.proofs.EndLaws.{ended, StillGoes, going}
 use Rattle.cx_control.specs.ControlRules.{ControlRules}
 use Rattle.cx_control.specs.IslandRules.{IslandRules}
-use Rattle.cx_control.specs.Spots.{Spot, Cell, Number, Input, Holds, shown, spots_of, reads_spot}
+use Rattle.cx_control.specs.Spots.{Spot, Cell, Number, Input, shown, spots_of, reads_spot}
 use Rattle.cx_control.specs.Numbers.{spot_idle, world_of, Rests}
 use Rattle.cx_control.specs.DesignRuns.{design_machine}
 use Rattle.cx_control.proofs.ControlLaws.{control_does}

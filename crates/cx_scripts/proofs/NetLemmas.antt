@@ -1,25 +1,25 @@
 -- The net of an accepted design passes the scripts that the design passes, and what is ahead of it is what is ahead of the design.
-use Rattle.std.proofs.Common.{◌≡◌, ℕ, zero, suc, ◌+◌, ◌<◌, ◌≤◌, Bool, true, false, List, [], ◌∷◌, refl, sym, ap, ◌∙◌, subst, arith}
-use Rattle.cx_meaning.specs.Answers.{End, More}
+use Rattle.std.proofs.Common.{◌≡◌, ℕ, zero, suc, ◌<◌, ◌≤◌, Bool, true, false, List, refl, sym, subst, arith}
+use Rattle.cx_meaning.specs.Answers.{End}
 use Rattle.cx_meaning.specs.Designs.{PlainDesign}
 use Rattle.cx_meaning.specs.Instances.{State, tree_of, words_of, IsSettled}
 use Rattle.cx_meaning.specs.Sights.{unheld}
-use Rattle.cx_lockstep.specs.Worlds.{Control, At, Done, Machine, Moment, after_cycles, is_done, IsQuiet}
+use Rattle.cx_lockstep.specs.Worlds.{At, Done, Machine, Moment, after_cycles, is_done, IsQuiet}
 use Rattle.cx_control.specs.Numbers.{spot_idle}
-use Rattle.cx_control.specs.Spots.{Kept, cells_in, shown}
+use Rattle.cx_control.specs.Spots.{Kept, shown}
 use Rattle.cx_control.specs.DesignRuns.{design_machine}
 use Rattle.cx_net.specs.NetTree.{NetInstance}
-use Rattle.cx_net.specs.NetMeaning.{NetState, NetLook}
+use Rattle.cx_net.specs.NetMeaning.{NetState}
 use Rattle.cx_net.specs.NetEdges.{net_after}
 use Rattle.cx_net.specs.NetRuns as nets
 use Rattle.cx_net.specs.NetRuns.{IsWholeLook, net_words}
 use Rattle.cx_wiring_values.proofs.GroundedRuns.{HasLook}
-use Rattle.cx_wiring_runs.proofs.EdgeRuns.{Place, EdgeKeeps, next, after}
-use Rattle.cx_scripts.specs.Scripts.{Stay, Wait, Run, Undone, here, further, Passes, over, waits, runs}
+use Rattle.cx_wiring_runs.proofs.EdgeRuns.{Place, next, after}
+use Rattle.cx_scripts.specs.Scripts.{Stay, Undone, here, further, over, waits, runs}
 use Rattle.cx_scripts.specs.Stays.{run_from, Stays, at_once, after_wait, after_run}
-use Rattle.cx_scripts.proofs.AheadLemmas.{ComesBy, done_in, none, EndsBy, Ahead, LeadsTo}
+use Rattle.cx_scripts.proofs.AheadLemmas.{ComesBy, done_in, none, Ahead, LeadsTo}
 use Rattle.cx_scripts.proofs.NetCycles.{NetCycle}
-use Rattle.cx_scripts.proofs.MachineLemmas.{end_settled, moment_from, EndsFrom, GoesOnFrom, RunsFromAll}
+use Rattle.cx_scripts.proofs.MachineLemmas.{end_settled, moment_from, RunsFromAll}
 use Rattle.cx_scripts.proofs.RootLemmas.{ScriptKeeps}
 
 true_false : true ≡ false → ⊥

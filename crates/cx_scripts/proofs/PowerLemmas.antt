@@ -1,9 +1,6 @@
 -- From any power-up state a source makes the cycles that it makes from the first one, and so passes the same scripts.
-use Rattle.std.proofs.Common.{◌≡◌, ℕ, zero, suc, ◌+◌, ◌<◌, ◌≤◌, ◌==◌, Bool, true, false, List, [], ◌∷◌, Option, Some, None, if◌then◌else◌, refl, sym, ap, ◌∙◌, subst, arith}
-use Rattle.std.specs.Prelude.{codes}
-use Rattle.std.specs.Option.{option_map_or}
+use Rattle.std.proofs.Common.{◌≡◌, ℕ, zero, suc, ◌+◌, ◌≤◌, Bool, true, false, List, Option, Some, None, if◌then◌else◌, refl, sym, ap, ◌∙◌, subst, arith}
 use Rattle.cx_bits.specs.BitVector.{BitVector}
-use Rattle.cx_meaning.specs.Answers.{End, More}
 use Rattle.cx_meaning.specs.Designs.{PlainDesign}
 use Rattle.cx_meaning.specs.Instances as instances
 use Rattle.cx_vtree.specs.Plain.{PlainSource}
@@ -15,7 +12,6 @@ use Rattle.cx_vtree.specs.Sound.{is_sound}
 use Rattle.cx_power.proofs.AlikeLemmas.{Alike, whole_alike, after_alike, told_alike}
 use Rattle.cx_emit.proofs.TextWholes.{whole_has}
 use Rattle.cx_scripts.specs.Scripts.{Stay, Undone, here, further}
-use Rattle.cx_scripts.specs.Stays.{run_from}
 use Rattle.cx_scripts.specs.Always.{in_cycle, SourceCycle, HasAnswer, done_in, not_yet, RunsAsMain, IsAt}
 use Rattle.cx_scripts.proofs.AheadLemmas as ahead
 use Rattle.cx_scripts.proofs.AheadLemmas.{ComesBy, Ahead, LeadsTo, leads_carry}

@@ -1,5 +1,5 @@
 -- The source of a net makes the cycles of the net, and tells the words that the net has.
-use Rattle.std.proofs.Common.{◌≡◌, ℕ, suc, ◌+◌, ◌==◌, Bool, true, false, List, [], ◌∷◌, ◌++◌, length, map, Option, Some, slice_get, refl, sym, ap, ◌∙◌, subst, if◌then◌else◌, arith}
+use Rattle.std.proofs.Common.{◌≡◌, ℕ, suc, ◌+◌, ◌==◌, Bool, true, false, List, [], ◌∷◌, ◌++◌, length, map, Some, slice_get, refl, sym, ap, ◌∙◌, subst, if◌then◌else◌, arith}
 use Rattle.std.specs.Prelude.{codes}
 use Rattle.std.specs.Option.{option_map_or}
 use Rattle.cx_bits.specs.BitVector.{BitVector}
@@ -12,7 +12,7 @@ use Rattle.cx_rules.specs.Externals.{sizes_in, numbers_of}
 use Rattle.cx_rules.specs.Wellformed.{first_number}
 use Rattle.cx_state.proofs.Shapes.{memory_shape}
 use Rattle.cx_vtree.specs.Plain.{PlainExternal, PlainSource}
-use Rattle.cx_vtree.specs.InstanceTree.{Placed, decls_at, instances_of}
+use Rattle.cx_vtree.specs.InstanceTree.{Placed, decls_at}
 use Rattle.cx_vtree.specs.Meaning.{State, Look, resetting}
 use Rattle.cx_vtree.specs.Edges.{state_after}
 use Rattle.cx_vtree.specs.PlainParts as parts
@@ -21,7 +21,6 @@ use Rattle.cx_vtree.specs.SimRun.{first_array, numbers_from, words_in, words_of,
 use Rattle.cx_vtree.specs.Sound.{is_sound}
 use Rattle.cx_vmods.specs.Built.{kept_at}
 use Rattle.cx_vmods.specs.Laws.{EachIsBuilt}
-use Rattle.cx_vmods.proofs.TableLaws.{each_is_built}
 use Rattle.cx_net.specs.Nets.{PlainNetComponent, PlainNet}
 use Rattle.cx_net.specs.NetTree.{net_component_at, net_tree}
 use Rattle.cx_net.specs.NetMeaning.{NetState, NetLook, TheDone, truth_bit, is_true}

@@ -1,5 +1,5 @@
 -- SCRIPTS of waiting and running, for whatever makes cycles.
-use Rattle.std.specs.Prelude.{ℕ, zero, suc, Bool, true, false, List, [], ◌∷◌}
+use Rattle.std.specs.Prelude.{ℕ, suc, Bool, true, false, List, [], ◌∷◌}
 
 -- what is done with go: it is 0 in one cycle; or it is 1 up to the cycle of this number, in which done comes for the first time
 pub data Stay : Type 0 where
