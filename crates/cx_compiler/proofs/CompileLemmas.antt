@@ -10,9 +10,11 @@ use Rattle.cx_compiler.specs.Texts.{IsDesignOf, IsTextRefusal}
 use Rattle.cx_compiler.specs.Compiled.{IsCompiled, IsCompilable, too_large, CompileBreak, Compiles, IsCompileStop, IsDesignWritten, IsDesignTooLarge, IsRealised, written_net, written_source}
 use Rattle.cx_compiler.specs.Promise.{KeepsPromise}
 use Rattle.cx_power.proofs.SourceLemmas.{source_reset}
+use Rattle.cx_scripts.specs.Laws.{SourcesRealiseAlways}
 use Rattle.cx_compiler.proofs.PromiseLemmas.{promise_is_kept}
 use Rattle.cx_compiler.proofs.WrittenNets.{written_nets}
 use Rattle.cx_compiler.proofs.WrittenLength.{answer_few}
+use Rattle.cx_compiler.proofs.WrittenCells.{written_cells}
 use Rattle.cx_compiler.proofs.WrittenShape.{written_shape, written_names}
 use Rattle.cx_compiler.proofs.TextLayers.{text_rules}
 use Rattle.cx_compiler.proofs.TextLemmas.{one_design, text_of_design, accepted_once, break_once}
@@ -34,7 +36,7 @@ pub compiles_once : (text answer : List ℕ) (stop : Stop) → Compiles text (Ok
 compiles_once text answer stop h k = fits_not_refused text h.design k.0 h.stands h.within k.1
 
 -- what a text is refused for is one rule, at one place, with one name
-one_refusal : (text : List ℕ) (a b : Diagnostic) → CompileBreak text a → CompileBreak text b → a ≡ b
+pub one_refusal : (text : List ℕ) (a b : Diagnostic) → CompileBreak text a → CompileBreak text b → a ≡ b
 one_refusal text a b (inl h) (inl k) = break_once text a b h k
 one_refusal text a b (inl h) (inr k) = absurd (accepted_once text a (text_of_design text k.0 k.1) h)
 one_refusal text a b (inr h) (inl k) = absurd (accepted_once text b (text_of_design text h.0 h.1) k)
@@ -46,8 +48,8 @@ compile_stop text told stop b (inr own) = inr (own.2 ∙ ap (λ d. stops.Rule d)
 
 -- from a design to its text, by what the passes promise
 pub text_written : {X : Type 0} (bytes : X → List ℕ) (text : List ℕ) (d : PlainDesign) (r : Result X Stop)
-    → IsDesignOf text d → IfOk r (λ _. IsRealised d) → IfOk r (λ x. IsDesignWritten d (bytes x)) → IfOk r (λ x. IsCompiled text (bytes x))
-text_written bytes text d (Ok x) stands realised h =
+    → IsDesignOf text d → SourcesRealiseAlways → IfOk r (λ _. IsRealised d) → IfOk r (λ x. IsDesignWritten d (bytes x)) → IfOk r (λ x. IsCompiled text (bytes x))
+text_written bytes text d (Ok x) stands always realised h =
     let rules = text_rules text d stands h.0 in record {
       design = d;
       stands = stands;
@@ -56,15 +58,17 @@ text_written bytes text d (Ok x) stands realised h =
         source = written_source d;
         spelled = h.1;
         realises = realised rules.0 rules.1 rules.2;
+        always = always d rules.0 rules.1 rules.2 h.1.sound;
         reset = source_reset (written_net d);
         shape = written_shape d rules.0 rules.1 rules.2 h.1.sound;
+        cells = written_cells d rules.0;
         names = written_names d;
         nets = written_nets text d stands h.0;
         small = answer_few text (bytes x) d stands h.0 h.1;
       };
       exact = h.1.spelled;
     }
-text_written bytes text d (Err stop) stands realised h = tt
+text_written bytes text d (Err stop) stands always realised h = tt
 
 -- and what is written of it keeps the promise
 pub text_keeps : {X : Type 0} (bytes : X → List ℕ) (text : List ℕ) (r : Result X Stop) → IfOk r (λ x. IsCompiled text (bytes x)) → IfOk r (λ x. KeepsPromise text (bytes x))

@@ -5,6 +5,7 @@ pub mod WrittenRows
 pub mod Layers
 pub mod LoweredShape
 pub mod WrittenShape
+pub mod WrittenCells
 pub mod TextLayers
 pub mod TextWords
 pub mod TextGuards

@@ -17,6 +17,7 @@ use Rattle.cx_vtree.specs.Plain.{PlainSource}
 use Rattle.cx_vtree.specs.SimRun.{Outcome, DoneAt, LoopAt, NotDone, SimRun}
 use Rattle.cx_vtree.proofs.Runs.{one_outcome}
 use Rattle.cx_power.specs.Resets.{IsReset}
+use Rattle.cx_scripts.specs.Always.{RealisesAlways}
 use Rattle.cx_compiler.specs.Texts.{IsDesignOf}
 use Rattle.cx_compiler.specs.Interpreted.{told_of, loaded_result, design_result, Interprets}
 use Rattle.cx_commands.specs.declared.stops.Stop.TheVariants as stops
@@ -195,7 +196,7 @@ of_source : (verilog : List ℕ) (source : PlainSource) → IsVerilogOf verilog 
 of_source verilog source spelled json budget result (inl h) = subst (λ s. SourceDoes s json budget result) (one_source_of verilog h.0 source h.1 spelled) h.2
 of_source verilog source spelled json budget result (inr h) = absurd (h.1.no_source source spelled)
 
-module _ (text verilog : List ℕ) (d : PlainDesign) (source : PlainSource) (stands : IsDesignOf text d) (spelled : IsVerilogOf verilog source) (is : Realises d source) (reset : IsReset source) where
+module _ (text verilog : List ℕ) (d : PlainDesign) (source : PlainSource) (stands : IsDesignOf text d) (spelled : IsVerilogOf verilog source) (is : Realises d source) (reset : IsReset source) (always : RealisesAlways d source) where
   -- the rows of the source are those of the design
   does : (json : List ℕ) (budget : ℕ) (result : Told) → LoadedDoes source budget (load_of json (external_rows d)) result → Simulates verilog json budget result
   does json budget result h = inl (source, spelled, subst (λ rows. LoadedDoes source budget (load_of json rows) result) (sym is.rows) h)
@@ -225,8 +226,10 @@ module _ (text verilog : List ℕ) (d : PlainDesign) (source : PlainSource) (sta
     quiet = λ json budget kind path turn h.
         does json turn (Err (stops.More turn)) (does_nothing d source is json budget kind path turn (load_of json (external_rows d)) refl (of_design text d stands json budget (Err (stops.Fault kind path turn)) h));
     from_power = does_so;
+    always = λ own text_source design spelling.
+        subst (λ x. RealisesAlways x text_source) (one_design text d own stands design) (subst (RealisesAlways d) (one_source_of verilog source text_source spelled spelling) always);
     no_loop = λ json budget net h. no_loop_does d source is json budget net (load_of json (external_rows d)) refl (did json budget (Err (stops.Loop net)) h);
   }
 
 pub promise_is_kept : PromiseIsKept
-promise_is_kept text verilog h = kept_by text verilog h.design h.written.source h.stands h.written.spelled h.written.realises h.written.reset
+promise_is_kept text verilog h = kept_by text verilog h.design h.written.source h.stands h.written.spelled h.written.realises h.written.reset h.written.always

@@ -48,18 +48,21 @@ get_or_at [] n k e = absurd (cc)
 get_or_at (m ∷ ns) zero k e = let same : m ≡ k = cc in same
 get_or_at (m ∷ ns) (suc n) k e = get_or_at ns n k e
 
-place_there : (k : ℕ) (ns : List ℕ) → has_number k ns ≡ true → get_or ns (place_in k ns) 0 ≡ k
-place_there k [] h = absurd (cc)
-place_there k (n ∷ ns) h = by (eqb_tells k n) (place_there k ns) where
-  by : Tells k n → (has_number k ns ≡ true → get_or ns (place_in k ns) 0 ≡ k) → get_or (n ∷ ns) (place_in k (n ∷ ns)) 0 ≡ k
-  by (inl e) later = ap (λ b. get_or (n ∷ ns) (if b then 0 else (if has_number k ns then suc (place_in k ns) else 0)) 0) e.0 ∙ sym e.1
+pub place_at : (k : ℕ) (ns : List ℕ) → has_number k ns ≡ true → slice_get ns (place_in k ns) ≡ Some k
+place_at k [] h = absurd (cc)
+place_at k (n ∷ ns) h = by (eqb_tells k n) (place_at k ns) where
+  by : Tells k n → (has_number k ns ≡ true → slice_get ns (place_in k ns) ≡ Some k) → slice_get (n ∷ ns) (place_in k (n ∷ ns)) ≡ Some k
+  by (inl e) later = ap (λ b. slice_get (n ∷ ns) (if b then 0 else (if has_number k ns then suc (place_in k ns) else 0))) e.0 ∙ ap Some (sym e.1)
   by (inr e) later =
       let rest : has_number k ns ≡ true = ap (λ b. b || has_number k ns) (sym e.0) ∙ h in
-      ap (λ b. get_or (n ∷ ns) (if b then 0 else (if has_number k ns then suc (place_in k ns) else 0)) 0) e.0
-      ∙ ap (λ b. get_or (n ∷ ns) (if b then suc (place_in k ns) else 0) 0) rest
+      ap (λ b. slice_get (n ∷ ns) (if b then 0 else (if has_number k ns then suc (place_in k ns) else 0))) e.0
+      ∙ ap (λ b. slice_get (n ∷ ns) (if b then suc (place_in k ns) else 0)) rest
       ∙ later rest
 
-timer_at : (cells : List PlainCell) (n : ℕ) (cell : PlainCell) → AreTimers cells → slice_get cells n ≡ Some cell → IsTimer cell
+place_there : (k : ℕ) (ns : List ℕ) → has_number k ns ≡ true → get_or ns (place_in k ns) 0 ≡ k
+place_there k ns h = get_or_at ns (place_in k ns) k (place_at k ns h)
+
+pub timer_at : (cells : List PlainCell) (n : ℕ) (cell : PlainCell) → AreTimers cells → slice_get cells n ≡ Some cell → IsTimer cell
 timer_at [] n cell are e = absurd (cc)
 timer_at (c ∷ cells) zero cell are e = let same : c ≡ cell = cc in subst IsTimer same are.0
 timer_at (c ∷ cells) (suc n) cell are e = timer_at cells n cell are.1 e

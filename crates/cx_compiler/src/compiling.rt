@@ -24,6 +24,7 @@ use cx_emit::emit;
 use cx_fsm::build;
 use cx_holes::inline;
 use cx_net::Net;
+use cx_scripts::laws::sources_realise_always;
 use cx_static::lower;
 use cx_text::{COMPILE_SIZE, Diagnostic, Memory, Name, Place, Rule};
 use cx_vtree::Source;
@@ -32,7 +33,8 @@ use itoa::Buffer;
 use std::alloc::Global;
 
 /// Writes the Verilog text of a design that is accepted and within the size that is compiled. What it writes keeps the promise: it is done
-/// first in the cycle, and with the bytes, with which the interpreter ends, and never where the interpreter needs more turns.
+/// first in the cycle, and with the bytes, with which the interpreter ends, and never where the interpreter needs more turns; and from any power-up
+/// state each run begins where the one before ended, with waits between.
 pub fn compile(alloc: Global, text: &[u8]) -> Result<Vec<u8>, Stop>
     requires { length text.now ≤ 1048576 }
     ensures answer { IfOk result (λ verilog. IsCompiled text.now verilog.items) }
@@ -46,6 +48,7 @@ pub fn compile(alloc: Global, text: &[u8]) -> Result<Vec<u8>, Stop>
     ensures all_refusals { (told : DiagnosticValue) → CompileBreak text.now told
         → MatchResult result (λ _. ⊥) (λ stop. (stop ≡ stops.Memory) ⊎ (stop ≡ stops.Rule told)) }
 {
+    sources_realise_always();
     match accepted_design(alloc, text) {
         Ok(design) => compile_design(alloc, &design),
         Err(stop) => Err(stop),

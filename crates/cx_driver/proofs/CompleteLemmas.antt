@@ -1,10 +1,11 @@
 -- Files that give an answer stop no command, and what stops one has one status.
 use Rattle.std.proofs.Common.{◌≡◌, ◌⊎◌, inl, inr, ⊎_elim, ℕ, List, Option, Some, None, Ok, Err, codes, sym, ap, ◌∙◌, subst}
 use Rattle.cx_outside.specs.Counts.{HasRisen}
+use Rattle.cx_text.specs.declared.diagnostics.Diagnostic.{Diagnostic}
 use Rattle.cx_text.specs.declared.limits.TheConstants.{DESIGN_BYTES, DATA_BYTES, VERILOG_BYTES}
 use Rattle.cx_commands.specs.Commands.{Asked, compile, interp, check, sim, trial, share, promote, weave, wanted_by}
 use Rattle.cx_compiler.specs.Compiled.{IsCompilable, Compiles}
-use Rattle.cx_compiler.specs.Texts.{IsAcceptedText}
+use Rattle.cx_compiler.specs.Texts.{IsAcceptedText, TextBreak}
 use Rattle.cx_compiler.specs.Interpreted.{Interprets}
 use Rattle.cx_compiler.specs.Simulated.{Simulates}
 use Rattle.cx_compiler.proofs.Once.{Told, not_both, same_stop}
@@ -38,14 +39,20 @@ checks_once text answer stop (inl h) (inl k) = not_both (codes "accepted\n") sto
 checks_once text answer stop (inl h) (inr k) = accepted_once text k.0 h.0 k.1
 checks_once text answer stop (inr h) k = not_both answer (stops.Rule h.0) h.2
 
+-- the rule that is told of a text
+pub checks_told : (text : List ℕ) (stop : Stop) → Checks text (Err stop) → (told : Diagnostic) × (stop ≡ stops.Rule told) × TextBreak text told
+checks_told text stop (inl h) = absurd (not_both (codes "accepted\n") stop (sym h.1))
+checks_told text stop (inr h) = (h.0, same_stop stop (stops.Rule h.0) h.2, h.1)
+
 -- the status of what stops a command
 abbrev stop_status : Stop → Status
 stop_status stop = status_of (refusals.Stop stop)
 
 checks_status : (text other : List ℕ) (a b : Stop) → Checks text (Err a) → Checks other (Err b) → stop_status a ≡ stop_status b
-checks_status text other a b (inl h) k = absurd (not_both (codes "accepted\n") a (sym h.1))
-checks_status text other a b (inr h) (inl k) = absurd (not_both (codes "accepted\n") b (sym k.1))
-checks_status text other a b (inr h) (inr k) = ap stop_status (same_stop a (stops.Rule h.0) h.2) ∙ sym (ap stop_status (same_stop b (stops.Rule k.0) k.2))
+checks_status text other a b h k =
+    let first = checks_told text a h in
+    let second = checks_told other b k in
+    ap stop_status first.1 ∙ sym (ap stop_status second.1)
 
 simulated_status : (text json : List ℕ) (budget : ℕ) (a b : Stop) → Simulates text json budget (Err a) → Simulates text json budget (Err b) → stop_status a ≡ stop_status b
 simulated_status text json budget a b (inl h) k = ap stop_status (same_stop a b (spelled_once text json budget (Err a) (Err b) h k))
@@ -157,17 +164,17 @@ module _ (holds : List ℕ → Option (List ℕ)) where
   stop_alone command before after why (refusals.Stop stop) h never (inr does) = inl (same_status command stop why does h)
 
 -- a trial reads no file, so this holds of it whatever files hold
-abbrev OfAnyTrial : (Asked → Held → Type 0) → Type 0
+abbrev pub OfAnyTrial : (Asked → Held → Type 0) → Type 0
 OfAnyTrial R = (seed : ℕ) (h k : Held) → R (trial seed) h → R (trial seed) k
 
-cause_of_trial : (before after : ℕ) (refusal : Refusal) → OfAnyTrial (λ command held. HasCause command held before after refusal)
+pub cause_of_trial : (before after : ℕ) (refusal : Refusal) → OfAnyTrial (λ command held. HasCause command held before after refusal)
 cause_of_trial before after (refusals.TooLong file seen) seed h k cause = elim cause [ ]
 cause_of_trial before after (refusals.ReadFault file) seed h k cause = elim cause [ ]
 cause_of_trial before after (refusals.Stop stop) seed h k cause = cause
 
 -- so both hold of told files
 module _ (P R : Asked → Held → Type 0) (p_any : OfAnyTrial P) (r_any : OfAnyTrial R) where
-  told_some : (command : Asked) (held : Held) → OfTold command held (P command) → R command held → (holds : List ℕ → Option (List ℕ)) × P command (Some holds) × R command (Some holds)
+  pub told_some : (command : Asked) (held : Held) → OfTold command held (P command) → R command held → (holds : List ℕ → Option (List ℕ)) × P command (Some holds) × R command (Some holds)
   told_some (trial seed) held so own = (λ file. None, p_any seed held (Some (λ file. None)) so, r_any seed held (Some (λ file. None)) own)
   told_some (compile design) None so own = absurd so
   told_some (compile design) (Some holds) so own = (holds, so, own)

@@ -17,3 +17,4 @@ pub mod TrialDepth
 pub mod FilePromise
 pub mod AlikeLemmas
 pub mod NoLaterLemmas
+pub mod LineLemmas

@@ -9,3 +9,4 @@ pub mod Alike
 pub mod NoLater
 pub mod Outcomes
 pub mod Causes
+pub mod Lines

@@ -18,6 +18,7 @@ ghost use Rattle.cx_commands.specs.declared.refusals.Refusal.TheVariants as refu
 ghost use Rattle.cx_commands.specs.declared.refusals.Status.TheVariants as statuses;
 ghost use Rattle.cx_commands.specs.declared.stops.Stop.{Stop as StopValue};
 ghost use Rattle.cx_driver.specs.Causes.{HasCause, IsMemory, IsOfFile, IsTold, IsTrueOfFile, ToldWhy};
+ghost use Rattle.cx_driver.specs.Lines.{HasOneLine};
 ghost use Rattle.cx_commands.specs.Statuses.{IsRefusing, ReceivesLine, fixed_line, status_of};
 
 use crate::interpreting::interp;
@@ -78,6 +79,10 @@ pub fn run<F: Files, O: Sink, E: Sink>(
     // Where the files are told, or none is read, and they stop the command, and no read failed, the status is that of what stops it, but for want of memory.
     ensures all_stops { (command : Asked) (why : StopValue) → Asks words.now command → OfTold command (F.held files.old) (λ held. IsStopped held command why)
         → (HasRisen (F.faults files.old) (F.faults files.new) → ⊥) → (result ≡ status_of (refusals.Stop why)) ⊎ (result ≡ statuses.Memory) }
+
+    // And that is told by its line, but for a Verilog text that spells no sound source, and a rule that the design of a seed breaks.
+    ensures all_lines { (command : Asked) (why : StopValue) → Asks words.now command → HasOneLine command why → OfTold command (F.held files.old) (λ held. IsStopped held command why)
+        → (HasRisen (F.faults files.old) (F.faults files.new) → ⊥) → IsTold (refusals.Stop why) result (E.written err.old) (E.faults err.old) (E.written err.new) (E.faults err.new) }
 
     // Where the files are told, and one is over its limit or is not there, behind others that are within theirs, it is told, but for want of memory.
     ensures all_files { (command : Asked) (why : RefusalValue) → Asks words.now command → IsSomeAnd (F.held files.old) (λ holds. IsTrueOfFile command holds why)

@@ -95,7 +95,7 @@ module _ (source : PlainSource) where
       either false = refl
 
   -- all power-up states lead to one
-  alike_after : IsReset source → (loaded : List (List ℕ)) (s t : State) → HasPower source loaded s → HasPower source loaded t → (go other : ℕ) (look nets : Look)
+  pub alike_after : IsReset source → (loaded : List (List ℕ)) (s t : State) → HasPower source loaded s → HasPower source loaded t → (go other : ℕ) (look nets : Look)
       → Alike tree (after_power source go look s) (after_power source other nets t)
   alike_after is loaded s t hs ht go other look nets = record {
     registers = λ i name w e. zero_after is (held_in_reset go s) refl look i name w e ∙ sym (zero_after is (held_in_reset other t) refl nets i name w e);

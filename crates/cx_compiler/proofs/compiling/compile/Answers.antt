@@ -17,7 +17,7 @@ returns-in-Ok c =
     let text = c.args.text.now in
     let d = plain_design c.in-Ok.design in
     let r = c.compile_design.result in
-    let answer = text_written (λ v. v.items) text d r c.in-Ok.ensures.design c.compile_design.ensures.meaning c.compile_design.ensures.answer in
+    let answer = text_written (λ v. v.items) text d r c.in-Ok.ensures.design c.sources_realise_always.ensures c.compile_design.ensures.meaning c.compile_design.ensures.answer in
     let cause = text_too_large text d r c.in-Ok.ensures.design c.compile_design.ensures.cause in
     record {
       answer = answer;

@@ -1,4 +1,4 @@
-use Rattle.std.proofs.Common.{List, ℕ, refl}
+use Rattle.std.proofs.Common.{List, ℕ, refl, subst}
 use Rattle.cx_commands.specs.Statuses.{ReceivesLine}
 use Rattle.cx_commands.specs.Asked.{asked_of}
 use Rattle.cx_commands.specs.declared.refusals.Status.TheVariants as statuses
@@ -7,6 +7,8 @@ use Rattle.cx_commands.proofs.CommandLemmas.{has_list, one_command}
 use Rattle.cx_commands.specs.Commands as asked
 use Rattle.cx_driver.proofs.CompleteLemmas.{complete_asked, stopped_asked}
 use Rattle.cx_driver.proofs.FileLemmas.{file_asked}
+use Rattle.cx_driver.specs.Lines.{HasOneLine}
+use Rattle.cx_driver.proofs.LineLemmas.{line_told}
 use Rattle.cx_driver.proofs.AlikeLemmas.{shared_of_file}
 use Rattle.cx_driver.proofs.FilePromise.{kept_of_file}
 use Rattle.cx_driver.proofs.NoLaterLemmas.{promoted_of_file}
@@ -73,3 +75,15 @@ returns-in-Some-clause-all_files g c = λ command why asks so never.
 
 pub returns-in-None-clause-all_files : goal.returns-in-None-clause-all_files
 returns-in-None-clause-all_files g c = λ command why asks so never. absurd (c.in-None.ensures command asks)
+
+pub returns-in-Some-clause-all_lines : goal.returns-in-Some-clause-all_lines
+returns-in-Some-clause-all_lines g c = λ command why asks one stopped never.
+    let own = asked_of c.in-Some.command in
+    let same = one_command c.args.words.now command own asks c.in-Some.ensures in
+    let held = g.F.Files.held c.args.files.now in
+    let so = stopped_asked held command own why same stopped in
+    line_told held own (g.F.Files.faults c.args.files.now) (g.F.Files.faults c.obey.new.files) why c.obey.result (g.E.Sink.written c.args.err.now) (g.E.Sink.faults c.args.err.now)
+    (g.E.Sink.written c.obey.new.err) (g.E.Sink.faults c.obey.new.err) (subst (λ x. HasOneLine x why) same one) so never (c.obey.ensures.all_stops why so never) c.obey.ensures.cause
+
+pub returns-in-None-clause-all_lines : goal.returns-in-None-clause-all_lines
+returns-in-None-clause-all_lines g c = λ command why asks one stopped never. absurd (c.in-None.ensures command asks)

@@ -1,0 +1,12 @@
+pub mod AheadLemmas
+pub mod MachineLemmas
+pub mod BlockLemmas
+pub mod FormLemmas
+pub mod GroundLemmas
+pub mod RootLemmas
+pub mod NetCycles
+pub mod NetLemmas
+pub mod HoleLemmas
+pub mod SourceLemmas
+pub mod PowerLemmas
+pub mod AlwaysLemmas

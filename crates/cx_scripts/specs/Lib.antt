@@ -1,0 +1,4 @@
+pub mod Scripts
+pub mod Stays
+pub mod Always
+pub mod Laws
