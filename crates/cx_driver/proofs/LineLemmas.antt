@@ -3,7 +3,7 @@ use Rattle.std.proofs.Common.{◌≡◌, ◌⊎◌, inl, inr, ℕ, List, Option,
 use Rattle.cx_text.specs.declared.diagnostics.Diagnostic.{Diagnostic}
 use Rattle.cx_text.specs.declared.limits.TheConstants.{DESIGN_BYTES, DATA_BYTES, VERILOG_BYTES}
 use Rattle.cx_outside.specs.Counts.{HasRisen}
-use Rattle.cx_commands.specs.Commands.{Asked, compile, interp, check, sim, trial, share, weave, wanted_by}
+use Rattle.cx_commands.specs.Commands.{Asked, compile, interp, check, sim, trial, share, promote, weave, wanted_by}
 use Rattle.cx_commands.specs.Lists.{numbers_in}
 use Rattle.cx_commands.specs.Messages.{line_of}
 use Rattle.cx_commands.specs.Statuses.{IsRefusing, ReceivesLine, status_of}
@@ -24,13 +24,14 @@ use Rattle.cx_trial.specs.TrialTree.{trial_tree}
 use Rattle.cx_driver.specs.Causes.{HasCause, ToldWhy, IsTold}
 use Rattle.cx_driver.specs.Lines.{HasOneLine}
 use Rattle.cx_driver.specs.Outcomes.{Checks, IsStopped, OfTold}
-use Rattle.cx_driver.specs.Sharing.{Shares}
+use Rattle.cx_driver.specs.Promoting.{PromotesTree}
+use Rattle.cx_driver.specs.Sharing.{IsSharedTree}
 use Rattle.cx_driver.specs.Tried.{Tries}
 use Rattle.cx_driver.specs.Weaving.{Weaves}
 use Rattle.cx_driver.proofs.CompleteLemmas.{cause_of_trial, checks_told, does_read, told_some}
 use Rattle.cx_driver.proofs.InterpLemmas.{one_result}
 use Rattle.cx_driver.proofs.ReadLemmas.{Held, none_over, none_unread, same_bytes}
-use Rattle.cx_driver.proofs.SharingLemmas.{shares_told}
+use Rattle.cx_driver.proofs.RewritingLemmas.{rewrites_told}
 use Rattle.cx_driver.proofs.SimLemmas.{spelled_once}
 use Rattle.cx_driver.proofs.TrialLemmas.{one_line}
 use Rattle.cx_driver.proofs.WovenLemmas.{one_woven}
@@ -69,7 +70,9 @@ module _ (holds : List ℕ → Option (List ℕ)) where
       simulated_so k.bytes k.is.bytes budget a b one (subst (λ d. Simulates k.bytes d budget (Err a)) loaded own) k.is.is
   one_stop (trial seed) a b one h k = tried_so seed a b one h k
   one_stop (share design) a b one h k =
-      one_rule h.bytes k.bytes (same_bytes holds DESIGN_BYTES DESIGN_BYTES design h.bytes k.bytes h.reads k.reads) a b (shares_told h.bytes a h.is) (shares_told k.bytes b k.is)
+      one_rule h.bytes k.bytes (same_bytes holds DESIGN_BYTES DESIGN_BYTES design h.bytes k.bytes h.reads k.reads) a b (rewrites_told IsSharedTree h.bytes a h.is) (rewrites_told IsSharedTree k.bytes b k.is)
+  one_stop (promote design) a b one h k =
+      one_rule h.bytes k.bytes (same_bytes holds DESIGN_BYTES DESIGN_BYTES design h.bytes k.bytes h.reads k.reads) a b (rewrites_told PromotesTree h.bytes a h.is) (rewrites_told PromotesTree k.bytes b k.is)
   one_stop (weave design json steps list) a b one h k =
       let text = same_bytes holds DESIGN_BYTES DESIGN_BYTES design h.bytes k.bytes h.reads k.reads in
       let loaded = same_bytes holds DATA_BYTES DATA_BYTES json h.is.bytes k.is.bytes h.is.reads k.is.reads in

@@ -22,7 +22,7 @@ module _ (Writes : PlainTree → List ℕ → Type 0) where
   rewritten_accepted text answer h = (h.tree, h.has, h.accepted)
 
   -- the rule that stops it
-  rewrites_told : (text : List ℕ) (stop : Stop) → Rewrites Writes text (Err stop) → (told : Diagnostic) × (stop ≡ stops.Rule told) × TextBreak text told
+  pub rewrites_told : (text : List ℕ) (stop : Stop) → Rewrites Writes text (Err stop) → (told : Diagnostic) × (stop ≡ stops.Rule told) × TextBreak text told
   rewrites_told text stop (inl h) = absurd (not_both h.0 stop (sym h.2))
   rewrites_told text stop (inr h) = (h.0, same_stop stop (stops.Rule h.0) h.2, h.1)
 

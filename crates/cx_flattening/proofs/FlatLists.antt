@@ -77,18 +77,20 @@ island_acts (Node part cells) form h k t fair controlled static agree inputs onc
   where
     zero_plus : (a : ℕ) → a ≡ 0 + a
     zero_plus a = omega arith
+
     found : Found (Node part cells) [] (λ g. g) (groups_in (flat_form (flat_kids cells) part form)) (deeds_in h t (island_events (Node part cells) form))
         (active_in k t (form_flat (flat_part (Node part cells)) (copied_form (λ q. q) (λ g. g) (flat_form (flat_kids cells) part form)) 0 []))
     found =
         form_found h k t part cells fair.0 controlled.0 (kids_last cells fair.1 controlled.1) (kids_within h t cells controlled.1) (kids_found h k t cells fair.1 controlled.1) (flat_part (Node part cells)) (λ q. q) (λ g. g) 0 [] (spot [])
         (record { cells = λ e p. ap (λ n. ports.Cell n p) (zero_plus e); literals = λ w v. refl; inputs = λ n less u. inputs n u; own_cells = λ c p. refl; own_literals = λ w v. refl }) agree form
         static.enables static.timed static.tests (λ g i. refl) 0 [] [] refl
+
     whole : Found (Node part cells) [] (λ g. g) (groups_in (flat_form (flat_kids cells) part form)) (deeds_in h t (island_events (Node part cells) form))
         (active_in k t (form_flat (flat_part (Node part cells)) (copied_form (λ q. q) (λ g. g) (flat_form (flat_kids cells) part form)) 0 []))
         → ActsAs (Node part cells) (entries (own_entries (deeds_in h t (island_events (Node part cells) form)))) (deeds_in h t (island_events (Node part cells) form)) (entries (active_in k t (form_flat (flat_part (Node part cells)) (flat_form (flat_kids cells) part form) 0 [])))
     whole r =
         let done : deeds_in h t (island_events (Node part cells) form) ≡ r.deeds = r.are_deeds ∙ lower_still r.deeds in
         let acting : active_in k t (form_flat (flat_part (Node part cells)) (flat_form (flat_kids cells) part form) 0 []) ≡ r.entries =
-            ap (λ x. active_in k t (form_flat (flat_part (Node part cells)) x 0 [])) (sym (form_still (flat_form (flat_kids cells) part form))) ∙ r.are_entries ∙ entries_still r.entries in
+        ap (λ x. active_in k t (form_flat (flat_part (Node part cells)) x 0 [])) (sym (form_still (flat_form (flat_kids cells) part form))) ∙ r.are_entries ∙ entries_still r.entries in
         subst (λ es. ActsAs (Node part cells) (entries (own_entries (deeds_in h t (island_events (Node part cells) form)))) (deeds_in h t (island_events (Node part cells) form)) (entries es)) (sym acting)
         (subst (λ ds. ActsAs (Node part cells) (entries (own_entries ds)) ds (entries r.entries)) (sym done) (acts_of (Node part cells) fair r.deeds r.entries r.pairs (subst (FedOnce (Node part cells)) done once)))

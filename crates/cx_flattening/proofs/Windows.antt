@@ -129,9 +129,9 @@ module _ (h : History) (t : ℕ) where
         let its = controlled.invokes j there in
         let start : Beginning = record { at = b.at ++ (v.cell ∷ []); bound = bound_below b.bound b.at v.cell v.inputs; from = b.from; conditions = b.conditions } in
         let child : Within b (or_zero v.latency) (events_below cells v.cell start) =
-            subst (λ l. Within b (or_zero v.latency) l) (sym (events-child cells v.cell its.child start its.stands)) (subst (λ n. Within b n (control_events its.child start)) (sym its.latency) (below v.cell its.child its.stands start)) in
+        subst (λ l. Within b (or_zero v.latency) l) (sym (events-child cells v.cell its.child start its.stands)) (subst (λ n. Within b n (control_events its.child start)) (sym its.latency) (below v.cell its.child its.stands start)) in
         let capture : Within b (or_zero v.latency + capture_length v.captures) (capture_events v.captures (later_by (or_zero v.latency) b)) =
-            later_within b (or_zero v.latency) (capture_length v.captures) (capture_events v.captures (later_by (or_zero v.latency) b)) (capture_within v.captures (later_by (or_zero v.latency) b)) in
+        later_within b (or_zero v.latency) (capture_length v.captures) (capture_events v.captures (later_by (or_zero v.latency) b)) (capture_within v.captures (later_by (or_zero v.latency) b)) in
         feeds v start (both_within b (or_zero v.latency + capture_length v.captures) (events_below cells v.cell start) (capture_events v.captures (later_by (or_zero v.latency) b))
         (wider b (or_zero v.latency) (or_zero v.latency + capture_length v.captures) (events_below cells v.cell start) (omega arith) child) capture)
       where
@@ -166,6 +166,7 @@ module _ (h : History) (t : ℕ) where
         where
           left_max : (a c : ℕ) → a ≤ max a c
           left_max a c = omega arith
+
           right_max : (a c : ℕ) → c ≤ max a c
           right_max a c = omega arith
       form_within (StaticRepeat length count x) there b d i = rounds_within (events part (events_below cells) x) (lasts part x) (λ e. one_within x there e) count b d i
@@ -190,6 +191,7 @@ module _ (h : History) (t : ℕ) where
         where
           left_max : (a c : ℕ) → a ≤ max a c
           left_max a c = omega arith
+
           right_max : (a c : ℕ) → c ≤ max a c
           right_max a c = omega arith
 
