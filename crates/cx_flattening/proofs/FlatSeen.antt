@@ -27,7 +27,7 @@ use Rattle.cx_flattening.proofs.FlatChildren.{idle_played, fed_played}
 abbrev pub Alive : Instance → List Deed → (ℕ → Type 0) → Type 0
 Alive i deeds inputs = (d : ℕ) (sources : List PlainAssign) → fed_by d deeds ≡ Some sources → (n : ℕ) → n < length (part_of i).inputs → inputs n
 
-none_fed : (d : ℕ) (deeds : List Deed) (sources : List PlainAssign) → deeds ≡ [] → fed_by d deeds ≡ Some sources → ⊥
+pub none_fed : (d : ℕ) (deeds : List Deed) (sources : List PlainAssign) → deeds ≡ [] → fed_by d deeds ≡ Some sources → ⊥
 none_fed d deeds sources e f = let none : None ≡ Some sources = sym (ap (fed_by d) e) ∙ f in cc
 
 module _ (host : Instance) (host_held : Held) (more : Active) (z : State) (acyclic : IsAcyclic host more) (deeper : AcyclicBelow (cells_of host)) where

@@ -31,3 +31,5 @@ mod FlatDeeds
 mod FlatActs
 mod FlatLists
 mod FlatSpots
+mod FlatLooks
+mod IdleStands
