@@ -100,6 +100,9 @@ module _ (part : PlainComponent) (cells : Cells) (flat : Instance) (held : Held)
           ap (λ n. unless_fault (first_fault (outcome_of every_cell (seen flat held more z) (cells_of flat) z) 0 n) (state_after (outcome_of every_cell (seen flat held more z) (cells_of flat) z) z)) beside.flattened.2
           ∙ ap (λ f. unless_fault f (state_after (outcome_of every_cell (seen flat held more z) (cells_of flat) z) z)) h
 
+pub top_played : (i flat : Instance) (held : Held) (act more : Active) (deeds : List Deed) (s z : State) → IsBeside i flat act more deeds s z → IsPlayed flat held more z i 0 (λ q. q) held act more s all_numbers all_numbers all_numbers
+top_played (Node part cells) flat held act more deeds s z beside = played part cells flat held act more deeds s z beside
+
 -- EACH PORT of the caller is seen in the flat instance as in the tree
 pub flat_seen : (i flat : Instance) (held : Held) (act more : Active) (deeds : List Deed) (s z : State) (p : PortRef) → IsBeside i flat act more deeds s z → IsKnown i p → seen flat held more z (own_of i p) ≡ seen i held act s p
 flat_seen (Node part cells) flat held act more deeds s z p beside known = top_seen part cells flat held act more deeds s z beside p known

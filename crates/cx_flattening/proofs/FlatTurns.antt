@@ -37,6 +37,9 @@ mutual
       λ static. (nothing, refl, still_acts child, inl (record { unfed = refl; none_below = refl; still = λ g. refl; copies = λ j g its used. still c j g (flat_part child) its used })),
       all_still kids part more still rest (suc c))
 
+pub still_tops : (i : Instance) → ActsAs i nothing [] nothing
+still_tops (Node part cells) = (λ g less. refl, all_still (flat_kids cells) part nothing (λ c j g kid its used. refl) cells 0)
+
 -- a group alone
 only_still : (kids : Kids) (part : PlainComponent) (h : ℕ) → h < length part.groups → (c j g : ℕ) (kid : PlainComponent) → IsOf part c j → IsUsed kid g → only_at h (copy_of kids part kid j g) ≡ None
 only_still kids part h less c j g kid its used = ap (λ b. if b then Some 0 else None) (ne_eqb h (copy_of kids part kid j g) (λ same. omega (arith, less, same)))

@@ -33,3 +33,4 @@ mod FlatLists
 mod FlatSpots
 mod FlatLooks
 mod IdleStands
+mod FlatIslands
