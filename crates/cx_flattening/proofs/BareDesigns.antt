@@ -1,12 +1,11 @@
 -- No static invoke stands in a design without static components, and no cell is of one.
-use Rattle.std.proofs.Common.{◌≡◌, ℕ, zero, suc, ◌<◌, inl, inr, false, List, [], ◌∷◌, ◌++◌, length, None, is_some, refl, ap, ◌∙◌, sym, subst, arith}
-use Rattle.cx_meaning.specs.Designs.{PlainKind, OfPrimitive, OfComponent, PlainCell, PlainComponent, PlainDesign, component_at, PlainForm, Empty, Enable, Seq, Par, If, While, Repeat, StaticSeq, StaticPar, StaticIf, StaticRepeat, Timed, PlainStatement, Placed, PlainStatements, no_statements, a_statement}
-use Rattle.cx_meaning.specs.Instances.{Instance, Cells, part_of, add_cell, cells_for, tree_within, tree_of}
+use Rattle.std.proofs.Common.{◌≡◌, ℕ, zero, suc, ◌<◌, inl, inr, false, List, [], ◌∷◌, ◌++◌, length, is_some, refl, ap, ◌∙◌, subst, arith}
+use Rattle.cx_meaning.specs.Designs.{PlainKind, OfPrimitive, OfComponent, PlainCell, PlainDesign, component_at, PlainForm, Empty, Enable, Seq, Par, If, While, Repeat, StaticSeq, StaticPar, StaticIf, StaticRepeat, Timed, PlainStatement, Placed, PlainStatements, no_statements, a_statement}
+use Rattle.cx_meaning.specs.Instances.{Instance, Cells, add_cell, cells_for, tree_within, tree_of}
 use Rattle.cx_meaning.specs.Sights.{In}
 use Rattle.cx_meaning.proofs.SightsLaws.{in_left, in_right}
 use Rattle.cx_meaning.proofs.DesignsLemmas.{same_part}
 use Rattle.cx_rules.specs.Items.{Context, Dynamic, InStatic, Branch, below_dynamic, Visited, visit, visit_parts, visit_all}
-use Rattle.cx_rules.specs.Ports.{component_of}
 use Rattle.cx_rules.specs.Wellformed.{IsForm, IsKind, IsDesign}
 use Rattle.cx_rules.specs.Flat.{IsFlat}
 use Rattle.cx_flattening.specs.Whole.{is_static}
@@ -87,8 +86,9 @@ module _ (d : PlainDesign) (design : IsDesign d) (flat : IsFlat d) where
   bare_tree : (m k : ℕ) → k < length d.components → BareTree (tree_within d m k)
   bare_tree zero k there = (bare_one Dynamic (component_at d k).control (none_timed k there), (tt, tt))
   bare_tree (suc m) k there = (
-      bare_one Dynamic (component_at d k).control (none_timed k there),
-      (none_static m (component_at d k).cells (kinds_of k there), bare_cells (tree_within d m) (λ j h. bare_tree m j h) (component_at d k).cells (kinds_of k there)))
+    bare_one Dynamic (component_at d k).control (none_timed k there),
+    (none_static m (component_at d k).cells (kinds_of k there), bare_cells (tree_within d m) (λ j h. bare_tree m j h) (component_at d k).cells (kinds_of k there)),
+  )
 
 pub bare_design : (d : PlainDesign) → IsDesign d → IsFlat d → BareTree (tree_of d)
 bare_design d design flat = bare_tree d design flat (length d.components) d.main design.main_there

@@ -1,8 +1,8 @@
 -- What acts of a copy of assignments.
-use Rattle.std.proofs.Common.{◌≡◌, ℕ, Bool, true, false, List, [], ◌∷◌, ◌++◌, map, Option, Some, None, inl, inr, refl, sym, ap, ◌∙◌}
+use Rattle.std.proofs.Common.{◌≡◌, ℕ, Bool, true, false, List, [], ◌∷◌, map, Option, Some, None, inl, inr, refl, ap, ◌∙◌}
 use Rattle.cx_meaning.specs.declared.ports.PortRef.{PortRef}
 use Rattle.cx_meaning.specs.Designs.{PlainAssign}
-use Rattle.cx_meaning.specs.Active.{Active, Owned, owned, offset_of, if_acting, if_target, same_port, acting}
+use Rattle.cx_meaning.specs.Active.{Active, owned, offset_of, if_acting, if_target, same_port, acting}
 use Rattle.cx_meaning.specs.Sights.{In}
 use Rattle.cx_rewrites.specs.Moving.{moved_assign, moved_acting}
 
@@ -19,6 +19,7 @@ module _ (f : PortRef → PortRef) (act other : Active) (p q : PortRef) (o c : O
           → if_acting k (moved_assign f a) (acting other q (owned c (map (moved_assign f) rest))) ≡ map (moved_acting f) (if_acting k a (acting act p (owned o rest)))
       offset None ih = ih
       offset (Some n) ih = ap (λ l. moved_acting f (record { offset = n; assign = a }) ∷ l) ih
+
       choice : (b : Bool) → acting other q (owned c (map (moved_assign f) rest)) ≡ map (moved_acting f) (acting act p (owned o rest))
           → if_target b other (record { owner = c; assign = moved_assign f a }) (acting other q (owned c (map (moved_assign f) rest)))
           ≡ map (moved_acting f) (if_target b act (record { owner = o; assign = a }) (acting act p (owned o rest)))

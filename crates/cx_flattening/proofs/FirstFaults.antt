@@ -1,5 +1,5 @@
 -- The first fault of cells that stand one behind the other.
-use Rattle.std.proofs.Common.{◌≡◌, ℕ, zero, suc, ◌+◌, Option, Some, None, refl, sym, ap, ◌∙◌, arith}
+use Rattle.std.proofs.Common.{◌≡◌, ℕ, zero, suc, ◌+◌, Option, refl, sym, ap, ◌∙◌, arith}
 use Rattle.cx_meaning.specs.Cycles.{Fault, Outcome, Next, Stops, first_of, first_fault}
 use Rattle.cx_flattening.specs.Deeds.{or_later}
 
@@ -13,6 +13,7 @@ first_split outcome c zero n = ap (λ k. first_fault outcome c k) (zero_plus n) 
   where
     zero_plus : (k : ℕ) → 0 + k ≡ k
     zero_plus k = omega arith
+
     plus_zero : (k : ℕ) → k + 0 ≡ k
     plus_zero k = omega arith
 first_split outcome c (suc m) n =
@@ -22,5 +23,6 @@ first_split outcome c (suc m) n =
   where
     suc_plus : (k j : ℕ) → suc k + j ≡ suc (k + j)
     suc_plus k j = omega arith
+
     plus_suc : (k j : ℕ) → suc k + j ≡ k + suc j
     plus_suc k j = omega arith

@@ -1,18 +1,18 @@
 -- WHAT ACTS of the flat component, where what is done in the tree stands beside it and no static child is fed twice.
-use Rattle.std.proofs.Common.{◌≡◌, ◌≢◌, ℕ, zero, suc, ◌+◌, ◌-◌, ◌<◌, ◌≤◌, inl, inr, ⊎_elim, Bool, true, false, cond, List, [], ◌∷◌, ◌++◌, length, map, get_or, Option, Some, None, nat_eq, refl, sym, ap, ◌∙◌, subst, arith}
+use Rattle.std.proofs.Common.{◌≡◌, ◌≢◌, ℕ, zero, suc, ◌+◌, ◌-◌, ◌<◌, ◌≤◌, inl, inr, ⊎_elim, Bool, true, false, List, [], ◌∷◌, ◌++◌, length, map, get_or, Option, Some, None, nat_eq, refl, sym, ap, ◌∙◌, subst, arith}
 use Rattle.std.specs.Prelude.{◌⊎◌, flat_map, take, if◌then◌else◌}
-use Rattle.std.proofs.lemmas.Bool.{cases_eq, cases_lt, ne_eqb, eq-eqb, eqb-true}
-use Rattle.cx_meaning.specs.Designs.{PlainAssign, PlainGroup, PlainInvoke, PlainComponent}
-use Rattle.cx_meaning.specs.Instances.{Instance, Node, Cells, no_cells, a_primitive, an_instance, OfInstance, part_of, cells_of, cell_at}
-use Rattle.cx_meaning.specs.Active.{Active, nothing, Entry, offset_in, entries}
+use Rattle.std.proofs.lemmas.Bool.{cases_eq, cases_lt, ne_eqb, eq-eqb}
+use Rattle.cx_meaning.specs.Designs.{PlainAssign, PlainInvoke, PlainComponent}
+use Rattle.cx_meaning.specs.Instances.{Instance, Node, Cells, no_cells, a_primitive, an_instance, OfInstance, cell_at}
+use Rattle.cx_meaning.specs.Active.{nothing, Entry, offset_in, entries}
 use Rattle.cx_meaning.specs.Control.{groups_of}
 use Rattle.cx_meaning.specs.Sights.{In}
 use Rattle.cx_flattening.specs.Invokes.{no_invoke, invoke_at}
 use Rattle.cx_flattening.specs.Deeds.{Deed, Acts, Fed, deed_if, own_entries, deeds_below}
 use Rattle.cx_flattening.specs.Whole.{is_static}
 use Rattle.cx_flattening.specs.Copies.{is_one_of, count_if, enabled_below, enabled_groups}
-use Rattle.cx_flattening.specs.Flattened.{Kids, kid_at, flat_kids, flat_part, copies, first_copy, copy_of}
-use Rattle.cx_flattening.specs.Acting.{fed_by, IsUsed, IsOf, IsIdle, IsFed, ActsAs, AllActAs}
+use Rattle.cx_flattening.specs.Flattened.{Kids, kid_at, flat_kids, flat_part, copies, copy_of}
+use Rattle.cx_flattening.specs.Acting.{fed_by, IsUsed, IsOf, ActsAs, AllActAs}
 use Rattle.cx_flattening.specs.Fair.{IsFair, AllFair, AllFairBelow}
 use Rattle.cx_flattening.specs.FedOnce.{one_more, count_fed, FedOnce, FedOnceBelow}
 use Rattle.cx_flattening.proofs.FlatAssigns.{length-both}
@@ -97,6 +97,7 @@ enabled_apart used g h is less = subst (λ k. enabled_below used g < enabled_bel
   where
     later : g < h → (n : ℕ) × (suc g + n ≡ h)
     later l = (h - suc g, omega (arith, l))
+
     step : (n : ℕ) → enabled_below used g < enabled_below used (suc g + n)
     step n = let grows = enabled_grows used (suc g) n in let one : enabled_below used (suc g) ≡ suc (enabled_below used g) = ap (λ b. count_if b (enabled_below used g)) is in omega (arith, grows, one)
 
@@ -139,6 +140,7 @@ module _ (kids : Kids) (part : PlainComponent) where
         where
           strictly : h ≤ g → h < g
           strictly l = ⊎_elim (λ (x : h < g). x) (λ (x : g ≤ h). absurd (ne (omega (arith, l, x)))) (cases_lt h g)
+
           below : (a b : ℕ) → IsUsed kid a → a < b → copy_of kids part kid j a ≡ copy_of kids part kid j b → ⊥
           below a b is less same = let apart = enabled_apart (groups_of kid.control) a b is less in omega (arith, apart, same)
 
@@ -222,7 +224,14 @@ module _ (part : PlainComponent) (cells : Cells) (fair : IsFair (Node part cells
         ⊎_elim
         (λ (q : IsQuiet ds es). inl (record { unfed = q.unfed; none_below = q.none_below; copies = λ j g its u. passes j g ∙ q.copies j g its u }))
         (λ (b : IsBusy ds es). inr (record {
-          invoke = b.invoke; its = b.its; fed = b.fed; inner_deeds = b.inner_deeds; inner_entries = b.inner_entries; below = b.below; pairs = b.pairs; all_used = b.all_used;
+          invoke = b.invoke;
+          its = b.its;
+          fed = b.fed;
+          inner_deeds = b.inner_deeds;
+          inner_entries = b.inner_entries;
+          below = b.below;
+          pairs = b.pairs;
+          all_used = b.all_used;
           used = λ g u. passes b.invoke g ∙ b.used g u;
           others = λ j g its ne u. passes j g ∙ b.others j g its ne u;
         }))
@@ -238,14 +247,19 @@ module _ (part : PlainComponent) (cells : Cells) (fair : IsFair (Node part cells
       where
         m_kid : kid_at kids (invoke_at part m).cell ≡ Some (flat_part other)
         m_kid = kid-static cells (invoke_at part m).cell other m_at m_static
+
         counts : one_more (nat_eq (invoke_at part m).cell d) (count_fed d ds) ≤ 1
         counts = subst (λ n. one_more (nat_eq (invoke_at part m).cell d) n ≤ 1) (count-below (invoke_at part m).cell d kds ds) once
+
         same : ((invoke_at part m).cell ≡ d → ⊥) → count_fed d ds ≤ 1
         same ne = subst (λ b. one_more b (count_fed d ds) ≤ 1) (ne_eqb (invoke_at part m).cell d ne) counts
+
         none_left : (invoke_at part m).cell ≡ d → count_fed d ds ≡ 0
         none_left e = let more : suc (count_fed d ds) ≤ 1 = subst (λ b. one_more b (count_fed d ds) ≤ 1) (eq-eqb (invoke_at part m).cell d e) counts in omega (arith, more)
+
         less : (invoke_at part m).cell ≡ d → count_fed d ds ≤ 1
         less e = let none = none_left e in omega (arith, none)
+
         elsewhere : ((invoke_at part m).cell ≡ d → ⊥) → IsQuiet ds es ⊎ IsBusy ds es
             → IsQuiet (Fed [] (invoke_at part m).cell (invoke_at part m).inputs ∷ (map (lower ((invoke_at part m).cell ∷ [])) kds ++ ds)) (map (entry_by (copy_of kids part (flat_part other) m)) kes ++ es)
             ⊎ IsBusy (Fed [] (invoke_at part m).cell (invoke_at part m).inputs ∷ (map (lower ((invoke_at part m).cell ∷ [])) kds ++ ds)) (map (entry_by (copy_of kids part (flat_part other) m)) kes ++ es)
@@ -255,14 +269,18 @@ module _ (part : PlainComponent) (cells : Cells) (fair : IsFair (Node part cells
           copies = λ j g its u. none_of m other kes es m_there m_kid m_used j g (λ e. ne (ap (λ x. (invoke_at part x).cell) (sym e) ∙ its.cell)) its u ∙ q.copies j g its u;
         })
         elsewhere ne (inr b) = inr (record {
-          invoke = b.invoke; its = b.its;
+          invoke = b.invoke;
+          its = b.its;
           fed = feeds_other (invoke_at part m).cell (invoke_at part m).inputs (map (lower ((invoke_at part m).cell ∷ [])) kds ++ ds) ne ∙ fed-below (invoke_at part m).cell d kds ds ∙ b.fed;
-          inner_deeds = b.inner_deeds; inner_entries = b.inner_entries;
+          inner_deeds = b.inner_deeds;
+          inner_entries = b.inner_entries;
           below = below-elsewhere (invoke_at part m).cell d ne kds ds ∙ b.below;
-          pairs = b.pairs; all_used = b.all_used;
+          pairs = b.pairs;
+          all_used = b.all_used;
           used = λ g u. none_of m other kes es m_there m_kid m_used b.invoke g (λ e. ne (ap (λ x. (invoke_at part x).cell) (sym e) ∙ b.its.cell)) b.its u ∙ b.used g u;
           others = λ j g its away u. none_of m other kes es m_there m_kid m_used j g (λ e. ne (ap (λ x. (invoke_at part x).cell) (sym e) ∙ its.cell)) its u ∙ b.others j g its away u;
         })
+
         here : (invoke_at part m).cell ≡ d → IsQuiet ds es ⊎ IsBusy ds es
             → IsQuiet (Fed [] (invoke_at part m).cell (invoke_at part m).inputs ∷ (map (lower ((invoke_at part m).cell ∷ [])) kds ++ ds)) (map (entry_by (copy_of kids part (flat_part other) m)) kes ++ es)
             ⊎ IsBusy (Fed [] (invoke_at part m).cell (invoke_at part m).inputs ∷ (map (lower ((invoke_at part m).cell ∷ [])) kds ++ ds)) (map (entry_by (copy_of kids part (flat_part other) m)) kes ++ es)
@@ -288,8 +306,10 @@ module _ (part : PlainComponent) (cells : Cells) (fair : IsFair (Node part cells
             or_none : (o : Option ℕ) → or_else o None ≡ o
             or_none None = refl
             or_none (Some n) = refl
+
             one : other ≡ child
             one = let both : OfInstance other ≡ OfInstance child = sym m_at ∙ ap (cell_at cells) e ∙ at in cc
+
             used_here : (x : Entry) → In kes x → IsUsed kid x.group
             used_here x y = subst (λ z. IsUsed (flat_part z) x.group) one (m_used x y)
 
@@ -309,24 +329,36 @@ mutual
       plus : (a b : ℕ) → a + suc b ≡ suc a + b
       plus a b = omega arith
   all_acts (an_instance child rest) part cells c tail fair fair_rest ds es pairs once once_rest = (
-      λ static.
-      ⊎_elim
-      (λ (q : IsQuiet part cells fair c child at static ds es). (
-      nothing, refl, subst (λ l. ActsAs child (entries (own_entries l)) l nothing) (sym q.none_below) (still_acts child),
-      inl (record { unfed = q.unfed; none_below = q.none_below; still = λ g. refl; copies = q.copies })))
-      (λ (b : IsBusy part cells fair c child at static ds es). (
-      entries b.inner_entries, refl,
-      subst (λ l. ActsAs child (entries (own_entries l)) l (entries b.inner_entries)) (sym b.below) (acts_of child fair_rest.0 b.inner_deeds b.inner_entries b.pairs (subst (FedOnce child) b.below (once_rest.0 static))),
-      inr (record {
-        invoke = b.invoke; its = b.its; fed = b.fed; used = b.used; others = b.others;
-        unused = λ g unused. offset-none (IsUsed (flat_part child)) g (λ u. let none : false ≡ true = sym unused ∙ u in cc) b.inner_entries b.all_used;
-      })))
-      (find part cells fair c child at static pairs (once c)),
-      all_acts rest part cells (suc c) (λ n. tail (suc n) ∙ ap (cell_at cells) (plus c n)) fair fair_rest.1 ds es pairs once once_rest.1)
+    λ static.
+        ⊎_elim
+        (λ (q : IsQuiet part cells fair c child at static ds es). (
+          nothing,
+          refl,
+          subst (λ l. ActsAs child (entries (own_entries l)) l nothing) (sym q.none_below) (still_acts child),
+          inl (record { unfed = q.unfed; none_below = q.none_below; still = λ g. refl; copies = q.copies }),
+        ))
+        (λ (b : IsBusy part cells fair c child at static ds es). (
+          entries b.inner_entries,
+          refl,
+          subst (λ l. ActsAs child (entries (own_entries l)) l (entries b.inner_entries)) (sym b.below) (acts_of child fair_rest.0 b.inner_deeds b.inner_entries b.pairs (subst (FedOnce child) b.below (once_rest.0 static))),
+          inr (record {
+            invoke = b.invoke;
+            its = b.its;
+            fed = b.fed;
+            used = b.used;
+            others = b.others;
+            unused = λ g unused. offset-none (IsUsed (flat_part child)) g (λ u. let none : false ≡ true = sym unused ∙ u in cc) b.inner_entries b.all_used;
+          }),
+        ))
+        (find part cells fair c child at static pairs (once c)),
+    all_acts rest part cells (suc c) (λ n. tail (suc n) ∙ ap (cell_at cells) (plus c n)) fair fair_rest.1 ds es pairs once once_rest.1,
+  )
     where
       plus : (a b : ℕ) → a + suc b ≡ suc a + b
       plus a b = omega arith
+
       zero_plus : (a : ℕ) → a + 0 ≡ a
       zero_plus a = omega arith
+
       at : cell_at cells c ≡ OfInstance child
       at = ap (cell_at cells) (sym (zero_plus c)) ∙ sym (tail 0)

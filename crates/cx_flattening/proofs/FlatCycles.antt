@@ -1,5 +1,5 @@
 -- A CYCLE: the cells of a host, among which those of a tree stand, end a cycle as the tree does, where what is seen of them is the same.
-use Rattle.std.proofs.Common.{◌≡◌, ◌≢◌, ℕ, zero, suc, ◌+◌, ◌<◌, ◌≤◌, inl, inr, ⊎_elim, Bool, true, false, cond, List, [], ◌∷◌, ◌++◌, length, Option, Some, None, refl, sym, ap, ◌∙◌, subst, arith}
+use Rattle.std.proofs.Common.{◌≡◌, ℕ, zero, suc, ◌+◌, ◌<◌, ◌≤◌, inl, inr, ⊎_elim, Bool, true, false, List, [], ◌∷◌, length, Option, Some, None, refl, sym, ap, ◌∙◌, subst, arith}
 use Rattle.std.proofs.Math.Path.{fun_ext}
 use Rattle.std.specs.Prelude.{◌⊎◌, if◌then◌else◌}
 use Rattle.std.proofs.lemmas.Bool.{cases_eq, cases_lt}
@@ -10,18 +10,17 @@ use Rattle.cx_meaning.specs.declared.ports.PortRef.{PortRef}
 use Rattle.cx_meaning.specs.declared.ports.PortRef.TheVariants as ports
 use Rattle.cx_meaning.specs.declared.sights.Seen.{Seen}
 use Rattle.cx_meaning.specs.Designs.{PlainCell, PlainComponent}
-use Rattle.cx_meaning.specs.Instances.{Instance, Node, Cells, no_cells, a_primitive, an_instance, OfRow, OfInstance, part_of, cells_of, cell_at, cell_count, Path, State, just, beneath, put, under}
+use Rattle.cx_meaning.specs.Instances.{Instance, Node, Cells, no_cells, a_primitive, an_instance, OfRow, OfInstance, part_of, cell_at, cell_count, Path, State, beneath, put, under}
 use Rattle.cx_meaning.specs.Active.{Active, entries}
 use Rattle.cx_meaning.specs.Sights.{Look, Held, seen, gather}
 use Rattle.cx_meaning.specs.Cycles.{Fault, fault_at, Outcome, Next, Stops, enables, after_enabling, cell_outcome, outcome_at, outcome_of, first_of, first_fault, stepped, state_after, Ended, Goes, Faults, unless_fault, every_cell, cycle}
-use Rattle.cx_meaning.specs.Calls.{fault_below}
-use Rattle.cx_meaning.proofs.InstancesLemmas.{just_same, not_just, row_instance, instance_row}
+use Rattle.cx_meaning.proofs.InstancesLemmas.{just_same, not_just, row_instance}
 use Rattle.cx_meaning.proofs.CycleLemmas.{state_after-same}
 use Rattle.cx_flattening.specs.Deeds.{Deed, own_entries, deeds_below, held_below, or_later}
 use Rattle.cx_flattening.specs.Whole.{is_static, with_child, child_if, whole_cycle, cycles_below}
 use Rattle.cx_flattening.specs.Flattened.{Kids, kid_at, kid_if, kept_if, kept, behind, kept_at, block, blocks, flat_cells, block_size, block_at, start_of, wire_at, flat_part, flat_kids}
-use Rattle.cx_flattening.specs.Embedded.{wire_row, HasWires, IsEmbedded, AreEmbedded, Stands, AllStand}
-use Rattle.cx_flattening.specs.Fair.{IsFair, AllFair, AllFairBelow}
+use Rattle.cx_flattening.specs.Embedded.{HasWires, IsEmbedded, AreEmbedded, Stands, AllStand}
+use Rattle.cx_flattening.specs.Fair.{AllFair, AllFairBelow}
 use Rattle.cx_flattening.specs.Seeing.{CellsSeen, AllSeen}
 use Rattle.cx_flattening.specs.FlatFaults.{flat_port, port_in, flat_fault, EndsAs}
 use Rattle.cx_flattening.specs.Sampling.{placed}
@@ -29,7 +28,7 @@ use Rattle.cx_flattening.proofs.PortLemmas.{own-kept}
 use Rattle.cx_flattening.proofs.FirstFaults.{first_split}
 use Rattle.cx_flattening.proofs.FlatAssigns.{length-both}
 use Rattle.cx_flattening.proofs.Standing.{TwinAt, embedded_row, embedded_dynamic, stands_row, stands_dynamic, length-block}
-use Rattle.cx_flattening.proofs.LevelSights.{kid-row, kid-child, kid-static, kid-dynamic, flat-outputs}
+use Rattle.cx_flattening.proofs.LevelSights.{kid-row, kid-static, kid-dynamic, flat-outputs}
 
 -- NUMBERS of cells
 kept-zero : (kids : Kids) → kept_at kids 0 ≡ 0
@@ -149,10 +148,13 @@ module _ (host : Cells) (look : Look) (z : State) where
       where
         plus : (a b : ℕ) → a + suc b ≡ suc a + b
         plus a b = omega arith
+
         zero_plus : (a : ℕ) → a + 0 ≡ a
         zero_plus a = omega arith
+
         at : cell_at cells c ≡ OfRow row
         at = ap (cell_at cells) (sym (zero_plus c)) ∙ sym (tail 0)
+
         next : suc (first + kept_at kids c) ≡ first + kept_at kids (suc c)
         next =
             let e : kept_at kids (suc c) ≡ suc (kept_at kids c) = kept-suc kids c ∙ ap (λ k. behind k (kept_at kids c)) (kid-row cells c row at) in
@@ -161,12 +163,16 @@ module _ (host : Cells) (look : Look) (z : State) where
       where
         plus : (a b : ℕ) → a + suc b ≡ suc a + b
         plus a b = omega arith
+
         zero_plus : (a : ℕ) → a + 0 ≡ a
         zero_plus a = omega arith
+
         at : cell_at cells c ≡ OfInstance child
         at = ap (cell_at cells) (sym (zero_plus c)) ∙ sym (tail 0)
+
         passes : first_fault comes (suc c) (cell_count rest) ≡ first_fault comes c (suc (cell_count rest))
         passes = ap (λ x. first_of c (outcome_at other c x (s (c ∷ []))) (first_fault comes (suc c) (cell_count rest))) (sym at)
+
         choice : (b : Bool) → is_static child ≡ b → first_fault out (first + kept_at kids (suc c)) (kept_count rest) ≡ told (Node part cells) first (first_fault comes (suc c) (cell_count rest))
             → first_fault out (first + kept_at kids c) (behind (kid_if b (flat_part child)) (kept_count rest)) ≡ told (Node part cells) first (first_fault comes c (suc (cell_count rest)))
         choice true e ih =
@@ -195,11 +201,13 @@ module _ (host : Cells) (look : Look) (z : State) where
     -- a cell without a block
     skips : (c : ℕ) (before : Ended) → kid_at kids c ≡ None → ((child : Instance) → cell_at cells c ≡ OfInstance child → is_static child ≡ true → ⊥) → Ready c before → Ready (suc c) before
     skips c (Goes after) none apart h = (
-        ap (first_fault out first) same ∙ h.0,
-        record { rows = h.1.rows; twins = h.1.twins; steps = λ d child at static less. later d child at static less (cases_eq d c) })
+      ap (first_fault out first) same ∙ h.0,
+      record { rows = h.1.rows; twins = h.1.twins; steps = λ d child at static less. later d child at static less (cases_eq d c) },
+    )
       where
         same : start_of kids part (suc c) ≡ start_of kids part c
         same = let e : start_of kids part (suc c) ≡ start_of kids part c + 0 = start-suc c ∙ ap (λ k. start_of kids part c + block_size k) none in omega (arith, e)
+
         later : (d : ℕ) (child : Instance) → cell_at cells d ≡ OfInstance child → is_static child ≡ true → d < suc c → (d ≡ c) ⊎ (d ≡ c → ⊥) → Stands child (first + start_of kids part d) (under d after) (state_after out z)
         later d child at static less (inl e) = absurd (apart child (ap (cell_at cells) (sym e) ∙ at) static)
         later d child at static less (inr ne) = h.1.steps d child at static (strictly d c less ne)
@@ -235,8 +243,10 @@ module _ (host : Cells) (look : Look) (z : State) where
           or_none : (x : Option Fault) → or_later x None ≡ x
           or_none None = refl
           or_none (Some f) = refl
+
           place : first + start_of kids part c + length kid.cells ≡ first + wire_at kids part kid c 0
           place = omega arith
+
           none : first_fault out (first + start_of kids part c + length kid.cells) (length kid.outputs) ≡ None
           none =
               ap (λ e. first_fault out e (length kid.outputs)) place ∙ ap (λ l. first_fault out (first + wire_at kids part kid c 0) (length l)) (flat-outputs child)
@@ -248,21 +258,25 @@ module _ (host : Cells) (look : Look) (z : State) where
           block_split ∙ ap (λ y. or_later y (first_fault out (first + start_of kids part c) (length kid.cells))) h.0 ∙ ends
           ∙ ap (λ p. Some (record { kind = f.kind; path = []; port = p })) (sym (port-in cells c child (first + start_of kids part c) f.path f.port at))
       block_ends (Goes after) (Goes own) h ends = (
-          block_split ∙ ap (λ y. or_later y (first_fault out (first + start_of kids part c) (length kid.cells))) h.0 ∙ ends.0,
-          record {
-            rows = λ d row d_at. h.1.rows d row d_at ∙ sym (put_beside c d own after (λ e. row_instance row child (sym d_at ∙ ap (cell_at cells) e ∙ at)) []);
-            twins = λ d other d_at dynamic.
-                stands_alike other 0 (under d after) (under d (put c own after)) (under (first + kept_at kids d) (state_after out z)) (under (first + kept_at kids d) (state_after out z))
-                (λ path. sym (put_beside c d own after (λ e. not_both other dynamic (ap (cell_at cells) (sym e) ∙ d_at)) path)) (λ path. refl) (h.1.twins d other d_at dynamic);
-            steps = λ d other d_at is_one less. put_step d other d_at is_one less (cases_eq d c);
-          })
+        block_split ∙ ap (λ y. or_later y (first_fault out (first + start_of kids part c) (length kid.cells))) h.0 ∙ ends.0,
+        record {
+          rows = λ d row d_at. h.1.rows d row d_at ∙ sym (put_beside c d own after (λ e. row_instance row child (sym d_at ∙ ap (cell_at cells) e ∙ at)) []);
+          twins = λ d other d_at dynamic.
+              stands_alike other 0 (under d after) (under d (put c own after)) (under (first + kept_at kids d) (state_after out z)) (under (first + kept_at kids d) (state_after out z))
+              (λ path. sym (put_beside c d own after (λ e. not_both other dynamic (ap (cell_at cells) (sym e) ∙ d_at)) path)) (λ path. refl) (h.1.twins d other d_at dynamic);
+          steps = λ d other d_at is_one less. put_step d other d_at is_one less (cases_eq d c);
+        },
+      )
         where
           same_child : (other : Instance) → cell_at cells c ≡ OfInstance other → child ≡ other
           same_child other e = let same : OfInstance child ≡ OfInstance other = sym at ∙ e in cc
+
           not_both : (other : Instance) → is_static other ≡ false → cell_at cells c ≡ OfInstance other → ⊥
           not_both other dynamic e = let none : true ≡ false = sym static ∙ ap is_static (same_child other e) ∙ dynamic in cc
+
           strictly : (a b : ℕ) → a < suc b → (a ≡ b → ⊥) → a < b
           strictly a b l n = ⊎_elim (λ (y : a < b). y) (λ (y : b ≤ a). absurd (n (omega (arith, l, y)))) (cases_lt a b)
+
           put_step : (d : ℕ) (other : Instance) → cell_at cells d ≡ OfInstance other → is_static other ≡ true → d < suc c → (d ≡ c) ⊎ (d ≡ c → ⊥) → Stands other (first + start_of kids part d) (under d (put c own after)) (state_after out z)
           put_step d other d_at is_one less (inl e) =
               subst (λ k. Stands other (first + start_of kids part k) (under k (put c own after)) (state_after out z)) (sym e)
@@ -286,8 +300,10 @@ module _ (host : Cells) (look : Look) (z : State) where
       where
         plus : (a b : ℕ) → a + suc b ≡ suc a + b
         plus a b = omega arith
+
         zero_plus : (a : ℕ) → a + 0 ≡ a
         zero_plus a = omega arith
+
         at : cell_at cells c ≡ OfRow row
         at = ap (cell_at cells) (sym (zero_plus c)) ∙ sym (tail 0)
     all_stand (an_instance child rest) c tail after h =
@@ -295,8 +311,10 @@ module _ (host : Cells) (look : Look) (z : State) where
       where
         plus : (a b : ℕ) → a + suc b ≡ suc a + b
         plus a b = omega arith
+
         zero_plus : (a : ℕ) → a + 0 ≡ a
         zero_plus a = omega arith
+
         at : cell_at cells c ≡ OfInstance child
         at = ap (cell_at cells) (sym (zero_plus c)) ∙ sym (tail 0)
 
@@ -348,12 +366,15 @@ module _ (host : Cells) (look : Look) (z : State) where
       where
         begin : start_of kids part 0 ≡ kept_count cells
         begin = let none = block-zero kids in let kept_all = length-kept cells part.cells count in omega (arith, none, kept_all)
+
         place : first ≡ first + kept_at kids 0
         place = let none = kept-zero kids in omega (arith, none)
+
         faults : first_fault out first (start_of kids part 0) ≡ told (Node part cells) first (first_fault comes 0 (cell_count cells))
         faults =
             ap (first_fault out first) begin ∙ ap (λ e. first_fault out e (kept_count cells)) place
             ∙ own_faults cells 0 (λ n. ap (cell_at cells) (sym (zero_plus n))) see embedded stands
+
         choice : (x : Option Fault) → first_fault out first (start_of kids part 0) ≡ told (Node part cells) first x → Ready 0 (unless_fault x (state_after comes s))
         choice None e = (e, own_steps see embedded stands)
         choice (Some f) e = e
@@ -392,8 +413,10 @@ module _ (host : Cells) (look : Look) (z : State) where
       where
         plus : (a b : ℕ) → suc a + b ≡ a + suc b
         plus a b = omega arith
+
         zero_added : (a : ℕ) → a + 0 ≡ a
         zero_added a = omega arith
+
         at : cell_at cells c ≡ OfRow row
         at = ap (cell_at cells) (sym (zero_added c)) ∙ sym (tail 0)
     blocks_told (an_instance child rest) part cells first other deeds s c tail fair see embedded stands before h =
@@ -403,10 +426,13 @@ module _ (host : Cells) (look : Look) (z : State) where
       where
         plus : (a b : ℕ) → suc a + b ≡ a + suc b
         plus a b = omega arith
+
         zero_added : (a : ℕ) → a + 0 ≡ a
         zero_added a = omega arith
+
         at : cell_at cells c ≡ OfInstance child
         at = ap (cell_at cells) (sym (zero_added c)) ∙ sym (tail 0)
+
         choice : (b : Bool) → is_static child ≡ b → (is_static child ≡ true → EndsAs child (first + start_of (flat_kids cells) part c) out z (length (flat_part child).cells) (child_cycle child other c deeds s))
             → Ready part cells first other deeds s (suc c) (child_if b c before (child_cycle child other c deeds s))
         choice true e told_child = block_ends part cells first other deeds s c child at e (embedded.0 e).1 before (child_cycle child other c deeds s) h (told_child e)

@@ -12,15 +12,15 @@ use Rattle.cx_meaning.specs.Islands as islands
 use Rattle.cx_meaning.specs.Sights.{In}
 use Rattle.cx_meaning.proofs.SightsLaws.{image_in, in_left, in_right, in_either}
 use Rattle.cx_flattening.specs.Invokes.{invoke_at, lasts}
-use Rattle.cx_flattening.specs.Events.{Spot, spot, Sample, Event, Runs, Feeds, Looks, Beginning, Events, later_by, also_if, source_to, group_events, capture_events, rounds_events, bound_below, invoke_events, form_events, events, seq_events, par_events, control_events, events_below}
+use Rattle.cx_flattening.specs.Events.{Spot, spot, Sample, Event, Feeds, Beginning, Events, source_to, group_events, capture_events, rounds_events, bound_below, invoke_events, form_events, events, seq_events, par_events, control_events, events_below}
 use Rattle.cx_flattening.specs.Deeds.{History, hold, Deed, Acts, Fed, deed_if, is_now, deeds_in}
 use Rattle.cx_flattening.specs.Whole.{is_static}
 use Rattle.cx_flattening.specs.Copies.{copied_form, copied_statement, copied_statements}
-use Rattle.cx_flattening.specs.Flattened.{Kids, kid_at, kept_at, start_of, wire_at, flat_kids, flat_part, port_if, own_port, child_port, invoke_port, copy_of, with_capture, inlined, flat_form, flat_statement, flat_statements}
+use Rattle.cx_flattening.specs.Flattened.{Kids, kid_at, kept_at, start_of, wire_at, flat_kids, flat_part, port_if, own_port, invoke_port, copy_of, with_capture, inlined, flat_form, flat_statement, flat_statements}
 use Rattle.cx_flattening.specs.Acting.{IsUsed}
-use Rattle.cx_flattening.specs.Levels.{IsKnown, own_of}
+use Rattle.cx_flattening.specs.Levels.{own_of}
 use Rattle.cx_flattening.specs.Fair.{IsNamed, IsFair, AllFair, AllFairBelow}
-use Rattle.cx_flattening.specs.Sampling.{placed, IsOwn, AgreesAt, AgreesBelow}
+use Rattle.cx_flattening.specs.Sampling.{placed, AgreesAt, AgreesBelow}
 use Rattle.cx_flattening.specs.Controlled.{timed_in, timed_of, timed_all, tested_in, tested_of, tested_all, IsInvoked, IsControlled, AllControlled, AllControlledBelow}
 use Rattle.cx_flattening.proofs.CopiedControl.{statement_twice}
 use Rattle.cx_flattening.proofs.FlatGroups.{in_one_of, own-length}
@@ -122,6 +122,7 @@ module _ (h : History) (k : islands.History) where
     where
       plus_zero : (a : ℕ) → a ≡ a + 0
       plus_zero a = omega arith
+
       same_child : OfInstance other ≡ OfInstance child → other ≡ child
       same_child e = cc
   agrees_child kids part (an_instance other rest) c (suc n) first at child agree e static = subst (λ d. AgreesAt h k child (first + start_of kids part d) (at ++ (d ∷ []))) (plus c n) (agrees_child kids part rest (suc c) n first at child agree.1 e static)
@@ -315,10 +316,13 @@ module _ (h : History) (k : islands.History) (t : ℕ) where
         fed_both : (b : Bool) (d : Deed) (xs ys : List Deed) → deed_if b d (xs ++ ys) ≡ deed_if b d xs ++ ys
         fed_both true d xs ys = refl
         fed_both false d xs ys = refl
+
         with_none : (s : PlainStatement) (y : ℕ) (cs : List Condition) → form_flat J (copied_form f copy (with_capture None s)) y cs ≡ flat J (copied_statement f copy s) y cs
         with_none (Placed form place) y cs = refl
+
         none_groups : (s : PlainStatement) (g : ℕ) → In (groups_of s) g → In (groups_in (with_capture None s)) g
         none_groups (Placed form place) g i = i
+
         with_captures : (j : ℕ) (there : j < length part.invokes) (its : IsInvoked (Node part cells) (invoke_at part j)) (o : Option ℕ) → (invoke_at part j).captures ≡ o → (x : ℕ) (samples : List Sample) (conditions : List Condition) → SameHold samples conditions
             → Lasting J K copy (groups_in (with_capture (invoke_at part j).captures (copied_statement (invoke_port kids part (flat_part its.child) (invoke_at part j)) (copy_of kids part (flat_part its.child) j) (flat_part its.child).control)))
             → FoundIn (groups_in (with_capture o (copied_statement (invoke_port kids part (flat_part its.child) (invoke_at part j)) (copy_of kids part (flat_part its.child) j) (flat_part its.child).control)))
@@ -337,9 +341,9 @@ module _ (h : History) (k : islands.History) (t : ℕ) where
             let captured = its.captures g e in
             let lasts_one : group_length J (copy g) ≡ Some 1 = subst (λ o. Lasting J K copy (groups_in (with_capture o s))) e lasts_there g (captures_in_it g s) ∙ own-length kids part g captured.0 ∙ captured.1 in
             let length_is : length_of J (copied_statement f copy s) ≡ or_zero (invoke_at part j).latency =
-                ap (length_of J) (statement_twice f (invoke_port kids part (flat_part its.child) (invoke_at part j)) copy (copy_of kids part (flat_part its.child) j) (flat_part its.child).control)
-                ∙ lasting (invoke_at part j).cell its.child its.stands J (λ q. f (invoke_port kids part (flat_part its.child) (invoke_at part j) q)) (λ n. copy (copy_of kids part (flat_part its.child) j n))
-                (invoke_lasting part cells fair controlled lasting J copy j there (flat_part its.child) (kid-static cells (invoke_at part j).cell its.child its.stands its.static) lasts_there) ∙ sym its.latency in
+            ap (length_of J) (statement_twice f (invoke_port kids part (flat_part its.child) (invoke_at part j)) copy (copy_of kids part (flat_part its.child) j) (flat_part its.child).control)
+            ∙ lasting (invoke_at part j).cell its.child its.stands J (λ q. f (invoke_port kids part (flat_part its.child) (invoke_at part j) q)) (λ n. copy (copy_of kids part (flat_part its.child) j n))
+            (invoke_lasting part cells fair controlled lasting J copy j there (flat_part its.child) (kid-static cells (invoke_at part j).cell its.child its.stands its.static) lasts_there) ∙ sym its.latency in
             found_as (Node part cells) at copy (groups_of s ++ (g ∷ [])) (groups_of s ++ (g ∷ [])) _
             (deed_if (is_now h t x (x + or_zero (invoke_at part j).latency) samples) (Fed at (invoke_at part j).cell (invoke_at part j).inputs) (deeds_in h t (events_below cells (invoke_at part j).cell (child_start j there its x samples)))
             ++ deeds_in h t (group_events g (Some 1) (start (x + or_zero (invoke_at part j).latency) samples))) _

@@ -15,9 +15,9 @@ use Rattle.cx_rewrites.specs.Moving.{moved_port, moved_guard, moved_guards, move
 use Rattle.cx_flattening.specs.Invokes.{no_invoke, invoke_at}
 use Rattle.cx_flattening.specs.Deeds.{Deed}
 use Rattle.cx_flattening.specs.Copies.{copied_group, is_one_of, enabled_below, group_if, enabled_groups}
-use Rattle.cx_flattening.specs.Flattened.{Kids, kid_at, own_port, child_port, invoke_port, always_if, always_from, copies_if, copies, flat_groups, first_copy, copy_of}
-use Rattle.cx_flattening.specs.Targets.{OwnTarget, BlockTarget, AllUsed, IsBlock, HasTargets}
-use Rattle.cx_flattening.specs.Acting.{IsUsed, IsOf, IsIdle, IsFed}
+use Rattle.cx_flattening.specs.Flattened.{Kids, kid_at, own_port, child_port, invoke_port, always_if, always_from, copies_if, copies, flat_groups}
+use Rattle.cx_flattening.specs.Targets.{OwnTarget, BlockTarget, AllUsed, HasTargets}
+use Rattle.cx_flattening.specs.Acting.{IsUsed, IsIdle, IsFed}
 use Rattle.cx_flattening.proofs.Sorting.{acting_both}
 use Rattle.cx_flattening.proofs.MovedDrivers.{drivers_mapped}
 use Rattle.cx_flattening.proofs.CopiedAssigns.{acting_copied, acting_none, acting_elsewhere}
@@ -89,8 +89,10 @@ all_kids P c (k ∷ ks) h = (first k (λ child e. subst (λ n. P n child) (zero_
   where
     zero_plus : (a : ℕ) → a + 0 ≡ a
     zero_plus a = omega arith
+
     plus : (a b : ℕ) → a + suc b ≡ suc a + b
     plus a b = omega arith
+
     first : (o : Option PlainComponent) → ((child : PlainComponent) → o ≡ Some child → P c child) → KidHas P c o
     first None f = tt
     first (Some child) f = f child refl
@@ -130,8 +132,10 @@ module _ (kids : Kids) (part : PlainComponent) (has : HasTargets kids part) (mor
     where
       plus : (a b : ℕ) → a + suc b ≡ suc a + b
       plus a b = omega arith
+
       zero_plus : (a : ℕ) → a ≡ a + 0
       zero_plus a = omega arith
+
       not_zero : (m : ℕ) → suc m ≡ 0 → ⊥
       not_zero m e = omega (arith, e)
   one_always x c (k ∷ ks) (suc n) child e beside =
@@ -142,12 +146,16 @@ module _ (kids : Kids) (part : PlainComponent) (has : HasTargets kids part) (mor
     where
       plus : (a b : ℕ) → a + suc b ≡ suc a + b
       plus a b = omega arith
+
       zero_plus : (a : ℕ) → a + 0 ≡ a
       zero_plus a = omega arith
+
       not_suc : (m : ℕ) → 0 ≡ suc m → ⊥
       not_suc m e = omega (arith, e)
+
       less : (a b : ℕ) → suc a ≡ suc b → a ≡ b
       less a b e = omega (arith, e)
+
       here : (o : Option PlainComponent) → ((other : PlainComponent) → o ≡ Some other → AlwaysBeside x c other) → KidHas (AlwaysBeside x) c o
       here None f = tt
       here (Some other) f = f other refl
@@ -252,14 +260,17 @@ module _ (kids : Kids) (part : PlainComponent) (has : HasTargets kids part) (mor
         where
           plus_zero : (a : ℕ) → a ≡ 0 + a
           plus_zero a = omega arith
+
           zero_plus : (a b : ℕ) → 0 + a ≡ b → a ≡ b
           zero_plus a b e = omega (arith, e)
+
           target_alike : (r : PortRef) → BlockTarget child r → child_port kids part child c (λ j. ports.Input j) r ≡ child_port kids part child c sources r
           target_alike (ports.Cell e p) h = refl
           target_alike (ports.Input n) h = absurd h
           target_alike (ports.Output n) h = refl
           target_alike (ports.Done g) h = absurd h
           target_alike (ports.Literal w v) h = absurd h
+
           named_alike : (r : PortRef) → ((n : ℕ) → r ≡ ports.Input n → ⊥) → child_port kids part child c (λ j. ports.Input j) r ≡ child_port kids part child c sources r
           named_alike (ports.Cell e p) h = refl
           named_alike (ports.Input n) h = absurd (h n refl)
@@ -366,6 +377,7 @@ module _ (kids : Kids) (part : PlainComponent) (has : HasTargets kids part) (mor
           where
             plus_zero : (a : ℕ) → a ≡ a + 0
             plus_zero a = omega arith
+
             not_zero : (m : ℕ) → suc m ≡ 0 → ⊥
             not_zero m z = omega (arith, z)
         one_acts inside n (w ∷ vs) (suc k) less e used unused still =
@@ -378,6 +390,7 @@ module _ (kids : Kids) (part : PlainComponent) (has : HasTargets kids part) (mor
           where
             not_suc : (m : ℕ) → 0 ≡ suc m → ⊥
             not_suc m z = omega (arith, z)
+
             less_one : (a b : ℕ) → suc a ≡ suc b → a ≡ b
             less_one a b z = omega (arith, z)
 

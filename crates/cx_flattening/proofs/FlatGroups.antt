@@ -1,18 +1,16 @@
 -- The groups of a flat component by their numbers: the caller's own, and the copies, each as long as the group that it copies.
-use Rattle.std.proofs.Common.{◌≡◌, ℕ, zero, suc, ◌+◌, ◌<◌, ◌≤◌, inl, inr, ⊎_elim, Bool, true, false, ◌||◌, List, [], ◌∷◌, ◌++◌, length, map, get_or, Option, Some, None, nat_eq, refl, sym, ap, ◌∙◌, subst, arith}
+use Rattle.std.proofs.Common.{◌≡◌, ℕ, zero, suc, ◌+◌, ◌<◌, ◌≤◌, inl, inr, Bool, true, false, ◌||◌, List, [], ◌∷◌, ◌++◌, length, map, get_or, Some, nat_eq, refl, sym, ap, ◌∙◌, subst, arith}
 use Rattle.std.specs.Prelude.{flat_map, take}
 use Rattle.std.proofs.lemmas.Bool.{eq-eqb, eqb-true}
 use Rattle.std.proofs.lemmas.List.Concat.{get_or-flat_map}
-use Rattle.cx_meaning.specs.declared.ports.PortRef.{PortRef}
-use Rattle.cx_meaning.specs.Designs.{PlainGroup, PlainInvoke, PlainComponent, no_group, group_at}
-use Rattle.cx_meaning.specs.Instances.{Instance, Node, Cells}
+use Rattle.cx_meaning.specs.Designs.{PlainGroup, PlainInvoke, PlainComponent, no_group}
 use Rattle.cx_meaning.specs.Control.{groups_of}
 use Rattle.cx_meaning.specs.Islands.{kind_length, group_length}
 use Rattle.cx_meaning.specs.Sights.{In}
 use Rattle.cx_rewrites.specs.Moving.{moved_group}
 use Rattle.cx_flattening.specs.Invokes.{no_invoke, invoke_at}
 use Rattle.cx_flattening.specs.Copies.{copied_group, is_one_of, count_if, enabled_below, group_if, enabled_groups}
-use Rattle.cx_flattening.specs.Flattened.{Kids, kid_at, own_port, invoke_port, copies_if, copies, flat_groups, flat_component, first_copy, copy_of}
+use Rattle.cx_flattening.specs.Flattened.{Kids, kid_at, own_port, invoke_port, copies_if, copies, flat_groups, flat_component, copy_of}
 
 -- a number among others
 pub in_one_of : (g : ℕ) (list : List ℕ) → In list g → is_one_of g list ≡ true
@@ -67,6 +65,7 @@ enabled_grows used g (suc n) = subst (λ k. enabled_below used g ≤ enabled_bel
   where
     plus : (a b : ℕ) → suc (a + b) ≡ a + suc b
     plus a b = omega arith
+
     choice : (b : Bool) → enabled_below used g ≤ enabled_below used (g + n) → enabled_below used g ≤ count_if b (enabled_below used (g + n))
     choice true ih = omega (arith, ih)
     choice false ih = ih
@@ -79,8 +78,10 @@ enabled_get used g (x ∷ xs) zero m is less e = choice (is_one_of g used) (ap (
   where
     plus : (a : ℕ) → a ≡ a + 0
     plus a = omega arith
+
     none : m ≡ 0
     none = let same : enabled_below used (g + 0) ≡ enabled_below used g = ap (enabled_below used) (sym (plus g)) in omega (arith, e, same)
+
     choice : (b : Bool) → b ≡ true → m ≡ 0 → (m < length (group_if b x (enabled_groups used (suc g) xs))) × (get_or (group_if b x (enabled_groups used (suc g) xs)) m no_group ≡ x)
     choice true f z = subst (λ k. (k < length (x ∷ enabled_groups used (suc g) xs)) × (get_or (x ∷ enabled_groups used (suc g) xs) k no_group ≡ x)) (sym z) (omega arith, refl)
     choice false f z = absurd (cc)
@@ -88,8 +89,10 @@ enabled_get used g (x ∷ xs) (suc n) m is less e = choice (is_one_of g used) re
   where
     plus : (a b : ℕ) → a + suc b ≡ suc a + b
     plus a b = omega arith
+
     all : enabled_below used g + m ≡ enabled_below used (suc g + n)
     all = e ∙ ap (enabled_below used) (plus g n)
+
     choice : (b : Bool) → is_one_of g used ≡ b
         → ((k : ℕ) → enabled_below used (suc g) + k ≡ enabled_below used (suc g + n) → (k < length (enabled_groups used (suc g) xs)) × (get_or (enabled_groups used (suc g) xs) k no_group ≡ get_or xs n no_group))
         → (m < length (group_if b x (enabled_groups used (suc g) xs))) × (get_or (group_if b x (enabled_groups used (suc g) xs)) m no_group ≡ get_or xs n no_group)
@@ -98,6 +101,7 @@ enabled_get used g (x ∷ xs) (suc n) m is less e = choice (is_one_of g used) re
       where
         here : enabled_below used (suc g) ≡ suc (enabled_below used g)
         here = ap (λ b. count_if b (enabled_below used g)) f
+
         positive : (k : ℕ) → enabled_below used g + k ≡ enabled_below used (suc g + n) → (k < length (x ∷ enabled_groups used (suc g) xs)) × (get_or (x ∷ enabled_groups used (suc g) xs) k no_group ≡ get_or xs n no_group)
         positive zero h = absurd (let grows = enabled_grows used (suc g) n in let one = here in omega (arith, grows, one, h))
         positive (suc k) h = let r = later k (let one = here in omega (arith, one, h)) in let inside = r.0 in (omega (arith, inside), r.1)
@@ -129,7 +133,9 @@ module _ (kids : Kids) (part : PlainComponent) where
     where
       zero_plus : (a : ℕ) → 0 + a ≡ a
       zero_plus a = omega arith
+
       zero_sum : (a : ℕ) → 0 + a ≡ a
       zero_sum a = omega arith
+
       place : (a b c : ℕ) → {d : ℕ} → a ≡ d → a + b + c ≡ d + (b + c)
       place a b c {d} e = omega (arith, e)

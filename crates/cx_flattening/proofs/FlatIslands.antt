@@ -1,5 +1,5 @@
 -- AN ISLAND of the flat instance is that of the tree: the same samples, the same cycles, the same end.
-use Rattle.std.proofs.Common.{◌≡◌, ℕ, zero, suc, ◌+◌, ◌*◌, max, inl, inr, Bool, true, false, nat_eq, List, [], ◌∷◌, ◌++◌, length, get_or, Option, Some, None, refl, sym, ap, ◌∙◌, subst, arith}
+use Rattle.std.proofs.Common.{◌≡◌, ℕ, zero, suc, ◌+◌, ◌*◌, max, true, false, nat_eq, List, [], ◌∷◌, ◌++◌, length, get_or, Option, Some, None, refl, sym, ap, ◌∙◌, subst, arith}
 use Rattle.std.specs.Prelude.{if◌then◌else◌}
 use Rattle.cx_meaning.specs.declared.ports.PortRef.{PortRef}
 use Rattle.cx_meaning.specs.declared.ports.PortRef.TheVariants as ports
@@ -19,26 +19,22 @@ use Rattle.cx_meaning.specs.Islands as islands
 use Rattle.cx_flattening.specs.Invokes.{form_lasts}
 use Rattle.cx_flattening.specs.Events.{Spot, spot, Event}
 use Rattle.cx_flattening.specs.Deeds.{History, no_history, own_entries, deeds_in, looked_in, and_now, fault_in, or_later, first_unclear}
-use Rattle.cx_flattening.specs.Whole.{is_static, whole_cycle, look_below, whole_turn, whole_from, whole_island}
+use Rattle.cx_flattening.specs.Whole.{whole_cycle, look_below, whole_turn, whole_from, whole_island}
 use Rattle.cx_flattening.specs.Flattened.{Kids, flat_kids, flat_part, flat_form, start_of}
 use Rattle.cx_flattening.specs.Acting.{ActsAs}
-use Rattle.cx_flattening.specs.Embedded.{IsLike, IsFlattened, Stands}
-use Rattle.cx_flattening.specs.Fair.{IsNamed, AllFair}
-use Rattle.cx_flattening.specs.Seeing.{NoCircle}
-use Rattle.cx_flattening.specs.FlatFaults.{flat_port, port_in, flat_fault, CycleAs}
+use Rattle.cx_flattening.specs.Embedded.{Stands}
+use Rattle.cx_flattening.specs.FlatFaults.{flat_port, flat_fault, CycleAs}
 use Rattle.cx_flattening.specs.Beside.{IsBeside}
 use Rattle.cx_flattening.specs.Turning.{TurnAs}
 use Rattle.cx_flattening.specs.Runs.{AnswerAs}
-use Rattle.cx_flattening.specs.Controlled.{AllControlled}
-use Rattle.cx_flattening.specs.FedOnce.{FedOnce}
-use Rattle.cx_flattening.specs.Sampling.{placed, IsOwn, AllSpots, SpotsBelow, SampledAlike, AgreesAt}
-use Rattle.cx_flattening.specs.Lists.{IsStaticOf, island_events, IsIsland}
+use Rattle.cx_flattening.specs.Sampling.{AllSpots, SpotsBelow, SampledAlike, AgreesAt}
+use Rattle.cx_flattening.specs.Lists.{island_events, IsIsland}
 use Rattle.cx_flattening.proofs.FlatCycles.{port-in}
 use Rattle.cx_flattening.proofs.FlatTops.{flat_seen, flat_cycle, all_numbers, top_played}
 use Rattle.cx_flattening.proofs.FlatTurns.{still_tops}
 use Rattle.cx_flattening.proofs.FlatLists.{island_length, island_acts, island_looks}
 use Rattle.cx_flattening.proofs.FlatLooks.{AllRelated}
-use Rattle.cx_flattening.proofs.FlatSpots.{SeenThere, look_from, spots_seen}
+use Rattle.cx_flattening.proofs.FlatSpots.{look_from, spots_seen}
 use Rattle.cx_flattening.proofs.IdleStands.{idle_stands}
 
 -- RELATIONS of spots and ports, joined
@@ -81,14 +77,17 @@ module _ (top : Instance) where
         plus : (a b : ℕ) → a + suc b ≡ suc a + b
         plus a b = omega arith
     below_told (an_instance child rest) part cells c tail first at same = (
-        λ static. spots_told child (first + start_of (flat_kids cells) part c) (at ++ (c ∷ []))
-            (λ path p. ap (λ whole. flat_port top 0 whole p) (append_through at (c ∷ []) path) ∙ same (c ∷ path) p ∙ port-in cells c child (first + start_of (flat_kids cells) part c) path p at_cell),
-        below_told rest part cells (suc c) (λ n. tail (suc n) ∙ ap (cell_at cells) (plus c n)) first at same)
+      λ static. spots_told child (first + start_of (flat_kids cells) part c) (at ++ (c ∷ []))
+          (λ path p. ap (λ whole. flat_port top 0 whole p) (append_through at (c ∷ []) path) ∙ same (c ∷ path) p ∙ port-in cells c child (first + start_of (flat_kids cells) part c) path p at_cell),
+      below_told rest part cells (suc c) (λ n. tail (suc n) ∙ ap (cell_at cells) (plus c n)) first at same,
+    )
       where
         plus : (a b : ℕ) → a + suc b ≡ suc a + b
         plus a b = omega arith
+
         zero_plus : (a : ℕ) → a + 0 ≡ a
         zero_plus a = omega arith
+
         at_cell : cell_at cells c ≡ OfInstance child
         at_cell = ap (cell_at cells) (sym (zero_plus c)) ∙ sym (tail 0)
 
@@ -240,8 +239,15 @@ module _ (i flat : Instance) (form : PlainForm) (held : Held) (its : IsIsland i 
   module _ (s z : State) (stands : Stands i 0 s z) where
     calm_beside : IsBeside i flat nothing nothing [] s z
     calm_beside = record {
-      flattened = its.flattened; fair = its.fair; stands = stands; acts = still_tops i; done = refl; kept = λ c none. absurd (cc);
-      no_circle = its.still; acyclic = its.calm; deeper = its.deeper;
+      flattened = its.flattened;
+      fair = its.fair;
+      stands = stands;
+      acts = still_tops i;
+      done = refl;
+      kept = λ c none. absurd (cc);
+      no_circle = its.still;
+      acyclic = its.calm;
+      deeper = its.deeper;
     }
 
     seen_there : AllSpots (λ x q. seen flat held nothing z q ≡ look_below i held s x.at x.port) i 0 []
@@ -285,8 +291,15 @@ module _ (i flat : Instance) (form : PlainForm) (held : Held) (its : IsIsland i 
 
       cycle_now : CycleAs i (whole_cycle i held (entries (own_entries (deeds_in now t L))) (deeds_in now t L) s) (cycle flat held (entries (active_in flat_now t M)) z)
       cycle_now = flat_cycle i flat held (entries (own_entries (deeds_in now t L))) (entries (active_in flat_now t M)) (deeds_in now t L) s z (record {
-        flattened = its.flattened; fair = its.fair; stands = stands; acts = acts_now; done = refl; kept = λ c none. absurd (cc);
-        no_circle = its.no_circle now t; acyclic = its.acyclic flat_now t; deeper = its.deeper;
+        flattened = its.flattened;
+        fair = its.fair;
+        stands = stands;
+        acts = acts_now;
+        done = refl;
+        kept = λ c none. absurd (cc);
+        no_circle = its.no_circle now t;
+        acyclic = its.acyclic flat_now t;
+        deeper = its.deeper;
       })
 
       turn_now : TurnAs i (whole_turn i held L t now s) (island_turn flat held M t flat_now z)

@@ -2,15 +2,15 @@
 use Rattle.std.proofs.Common.{◌≡◌, ℕ, zero, suc, ◌+◌, ◌-◌, ◌<◌, inl, inr, Bool, true, false, ◌&&◌, nat_eq, List, [], ◌∷◌, ◌++◌, length, Option, Some, None, refl, sym, ap, ◌∙◌, subst, arith}
 use Rattle.cx_meaning.specs.declared.ports.PortRef.{PortRef}
 use Rattle.cx_meaning.specs.declared.ports.PortRef.TheVariants as ports
-use Rattle.cx_meaning.specs.Designs.{PlainInvoke, PlainComponent, PlainForm, Empty, Enable, Seq, Par, If, While, Repeat, StaticSeq, StaticPar, StaticIf, StaticRepeat, Timed, PlainStatement, Placed, PlainStatements, no_statements, a_statement}
-use Rattle.cx_meaning.specs.Instances.{Instance, Node, Cells, no_cells, a_primitive, an_instance, OfInstance, part_of, cells_of, cell_at, Path}
+use Rattle.cx_meaning.specs.Designs.{PlainComponent, PlainForm, Empty, Enable, Seq, Par, If, While, Repeat, StaticSeq, StaticPar, StaticIf, StaticRepeat, Timed, PlainStatement, Placed, PlainStatements, no_statements, a_statement}
+use Rattle.cx_meaning.specs.Instances.{Instance, Node, Cells, no_cells, a_primitive, an_instance, OfInstance, part_of, cell_at, Path}
 use Rattle.cx_meaning.specs.Control.{groups_in, groups_of, groups_in_all}
 use Rattle.cx_meaning.specs.Islands.{group_length, or_zero, length_of, Condition, condition, Occurrence, occurrence, rounds_from, form_flat, flat, seq_flat, par_flat, is_wanted, port_if, looked_at}
 use Rattle.cx_meaning.specs.Islands as islands
 use Rattle.cx_meaning.specs.Sights.{In}
 use Rattle.cx_meaning.proofs.SightsLaws.{in_left, in_right}
 use Rattle.cx_flattening.specs.Invokes.{invoke_at, lasts}
-use Rattle.cx_flattening.specs.Events.{Spot, spot, Sample, Event, Runs, Feeds, Looks, Beginning, Events, later_by, also_if, source_to, group_events, capture_events, rounds_events, bound_below, invoke_events, form_events, events, seq_events, par_events, control_events, events_below}
+use Rattle.cx_flattening.specs.Events.{Spot, spot, Sample, Event, Runs, Feeds, Looks, Beginning, Events, later_by, source_to, group_events, capture_events, rounds_events, bound_below, invoke_events, form_events, events, seq_events, par_events, control_events, events_below}
 use Rattle.cx_flattening.specs.Deeds.{History, hold, spot_if, looked_in}
 use Rattle.cx_flattening.specs.Whole.{is_static}
 use Rattle.cx_flattening.specs.Copies.{copied_form, copied_statement, copied_statements}
@@ -18,8 +18,8 @@ use Rattle.cx_flattening.specs.Flattened as flattening
 use Rattle.cx_flattening.specs.Flattened.{Kids, kid_at, kept_at, start_of, wire_at, flat_kids, flat_part, own_port, invoke_port, copy_of, with_capture, inlined, flat_form, flat_statement, flat_statements}
 use Rattle.cx_flattening.specs.Levels.{own_of}
 use Rattle.cx_flattening.specs.Fair.{IsNamed, IsFair, AllFair, AllFairBelow}
-use Rattle.cx_flattening.specs.Sampling.{placed, IsOwn, AllSpots, SpotsBelow, SampledAlike}
-use Rattle.cx_flattening.specs.Controlled.{timed_in, timed_of, timed_all, tested_in, tested_of, tested_all, IsInvoked, IsControlled, AllControlled, AllControlledBelow}
+use Rattle.cx_flattening.specs.Sampling.{placed, AllSpots, SpotsBelow, SampledAlike}
+use Rattle.cx_flattening.specs.Controlled.{timed_in, timed_of, timed_all, tested_in, tested_of, tested_all, IsControlled, AllControlled, AllControlledBelow}
 use Rattle.cx_flattening.proofs.CopiedControl.{statement_twice}
 use Rattle.cx_flattening.proofs.LevelSights.{kid-static}
 use Rattle.cx_flattening.proofs.FlatLengths.{LastsAlike, Lasting, lasting_left, lasting_right, AllThere, there_left, there_right, invoke_lasting, one_lasting, kids_last}
@@ -75,6 +75,7 @@ module _ (S : Spot → PortRef → Type 0) where
     where
       plus_zero : (a : ℕ) → a ≡ a + 0
       plus_zero a = omega arith
+
       same_child : OfInstance other ≡ OfInstance child → other ≡ child
       same_child e = cc
   spots_child kids part (an_instance other rest) c (suc n) first at child agree e static = subst (λ d. AllSpots S child (first + start_of kids part d) (at ++ (d ∷ []))) (plus c n) (spots_child kids part rest (suc c) n first at child agree.1 e static)
@@ -182,7 +183,7 @@ module _ (S : Spot → PortRef → Type 0) where
           } in
           let its_spots = subst (λ d. AllSpots S its.child (first + start_of kids part d) (at ++ (d ∷ []))) (zero_plus v.cell) (spots_child kids part cells 0 v.cell first at its.child agree.1 its.stands its.static) in
           let found = below v.cell its.child its.stands J (λ q. f (invoke_port kids part kid v q)) (λ g. copy (copy_of kids part kid j g)) (first + start_of kids part v.cell) x (at ++ (v.cell ∷ [])) (bound_below bound at v.cell v.inputs) samples conditions
-              (invoke_lasting part cells fair controlled lasting J copy j there kid at_kid lasts_here) its_binds its_spots same in
+          (invoke_lasting part cells fair controlled lasting J copy j there kid at_kid lasts_here) its_binds its_spots same in
           let copied = subst (λ s. AllRelated S (looked_in h t (control_events its.child begun)) (looked_at k t (flat J s x conditions))) (sym (statement_twice f (invoke_port kids part kid v) copy (copy_of kids part kid j) kid.control)) found in
           let child = subst (λ l. AllRelated S (looked_in h t l) (looked_at k t (flat J (copied_statement f copy (copied_statement (invoke_port kids part kid v) (copy_of kids part kid j) kid.control)) x conditions))) (sym (events-child cells v.cell its.child begun its.stands)) copied in
           subst (λ o. SameLooks (invoke_events (events_below cells) v (start x samples)) (form_flat J (copied_form f copy (inlined kids part o j v)) x conditions)) (sym at_kid)
@@ -214,16 +215,22 @@ module _ (S : Spot → PortRef → Type 0) where
           where
             E1 : List Event
             E1 = events part (events_below cells) a (start x (record { spot = bound test.port; cycle = x; wanted = true } ∷ samples))
+
             E2 : List Event
             E2 = events part (events_below cells) b (start x (record { spot = bound test.port; cycle = x; wanted = false } ∷ samples))
+
             F1 : List Occurrence
             F1 = flat J (copied_statement f copy (flat_statement kids part a)) x (condition (f (own_port kids part test.port)) x true ∷ conditions)
+
             F2 : List Occurrence
             F2 = flat J (copied_statement f copy (flat_statement kids part b)) x (condition (f (own_port kids part test.port)) x false ∷ conditions)
+
             its : S (bound test.port) (f (own_port kids part test.port))
             its = bound_spot (Node part cells) first f bound at binds agree test.port (tested test.port (inl refl))
+
             holds_with : (wanted : Bool) → (is_wanted wanted (h (bound test.port) x) && hold h samples) ≡ (is_wanted wanted (k (f (own_port kids part test.port)) x) && islands.hold k conditions)
             holds_with wanted = ap (λ y. is_wanted wanted y && hold h samples) (sym (samples_alike (bound test.port) (f (own_port kids part test.port)) its x)) ∙ ap (λ y. is_wanted wanted (k (f (own_port kids part test.port)) x) && y) same
+
             choice : (b : Bool) (xs : List Spot) (qs : List PortRef) → AllRelated S xs qs → AllRelated S (spot_if b (bound test.port) xs) (port_if b (f (own_port kids part test.port)) qs)
             choice true xs qs r = (its, r)
             choice false xs qs r = r

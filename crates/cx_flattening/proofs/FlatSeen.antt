@@ -1,20 +1,18 @@
 -- WHAT IS SEEN OF ALL CELLS: in the host each port of each cell, and of those of static children at every depth, is seen as in the tree.
-use Rattle.std.proofs.Common.{◌≡◌, ℕ, zero, suc, ◌+◌, ◌<◌, ⊎_elim, true, List, [], ◌∷◌, length, Some, None, refl, sym, ap, ◌∙◌, subst, arith}
-use Rattle.cx_prim.specs.Rows.{Row}
+use Rattle.std.proofs.Common.{◌≡◌, ℕ, suc, ◌+◌, ◌<◌, ⊎_elim, List, [], length, Some, None, sym, ap, ◌∙◌, arith}
 use Rattle.cx_meaning.specs.declared.ports.PortRef.{PortRef}
 use Rattle.cx_meaning.specs.declared.ports.PortRef.TheVariants as ports
 use Rattle.cx_meaning.specs.Designs.{PlainAssign, PlainComponent}
-use Rattle.cx_meaning.specs.Instances.{Instance, Node, Cells, no_cells, a_primitive, an_instance, OfRow, OfInstance, part_of, cells_of, cell_at, State, under}
+use Rattle.cx_meaning.specs.Instances.{Instance, Node, Cells, no_cells, a_primitive, an_instance, OfRow, OfInstance, part_of, cells_of, cell_at, State}
 use Rattle.cx_meaning.specs.Active.{Active}
 use Rattle.cx_meaning.specs.Sights.{Held, seen}
 use Rattle.cx_meaning.proofs.InstancesLemmas.{row_instance}
 use Rattle.cx_rules.specs.Circles.{IsAcyclic, AcyclicBelow}
 use Rattle.cx_flattening.specs.Deeds.{Deed, deeds_below}
-use Rattle.cx_flattening.specs.Whole.{is_static}
-use Rattle.cx_flattening.specs.Flattened.{Kids, kept_at, flat_kids, own_port}
-use Rattle.cx_flattening.specs.Acting.{fed_by, IsIdle, IsFed, ActsAs, AllActAs}
-use Rattle.cx_flattening.specs.Levels.{OutputsSeen, IsPlayed}
-use Rattle.cx_flattening.specs.Fair.{IsFair, AllFair, AllFairBelow}
+use Rattle.cx_flattening.specs.Flattened.{kept_at, flat_kids}
+use Rattle.cx_flattening.specs.Acting.{fed_by, ActsAs, AllActAs}
+use Rattle.cx_flattening.specs.Levels.{IsPlayed}
+use Rattle.cx_flattening.specs.Fair.{AllFair, AllFairBelow}
 use Rattle.cx_flattening.specs.Seeing.{CellsSeen, AllSeen, NoCircle, NoneBelow}
 use Rattle.cx_flattening.proofs.PortLemmas.{own-kept}
 use Rattle.cx_flattening.proofs.Standing.{within_row, fair_own}
@@ -48,34 +46,40 @@ module _ (host : Instance) (host_held : Held) (more : Active) (z : State) (acycl
         → AllSeen (seen host host_held more z) (flat_kids cells) part rest c first (seen (Node part cells) held act s) deeds s
     all_seen no_cells part cells c tail fair fair_rest first f held act inner s inputs outputs holes played deeds does calm calm_rest alive = tt
     all_seen (a_primitive row rest) part cells c tail fair fair_rest first f held act inner s inputs outputs holes played deeds does calm calm_rest alive = (
-        λ p.
-        ap (seen host host_held more z) (sym (ap f (own-kept (flat_kids cells) part c p (kid-row cells c row at)) ∙ played.cells (kept_at (flat_kids cells) c) p))
-        ∙ played_found part cells fair.0 (kids_seen cells fair.1) host host_held more z acyclic deeper first f held act inner s inputs outputs holes played calm.0 calm.1 (ports.Cell c p)
-        (within_row (Node part cells) fair.0 c row at, λ child e static. absurd (row_instance row child (sym at ∙ e))),
-        all_seen rest part cells (suc c) (λ n. tail (suc n) ∙ ap (cell_at cells) (plus c n)) fair fair_rest first f held act inner s inputs outputs holes played deeds does calm calm_rest alive)
+      λ p.
+          ap (seen host host_held more z) (sym (ap f (own-kept (flat_kids cells) part c p (kid-row cells c row at)) ∙ played.cells (kept_at (flat_kids cells) c) p))
+          ∙ played_found part cells fair.0 (kids_seen cells fair.1) host host_held more z acyclic deeper first f held act inner s inputs outputs holes played calm.0 calm.1 (ports.Cell c p)
+          (within_row (Node part cells) fair.0 c row at, λ child e static. absurd (row_instance row child (sym at ∙ e))),
+      all_seen rest part cells (suc c) (λ n. tail (suc n) ∙ ap (cell_at cells) (plus c n)) fair fair_rest first f held act inner s inputs outputs holes played deeds does calm calm_rest alive,
+    )
       where
         plus : (a b : ℕ) → a + suc b ≡ suc a + b
         plus a b = omega arith
+
         zero_plus : (a : ℕ) → a + 0 ≡ a
         zero_plus a = omega arith
+
         at : cell_at cells c ≡ OfRow row
         at = ap (cell_at cells) (sym (zero_plus c)) ∙ sym (tail 0)
     all_seen (an_instance child rest) part cells c tail fair fair_rest first f held act inner s inputs outputs holes played deeds does calm calm_rest alive = (
-        λ static.
-        let h = does.0 static in
-        ⊎_elim
-        (λ idle. cells_seen child fair_rest.0 _ _ _ _ h.0 _ _ _ _
-        (idle_played part cells fair.0 (kids_seen cells fair.1) host host_held more z acyclic deeper first f held act inner s inputs outputs holes played c child at static (fair_own child fair_rest.0) deeds calm.0 calm.1 alive h.0 h.2 idle)
-        (deeds_below c deeds) h.2 (calm_rest.0 static) (λ d sources e n less. none_fed d (deeds_below c deeds) sources idle.none_below e))
-        (λ fed. cells_seen child fair_rest.0 _ _ _ _ h.0 _ _ _ _
-        (fed_played part cells fair.0 (kids_seen cells fair.1) host host_held more z acyclic deeper first f held act inner s inputs outputs holes played c child at static (fair_own child fair_rest.0) deeds calm.0 calm.1 alive h.0 h.2 fed)
-        (deeds_below c deeds) h.2 (calm_rest.0 static) (λ d sources e n less. less))
-        h.3,
-        all_seen rest part cells (suc c) (λ n. tail (suc n) ∙ ap (cell_at cells) (plus c n)) fair fair_rest.1 first f held act inner s inputs outputs holes played deeds does.1 calm calm_rest.1 alive)
+      λ static.
+          let h = does.0 static in
+          ⊎_elim
+          (λ idle. cells_seen child fair_rest.0 _ _ _ _ h.0 _ _ _ _
+          (idle_played part cells fair.0 (kids_seen cells fair.1) host host_held more z acyclic deeper first f held act inner s inputs outputs holes played c child at static (fair_own child fair_rest.0) deeds calm.0 calm.1 alive h.0 h.2 idle)
+          (deeds_below c deeds) h.2 (calm_rest.0 static) (λ d sources e n less. none_fed d (deeds_below c deeds) sources idle.none_below e))
+          (λ fed. cells_seen child fair_rest.0 _ _ _ _ h.0 _ _ _ _
+          (fed_played part cells fair.0 (kids_seen cells fair.1) host host_held more z acyclic deeper first f held act inner s inputs outputs holes played c child at static (fair_own child fair_rest.0) deeds calm.0 calm.1 alive h.0 h.2 fed)
+          (deeds_below c deeds) h.2 (calm_rest.0 static) (λ d sources e n less. less))
+          h.3,
+      all_seen rest part cells (suc c) (λ n. tail (suc n) ∙ ap (cell_at cells) (plus c n)) fair fair_rest.1 first f held act inner s inputs outputs holes played deeds does.1 calm calm_rest.1 alive,
+    )
       where
         plus : (a b : ℕ) → a + suc b ≡ suc a + b
         plus a b = omega arith
+
         zero_plus : (a : ℕ) → a + 0 ≡ a
         zero_plus a = omega arith
+
         at : cell_at cells c ≡ OfInstance child
         at = ap (cell_at cells) (sym (zero_plus c)) ∙ sym (tail 0)

@@ -1,22 +1,21 @@
 -- UNDER THE CONTINUOUS ASSIGNMENTS ALONE each port of the tree that may be tested is seen in the flat instance as in the tree.
-use Rattle.std.proofs.Common.{◌≡◌, ℕ, zero, suc, ◌+◌, ⊎_elim, inl, inr, true, List, [], ◌∷◌, ◌++◌, length, Option, Some, None, refl, sym, ap, ◌∙◌, subst, arith}
+use Rattle.std.proofs.Common.{◌≡◌, ℕ, zero, suc, ◌+◌, ⊎_elim, List, [], ◌∷◌, ◌++◌, length, Option, Some, None, refl, sym, ap, ◌∙◌, arith}
 use Rattle.std.specs.Prelude.{◌-◌}
 use Rattle.std.proofs.Math.Path.{fun_ext}
 use Rattle.cx_meaning.specs.declared.ports.PortRef.{PortRef}
 use Rattle.cx_meaning.specs.declared.ports.PortRef.TheVariants as ports
-use Rattle.cx_meaning.specs.declared.sights.Seen.{Seen}
 use Rattle.cx_meaning.specs.Designs.{PlainComponent}
-use Rattle.cx_meaning.specs.Instances.{Instance, Node, Cells, no_cells, a_primitive, an_instance, OfInstance, part_of, cells_of, cell_at, Path, State, under}
+use Rattle.cx_meaning.specs.Instances.{Instance, Node, Cells, no_cells, a_primitive, an_instance, OfInstance, cells_of, cell_at, Path, State, under}
 use Rattle.cx_meaning.specs.Active.{Active, nothing, entries}
 use Rattle.cx_meaning.specs.Sights.{Look, Held, unheld, seen}
 use Rattle.cx_rules.specs.Circles.{IsAcyclic, AcyclicBelow}
-use Rattle.cx_flattening.specs.Events.{Spot, spot}
+use Rattle.cx_flattening.specs.Events.{Spot}
 use Rattle.cx_flattening.specs.Deeds.{held_below}
-use Rattle.cx_flattening.specs.Whole.{is_static, look_below, look_at}
-use Rattle.cx_flattening.specs.Flattened.{Kids, kid_at, kept_at, start_of, wire_at, flat_kids, port_if, own_port}
-use Rattle.cx_flattening.specs.Acting.{IsIdle, IsFed, ActsAs, AllActAs}
+use Rattle.cx_flattening.specs.Whole.{look_below, look_at}
+use Rattle.cx_flattening.specs.Flattened.{kid_at, kept_at, wire_at, flat_kids, port_if, own_port}
+use Rattle.cx_flattening.specs.Acting.{ActsAs, AllActAs}
 use Rattle.cx_flattening.specs.Levels.{Asked, IsPlayed}
-use Rattle.cx_flattening.specs.Fair.{IsNamed, IsFair, AllFair, AllFairBelow}
+use Rattle.cx_flattening.specs.Fair.{IsNamed, AllFair, AllFairBelow}
 use Rattle.cx_flattening.specs.Seeing.{NoCircle, NoneBelow}
 use Rattle.cx_flattening.specs.Sampling.{placed, IsOwn, AllSpots, SpotsBelow}
 use Rattle.cx_flattening.proofs.Standing.{fair_own}
@@ -59,23 +58,27 @@ module _ (host : Instance) (host_held : Held) (more : Active) (z : State) (acycl
         → IsPlayed host host_held more z i first f held act inner s inputs outputs holes → ActsAs i act [] inner → NoCircle i act [] → Alive i [] inputs
         → (at : Path) → ((path : Path) (p : PortRef) → below (at ++ path) p ≡ look_from i held act s path p) → AllSpots SeenThere i first at
     spots_seen (Node part cells) fair first f held act inner s inputs outputs holes played does calm alive at looks = (
-        λ p named own.
-        sym (ap (seen host host_held more z) (place p named own))
-        ∙ played_found part cells fair.0 (kids_seen cells fair.1) host host_held more z acyclic deeper first f held act inner s inputs outputs holes played calm.0 calm.1 p (asked p named own)
-        ∙ sym (looks [] p) ∙ ap (λ path. below path p) (append_none at),
-        spots_below cells part cells 0 (λ n. ap (cell_at cells) (plus n)) fair fair.1 first f held act inner s inputs outputs holes played does.1 calm calm.2 alive at looks)
+      λ p named own.
+          sym (ap (seen host host_held more z) (place p named own))
+          ∙ played_found part cells fair.0 (kids_seen cells fair.1) host host_held more z acyclic deeper first f held act inner s inputs outputs holes played calm.0 calm.1 p (asked p named own)
+          ∙ sym (looks [] p) ∙ ap (λ path. below path p) (append_none at),
+      spots_below cells part cells 0 (λ n. ap (cell_at cells) (plus n)) fair fair.1 first f held act inner s inputs outputs holes played does.1 calm calm.2 alive at looks,
+    )
       where
         plus : (a : ℕ) → a ≡ 0 + a
         plus a = omega arith
+
         by_kid : (c p : ℕ) (o : Option PlainComponent) → f (port_if (flat_kids cells) part o c p) ≡ placed first (port_if (flat_kids cells) part o c p)
         by_kid c p None = played.cells (kept_at (flat_kids cells) c) p
         by_kid c p (Some kid) = played.cells (wire_at (flat_kids cells) part kid c (p - 1 - length kid.inputs)) 1
+
         place : (p : PortRef) → IsNamed (Node part cells) p → IsOwn p → f (own_port (flat_kids cells) part p) ≡ placed first (own_port (flat_kids cells) part p)
         place (ports.Cell c p) named own = by_kid c p (kid_at (flat_kids cells) c)
         place (ports.Input n) named own = absurd own
         place (ports.Output n) named own = absurd named
         place (ports.Done g) named own = absurd named
         place (ports.Literal w v) named own = played.literals w v
+
         asked : (p : PortRef) → IsNamed (Node part cells) p → IsOwn p → Asked (Node part cells) inputs outputs holes p
         asked (ports.Cell c p) named own = named
         asked (ports.Input n) named own = absurd own
@@ -95,22 +98,25 @@ module _ (host : Instance) (host_held : Held) (more : Active) (z : State) (acycl
         plus : (a b : ℕ) → a + suc b ≡ suc a + b
         plus a b = omega arith
     spots_below (an_instance child rest) part cells c tail fair fair_rest first f held act inner s inputs outputs holes played does calm calm_rest alive at looks = (
-        λ static.
-        let h = does.0 static in
-        ⊎_elim
-        (λ idle. spots_seen child fair_rest.0 _ _ _ _ h.0 _ _ _ _
-        (idle_played part cells fair.0 (kids_seen cells fair.1) host host_held more z acyclic deeper first f held act inner s inputs outputs holes played c child at_cell static (fair_own child fair_rest.0) [] calm.0 calm.1 alive h.0 h.2 idle)
-        h.2 (calm_rest.0 static) (λ d sources e n less. none_fed d [] sources refl e) (at ++ (c ∷ []))
-        (λ path p.
-        ap (λ whole. below whole p) (append_through at (c ∷ []) path) ∙ looks (c ∷ path) p ∙ look_at-child cells c child (under c s) path p at_cell
-        ∙ still_look child (seen (Node part cells) held act s) c (under c s) path p))
-        (λ fed. absurd (none_fed c [] _ refl fed.fed))
-        h.3,
-        spots_below rest part cells (suc c) (λ n. tail (suc n) ∙ ap (cell_at cells) (plus c n)) fair fair_rest.1 first f held act inner s inputs outputs holes played does.1 calm calm_rest.1 alive at looks)
+      λ static.
+          let h = does.0 static in
+          ⊎_elim
+          (λ idle. spots_seen child fair_rest.0 _ _ _ _ h.0 _ _ _ _
+          (idle_played part cells fair.0 (kids_seen cells fair.1) host host_held more z acyclic deeper first f held act inner s inputs outputs holes played c child at_cell static (fair_own child fair_rest.0) [] calm.0 calm.1 alive h.0 h.2 idle)
+          h.2 (calm_rest.0 static) (λ d sources e n less. none_fed d [] sources refl e) (at ++ (c ∷ []))
+          (λ path p.
+          ap (λ whole. below whole p) (append_through at (c ∷ []) path) ∙ looks (c ∷ path) p ∙ look_at-child cells c child (under c s) path p at_cell
+          ∙ still_look child (seen (Node part cells) held act s) c (under c s) path p))
+          (λ fed. absurd (none_fed c [] _ refl fed.fed))
+          h.3,
+      spots_below rest part cells (suc c) (λ n. tail (suc n) ∙ ap (cell_at cells) (plus c n)) fair fair_rest.1 first f held act inner s inputs outputs holes played does.1 calm calm_rest.1 alive at looks,
+    )
       where
         plus : (a b : ℕ) → a + suc b ≡ suc a + b
         plus a b = omega arith
+
         zero_plus : (a : ℕ) → a + 0 ≡ a
         zero_plus a = omega arith
+
         at_cell : cell_at cells c ≡ OfInstance child
         at_cell = ap (cell_at cells) (sym (zero_plus c)) ∙ sym (tail 0)

@@ -1,11 +1,10 @@
 -- Worked examples of static invokes, by their meaning and by the flat design's.
-use Rattle.std.specs.Prelude.{◌≡◌, ℕ, Bool, true, false, List, [], ◌∷◌, Option, Some, None, refl}
-use Rattle.cx_prim.specs.declared.names.PrimitiveName.TheVariants as primitives
+use Rattle.std.specs.Prelude.{◌≡◌, ℕ, true, false, List, [], ◌∷◌, Some, None, refl}
 use Rattle.cx_meaning.specs.declared.ports.PortRef.{PortRef}
-use Rattle.cx_meaning.specs.declared.ports.PortRef.TheVariants.{Cell, Input, Literal, Output}
+use Rattle.cx_meaning.specs.declared.ports.PortRef.TheVariants.{Cell, Input, Output}
 use Rattle.cx_meaning.specs.declared.sights.FaultKind.TheVariants as faults
-use Rattle.cx_meaning.specs.Designs.{PlainInvoke, PlainComponent, PlainDesign, PlainCell, PlainGroup, PlainStatement, PlainAssign, StaticSeq, StaticPar, StaticIf, StaticRepeat, Empty, Timed, statements_of}
-use Rattle.cx_meaning.proofs.KnownDesigns.{placed, assign, timed_group, plain_group, child_cell, mem, reg, cell, adder, st, enable, seq, component, number, one_bit, store}
+use Rattle.cx_meaning.specs.Designs.{PlainInvoke, PlainComponent, PlainDesign, PlainStatement, PlainAssign, StaticSeq, Timed, statements_of}
+use Rattle.cx_meaning.proofs.KnownDesigns.{assign, timed_group, child_cell, mem, reg, adder, st, enable, seq, component, number, one_bit, store}
 use Rattle.cx_meaning.proofs.KnownRuns.{Told, Ends, Faults, GoesOn, told, run_told}
 use Rattle.cx_flattening.specs.Whole.{whole_main}
 use Rattle.cx_flattening.specs.FlatDesign.{flat_design}
@@ -33,8 +32,11 @@ capturing source = record { cell = 1; written = false; length = None; latency = 
 
 -- mem, c = sq(), k = std_reg(32); group 0 captures y in k; 1 stores c.y, 2 stores k.out
 abbrev main_with : List PlainInvoke → PlainStatement → PlainDesign
-main_with list control = record { components = record (component (mem ∷ child_cell 1 ∷ reg 32 ∷ [])
-    (timed_group 1 (assign (Cell 2 0) (Cell 1 2) 9 ∷ assign (Cell 2 1) (one_bit 1) 9 ∷ []) ∷ store 1 (Cell 1 2) ∷ store 2 (Cell 2 2) ∷ []) [] control) { invokes = list } ∷ sq ∷ []; main = 0 }
+main_with list control = record {
+  components = record (component (mem ∷ child_cell 1 ∷ reg 32 ∷ [])
+      (timed_group 1 (assign (Cell 2 0) (Cell 1 2) 9 ∷ assign (Cell 2 1) (one_bit 1) 9 ∷ []) ∷ store 1 (Cell 1 2) ∷ store 2 (Cell 2 2) ∷ []) [] control) { invokes = list } ∷ sq ∷ [];
+  main = 0;
+}
 
 abbrev constants : List PlainInvoke
 constants = plain_invoke (number 3) ∷ plain_invoke (number 5) ∷ []

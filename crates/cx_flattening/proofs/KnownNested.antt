@@ -1,12 +1,11 @@
 -- Worked examples: an input that falls, samples in a static repeat inside a static par, and a sampled input two levels down; by the
 -- meaning and by the flat design's.
-use Rattle.std.specs.Prelude.{◌≡◌, ℕ, Bool, true, false, List, [], ◌∷◌, Option, Some, None, refl}
+use Rattle.std.specs.Prelude.{◌≡◌, ℕ, true, List, [], ◌∷◌, Some, None, refl}
 use Rattle.cx_prim.specs.declared.names.PrimitiveName.TheVariants as primitives
-use Rattle.cx_meaning.specs.declared.ports.PortRef.{PortRef}
 use Rattle.cx_meaning.specs.declared.ports.PortRef.TheVariants.{Cell, Input, Output}
 use Rattle.cx_meaning.specs.declared.sights.FaultKind.TheVariants as faults
 use Rattle.cx_meaning.specs.declared.kinds.PortDecl.{PortDecl}
-use Rattle.cx_meaning.specs.Designs.{PlainInvoke, PlainComponent, PlainDesign, PlainStatement, PlainAssign, Atom, Negation, Within, StaticSeq, StaticPar, StaticIf, StaticRepeat, Empty, Timed, statements_of}
+use Rattle.cx_meaning.specs.Designs.{PlainInvoke, PlainComponent, PlainDesign, PlainAssign, Atom, Negation, Within, StaticSeq, StaticPar, StaticIf, StaticRepeat, Empty, Timed, statements_of}
 use Rattle.cx_meaning.proofs.KnownDesigns.{placed, assign, guarded, timed_group, child_cell, mem, reg, cell, st, enable, seq, component, number, one_bit, store}
 use Rattle.cx_meaning.proofs.KnownRuns.{Told, Ends, Faults, told, run_told}
 use Rattle.cx_flattening.specs.Whole.{whole_main}
@@ -38,9 +37,12 @@ done_of_r = invoke_of 1 (assign (Cell 1 1) (Cell 2 3) 1 ∷ [])
 
 -- seq { static seq { g; static invoke c(w = r.done)(); } st; }: the done of r is 1 in the child's first cycle and 0 in its second
 abbrev falling : PlainDesign
-falling = record { components = record (component (mem ∷ child_cell 1 ∷ reg 32 ∷ [])
-    (timed_group 1 (assign (Cell 2 0) (number 7) 1 ∷ assign (Cell 2 1) (one_bit 1) 2 ∷ []) ∷ store 1 (Cell 1 2) ∷ []) []
-    (seq (st (StaticSeq None (statements_of (enable 0 ∷ st (Timed 0) ∷ []))) ∷ enable 1 ∷ []))) { invokes = done_of_r ∷ [] } ∷ dn ∷ []; main = 0 }
+falling = record {
+  components = record (component (mem ∷ child_cell 1 ∷ reg 32 ∷ [])
+      (timed_group 1 (assign (Cell 2 0) (number 7) 1 ∷ assign (Cell 2 1) (one_bit 1) 2 ∷ []) ∷ store 1 (Cell 1 2) ∷ []) []
+      (seq (st (StaticSeq None (statements_of (enable 0 ∷ st (Timed 0) ∷ []))) ∷ enable 1 ∷ []))) { invokes = done_of_r ∷ [] } ∷ dn ∷ [];
+  main = 0;
+}
 
 pub known_falling : whole_told falling ≡ Ends 6 ((2 ∷ []) ∷ [])
 known_falling = refl
@@ -63,9 +65,12 @@ with_four = invoke_of 1 (assign (Cell 1 1) (one_bit 0) 1 ∷ assign (Cell 1 2) (
 
 -- seq { static par { static repeat 2 { static invoke c(w = 0, x = 4)(); } h; } st; }: the second round samples anew
 abbrev beside : PlainDesign
-beside = record { components = record (component (mem ∷ child_cell 1 ∷ reg 32 ∷ [])
-    (timed_group 3 (guarded (Cell 2 0) (Within 0 1) (number 1) 1 ∷ guarded (Cell 2 0) (Within 1 2) (number 2) 2 ∷ guarded (Cell 2 0) (Within 2 3) (number 3) 3 ∷ assign (Cell 2 1) (one_bit 1) 4 ∷ []) ∷ store 1 (Cell 1 3) ∷ []) []
-    (seq (st (StaticPar None (statements_of (st (StaticRepeat None 2 (st (Timed 0))) ∷ enable 0 ∷ []))) ∷ enable 1 ∷ []))) { invokes = with_four ∷ [] } ∷ si ∷ []; main = 0 }
+beside = record {
+  components = record (component (mem ∷ child_cell 1 ∷ reg 32 ∷ [])
+      (timed_group 3 (guarded (Cell 2 0) (Within 0 1) (number 1) 1 ∷ guarded (Cell 2 0) (Within 1 2) (number 2) 2 ∷ guarded (Cell 2 0) (Within 2 3) (number 3) 3 ∷ assign (Cell 2 1) (one_bit 1) 4 ∷ []) ∷ store 1 (Cell 1 3) ∷ []) []
+      (seq (st (StaticPar None (statements_of (st (StaticRepeat None 2 (st (Timed 0))) ∷ enable 0 ∷ []))) ∷ enable 1 ∷ []))) { invokes = with_four ∷ [] } ∷ si ∷ [];
+  main = 0;
+}
 
 pub known_beside : whole_told beside ≡ Ends 7 ((4 ∷ []) ∷ [])
 known_beside = refl

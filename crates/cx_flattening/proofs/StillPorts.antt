@@ -1,5 +1,5 @@
 -- A port of a flat component that no group drives: where no group drives the port that it stands for.
-use Rattle.std.proofs.Common.{◌≡◌, ℕ, suc, ◌+◌, ◌<◌, ⊎_elim, inl, inr, Bool, true, false, List, [], ◌∷◌, ◌++◌, length, map, Option, Some, None, refl, sym, ap, ◌∙◌, subst, arith}
+use Rattle.std.proofs.Common.{◌≡◌, ℕ, suc, ⊎_elim, inl, inr, Bool, true, false, List, [], ◌∷◌, map, Option, Some, None, refl, sym, ap, ◌∙◌, subst}
 use Rattle.std.specs.Prelude.{flat_map}
 use Rattle.std.proofs.lemmas.Bool.{cases_eq}
 use Rattle.cx_meaning.specs.declared.ports.PortRef.{PortRef}
@@ -15,7 +15,7 @@ use Rattle.cx_rewrites.specs.Moving.{moved_assign, moved_group}
 use Rattle.cx_flattening.specs.Events.{source_to}
 use Rattle.cx_flattening.specs.Copies.{copied_group, is_one_of, group_if, enabled_groups}
 use Rattle.cx_flattening.specs.Flattened.{Kids, kid_at, own_port, child_port, invoke_port, copies_if, copies, flat_groups}
-use Rattle.cx_flattening.specs.Targets.{OwnTarget, BlockTarget, AllUsed, IsBlock, HasTargets}
+use Rattle.cx_flattening.specs.Targets.{OwnTarget, BlockTarget, AllUsed, HasTargets}
 use Rattle.cx_flattening.specs.Levels.{IsStill}
 use Rattle.cx_flattening.proofs.PortLemmas.{own_same, InBlock, in_block, own_apart, block_apart, child_same}
 
@@ -95,16 +95,17 @@ module _ (kids : Kids) (part : PlainComponent) (has : HasTargets kids part) wher
         other_cell copied apart =
             block_apart kids part copied.child child copied.invoke.cell c a.target (child_port kids part child c sources q) apart copied.its its
             (subst (InBlock kids part copied.child copied.invoke.cell) (sym copied.is) (in_block kids part copied.child copied.invoke.cell _ copied.assign.target copied.target)) (in_block kids part child c sources q there) e
+
         same_cell : (copied : IsCopied kids part a) → copied.invoke.cell ≡ c → ⊥
         same_cell copied at =
             let same : copied.child ≡ child = some_is copied.child child (sym copied.its ∙ ap (kid_at kids) at ∙ its) in
             let target : BlockTarget child copied.assign.target = subst (λ k. BlockTarget k copied.assign.target) same copied.target in
             let moved : child_port kids part child c sources copied.assign.target ≡ child_port kids part child c sources q =
-                alike_block child c sources (λ n. own_port kids part (source_to copied.invoke.cell copied.invoke.inputs n)) copied.assign.target target
-                ∙ ap (λ k. child_port kids part child k (λ n. own_port kids part (source_to copied.invoke.cell copied.invoke.inputs n)) copied.assign.target) (sym at)
-                ∙ ap (λ k. invoke_port kids part k copied.invoke copied.assign.target) (sym same) ∙ sym copied.is ∙ e in
+            alike_block child c sources (λ n. own_port kids part (source_to copied.invoke.cell copied.invoke.inputs n)) copied.assign.target target
+            ∙ ap (λ k. child_port kids part child k (λ n. own_port kids part (source_to copied.invoke.cell copied.invoke.inputs n)) copied.assign.target) (sym at)
+            ∙ ap (λ k. invoke_port kids part k copied.invoke copied.assign.target) (sym same) ∙ sym copied.is ∙ e in
             let alike : same_port copied.assign.target q ≡ true =
-                sym (child_same kids part child c sources copied.assign.target q target there) ∙ ap (λ t. same_port t (child_port kids part child c sources q)) moved ∙ same_self (child_port kids part child c sources q) in
+            sym (child_same kids part child c sources copied.assign.target q target there) ∙ ap (λ t. same_port t (child_port kids part child c sources q)) moved ∙ same_self (child_port kids part child c sources q) in
             still copied.group copied.assign (subst (λ k. In k.groups copied.group) same copied.among) copied.stands (same_is copied.assign.target q alike)
           where
             some_is : (m n : PlainComponent) → Some m ≡ Some n → m ≡ n

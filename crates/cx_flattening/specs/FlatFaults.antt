@@ -1,6 +1,6 @@
 -- How a cycle of a host ends beside a cycle of the tree: with the fault of the port that stands for the faulty one, or in a state of the same
 -- cells.
-use Rattle.std.specs.Prelude.{◌≡◌, ℕ, zero, suc, ◌+◌, List, [], ◌∷◌, Some, None}
+use Rattle.std.specs.Prelude.{◌≡◌, ℕ, zero, suc, ◌+◌, [], ◌∷◌, Some, None}
 use Rattle.cx_meaning.specs.declared.ports.PortRef.{PortRef}
 use Rattle.cx_meaning.specs.Instances.{Instance, Node, Cells, no_cells, a_primitive, an_instance, Path, State}
 use Rattle.cx_meaning.specs.Cycles.{Fault, Outcome, first_fault, state_after, Ended, Goes, Faults}

@@ -1,5 +1,5 @@
 -- How a run of the flat instance ends beside one of the tree.
-use Rattle.std.specs.Prelude.{◌≡◌, ℕ}
+use Rattle.std.specs.Prelude.{◌≡◌}
 use Rattle.cx_meaning.specs.Instances.{Instance, State}
 use Rattle.cx_meaning.specs.Cycles.{Fault}
 use Rattle.cx_meaning.specs.Answers.{Answer, End, More}
