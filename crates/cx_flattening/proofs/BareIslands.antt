@@ -1,21 +1,19 @@
 -- Where no static invoke and no static child is, an island does what it did: its list, its cycles, its run.
-use Rattle.std.proofs.Common.{◌≡◌, ℕ, zero, suc, ◌+◌, ◌*◌, ◌-◌, max, Bool, true, false, ◌&&◌, nat_le, nat_lt, nat_eq, cond, List, [], ◌∷◌, ◌++◌, map, Option, Some, None, is_some, refl, sym, ap, ◌∙◌, subst}
+use Rattle.std.proofs.Common.{◌≡◌, ℕ, zero, suc, ◌+◌, ◌*◌, ◌-◌, max, Bool, true, false, ◌&&◌, nat_le, nat_lt, nat_eq, List, [], ◌∷◌, ◌++◌, map, Option, Some, None, refl, sym, ap, ◌∙◌}
 use Rattle.cx_meaning.specs.declared.ports.PortRef.{PortRef}
 use Rattle.cx_meaning.specs.declared.sights.Seen.{Seen}
 use Rattle.cx_meaning.specs.declared.sights.Seen.TheVariants as sights
 use Rattle.cx_meaning.specs.Designs.{PlainComponent, PlainForm, Empty, Enable, Seq, Par, If, While, Repeat, StaticSeq, StaticPar, StaticIf, StaticRepeat, Timed, PlainStatement, Placed, PlainStatements, no_statements, a_statement}
-use Rattle.cx_meaning.specs.Instances.{Instance, Node, Cells, no_cells, a_primitive, an_instance, part_of, cells_of, State, Path, idle, under}
-use Rattle.cx_meaning.specs.Truths.{truth_of}
-use Rattle.cx_meaning.specs.Active.{Active, nothing, Entry, entries}
+use Rattle.cx_meaning.specs.Instances.{Instance, Node, Cells, no_cells, a_primitive, an_instance, cells_of, State, Path, under}
+use Rattle.cx_meaning.specs.Active.{Active, Entry, entries}
 use Rattle.cx_meaning.specs.Sights.{Look, Held, seen}
-use Rattle.cx_meaning.specs.Cycles.{Fault, Ended, Goes, Faults, cycle}
-use Rattle.cx_meaning.specs.Answers.{Answer, More, Meaning, turn_then, Turn}
+use Rattle.cx_meaning.specs.Cycles.{Fault, Ended, cycle}
 use Rattle.cx_meaning.specs.Islands.{group_length, form_length, length_of, sum_length, max_length, Condition, condition, Occurrence, occurrence, rounds_from, form_flat, flat, seq_flat, par_flat, is_wanted, entry_if, port_if, active_in, looked_at, is_one, fault_of, unless_unclear, island_turn, island_from, island}
 use Rattle.cx_meaning.specs.Islands as islands
 use Rattle.cx_flattening.specs.Invokes.{form_lasts, lasts, sum_lasts, max_lasts}
-use Rattle.cx_flattening.specs.Events.{Spot, spot, Sample, Event, Runs, Looks, Beginning, Events, later_by, also_if, group_events, rounds_events, form_events, events, seq_events, par_events, events_below}
-use Rattle.cx_flattening.specs.Deeds.{History, hold, Deed, Acts, deed_if, is_now, deeds_in, spot_if, looked_in, own_entries, deeds_below, and_now, fault_in, or_later, first_unclear, held_below}
-use Rattle.cx_flattening.specs.Whole.{is_static, child_if, whole_cycle, cycles_below, look_below, whole_turn, whole_from, whole_island}
+use Rattle.cx_flattening.specs.Events.{spot, Sample, Event, Runs, Looks, Beginning, Events, also_if, group_events, rounds_events, form_events, events, seq_events, par_events}
+use Rattle.cx_flattening.specs.Deeds.{History, hold, Deed, Acts, deed_if, deeds_in, spot_if, looked_in, own_entries, deeds_below, fault_in, or_later, first_unclear, held_below}
+use Rattle.cx_flattening.specs.Whole.{is_static, child_if, whole_cycle, cycles_below}
 
 -- no static invoke stands in it
 abbrev mutual

@@ -1,17 +1,16 @@
 -- THE MEANING IS THE LANDED ONE where nothing is static: a design without static invokes and static components runs as it did.
-use Rattle.std.proofs.Common.{◌≡◌, ℕ, zero, suc, Bool, true, false, ◌||◌, nat_eq, cond, List, [], ◌∷◌, map, Option, Some, None, refl, sym, ap, ◌∙◌, subst}
+use Rattle.std.proofs.Common.{◌≡◌, ℕ, zero, suc, Bool, true, false, ◌||◌, nat_eq, cond, List, [], map, Option, Some, None, refl, ap, ◌∙◌}
 use Rattle.std.proofs.Math.Path.{fun_ext}
-use Rattle.cx_meaning.specs.declared.ports.PortRef.{PortRef}
 use Rattle.cx_meaning.specs.declared.ports.PortRef.TheVariants as ports
 use Rattle.cx_meaning.specs.declared.kinds.GroupKind.{GroupKind}
 use Rattle.cx_meaning.specs.declared.kinds.GroupKind.TheVariants as kinds
 use Rattle.cx_meaning.specs.Designs.{PlainComponent, PlainDesign, group_at, PlainForm, Empty, Enable, Seq, Par, If, While, Repeat, StaticSeq, StaticPar, StaticIf, StaticRepeat, Timed, PlainStatement, Placed, PlainStatements, no_statements, a_statement}
-use Rattle.cx_meaning.specs.Instances.{Instance, Node, Cells, no_cells, a_primitive, an_instance, part_of, cells_of, State, Set, idle, merge, under, tree_of, start}
+use Rattle.cx_meaning.specs.Instances.{Instance, Node, Cells, no_cells, a_primitive, an_instance, State, idle, merge, under, tree_of, start}
 use Rattle.cx_meaning.specs.Truths.{truth_of}
 use Rattle.cx_meaning.specs.Active.{nothing, entries, group, capture}
 use Rattle.cx_meaning.specs.Sights.{Held, unheld, seen}
 use Rattle.cx_meaning.specs.Cycles.{Fault, cycle}
-use Rattle.cx_meaning.specs.Answers.{Answer, Meaning, then_do, idle_turn, one_turn, turns_of, turn_then, Turn, test_turn, loop_of, rounds, both}
+use Rattle.cx_meaning.specs.Answers.{then_do, idle_turn, one_turn, turns_of, turn_then, test_turn, loop_of, rounds, both}
 use Rattle.cx_meaning.specs.Control.{Leaves, groups_drive, groups_of, drives, run, run_form, run_parts, run_arms}
 use Rattle.cx_meaning.specs.Islands.{Occurrence, form_flat, form_length, looked_at, active_in, is_one, turn_of, unless_unclear, island_turn, island_from, island}
 use Rattle.cx_meaning.specs.Islands as islands
@@ -19,9 +18,9 @@ use Rattle.cx_meaning.specs.Calls.{hole_turn, called, captures, lift_answer, inp
 use Rattle.cx_meaning.specs.Calls as calls
 use Rattle.cx_meaning.specs.Running.{Children, leaves, run_control, control_below, run_main}
 use Rattle.cx_flattening.specs.Invokes.{form_lasts, form_invokes, invokes, any_invokes, drives_all}
-use Rattle.cx_flattening.specs.Events.{form_events, events_below}
-use Rattle.cx_flattening.specs.Deeds.{History, no_history, and_now, looked_in, deeds_in, own_entries, first_unclear}
-use Rattle.cx_flattening.specs.Whole.{look_below, whole_cycle, whole_turn, whole_from, whole_island, after_child, call, group_turn, call_or_turns, enable_kind, enable, whole_leaves, whole_control, whole_below, whole_main}
+use Rattle.cx_flattening.specs.Events.{events_below}
+use Rattle.cx_flattening.specs.Deeds.{History, no_history, and_now, deeds_in, own_entries, first_unclear}
+use Rattle.cx_flattening.specs.Whole.{look_below, whole_cycle, whole_turn, whole_from, whole_island, after_child, group_turn, call_or_turns, enable_kind, whole_leaves, whole_control, whole_below, whole_main}
 use Rattle.cx_flattening.proofs.BareIslands.{Bare, BareOne, BareAll, event_of, bare_form, bare_form_lasts, Says, acts_same, looks_same, unclear_same, NoStatic, whole_is_cycle}
 
 module _ (part : PlainComponent) (cells : Cells) (u : NoStatic cells) (held : Held) where

@@ -1,8 +1,8 @@
 -- What acts of a copy of assignments.
-use Rattle.std.proofs.Common.{◌≡◌, ℕ, Bool, true, false, List, [], ◌∷◌, ◌++◌, map, Option, Some, None, inl, inr, refl, sym, ap, ◌∙◌}
+use Rattle.std.proofs.Common.{◌≡◌, ℕ, Bool, true, false, List, [], ◌∷◌, map, Option, Some, None, inl, inr, refl, ap, ◌∙◌}
 use Rattle.cx_meaning.specs.declared.ports.PortRef.{PortRef}
 use Rattle.cx_meaning.specs.Designs.{PlainAssign}
-use Rattle.cx_meaning.specs.Active.{Active, Owned, owned, offset_of, if_acting, if_target, same_port, acting}
+use Rattle.cx_meaning.specs.Active.{Active, owned, offset_of, if_acting, if_target, same_port, acting}
 use Rattle.cx_meaning.specs.Sights.{In}
 use Rattle.cx_rewrites.specs.Moving.{moved_assign, moved_acting}
 

@@ -1,5 +1,5 @@
 -- The first fault of cells that stand one behind the other.
-use Rattle.std.proofs.Common.{◌≡◌, ℕ, zero, suc, ◌+◌, Option, Some, None, refl, sym, ap, ◌∙◌, arith}
+use Rattle.std.proofs.Common.{◌≡◌, ℕ, zero, suc, ◌+◌, Option, refl, sym, ap, ◌∙◌, arith}
 use Rattle.cx_meaning.specs.Cycles.{Fault, Outcome, Next, Stops, first_of, first_fault}
 use Rattle.cx_flattening.specs.Deeds.{or_later}
 

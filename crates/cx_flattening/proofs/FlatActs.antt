@@ -1,18 +1,18 @@
 -- WHAT ACTS of the flat component, where what is done in the tree stands beside it and no static child is fed twice.
-use Rattle.std.proofs.Common.{◌≡◌, ◌≢◌, ℕ, zero, suc, ◌+◌, ◌-◌, ◌<◌, ◌≤◌, inl, inr, ⊎_elim, Bool, true, false, cond, List, [], ◌∷◌, ◌++◌, length, map, get_or, Option, Some, None, nat_eq, refl, sym, ap, ◌∙◌, subst, arith}
+use Rattle.std.proofs.Common.{◌≡◌, ◌≢◌, ℕ, zero, suc, ◌+◌, ◌-◌, ◌<◌, ◌≤◌, inl, inr, ⊎_elim, Bool, true, false, List, [], ◌∷◌, ◌++◌, length, map, get_or, Option, Some, None, nat_eq, refl, sym, ap, ◌∙◌, subst, arith}
 use Rattle.std.specs.Prelude.{◌⊎◌, flat_map, take, if◌then◌else◌}
-use Rattle.std.proofs.lemmas.Bool.{cases_eq, cases_lt, ne_eqb, eq-eqb, eqb-true}
-use Rattle.cx_meaning.specs.Designs.{PlainAssign, PlainGroup, PlainInvoke, PlainComponent}
-use Rattle.cx_meaning.specs.Instances.{Instance, Node, Cells, no_cells, a_primitive, an_instance, OfInstance, part_of, cells_of, cell_at}
-use Rattle.cx_meaning.specs.Active.{Active, nothing, Entry, offset_in, entries}
+use Rattle.std.proofs.lemmas.Bool.{cases_eq, cases_lt, ne_eqb, eq-eqb}
+use Rattle.cx_meaning.specs.Designs.{PlainAssign, PlainInvoke, PlainComponent}
+use Rattle.cx_meaning.specs.Instances.{Instance, Node, Cells, no_cells, a_primitive, an_instance, OfInstance, cell_at}
+use Rattle.cx_meaning.specs.Active.{nothing, Entry, offset_in, entries}
 use Rattle.cx_meaning.specs.Control.{groups_of}
 use Rattle.cx_meaning.specs.Sights.{In}
 use Rattle.cx_flattening.specs.Invokes.{no_invoke, invoke_at}
 use Rattle.cx_flattening.specs.Deeds.{Deed, Acts, Fed, deed_if, own_entries, deeds_below}
 use Rattle.cx_flattening.specs.Whole.{is_static}
 use Rattle.cx_flattening.specs.Copies.{is_one_of, count_if, enabled_below, enabled_groups}
-use Rattle.cx_flattening.specs.Flattened.{Kids, kid_at, flat_kids, flat_part, copies, first_copy, copy_of}
-use Rattle.cx_flattening.specs.Acting.{fed_by, IsUsed, IsOf, IsIdle, IsFed, ActsAs, AllActAs}
+use Rattle.cx_flattening.specs.Flattened.{Kids, kid_at, flat_kids, flat_part, copies, copy_of}
+use Rattle.cx_flattening.specs.Acting.{fed_by, IsUsed, IsOf, ActsAs, AllActAs}
 use Rattle.cx_flattening.specs.Fair.{IsFair, AllFair, AllFairBelow}
 use Rattle.cx_flattening.specs.FedOnce.{one_more, count_fed, FedOnce, FedOnceBelow}
 use Rattle.cx_flattening.proofs.FlatAssigns.{length-both}

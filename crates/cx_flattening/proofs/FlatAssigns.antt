@@ -1,16 +1,12 @@
 -- What acts among the assignments of a flat component: lists of them behind each other, those that drive other ports, copies for an invoke.
-use Rattle.std.proofs.Common.{◌≡◌, ◌≢◌, ℕ, zero, suc, ◌+◌, ◌<◌, inl, inr, Bool, true, false, List, [], ◌∷◌, ◌++◌, length, map, Option, Some, None, refl, sym, ap, ◌∙◌, subst, arith}
-use Rattle.std.specs.Prelude.{flat_map, take, get_or}
+use Rattle.std.proofs.Common.{◌≡◌, ℕ, suc, ◌+◌, ◌<◌, inl, inr, Bool, true, false, List, [], ◌∷◌, ◌++◌, length, map, Option, Some, None, refl, sym, ap, ◌∙◌, subst, arith}
 use Rattle.std.proofs.lemmas.List.{map-append}
 use Rattle.cx_meaning.specs.declared.ports.PortRef.{PortRef}
-use Rattle.cx_meaning.specs.declared.ports.PortRef.TheVariants as ports
-use Rattle.cx_meaning.specs.Designs.{PlainAssign, PlainGroup, PlainInvoke, PlainComponent}
+use Rattle.cx_meaning.specs.Designs.{PlainAssign, PlainGroup}
 use Rattle.cx_meaning.specs.Active.{Active, owned, owned_by_groups, same_port, acting}
 use Rattle.cx_meaning.specs.Sights.{In}
-use Rattle.cx_meaning.proofs.SightsLaws.{image_in, in_either}
 use Rattle.cx_rewrites.specs.Moving.{moved_assign, moved_group, moved_acting}
 use Rattle.cx_flattening.specs.Copies.{copied_group, is_one_of, count_if, enabled_below, group_if, enabled_groups}
-use Rattle.cx_flattening.specs.Flattened.{Kids, kid_at}
 use Rattle.cx_flattening.specs.Targets.{AllUsed}
 use Rattle.cx_flattening.proofs.Sorting.{acting_both}
 use Rattle.cx_flattening.proofs.CopiedAssigns.{acting_copied, acting_none, acting_elsewhere}

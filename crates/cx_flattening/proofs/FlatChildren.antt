@@ -1,12 +1,12 @@
 -- A STATIC CHILD ACTS IN THE HOST as what it does, where the instance that holds it acts there.
-use Rattle.std.proofs.Common.{◌≡◌, ℕ, zero, suc, ◌+◌, ◌<◌, inl, inr, ⊎_elim, Bool, true, false, List, [], ◌∷◌, length, map, Option, Some, None, nat_eq, refl, sym, ap, ◌∙◌, subst, arith}
+use Rattle.std.proofs.Common.{◌≡◌, ℕ, zero, suc, ◌+◌, ◌<◌, ⊎_elim, Bool, true, false, List, [], ◌∷◌, length, map, Some, None, nat_eq, refl, sym, ap, ◌∙◌, subst, arith}
 use Rattle.cx_meaning.specs.declared.ports.PortRef.{PortRef}
 use Rattle.cx_meaning.specs.declared.ports.PortRef.TheVariants as ports
 use Rattle.cx_meaning.specs.declared.sights.Seen.TheVariants.{Undefined}
 use Rattle.cx_meaning.specs.Designs.{PlainAssign, PlainInvoke, PlainComponent}
-use Rattle.cx_meaning.specs.Instances.{Instance, Node, Cells, no_cells, a_primitive, an_instance, OfRow, OfInstance, part_of, cells_of, cell_at, State, under}
+use Rattle.cx_meaning.specs.Instances.{Instance, Node, Cells, no_cells, a_primitive, an_instance, OfInstance, part_of, cells_of, cell_at, State, under}
 use Rattle.cx_meaning.specs.Active.{Active, entries, Owned, source_order, offset_of, drivers}
-use Rattle.cx_meaning.specs.Sights.{Look, Held, unheld, In, is_done_cell, target_seen, seen}
+use Rattle.cx_meaning.specs.Sights.{Look, Held, In, is_done_cell, target_seen, seen}
 use Rattle.cx_meaning.proofs.DesignsLemmas.{group_there}
 use Rattle.cx_rules.specs.Circles.{IsAcyclic, AcyclicBelow}
 use Rattle.cx_rules.specs.Footprints.{AssignNames}
@@ -18,19 +18,18 @@ use Rattle.cx_flattening.specs.Deeds.{Deed, Acts, Fed, own_entries, deeds_below,
 use Rattle.cx_flattening.specs.Whole.{is_static}
 use Rattle.cx_flattening.specs.Flattened.{Kids, kid_at, kept_at, block_size, start_of, wire_at, flat_part, flat_kids, own_port, child_port, invoke_port}
 use Rattle.cx_flattening.specs.Targets.{BlockTarget}
-use Rattle.cx_flattening.specs.Acting.{fed_by, IsIdle, IsFed, ActsAs, AllActAs}
-use Rattle.cx_flattening.specs.Levels.{OutputsSeen, InFlat, Asked, IsBase, IsHosted, IsPlayed}
-use Rattle.cx_flattening.specs.Fair.{IsNamed, IsFair, AllFair, AllFairBelow}
-use Rattle.cx_flattening.specs.Seeing.{CellsSeen, AllSeen, NoCircle, NoneBelow}
+use Rattle.cx_flattening.specs.Acting.{fed_by, IsIdle, IsFed, ActsAs}
+use Rattle.cx_flattening.specs.Levels.{OutputsSeen, InFlat, Asked, IsHosted, IsPlayed}
+use Rattle.cx_flattening.specs.Fair.{IsNamed, IsFair}
 use Rattle.cx_flattening.proofs.FlatDrivers.{fed_drivers, idle_drivers}
 use Rattle.cx_flattening.specs.Flattened.{kept, blocks}
 use Rattle.cx_flattening.proofs.FlatAssigns.{length-both}
 use Rattle.cx_flattening.proofs.MovedTwice.{moved_twice}
 use Rattle.cx_flattening.proofs.Placing.{kept_less}
-use Rattle.cx_flattening.proofs.Standing.{in_flat_cells, within_child, within_row, fair_own}
+use Rattle.cx_flattening.proofs.Standing.{in_flat_cells, within_child}
 use Rattle.cx_flattening.proofs.RestingPorts.{OfOne, owner_of}
-use Rattle.cx_flattening.proofs.LevelSights.{kid-static, kid-dynamic, kid-row, flat-inputs, flat-outputs}
-use Rattle.cx_flattening.proofs.FlatOutputs.{kept_inside, child_hosted, kids_seen}
+use Rattle.cx_flattening.proofs.LevelSights.{kid-static, kid-dynamic, flat-outputs}
+use Rattle.cx_flattening.proofs.FlatOutputs.{child_hosted}
 use Rattle.cx_flattening.proofs.FlatSights.{assign_of, played_base, asked_of, played_found}
 
 -- the inputs of a child that is fed are its sources as they are seen

@@ -1,5 +1,5 @@
 -- A CYCLE: the cells of a host, among which those of a tree stand, end a cycle as the tree does, where what is seen of them is the same.
-use Rattle.std.proofs.Common.{◌≡◌, ◌≢◌, ℕ, zero, suc, ◌+◌, ◌<◌, ◌≤◌, inl, inr, ⊎_elim, Bool, true, false, cond, List, [], ◌∷◌, ◌++◌, length, Option, Some, None, refl, sym, ap, ◌∙◌, subst, arith}
+use Rattle.std.proofs.Common.{◌≡◌, ℕ, zero, suc, ◌+◌, ◌<◌, ◌≤◌, inl, inr, ⊎_elim, Bool, true, false, List, [], ◌∷◌, length, Option, Some, None, refl, sym, ap, ◌∙◌, subst, arith}
 use Rattle.std.proofs.Math.Path.{fun_ext}
 use Rattle.std.specs.Prelude.{◌⊎◌, if◌then◌else◌}
 use Rattle.std.proofs.lemmas.Bool.{cases_eq, cases_lt}
@@ -10,24 +10,25 @@ use Rattle.cx_meaning.specs.declared.ports.PortRef.{PortRef}
 use Rattle.cx_meaning.specs.declared.ports.PortRef.TheVariants as ports
 use Rattle.cx_meaning.specs.declared.sights.Seen.{Seen}
 use Rattle.cx_meaning.specs.Designs.{PlainCell, PlainComponent}
-use Rattle.cx_meaning.specs.Instances.{Instance, Node, Cells, no_cells, a_primitive, an_instance, OfRow, OfInstance, part_of, cells_of, cell_at, cell_count, Path, State, just, beneath, put, under}
+use Rattle.cx_meaning.specs.Instances.{Instance, Node, Cells, no_cells, a_primitive, an_instance, OfRow, OfInstance, part_of, cell_at, cell_count, Path, State, beneath, put, under}
 use Rattle.cx_meaning.specs.Active.{Active, entries}
 use Rattle.cx_meaning.specs.Sights.{Look, Held, seen, gather}
-use Rattle.cx_meaning.specs.Cycles.{Fault, Outcome, Next, Stops, enables, after_enabling, cell_outcome, outcome_at, outcome_of, first_of, first_fault, stepped, state_after, Ended, Goes, Faults, unless_fault, every_cell, cycle}
-use Rattle.cx_meaning.specs.Calls.{fault_below}
-use Rattle.cx_meaning.proofs.InstancesLemmas.{just_same, not_just, row_instance, instance_row}
+use Rattle.cx_meaning.specs.Cycles.{Fault, fault_at, Outcome, Next, Stops, enables, after_enabling, cell_outcome, outcome_at, outcome_of, first_of, first_fault, stepped, state_after, Ended, Goes, Faults, unless_fault, every_cell, cycle}
+use Rattle.cx_meaning.proofs.InstancesLemmas.{just_same, not_just, row_instance}
 use Rattle.cx_meaning.proofs.CycleLemmas.{state_after-same}
 use Rattle.cx_flattening.specs.Deeds.{Deed, own_entries, deeds_below, held_below, or_later}
 use Rattle.cx_flattening.specs.Whole.{is_static, with_child, child_if, whole_cycle, cycles_below}
 use Rattle.cx_flattening.specs.Flattened.{Kids, kid_at, kid_if, kept_if, kept, behind, kept_at, block, blocks, flat_cells, block_size, block_at, start_of, wire_at, flat_part, flat_kids}
-use Rattle.cx_flattening.specs.Embedded.{wire_row, HasWires, IsEmbedded, AreEmbedded, Stands, AllStand}
-use Rattle.cx_flattening.specs.Fair.{IsFair, AllFair, AllFairBelow}
+use Rattle.cx_flattening.specs.Embedded.{HasWires, IsEmbedded, AreEmbedded, Stands, AllStand}
+use Rattle.cx_flattening.specs.Fair.{AllFair, AllFairBelow}
 use Rattle.cx_flattening.specs.Seeing.{CellsSeen, AllSeen}
-use Rattle.cx_flattening.specs.FlatFaults.{placed_port, flat_port, port_in, flat_fault, EndsAs}
+use Rattle.cx_flattening.specs.FlatFaults.{flat_port, port_in, flat_fault, EndsAs}
+use Rattle.cx_flattening.specs.Sampling.{placed}
+use Rattle.cx_flattening.proofs.PortLemmas.{own-kept}
 use Rattle.cx_flattening.proofs.FirstFaults.{first_split}
 use Rattle.cx_flattening.proofs.FlatAssigns.{length-both}
 use Rattle.cx_flattening.proofs.Standing.{TwinAt, embedded_row, embedded_dynamic, stands_row, stands_dynamic, length-block}
-use Rattle.cx_flattening.proofs.LevelSights.{kid-row, kid-child, kid-static, kid-dynamic, flat-outputs}
+use Rattle.cx_flattening.proofs.LevelSights.{kid-row, kid-static, kid-dynamic, flat-outputs}
 
 -- NUMBERS of cells
 kept-zero : (kids : Kids) → kept_at kids 0 ≡ 0
@@ -92,7 +93,7 @@ stands_alike : (i : Instance) (first : ℕ) (s t z w : State) → ((path : Path)
 stands_alike i first s t z w same alike h = subst (λ x. Stands i first t x) (fun_ext alike) (subst (λ x. Stands i first x z) (fun_ext same) h)
 
 -- a child's own fault, by its place among the cells
-port-in : (cells : Cells) (c : ℕ) (child : Instance) (first : ℕ) (path : Path) (p : PortRef) → cell_at cells c ≡ OfInstance child → port_in cells c first path p ≡ flat_port child first path p
+pub port-in : (cells : Cells) (c : ℕ) (child : Instance) (first : ℕ) (path : Path) (p : PortRef) → cell_at cells c ≡ OfInstance child → port_in cells c first path p ≡ flat_port child first path p
 port-in no_cells c child first path p e = absurd (cc)
 port-in (a_primitive row rest) zero child first path p e = absurd (cc)
 port-in (a_primitive row rest) (suc c) child first path p e = port-in rest c child first path p e
@@ -132,9 +133,9 @@ module _ (host : Cells) (look : Look) (z : State) where
         ∙ ap (cell_outcome look (first + kept_at kids c) row) same ∙ outcome_alike look other c (first + kept_at kids c) row (s (c ∷ [])) seen_alike
         ∙ ap (λ x. outcome_at other c x (s (c ∷ []))) (sym at)
 
-    one_told : (c : ℕ) (o : Outcome) (later : Option Fault) → first_of (first + kept_at kids c) o (told (Node part cells) first later) ≡ told (Node part cells) first (first_of c o later)
-    one_told c (Next after) later = refl
-    one_told c (Stops kind p) later = refl
+    one_told : (c : ℕ) → kid_at kids c ≡ None → (o : Outcome) (later : Option Fault) → first_of (first + kept_at kids c) o (told (Node part cells) first later) ≡ told (Node part cells) first (first_of c o later)
+    one_told c none (Next after) later = refl
+    one_told c none (Stops kind p) later = ap (λ q. Some (fault_at kind (placed first q))) (sym (own-kept kids part c p none))
 
     own_faults : (rest : Cells) (c : ℕ) → ((n : ℕ) → cell_at rest n ≡ cell_at cells (c + n)) → AllSeen look kids part rest c first other deeds s → AreEmbedded kids part rest c first host → AllStand kids part rest c first s z
         → first_fault out (first + kept_at kids c) (kept_count rest) ≡ told (Node part cells) first (first_fault comes c (cell_count rest))
@@ -143,7 +144,7 @@ module _ (host : Cells) (look : Look) (z : State) where
         ap (λ o. first_of (first + kept_at kids c) o (first_fault out (suc (first + kept_at kids c)) (kept_count rest))) (row_alike c row at embedded.0 stands.0 see.0)
         ∙ ap (λ e. first_of (first + kept_at kids c) (comes c) (first_fault out e (kept_count rest))) next
         ∙ ap (first_of (first + kept_at kids c) (comes c)) (own_faults rest (suc c) (λ n. tail (suc n) ∙ ap (cell_at cells) (plus c n)) see.1 embedded.1 stands.1)
-        ∙ one_told c (comes c) (first_fault comes (suc c) (cell_count rest))
+        ∙ one_told c (kid-row cells c row at) (comes c) (first_fault comes (suc c) (cell_count rest))
       where
         plus : (a b : ℕ) → a + suc b ≡ suc a + b
         plus a b = omega arith

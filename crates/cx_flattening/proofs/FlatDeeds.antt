@@ -12,15 +12,15 @@ use Rattle.cx_meaning.specs.Islands as islands
 use Rattle.cx_meaning.specs.Sights.{In}
 use Rattle.cx_meaning.proofs.SightsLaws.{image_in, in_left, in_right, in_either}
 use Rattle.cx_flattening.specs.Invokes.{invoke_at, lasts}
-use Rattle.cx_flattening.specs.Events.{Spot, spot, Sample, Event, Runs, Feeds, Looks, Beginning, Events, later_by, also_if, source_to, group_events, capture_events, rounds_events, bound_below, invoke_events, form_events, events, seq_events, par_events, control_events, events_below}
+use Rattle.cx_flattening.specs.Events.{Spot, spot, Sample, Event, Feeds, Beginning, Events, source_to, group_events, capture_events, rounds_events, bound_below, invoke_events, form_events, events, seq_events, par_events, control_events, events_below}
 use Rattle.cx_flattening.specs.Deeds.{History, hold, Deed, Acts, Fed, deed_if, is_now, deeds_in}
 use Rattle.cx_flattening.specs.Whole.{is_static}
 use Rattle.cx_flattening.specs.Copies.{copied_form, copied_statement, copied_statements}
-use Rattle.cx_flattening.specs.Flattened.{Kids, kid_at, kept_at, start_of, wire_at, flat_kids, flat_part, port_if, own_port, child_port, invoke_port, copy_of, with_capture, inlined, flat_form, flat_statement, flat_statements}
+use Rattle.cx_flattening.specs.Flattened.{Kids, kid_at, kept_at, start_of, wire_at, flat_kids, flat_part, port_if, own_port, invoke_port, copy_of, with_capture, inlined, flat_form, flat_statement, flat_statements}
 use Rattle.cx_flattening.specs.Acting.{IsUsed}
-use Rattle.cx_flattening.specs.Levels.{IsKnown, own_of}
+use Rattle.cx_flattening.specs.Levels.{own_of}
 use Rattle.cx_flattening.specs.Fair.{IsNamed, IsFair, AllFair, AllFairBelow}
-use Rattle.cx_flattening.specs.Sampling.{placed, IsOwn, AgreesAt, AgreesBelow}
+use Rattle.cx_flattening.specs.Sampling.{placed, AgreesAt, AgreesBelow}
 use Rattle.cx_flattening.specs.Controlled.{timed_in, timed_of, timed_all, tested_in, tested_of, tested_all, IsInvoked, IsControlled, AllControlled, AllControlledBelow}
 use Rattle.cx_flattening.proofs.CopiedControl.{statement_twice}
 use Rattle.cx_flattening.proofs.FlatGroups.{in_one_of, own-length}

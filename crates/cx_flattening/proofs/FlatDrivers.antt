@@ -15,9 +15,9 @@ use Rattle.cx_rewrites.specs.Moving.{moved_port, moved_guard, moved_guards, move
 use Rattle.cx_flattening.specs.Invokes.{no_invoke, invoke_at}
 use Rattle.cx_flattening.specs.Deeds.{Deed}
 use Rattle.cx_flattening.specs.Copies.{copied_group, is_one_of, enabled_below, group_if, enabled_groups}
-use Rattle.cx_flattening.specs.Flattened.{Kids, kid_at, own_port, child_port, invoke_port, always_if, always_from, copies_if, copies, flat_groups, first_copy, copy_of}
-use Rattle.cx_flattening.specs.Targets.{OwnTarget, BlockTarget, AllUsed, IsBlock, HasTargets}
-use Rattle.cx_flattening.specs.Acting.{IsUsed, IsOf, IsIdle, IsFed}
+use Rattle.cx_flattening.specs.Flattened.{Kids, kid_at, own_port, child_port, invoke_port, always_if, always_from, copies_if, copies, flat_groups}
+use Rattle.cx_flattening.specs.Targets.{OwnTarget, BlockTarget, AllUsed, HasTargets}
+use Rattle.cx_flattening.specs.Acting.{IsUsed, IsIdle, IsFed}
 use Rattle.cx_flattening.proofs.Sorting.{acting_both}
 use Rattle.cx_flattening.proofs.MovedDrivers.{drivers_mapped}
 use Rattle.cx_flattening.proofs.CopiedAssigns.{acting_copied, acting_none, acting_elsewhere}

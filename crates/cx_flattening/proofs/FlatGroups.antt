@@ -1,18 +1,16 @@
 -- The groups of a flat component by their numbers: the caller's own, and the copies, each as long as the group that it copies.
-use Rattle.std.proofs.Common.{◌≡◌, ℕ, zero, suc, ◌+◌, ◌<◌, ◌≤◌, inl, inr, ⊎_elim, Bool, true, false, ◌||◌, List, [], ◌∷◌, ◌++◌, length, map, get_or, Option, Some, None, nat_eq, refl, sym, ap, ◌∙◌, subst, arith}
+use Rattle.std.proofs.Common.{◌≡◌, ℕ, zero, suc, ◌+◌, ◌<◌, ◌≤◌, inl, inr, Bool, true, false, ◌||◌, List, [], ◌∷◌, ◌++◌, length, map, get_or, Some, nat_eq, refl, sym, ap, ◌∙◌, subst, arith}
 use Rattle.std.specs.Prelude.{flat_map, take}
 use Rattle.std.proofs.lemmas.Bool.{eq-eqb, eqb-true}
 use Rattle.std.proofs.lemmas.List.Concat.{get_or-flat_map}
-use Rattle.cx_meaning.specs.declared.ports.PortRef.{PortRef}
-use Rattle.cx_meaning.specs.Designs.{PlainGroup, PlainInvoke, PlainComponent, no_group, group_at}
-use Rattle.cx_meaning.specs.Instances.{Instance, Node, Cells}
+use Rattle.cx_meaning.specs.Designs.{PlainGroup, PlainInvoke, PlainComponent, no_group}
 use Rattle.cx_meaning.specs.Control.{groups_of}
 use Rattle.cx_meaning.specs.Islands.{kind_length, group_length}
 use Rattle.cx_meaning.specs.Sights.{In}
 use Rattle.cx_rewrites.specs.Moving.{moved_group}
 use Rattle.cx_flattening.specs.Invokes.{no_invoke, invoke_at}
 use Rattle.cx_flattening.specs.Copies.{copied_group, is_one_of, count_if, enabled_below, group_if, enabled_groups}
-use Rattle.cx_flattening.specs.Flattened.{Kids, kid_at, own_port, invoke_port, copies_if, copies, flat_groups, flat_component, first_copy, copy_of}
+use Rattle.cx_flattening.specs.Flattened.{Kids, kid_at, own_port, invoke_port, copies_if, copies, flat_groups, flat_component, copy_of}
 
 -- a number among others
 pub in_one_of : (g : ℕ) (list : List ℕ) → In list g → is_one_of g list ≡ true

@@ -1,22 +1,20 @@
 -- LENGTHS: a statement of the flat component lasts as long as the statement, with the invokes in it; so does a copy of it in another
 -- component, where each copied group lasts as long as the group.
-use Rattle.std.proofs.Common.{◌≡◌, ℕ, zero, suc, ◌+◌, ◌*◌, ◌<◌, max, ⊎_elim, inl, inr, true, List, [], ◌∷◌, ◌++◌, length, map, Option, Some, None, refl, sym, ap, ◌∙◌, subst, arith}
+use Rattle.std.proofs.Common.{◌≡◌, ℕ, zero, suc, ◌+◌, ◌*◌, ◌<◌, max, ⊎_elim, inl, inr, List, [], ◌∷◌, ◌++◌, length, Option, Some, None, refl, sym, ap, ◌∙◌, subst, arith}
 use Rattle.cx_meaning.specs.declared.ports.PortRef.{PortRef}
-use Rattle.cx_meaning.specs.Designs.{PlainInvoke, PlainComponent, PlainForm, Empty, Enable, Seq, Par, If, While, Repeat, StaticSeq, StaticPar, StaticIf, StaticRepeat, Timed, PlainStatement, Placed, PlainStatements, no_statements, a_statement, no_place}
-use Rattle.cx_meaning.specs.Instances.{Instance, Node, Cells, no_cells, a_primitive, an_instance, OfInstance, part_of, cells_of, cell_at}
+use Rattle.cx_meaning.specs.Designs.{PlainComponent, PlainForm, Empty, Enable, Seq, Par, If, While, Repeat, StaticSeq, StaticPar, StaticIf, StaticRepeat, Timed, PlainStatement, Placed, PlainStatements, no_statements, a_statement}
+use Rattle.cx_meaning.specs.Instances.{Instance, Node, Cells, no_cells, a_primitive, an_instance, OfInstance, part_of, cell_at}
 use Rattle.cx_meaning.specs.Control.{with_comb, groups_in, groups_of, groups_in_all}
 use Rattle.cx_meaning.specs.Islands.{group_length, or_zero, form_length, length_of, sum_length, max_length}
 use Rattle.cx_meaning.specs.Sights.{In}
 use Rattle.cx_meaning.proofs.SightsLaws.{in_left, in_right, in_either}
 use Rattle.cx_flattening.specs.Invokes.{invoke_at, capture_length, invoke_length, form_lasts, lasts, sum_lasts, max_lasts}
-use Rattle.cx_flattening.specs.Whole.{is_static}
-use Rattle.cx_flattening.specs.Copies.{copied_comb, copied_form, copied_statement, copied_statements, is_one_of}
-use Rattle.cx_flattening.specs.Flattened.{Kids, kid_at, flat_kids, flat_part, own_port, invoke_port, copy_of, with_capture, inlined, flat_form, flat_statement, flat_statements}
-use Rattle.cx_flattening.specs.Targets.{HasTargets}
+use Rattle.cx_flattening.specs.Copies.{copied_comb, copied_form, copied_statement, copied_statements}
+use Rattle.cx_flattening.specs.Flattened.{Kids, kid_at, flat_kids, flat_part, invoke_port, copy_of, with_capture, inlined, flat_form, flat_statement, flat_statements}
 use Rattle.cx_flattening.specs.Fair.{IsFair, AllFair, AllFairBelow}
-use Rattle.cx_flattening.specs.Controlled.{timed_in, timed_of, timed_all, IsInvoked, IsControlled, AllControlled, AllControlledBelow}
+use Rattle.cx_flattening.specs.Controlled.{timed_in, timed_of, timed_all, IsControlled, AllControlled, AllControlledBelow}
 use Rattle.cx_flattening.proofs.CopiedControl.{statement_twice}
-use Rattle.cx_flattening.proofs.FlatGroups.{in_one_of, one_of_in, own-length, copy-length}
+use Rattle.cx_flattening.proofs.FlatGroups.{in_one_of, own-length, copy-length}
 use Rattle.cx_flattening.proofs.LevelSights.{kid-static}
 
 -- a statement's groups, each with a copy as long as it

@@ -1,29 +1,29 @@
 -- THE LIST OF AN ISLAND of the flat component, beside that of the tree.
-use Rattle.std.proofs.Common.{◌≡◌, ℕ, ◌+◌, inl, inr, List, [], ◌∷◌, ◌++◌, length, map, Option, Some, None, refl, sym, ap, ◌∙◌, subst, arith}
+use Rattle.std.proofs.Common.{◌≡◌, ℕ, ◌+◌, List, [], ◌∷◌, length, map, Option, Some, None, refl, sym, ap, ◌∙◌, subst, arith}
 use Rattle.cx_meaning.specs.declared.ports.PortRef.{PortRef}
 use Rattle.cx_meaning.specs.declared.ports.PortRef.TheVariants as ports
-use Rattle.cx_meaning.specs.Designs.{PlainComponent, PlainForm, Empty, Enable, Seq, Par, If, While, Repeat, StaticSeq, StaticPar, StaticIf, StaticRepeat, Timed, PlainStatement, Placed, PlainStatements, no_statements, a_statement}
-use Rattle.cx_meaning.specs.Instances.{Instance, Node, Cells, part_of, cells_of}
+use Rattle.cx_meaning.specs.Designs.{PlainForm, Empty, Enable, Seq, Par, If, While, Repeat, StaticSeq, StaticPar, StaticIf, StaticRepeat, Timed, PlainStatement, Placed, PlainStatements, no_statements, a_statement}
+use Rattle.cx_meaning.specs.Instances.{Instance, Node, part_of, cells_of}
 use Rattle.cx_meaning.specs.Active.{Entry, entries}
 use Rattle.cx_meaning.specs.Control.{groups_in}
-use Rattle.cx_meaning.specs.Islands.{form_flat, form_length, active_in, group_length}
+use Rattle.cx_meaning.specs.Islands.{form_flat, form_length, active_in, looked_at, group_length}
 use Rattle.cx_meaning.specs.Islands as islands
-use Rattle.cx_meaning.specs.Sights.{In}
 use Rattle.cx_flattening.specs.Invokes.{form_lasts}
-use Rattle.cx_flattening.specs.Events.{Spot, spot, Beginning, form_events, events_below}
-use Rattle.cx_flattening.specs.Deeds.{History, Deed, Acts, Fed, own_entries, deeds_in}
+use Rattle.cx_flattening.specs.Events.{Spot, spot}
+use Rattle.cx_flattening.specs.Deeds.{History, Deed, Acts, Fed, own_entries, deeds_in, looked_in}
 use Rattle.cx_flattening.specs.Copies.{copied_comb, copied_form, copied_statement, copied_statements}
 use Rattle.cx_flattening.specs.Flattened.{flat_kids, flat_part, flat_form}
 use Rattle.cx_flattening.specs.Acting.{ActsAs}
-use Rattle.cx_flattening.specs.Fair.{IsNamed, AllFair}
+use Rattle.cx_flattening.specs.Fair.{AllFair}
 use Rattle.cx_flattening.specs.Controlled.{AllControlled}
 use Rattle.cx_flattening.specs.FedOnce.{FedOnce}
-use Rattle.cx_flattening.specs.Sampling.{AgreesAt}
+use Rattle.cx_flattening.specs.Sampling.{AllSpots, SampledAlike, AgreesAt}
 use Rattle.cx_flattening.specs.Lists.{IsStaticOf, island_events}
-use Rattle.cx_flattening.proofs.FlatLengths.{AllThere, kids_last, form_lasting}
-use Rattle.cx_flattening.proofs.FlatDeeds.{lower, entry_by, Binds, Found, kids_found, form_found}
+use Rattle.cx_flattening.proofs.FlatLengths.{kids_last, form_lasting}
+use Rattle.cx_flattening.proofs.FlatDeeds.{lower, entry_by, Found, kids_found, form_found}
 use Rattle.cx_flattening.proofs.Windows.{kids_within}
 use Rattle.cx_flattening.proofs.FlatActs.{acts_of}
+use Rattle.cx_flattening.proofs.FlatLooks.{AllRelated, form_looks, kids_look}
 
 -- a copy in which nothing becomes another is what it copies
 comb_still : (comb : Option ℕ) → copied_comb (λ g. g) comb ≡ comb
@@ -94,3 +94,15 @@ island_acts (Node part cells) form h k t fair controlled static agree inputs onc
         ap (λ x. active_in k t (form_flat (flat_part (Node part cells)) x 0 [])) (sym (form_still (flat_form (flat_kids cells) part form))) ∙ r.are_entries ∙ entries_still r.entries in
         subst (λ es. ActsAs (Node part cells) (entries (own_entries (deeds_in h t (island_events (Node part cells) form)))) (deeds_in h t (island_events (Node part cells) form)) (entries es)) (sym acting)
         (subst (λ ds. ActsAs (Node part cells) (entries (own_entries ds)) ds (entries r.entries)) (sym done) (acts_of (Node part cells) fair r.deeds r.entries r.pairs (subst (FedOnce (Node part cells)) done once)))
+
+-- THE PORTS AT WHICH IT LOOKS in a cycle
+pub island_looks : (S : Spot → PortRef → Type 0) (i : Instance) (form : PlainForm) (h : History) (k : islands.History) (t : ℕ) → ((x : Spot) (q : PortRef) → S x q → SampledAlike h k x q) → AllFair i → AllControlled i → IsStaticOf i form → AllSpots S i 0 []
+    → ((n : ℕ) → S (spot [] (ports.Input n)) (ports.Input n)) → AllRelated S (looked_in h t (island_events i form)) (looked_at k t (form_flat (flat_part i) (flat_form (flat_kids (cells_of i)) (part_of i) form) 0 []))
+island_looks S (Node part cells) form h k t alike fair controlled static agree inputs =
+    subst (λ x. AllRelated S (looked_in h t (island_events (Node part cells) form)) (looked_at k t (form_flat (flat_part (Node part cells)) x 0 []))) (form_still (flat_form (flat_kids cells) part form))
+    (form_looks S h k t alike part cells fair.0 controlled.0 (kids_last cells fair.1 controlled.1) (kids_look S h k t alike cells fair.1 controlled.1) (flat_part (Node part cells)) (λ q. q) (λ g. g) 0 [] (spot [])
+    (record { cells = λ e p. ap (λ n. ports.Cell n p) (zero_plus e); literals = λ w v. refl; inputs = λ n less. inputs n; own_cells = λ c p. refl; own_literals = λ w v. refl }) agree form
+    static.enables static.timed static.tests (λ g i. refl) 0 [] [] refl)
+  where
+    zero_plus : (a : ℕ) → a ≡ 0 + a
+    zero_plus a = omega arith

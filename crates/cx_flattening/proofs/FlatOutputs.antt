@@ -1,5 +1,5 @@
 -- WHAT OUTPUTS ARE SEEN AS: those of an instance whose cells stand in a host are seen there as in the instance, whatever acts.
-use Rattle.std.proofs.Common.{◌≡◌, ℕ, zero, suc, ◌+◌, ◌<◌, inl, ⊎_elim, true, false, [], ◌∷◌, ◌++◌, length, map, Some, None, refl, sym, ap, ◌∙◌, subst, arith}
+use Rattle.std.proofs.Common.{◌≡◌, ℕ, zero, suc, ◌+◌, ◌<◌, inl, true, false, [], ◌∷◌, ◌++◌, length, map, Some, None, refl, sym, ap, ◌∙◌, subst, arith}
 use Rattle.cx_prim.specs.Rows.{Row}
 use Rattle.cx_meaning.specs.declared.ports.PortRef.{PortRef}
 use Rattle.cx_meaning.specs.declared.ports.PortRef.TheVariants as ports
@@ -8,10 +8,9 @@ use Rattle.cx_meaning.specs.declared.sights.Seen.TheVariants as sights
 use Rattle.cx_meaning.specs.Designs.{PlainComponent}
 use Rattle.cx_meaning.specs.Instances.{Instance, Node, Cells, no_cells, a_primitive, an_instance, OfRow, OfInstance, part_of, cells_of, cell_at, State, under}
 use Rattle.cx_meaning.specs.Active.{Active, nothing, owned, owned_by_groups, by_place, acting, drivers}
-use Rattle.cx_meaning.specs.Sights.{Look, Held, unheld, PartPort, part_port, later_port, is_done_cell, cell_step, target_seen, Gathered, Given, gather_port, output_seen, Sees, seen, outputs_below}
-use Rattle.cx_meaning.proofs.InstancesLemmas.{instance_row, row_instance}
+use Rattle.cx_meaning.specs.Sights.{Held, unheld, part_port, later_port, is_done_cell, cell_step, target_seen, Given, gather_port, output_seen, Sees, seen, outputs_below}
+use Rattle.cx_meaning.proofs.InstancesLemmas.{row_instance}
 use Rattle.cx_rules.specs.Circles.{IsAcyclic, AcyclicBelow}
-use Rattle.cx_rules.specs.Footprints.{Rests}
 use Rattle.cx_rules.proofs.CirclesLemmas.{cells_below, own_acyclic}
 use Rattle.cx_rules.proofs.FoundLemmas.{seen_solves}
 use Rattle.cx_rewrites.specs.Moving.{moved_acting}
@@ -19,7 +18,7 @@ use Rattle.cx_flattening.specs.Whole.{is_static}
 use Rattle.cx_flattening.specs.Flattened.{Kids, kid_at, kept_at, block_size, start_of, wire_at, flat_part, flat_kids, own_port, child_port}
 use Rattle.cx_flattening.specs.Targets.{OwnTarget, BlockTarget}
 use Rattle.cx_flattening.specs.Embedded.{IsLike, wire_row, HasWires, IsEmbedded, Stands}
-use Rattle.cx_flattening.specs.Levels.{IsKnown, own_of, IsLevel, IsStill, IsBase, IsHosted, OutputsSeen}
+use Rattle.cx_flattening.specs.Levels.{IsKnown, IsLevel, IsBase, IsHosted, OutputsSeen}
 use Rattle.cx_flattening.specs.Fair.{IsNamed, IsFair, AllFair, AllFairBelow}
 use Rattle.cx_flattening.proofs.Placing.{kept_less}
 use Rattle.cx_flattening.proofs.PortLemmas.{own-kept}

@@ -1,20 +1,18 @@
 -- WHAT IS SEEN OF ALL CELLS: in the host each port of each cell, and of those of static children at every depth, is seen as in the tree.
-use Rattle.std.proofs.Common.{◌≡◌, ℕ, zero, suc, ◌+◌, ◌<◌, ⊎_elim, true, List, [], ◌∷◌, length, Some, None, refl, sym, ap, ◌∙◌, subst, arith}
-use Rattle.cx_prim.specs.Rows.{Row}
+use Rattle.std.proofs.Common.{◌≡◌, ℕ, suc, ◌+◌, ◌<◌, ⊎_elim, List, [], length, Some, None, sym, ap, ◌∙◌, arith}
 use Rattle.cx_meaning.specs.declared.ports.PortRef.{PortRef}
 use Rattle.cx_meaning.specs.declared.ports.PortRef.TheVariants as ports
 use Rattle.cx_meaning.specs.Designs.{PlainAssign, PlainComponent}
-use Rattle.cx_meaning.specs.Instances.{Instance, Node, Cells, no_cells, a_primitive, an_instance, OfRow, OfInstance, part_of, cells_of, cell_at, State, under}
+use Rattle.cx_meaning.specs.Instances.{Instance, Node, Cells, no_cells, a_primitive, an_instance, OfRow, OfInstance, part_of, cells_of, cell_at, State}
 use Rattle.cx_meaning.specs.Active.{Active}
 use Rattle.cx_meaning.specs.Sights.{Held, seen}
 use Rattle.cx_meaning.proofs.InstancesLemmas.{row_instance}
 use Rattle.cx_rules.specs.Circles.{IsAcyclic, AcyclicBelow}
 use Rattle.cx_flattening.specs.Deeds.{Deed, deeds_below}
-use Rattle.cx_flattening.specs.Whole.{is_static}
-use Rattle.cx_flattening.specs.Flattened.{Kids, kept_at, flat_kids, own_port}
-use Rattle.cx_flattening.specs.Acting.{fed_by, IsIdle, IsFed, ActsAs, AllActAs}
-use Rattle.cx_flattening.specs.Levels.{OutputsSeen, IsPlayed}
-use Rattle.cx_flattening.specs.Fair.{IsFair, AllFair, AllFairBelow}
+use Rattle.cx_flattening.specs.Flattened.{kept_at, flat_kids}
+use Rattle.cx_flattening.specs.Acting.{fed_by, ActsAs, AllActAs}
+use Rattle.cx_flattening.specs.Levels.{IsPlayed}
+use Rattle.cx_flattening.specs.Fair.{AllFair, AllFairBelow}
 use Rattle.cx_flattening.specs.Seeing.{CellsSeen, AllSeen, NoCircle, NoneBelow}
 use Rattle.cx_flattening.proofs.PortLemmas.{own-kept}
 use Rattle.cx_flattening.proofs.Standing.{within_row, fair_own}
@@ -27,7 +25,7 @@ use Rattle.cx_flattening.proofs.FlatChildren.{idle_played, fed_played}
 abbrev pub Alive : Instance → List Deed → (ℕ → Type 0) → Type 0
 Alive i deeds inputs = (d : ℕ) (sources : List PlainAssign) → fed_by d deeds ≡ Some sources → (n : ℕ) → n < length (part_of i).inputs → inputs n
 
-none_fed : (d : ℕ) (deeds : List Deed) (sources : List PlainAssign) → deeds ≡ [] → fed_by d deeds ≡ Some sources → ⊥
+pub none_fed : (d : ℕ) (deeds : List Deed) (sources : List PlainAssign) → deeds ≡ [] → fed_by d deeds ≡ Some sources → ⊥
 none_fed d deeds sources e f = let none : None ≡ Some sources = sym (ap (fed_by d) e) ∙ f in cc
 
 module _ (host : Instance) (host_held : Held) (more : Active) (z : State) (acyclic : IsAcyclic host more) (deeper : AcyclicBelow (cells_of host)) where

@@ -1,11 +1,10 @@
 -- WHAT IS SEEN where the flat component acts as the instance does: each port of the caller as in the instance.
-use Rattle.std.proofs.Common.{◌≡◌, ℕ, ◌+◌, ◌<◌, ◌⊎◌, inl, inr, ⊎_elim, true, false, [], ◌∷◌, length, map, Some, None, refl, sym, ap, ◌∙◌, subst, arith}
-use Rattle.cx_prim.specs.Rows.{Row}
+use Rattle.std.proofs.Common.{◌≡◌, ℕ, ◌⊎◌, inl, inr, ⊎_elim, map, None, refl, sym, ap, ◌∙◌, subst}
 use Rattle.cx_meaning.specs.declared.ports.PortRef.{PortRef}
 use Rattle.cx_meaning.specs.declared.ports.PortRef.TheVariants as ports
 use Rattle.cx_meaning.specs.declared.sights.Seen.{Seen}
 use Rattle.cx_meaning.specs.Designs.{PlainComponent, group_at}
-use Rattle.cx_meaning.specs.Instances.{Instance, Node, Cells, OfRow, OfInstance, part_of, cells_of, cell_at, State, under}
+use Rattle.cx_meaning.specs.Instances.{Instance, Node, Cells, OfInstance, cells_of, cell_at, State}
 use Rattle.cx_meaning.specs.Active.{Active, nothing, Owned, source_order, offset_of, drivers}
 use Rattle.cx_meaning.specs.Sights.{Held, In, Sees, seen}
 use Rattle.cx_meaning.proofs.InstancesLemmas.{row_instance}
@@ -15,8 +14,7 @@ use Rattle.cx_rules.proofs.FoundLemmas.{seen_found}
 use Rattle.cx_rules.proofs.FrameLemmas.{acting_alike}
 use Rattle.cx_rewrites.specs.Moving.{moved_acting}
 use Rattle.cx_rewrites.proofs.ClosedLemmas.{is_closed}
-use Rattle.cx_flattening.specs.Whole.{is_static}
-use Rattle.cx_flattening.specs.Flattened.{Kids, kid_at, flat_part, flat_kids, own_port}
+use Rattle.cx_flattening.specs.Flattened.{Kids, flat_part, flat_kids, own_port}
 use Rattle.cx_flattening.specs.Targets.{OwnTarget, BlockTarget}
 use Rattle.cx_flattening.specs.Levels.{OutputsSeen, IsKnown, IsLevel, IsStill, IsBase, InFlat, Asked, IsPlayed}
 use Rattle.cx_flattening.specs.Fair.{IsAssignOf, IsNamed, IsFair}

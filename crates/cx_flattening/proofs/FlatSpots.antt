@@ -1,22 +1,21 @@
 -- UNDER THE CONTINUOUS ASSIGNMENTS ALONE each port of the tree that may be tested is seen in the flat instance as in the tree.
-use Rattle.std.proofs.Common.{◌≡◌, ℕ, zero, suc, ◌+◌, ⊎_elim, inl, inr, true, List, [], ◌∷◌, ◌++◌, length, Option, Some, None, refl, sym, ap, ◌∙◌, subst, arith}
+use Rattle.std.proofs.Common.{◌≡◌, ℕ, zero, suc, ◌+◌, ⊎_elim, List, [], ◌∷◌, ◌++◌, length, Option, Some, None, refl, sym, ap, ◌∙◌, arith}
 use Rattle.std.specs.Prelude.{◌-◌}
 use Rattle.std.proofs.Math.Path.{fun_ext}
 use Rattle.cx_meaning.specs.declared.ports.PortRef.{PortRef}
 use Rattle.cx_meaning.specs.declared.ports.PortRef.TheVariants as ports
-use Rattle.cx_meaning.specs.declared.sights.Seen.{Seen}
 use Rattle.cx_meaning.specs.Designs.{PlainComponent}
-use Rattle.cx_meaning.specs.Instances.{Instance, Node, Cells, no_cells, a_primitive, an_instance, OfInstance, part_of, cells_of, cell_at, Path, State, under}
+use Rattle.cx_meaning.specs.Instances.{Instance, Node, Cells, no_cells, a_primitive, an_instance, OfInstance, cells_of, cell_at, Path, State, under}
 use Rattle.cx_meaning.specs.Active.{Active, nothing, entries}
 use Rattle.cx_meaning.specs.Sights.{Look, Held, unheld, seen}
 use Rattle.cx_rules.specs.Circles.{IsAcyclic, AcyclicBelow}
-use Rattle.cx_flattening.specs.Events.{Spot, spot}
+use Rattle.cx_flattening.specs.Events.{Spot}
 use Rattle.cx_flattening.specs.Deeds.{held_below}
-use Rattle.cx_flattening.specs.Whole.{is_static, look_below, look_at}
-use Rattle.cx_flattening.specs.Flattened.{Kids, kid_at, kept_at, start_of, wire_at, flat_kids, port_if, own_port}
-use Rattle.cx_flattening.specs.Acting.{IsIdle, IsFed, ActsAs, AllActAs}
+use Rattle.cx_flattening.specs.Whole.{look_below, look_at}
+use Rattle.cx_flattening.specs.Flattened.{kid_at, kept_at, wire_at, flat_kids, port_if, own_port}
+use Rattle.cx_flattening.specs.Acting.{ActsAs, AllActAs}
 use Rattle.cx_flattening.specs.Levels.{Asked, IsPlayed}
-use Rattle.cx_flattening.specs.Fair.{IsNamed, IsFair, AllFair, AllFairBelow}
+use Rattle.cx_flattening.specs.Fair.{IsNamed, AllFair, AllFairBelow}
 use Rattle.cx_flattening.specs.Seeing.{NoCircle, NoneBelow}
 use Rattle.cx_flattening.specs.Sampling.{placed, IsOwn, AllSpots, SpotsBelow}
 use Rattle.cx_flattening.proofs.Standing.{fair_own}

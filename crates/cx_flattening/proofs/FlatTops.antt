@@ -1,25 +1,23 @@
 -- THE FLAT INSTANCE sees and does in a cycle what the tree sees and does.
-use Rattle.std.proofs.Common.{◌≡◌, ℕ, ◌+◌, ◌<◌, Bool, true, false, List, [], ◌∷◌, length, map, Option, Some, None, nat_eq, refl, sym, ap, ◌∙◌, subst, arith}
+use Rattle.std.proofs.Common.{◌≡◌, ℕ, ◌+◌, ◌<◌, false, List, length, Option, Some, None, nat_eq, refl, sym, ap, ◌∙◌, arith}
 use Rattle.std.proofs.lemmas.Bool.{ne_eqb}
 use Rattle.cx_meaning.specs.declared.ports.PortRef.{PortRef}
 use Rattle.cx_meaning.specs.declared.ports.PortRef.TheVariants as ports
 use Rattle.cx_meaning.specs.Designs.{PlainComponent}
-use Rattle.cx_meaning.specs.Instances.{Instance, Node, Cells, OfInstance, part_of, cells_of, cell_at, cell_count, State}
+use Rattle.cx_meaning.specs.Instances.{Instance, Node, Cells, part_of, cells_of, State}
 use Rattle.cx_meaning.specs.Active.{Active, drivers}
 use Rattle.cx_meaning.specs.Sights.{Held, is_done_cell, seen}
-use Rattle.cx_meaning.specs.Cycles.{Fault, first_fault, outcome_of, state_after, unless_fault, Ended, Goes, Faults, every_cell, cycle}
+use Rattle.cx_meaning.specs.Cycles.{first_fault, outcome_of, state_after, unless_fault, Ended, Goes, Faults, every_cell, cycle}
 use Rattle.cx_rules.proofs.FoundLemmas.{seen_solves}
 use Rattle.cx_flattening.specs.Deeds.{Deed}
-use Rattle.cx_flattening.specs.Whole.{is_static, whole_cycle}
-use Rattle.cx_flattening.specs.Flattened.{Kids, kid_at, kept_at, block_size, start_of, flat_part, flat_kids}
+use Rattle.cx_flattening.specs.Whole.{whole_cycle}
+use Rattle.cx_flattening.specs.Flattened.{Kids, kid_at, kept_at, start_of, flat_part, flat_kids}
 use Rattle.cx_flattening.specs.Levels.{IsKnown, own_of, Asked, IsPlayed}
-use Rattle.cx_flattening.specs.Fair.{IsFair, AllFair}
-use Rattle.cx_flattening.specs.Seeing.{CellsSeen, NoCircle}
-use Rattle.cx_flattening.specs.FlatFaults.{flat_fault, EndsAs, CycleAs}
-use Rattle.cx_flattening.specs.Beside.{kept_done, IsKeptDone, IsBeside}
+use Rattle.cx_flattening.specs.Seeing.{CellsSeen}
+use Rattle.cx_flattening.specs.FlatFaults.{EndsAs, CycleAs}
+use Rattle.cx_flattening.specs.Beside.{kept_done, IsBeside}
 use Rattle.cx_flattening.proofs.Placing.{kept_less, kept_apart}
 use Rattle.cx_flattening.proofs.MovedTwice.{moved_still}
-use Rattle.cx_flattening.proofs.Standing.{fair_own, within_child}
 use Rattle.cx_flattening.proofs.LevelSights.{kid-dynamic}
 use Rattle.cx_flattening.proofs.FlatOutputs.{drivers_like, kids_seen}
 use Rattle.cx_flattening.proofs.FlatSights.{played_found}
@@ -100,6 +98,9 @@ module _ (part : PlainComponent) (cells : Cells) (flat : Instance) (held : Held)
       choice (Faults f) h =
           ap (λ n. unless_fault (first_fault (outcome_of every_cell (seen flat held more z) (cells_of flat) z) 0 n) (state_after (outcome_of every_cell (seen flat held more z) (cells_of flat) z) z)) beside.flattened.2
           ∙ ap (λ f. unless_fault f (state_after (outcome_of every_cell (seen flat held more z) (cells_of flat) z) z)) h
+
+pub top_played : (i flat : Instance) (held : Held) (act more : Active) (deeds : List Deed) (s z : State) → IsBeside i flat act more deeds s z → IsPlayed flat held more z i 0 (λ q. q) held act more s all_numbers all_numbers all_numbers
+top_played (Node part cells) flat held act more deeds s z beside = played part cells flat held act more deeds s z beside
 
 -- EACH PORT of the caller is seen in the flat instance as in the tree
 pub flat_seen : (i flat : Instance) (held : Held) (act more : Active) (deeds : List Deed) (s z : State) (p : PortRef) → IsBeside i flat act more deeds s z → IsKnown i p → seen flat held more z (own_of i p) ≡ seen i held act s p

@@ -1,5 +1,5 @@
 -- TURNS OF GROUPS: while a group acts no static child does, and the flat instance makes the turn that the tree makes.
-use Rattle.std.proofs.Common.{◌≡◌, ℕ, zero, suc, ◌+◌, ◌<◌, inl, inr, true, false, List, [], ◌∷◌, length, Option, Some, None, refl, sym, ap, ◌∙◌, subst, arith}
+use Rattle.std.proofs.Common.{◌≡◌, ℕ, suc, ◌<◌, inl, [], length, Some, None, refl, ap, ◌∙◌, arith}
 use Rattle.std.specs.Prelude.{if◌then◌else◌}
 use Rattle.std.proofs.lemmas.Bool.{ne_eqb}
 use Rattle.cx_meaning.specs.declared.ports.PortRef.TheVariants as ports
@@ -14,9 +14,9 @@ use Rattle.cx_meaning.specs.Islands.{turn_of}
 use Rattle.cx_meaning.specs.Calls.{hole_turn}
 use Rattle.cx_meaning.specs.Calls as calls
 use Rattle.cx_rules.specs.Circles.{IsAcyclic, AcyclicBelow}
-use Rattle.cx_flattening.specs.Whole.{is_static, whole_cycle, group_turn}
-use Rattle.cx_flattening.specs.Flattened.{Kids, kid_at, kept_at, flat_kids, flat_part, copy_of}
-use Rattle.cx_flattening.specs.Acting.{IsUsed, IsOf, IsIdle, ActsAs, AllActAs}
+use Rattle.cx_flattening.specs.Whole.{whole_cycle, group_turn}
+use Rattle.cx_flattening.specs.Flattened.{Kids, flat_kids, flat_part, copy_of}
+use Rattle.cx_flattening.specs.Acting.{IsUsed, IsOf, ActsAs, AllActAs}
 use Rattle.cx_flattening.specs.Embedded.{IsFlattened, Stands}
 use Rattle.cx_flattening.specs.Fair.{AllFair}
 use Rattle.cx_flattening.specs.Seeing.{NoCircle}
@@ -37,6 +37,9 @@ mutual
     λ static. (nothing, refl, still_acts child, inl (record { unfed = refl; none_below = refl; still = λ g. refl; copies = λ j g its used. still c j g (flat_part child) its used })),
     all_still kids part more still rest (suc c),
   )
+
+pub still_tops : (i : Instance) → ActsAs i nothing [] nothing
+still_tops (Node part cells) = (λ g less. refl, all_still (flat_kids cells) part nothing (λ c j g kid its used. refl) cells 0)
 
 -- a group alone
 only_still : (kids : Kids) (part : PlainComponent) (h : ℕ) → h < length part.groups → (c j g : ℕ) (kid : PlainComponent) → IsOf part c j → IsUsed kid g → only_at h (copy_of kids part kid j g) ≡ None

@@ -1,11 +1,10 @@
 -- Worked examples of static invokes, by their meaning and by the flat design's.
-use Rattle.std.specs.Prelude.{◌≡◌, ℕ, Bool, true, false, List, [], ◌∷◌, Option, Some, None, refl}
-use Rattle.cx_prim.specs.declared.names.PrimitiveName.TheVariants as primitives
+use Rattle.std.specs.Prelude.{◌≡◌, ℕ, true, false, List, [], ◌∷◌, Some, None, refl}
 use Rattle.cx_meaning.specs.declared.ports.PortRef.{PortRef}
-use Rattle.cx_meaning.specs.declared.ports.PortRef.TheVariants.{Cell, Input, Literal, Output}
+use Rattle.cx_meaning.specs.declared.ports.PortRef.TheVariants.{Cell, Input, Output}
 use Rattle.cx_meaning.specs.declared.sights.FaultKind.TheVariants as faults
-use Rattle.cx_meaning.specs.Designs.{PlainInvoke, PlainComponent, PlainDesign, PlainCell, PlainGroup, PlainStatement, PlainAssign, StaticSeq, StaticPar, StaticIf, StaticRepeat, Empty, Timed, statements_of}
-use Rattle.cx_meaning.proofs.KnownDesigns.{placed, assign, timed_group, plain_group, child_cell, mem, reg, cell, adder, st, enable, seq, component, number, one_bit, store}
+use Rattle.cx_meaning.specs.Designs.{PlainInvoke, PlainComponent, PlainDesign, PlainStatement, PlainAssign, StaticSeq, Timed, statements_of}
+use Rattle.cx_meaning.proofs.KnownDesigns.{assign, timed_group, child_cell, mem, reg, adder, st, enable, seq, component, number, one_bit, store}
 use Rattle.cx_meaning.proofs.KnownRuns.{Told, Ends, Faults, GoesOn, told, run_told}
 use Rattle.cx_flattening.specs.Whole.{whole_main}
 use Rattle.cx_flattening.specs.FlatDesign.{flat_design}

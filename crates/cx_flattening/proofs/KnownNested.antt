@@ -1,12 +1,11 @@
 -- Worked examples: an input that falls, samples in a static repeat inside a static par, and a sampled input two levels down; by the
 -- meaning and by the flat design's.
-use Rattle.std.specs.Prelude.{◌≡◌, ℕ, Bool, true, false, List, [], ◌∷◌, Option, Some, None, refl}
+use Rattle.std.specs.Prelude.{◌≡◌, ℕ, true, List, [], ◌∷◌, Some, None, refl}
 use Rattle.cx_prim.specs.declared.names.PrimitiveName.TheVariants as primitives
-use Rattle.cx_meaning.specs.declared.ports.PortRef.{PortRef}
 use Rattle.cx_meaning.specs.declared.ports.PortRef.TheVariants.{Cell, Input, Output}
 use Rattle.cx_meaning.specs.declared.sights.FaultKind.TheVariants as faults
 use Rattle.cx_meaning.specs.declared.kinds.PortDecl.{PortDecl}
-use Rattle.cx_meaning.specs.Designs.{PlainInvoke, PlainComponent, PlainDesign, PlainStatement, PlainAssign, Atom, Negation, Within, StaticSeq, StaticPar, StaticIf, StaticRepeat, Empty, Timed, statements_of}
+use Rattle.cx_meaning.specs.Designs.{PlainInvoke, PlainComponent, PlainDesign, PlainAssign, Atom, Negation, Within, StaticSeq, StaticPar, StaticIf, StaticRepeat, Empty, Timed, statements_of}
 use Rattle.cx_meaning.proofs.KnownDesigns.{placed, assign, guarded, timed_group, child_cell, mem, reg, cell, st, enable, seq, component, number, one_bit, store}
 use Rattle.cx_meaning.proofs.KnownRuns.{Told, Ends, Faults, told, run_told}
 use Rattle.cx_flattening.specs.Whole.{whole_main}

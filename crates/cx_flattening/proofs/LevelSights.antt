@@ -1,10 +1,10 @@
 -- EACH PORT IS SEEN IN THE HOST as in the instance whose port it stands for.
-use Rattle.std.proofs.Common.{◌≡◌, ℕ, zero, suc, ◌+◌, ◌-◌, ◌<◌, Bool, true, false, [], ◌∷◌, length, map, Option, Some, None, refl, sym, ap, ◌∙◌, subst, arith}
+use Rattle.std.proofs.Common.{◌≡◌, ℕ, zero, suc, ◌+◌, ◌-◌, ◌<◌, Bool, true, false, [], ◌∷◌, length, map, Some, None, refl, sym, ap, ◌∙◌, arith}
 use Rattle.std.specs.Prelude.{nat_lt, if◌then◌else◌}
 use Rattle.std.proofs.Math.Path.{fun_ext}
 use Rattle.cx_prim.specs.declared.ports.Side.{Side}
 use Rattle.cx_prim.specs.declared.ports.Side.TheVariants as sides
-use Rattle.cx_prim.specs.Rows.{Inputs, Row}
+use Rattle.cx_prim.specs.Rows.{Row}
 use Rattle.cx_meaning.specs.declared.ports.PortRef.{PortRef}
 use Rattle.cx_meaning.specs.declared.ports.PortRef.TheVariants as ports
 use Rattle.cx_meaning.specs.declared.sights.Seen.{Seen}
@@ -23,9 +23,9 @@ use Rattle.cx_rewrites.specs.Solving.{IsSeenBelow, Solves}
 use Rattle.cx_rewrites.proofs.SolvedLemmas.{solved_is_seen}
 use Rattle.cx_rewrites.proofs.TargetLemmas.{target_seen-moved}
 use Rattle.cx_flattening.specs.Whole.{is_static}
-use Rattle.cx_flattening.specs.Flattened.{Kids, kid_at, kid_if, flat_part, flat_kids, kept_at, wire_at, port_if, own_port}
+use Rattle.cx_flattening.specs.Flattened.{kid_at, kid_if, flat_part, flat_kids, kept_at, wire_at, port_if}
 use Rattle.cx_flattening.specs.Targets.{OwnTarget}
-use Rattle.cx_flattening.specs.Levels.{IsKnown, own_of, IsLevel}
+use Rattle.cx_flattening.specs.Levels.{own_of, IsLevel}
 
 -- the flat component of the static child at a cell
 pub kid-row : (cells : Cells) (c : ℕ) (row : Row) → cell_at cells c ≡ OfRow row → kid_at (flat_kids cells) c ≡ None

@@ -11,7 +11,6 @@ mod Placing
 mod PortLemmas
 mod FlatAssigns
 mod FlatDrivers
-mod FlatDesigns
 mod LevelSights
 mod RestingPorts
 mod MovedTwice
@@ -32,3 +31,6 @@ mod FlatDeeds
 mod FlatActs
 mod FlatLists
 mod FlatSpots
+mod FlatLooks
+mod IdleStands
+mod FlatIslands

@@ -1,9 +1,9 @@
 -- Assignments that are moved twice are moved by both maps; and by the map that leaves ports as they are nothing is moved.
 use Rattle.std.proofs.Common.{◌≡◌, List, [], ◌∷◌, map, refl, ap, ◌∙◌}
 use Rattle.cx_meaning.specs.declared.ports.PortRef.{PortRef}
-use Rattle.cx_meaning.specs.Designs.{PlainGuard, Always, Atom, Negation, All, Any, Compared, Within, PlainGuards, no_guards, a_guard, PlainAssign}
+use Rattle.cx_meaning.specs.Designs.{PlainGuard, Always, Atom, Negation, All, Any, Compared, Within, PlainGuards, no_guards, a_guard}
 use Rattle.cx_meaning.specs.Active.{Acting}
-use Rattle.cx_rewrites.specs.Moving.{moved_guard, moved_guards, moved_assign, moved_acting}
+use Rattle.cx_rewrites.specs.Moving.{moved_guard, moved_guards, moved_acting}
 
 module _ (f g : PortRef → PortRef) where
   mutual

@@ -1,10 +1,10 @@
 -- Where the cells of a flat component stand: those that are kept in front, each at a number of its own, and behind them the blocks, none
 -- in another.
-use Rattle.std.proofs.Common.{◌≡◌, ◌≢◌, ℕ, zero, suc, ◌+◌, ◌<◌, ◌≤◌, ⊎_elim, inl, inr, Bool, true, false, List, [], ◌∷◌, ◌++◌, length, Option, Some, None, nat_eq, refl, sym, ap, ◌∙◌, subst, arith}
+use Rattle.std.proofs.Common.{◌≡◌, ◌≢◌, ℕ, zero, suc, ◌+◌, ◌<◌, ◌≤◌, ⊎_elim, List, [], ◌∷◌, length, Some, None, nat_eq, refl, sym, ◌∙◌, subst, arith}
 use Rattle.std.proofs.Math.Dec.{eqb-zero-suc, eqb-suc-zero, eqb-suc-suc}
-use Rattle.std.proofs.lemmas.Bool.{cases_eq, cases_lt, ne_eqb}
+use Rattle.std.proofs.lemmas.Bool.{cases_eq, cases_lt}
 use Rattle.cx_meaning.specs.Designs.{PlainCell, PlainComponent}
-use Rattle.cx_flattening.specs.Flattened.{Kids, kid_at, kept_if, kept, behind, kept_at, block_size, block_at}
+use Rattle.cx_flattening.specs.Flattened.{Kids, kid_at, kept, kept_at, block_size, block_at}
 
 pub kept_less : (kids : Kids) (cells : List PlainCell) (c : ℕ) → c < length cells → kid_at kids c ≡ None → kept_at kids c < length (kept kids cells)
 kept_less [] cells c h e = h

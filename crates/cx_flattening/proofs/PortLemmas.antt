@@ -1,12 +1,12 @@
 -- Ports of a flat component: those of the caller and of each block are apart, and each map keeps ports apart that may be driven.
-use Rattle.std.proofs.Common.{◌≡◌, ◌≢◌, ℕ, ◌+◌, ◌<◌, Bool, true, false, ◌&&◌, nat_eq, length, Option, Some, None, refl, sym, ap, ◌∙◌, subst, arith}
+use Rattle.std.proofs.Common.{◌≡◌, ◌≢◌, ℕ, ◌+◌, ◌<◌, Bool, true, false, ◌&&◌, nat_eq, length, Some, None, refl, sym, ap, ◌∙◌, arith}
 use Rattle.cx_meaning.specs.declared.ports.PortRef.{PortRef}
 use Rattle.cx_meaning.specs.declared.ports.PortRef.TheVariants as ports
 use Rattle.cx_meaning.specs.Designs.{PlainComponent}
 use Rattle.cx_meaning.specs.Active.{same_port}
 use Rattle.cx_meaning.proofs.PortsLemmas.{same_self}
 use Rattle.cx_rules.proofs.FoundLemmas.{same_is}
-use Rattle.cx_flattening.specs.Flattened.{Kids, kid_at, kept, kept_at, block_size, block_at, start_of, wire_at, port_if, own_port, child_port}
+use Rattle.cx_flattening.specs.Flattened.{Kids, kid_at, kept_at, block_size, start_of, wire_at, port_if, own_port, child_port}
 use Rattle.cx_flattening.specs.Targets.{OwnTarget, BlockTarget}
 use Rattle.cx_flattening.proofs.Placing.{kept_less, kept_apart, blocks_apart}
 

@@ -1,31 +1,29 @@
 -- THE PORTS ON WHICH OUTPUTS REST: what they depend on is among them, and no group drives one of them.
 use Rattle.std.proofs.Common.{◌≡◌, ℕ, suc, ◌+◌, ◌<◌, ◌⊎◌, inl, inr, ⊎_elim, true, false, List, [], ◌∷◌, ◌++◌, length, get_or, Some, None, refl, sym, ap, ◌∙◌, subst, arith}
-use Rattle.cx_prim.specs.declared.ports.Side.{Side}
 use Rattle.cx_prim.specs.declared.ports.Side.TheVariants as sides
 use Rattle.cx_prim.specs.Rows.{Row}
 use Rattle.cx_meaning.specs.declared.ports.PortRef.{PortRef}
 use Rattle.cx_meaning.specs.declared.ports.PortRef.TheVariants as ports
 use Rattle.cx_meaning.specs.Rows.{side_of}
 use Rattle.cx_meaning.specs.Designs.{PlainAssign, PlainGroup, PlainComponent, group_at, no_group}
-use Rattle.cx_meaning.specs.Instances.{Instance, At, Nothing, OfRow, OfInstance, part_of, cells_of, cell_at}
+use Rattle.cx_meaning.specs.Instances.{Instance, OfRow, part_of, cells_of, cell_at}
 use Rattle.cx_meaning.specs.Active.{Active, nothing, Owned, owned, owned_by_groups, source_order, offset_of, same_port, drivers}
-use Rattle.cx_meaning.specs.Sights.{In, IsWanted, PartPort, Go, AnInput, AnOutput, ItsDone, part_port}
+use Rattle.cx_meaning.specs.Sights.{In, IsWanted}
 use Rattle.cx_meaning.proofs.SightsLaws.{in_at}
 use Rattle.cx_meaning.proofs.DesignsLemmas.{group_there, there_below}
 use Rattle.cx_meaning.proofs.ActiveLemmas.{acting_has}
 use Rattle.cx_meaning.proofs.PortsLemmas.{same_self}
 use Rattle.cx_prim.specs.Rows.{is_output_side}
 use Rattle.cx_rules.specs.Ports.{is_part_output, is_cell_output, is_source_only}
-use Rattle.cx_meaning.proofs.InstancesLemmas.{row_is, instance_row, row_instance, instance_is}
-use Rattle.cx_rules.specs.Footprints.{AssignNames, Rests, literal_rests, input_rests, registered_rests, output_rests, done_rests, combinational_rests, Mentions, SideLeads, PartLeads, CellLeads, Leads, Depends, at_once, by_way_of}
+use Rattle.cx_meaning.proofs.InstancesLemmas.{row_is, row_instance}
+use Rattle.cx_rules.specs.Footprints.{AssignNames, Rests, literal_rests, input_rests, registered_rests, output_rests, done_rests, combinational_rests, Mentions, SideLeads, PartLeads, CellLeads, Leads, at_once, by_way_of}
 use Rattle.cx_rules.specs.ShapeRules.{LeadsToInput}
 use Rattle.cx_rules.proofs.FoundLemmas.{acting_in}
 use Rattle.cx_rules.proofs.FrameLemmas.{acting_alike}
 use Rattle.cx_rules.proofs.ForeignLemmas.{sorted_among, owned_among, split, groups_among}
 use Rattle.cx_flattening.specs.Flattened.{flat_kids}
 use Rattle.cx_flattening.specs.Targets.{OwnTarget}
-use Rattle.cx_flattening.specs.Levels.{IsKnown}
-use Rattle.cx_flattening.specs.Fair.{IsNamed, IsAssignOf, IsFair}
+use Rattle.cx_flattening.specs.Fair.{IsNamed, IsFair}
 
 pub data Resting (i : Instance) : PortRef → Type 0 where
   an_output : {n : ℕ} → n < length (part_of i).outputs → Resting i (ports.Output n)

@@ -1,5 +1,5 @@
 -- What stands at a cell of an instance, where its cells are embedded in a host; and what is known of its children.
-use Rattle.std.proofs.Common.{◌≡◌, ℕ, zero, suc, ◌+◌, ◌<◌, ◌≤◌, true, false, List, [], ◌∷◌, ◌++◌, length, map, Option, Some, None, refl, sym, ap, ◌∙◌, subst, arith}
+use Rattle.std.proofs.Common.{◌≡◌, ℕ, zero, suc, ◌+◌, ◌<◌, ◌≤◌, true, false, List, [], ◌∷◌, length, map, Option, Some, None, refl, sym, ap, ◌∙◌, subst, arith}
 use Rattle.cx_prim.specs.Rows.{Row}
 use Rattle.cx_meaning.specs.declared.kinds.PortDecl.{PortDecl}
 use Rattle.cx_meaning.specs.declared.ports.PortRef.TheVariants as ports
@@ -10,9 +10,9 @@ use Rattle.cx_meaning.specs.Active.{nothing}
 use Rattle.cx_meaning.proofs.InstancesLemmas.{nothing_instance, nothing_row}
 use Rattle.cx_rules.specs.Circles.{AreAcyclic, AcyclicBelow}
 use Rattle.cx_flattening.specs.Whole.{is_static}
-use Rattle.cx_flattening.specs.Flattened.{Kids, kid_at, kept_if, kept, block, blocks, flat_cells, block_size, block_at, inner_cell, wire_of, flat_part, kept_at, start_of, wire_at}
+use Rattle.cx_flattening.specs.Flattened.{Kids, kid_at, kept, block, blocks, flat_cells, block_size, block_at, inner_cell, wire_of, flat_part, kept_at, start_of, wire_at}
 use Rattle.cx_flattening.specs.Embedded.{IsLike, wire_row, HasWires, IsEmbedded, AreEmbedded, Stands, AllStand}
-use Rattle.cx_flattening.specs.Fair.{IsFair, AllFair, AllFairBelow}
+use Rattle.cx_flattening.specs.Fair.{IsFair, AllFair}
 use Rattle.cx_flattening.proofs.FlatAssigns.{length-both}
 
 plus : (a b : ℕ) → suc a + b ≡ a + suc b

@@ -1,5 +1,5 @@
 -- A port of a flat component that no group drives: where no group drives the port that it stands for.
-use Rattle.std.proofs.Common.{◌≡◌, ℕ, suc, ◌+◌, ◌<◌, ⊎_elim, inl, inr, Bool, true, false, List, [], ◌∷◌, ◌++◌, length, map, Option, Some, None, refl, sym, ap, ◌∙◌, subst, arith}
+use Rattle.std.proofs.Common.{◌≡◌, ℕ, suc, ⊎_elim, inl, inr, Bool, true, false, List, [], ◌∷◌, map, Option, Some, None, refl, sym, ap, ◌∙◌, subst}
 use Rattle.std.specs.Prelude.{flat_map}
 use Rattle.std.proofs.lemmas.Bool.{cases_eq}
 use Rattle.cx_meaning.specs.declared.ports.PortRef.{PortRef}
@@ -15,7 +15,7 @@ use Rattle.cx_rewrites.specs.Moving.{moved_assign, moved_group}
 use Rattle.cx_flattening.specs.Events.{source_to}
 use Rattle.cx_flattening.specs.Copies.{copied_group, is_one_of, group_if, enabled_groups}
 use Rattle.cx_flattening.specs.Flattened.{Kids, kid_at, own_port, child_port, invoke_port, copies_if, copies, flat_groups}
-use Rattle.cx_flattening.specs.Targets.{OwnTarget, BlockTarget, AllUsed, IsBlock, HasTargets}
+use Rattle.cx_flattening.specs.Targets.{OwnTarget, BlockTarget, AllUsed, HasTargets}
 use Rattle.cx_flattening.specs.Levels.{IsStill}
 use Rattle.cx_flattening.proofs.PortLemmas.{own_same, InBlock, in_block, own_apart, block_apart, child_same}
 

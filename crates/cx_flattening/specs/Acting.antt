@@ -1,5 +1,5 @@
 -- What acts of a flat component, beside what is done in a cycle by the instance and by those of static components below it.
-use Rattle.std.specs.Prelude.{◌≡◌, ◌≢◌, ℕ, suc, ◌<◌, ◌⊎◌, Bool, true, false, nat_eq, List, [], ◌∷◌, Option, Some, None, length, if◌then◌else◌}
+use Rattle.std.specs.Prelude.{◌≡◌, ◌≢◌, ℕ, suc, ◌<◌, ◌⊎◌, true, false, nat_eq, List, [], ◌∷◌, Option, Some, None, length, if◌then◌else◌}
 use Rattle.cx_meaning.specs.Designs.{PlainAssign, PlainComponent}
 use Rattle.cx_meaning.specs.Instances.{Instance, Node, Cells, no_cells, a_primitive, an_instance}
 use Rattle.cx_meaning.specs.Active.{Active, entries}

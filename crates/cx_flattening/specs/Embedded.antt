@@ -1,9 +1,9 @@
 -- An instance whose cells, with those of static components below it, stand among the cells of another; and the states of both.
-use Rattle.std.specs.Prelude.{◌≡◌, ℕ, suc, ◌+◌, ◌<◌, Bool, true, false, List, [], ◌∷◌, Option, Some, None, length, get_or}
+use Rattle.std.specs.Prelude.{◌≡◌, ℕ, suc, ◌+◌, true, false, List, [], ◌∷◌, length}
 use Rattle.cx_prim.specs.Rows.{Row}
 use Rattle.cx_prim.specs.CombinationalRows.{unary_row}
 use Rattle.cx_meaning.specs.declared.kinds.PortDecl.{PortDecl}
-use Rattle.cx_meaning.specs.Designs.{PlainAssign, PlainGroup, PlainStatement, PlainComponent}
+use Rattle.cx_meaning.specs.Designs.{PlainComponent}
 use Rattle.cx_meaning.specs.Instances.{Instance, Node, Cells, no_cells, a_primitive, an_instance, OfRow, OfInstance, part_of, cells_of, cell_at, cell_count, State, under}
 use Rattle.cx_flattening.specs.Whole.{is_static}
 use Rattle.cx_flattening.specs.Flattened.{Kids, flat_part, flat_kids, kept_at, start_of, wire_at}

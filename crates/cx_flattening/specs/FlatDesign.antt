@@ -1,6 +1,6 @@
 -- THE FLAT DESIGN: the flat components that the flat main reaches, in their order.
-use Rattle.std.specs.Prelude.{ℕ, zero, suc, Bool, true, false, ◌||◌, nat_eq, List, [], ◌∷◌, Option, Some, None, length, map, is_some, if◌then◌else◌}
-use Rattle.cx_meaning.specs.Designs.{PlainKind, OfPrimitive, OfComponent, PlainCell, PlainComponent, PlainDesign, component_at}
+use Rattle.std.specs.Prelude.{ℕ, zero, suc, Bool, false, ◌||◌, nat_eq, List, [], ◌∷◌, length, map, if◌then◌else◌}
+use Rattle.cx_meaning.specs.Designs.{PlainKind, OfPrimitive, OfComponent, PlainCell, PlainComponent, PlainDesign}
 use Rattle.cx_rules.specs.Ports.{component_of}
 use Rattle.cx_flattening.specs.Copies.{count_if}
 use Rattle.cx_flattening.specs.Flattened.{flat_part}

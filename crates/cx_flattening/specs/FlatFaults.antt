@@ -1,25 +1,17 @@
 -- How a cycle of a host ends beside a cycle of the tree: with the fault of the port that stands for the faulty one, or in a state of the same
 -- cells.
-use Rattle.std.specs.Prelude.{◌≡◌, ℕ, zero, suc, ◌+◌, List, [], ◌∷◌, Some, None}
+use Rattle.std.specs.Prelude.{◌≡◌, ℕ, zero, suc, ◌+◌, [], ◌∷◌, Some, None}
 use Rattle.cx_meaning.specs.declared.ports.PortRef.{PortRef}
-use Rattle.cx_meaning.specs.declared.ports.PortRef.TheVariants as ports
 use Rattle.cx_meaning.specs.Instances.{Instance, Node, Cells, no_cells, a_primitive, an_instance, Path, State}
 use Rattle.cx_meaning.specs.Cycles.{Fault, Outcome, first_fault, state_after, Ended, Goes, Faults}
-use Rattle.cx_flattening.specs.Flattened.{Kids, flat_kids, kept_at, start_of}
+use Rattle.cx_flattening.specs.Flattened.{flat_kids, start_of, own_port}
+use Rattle.cx_flattening.specs.Sampling.{placed}
 use Rattle.cx_flattening.specs.Embedded.{Stands}
 
--- the host's port of a primitive cell's port
-abbrev pub placed_port : Kids → ℕ → PortRef → PortRef
-placed_port kids first (ports.Cell c p) = ports.Cell (first + kept_at kids c) p
-placed_port kids first (ports.Input n) = ports.Input n
-placed_port kids first (ports.Output n) = ports.Output n
-placed_port kids first (ports.Done g) = ports.Done g
-placed_port kids first (ports.Literal w v) = ports.Literal w v
-
--- of the instance at a path
+-- the host's port that stands for a port of the instance at a path
 abbrev mutual
   pub flat_port : Instance → ℕ → Path → PortRef → PortRef
-  flat_port (Node part cells) first [] p = placed_port (flat_kids cells) first p
+  flat_port (Node part cells) first [] p = placed first (own_port (flat_kids cells) part p)
   flat_port (Node part cells) first (c ∷ path) p = port_in cells c (first + start_of (flat_kids cells) part c) path p
 
   pub port_in : Cells → ℕ → ℕ → Path → PortRef → PortRef

@@ -19,3 +19,4 @@ pub mod Turning
 pub mod FedOnce
 pub mod Sampling
 pub mod Lists
+pub mod Runs

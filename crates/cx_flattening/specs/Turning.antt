@@ -1,8 +1,8 @@
 -- A turn of the flat instance beside a turn of the tree.
-use Rattle.std.specs.Prelude.{◌≡◌, ℕ}
+use Rattle.std.specs.Prelude.{◌≡◌}
 use Rattle.cx_meaning.specs.Instances.{Instance, State}
 use Rattle.cx_meaning.specs.Cycles.{Fault}
-use Rattle.cx_meaning.specs.Answers.{Turn, Ends, Goes, Faults, Test, Holds, Fails, Unclear}
+use Rattle.cx_meaning.specs.Answers.{Turn, Ends, Goes, Faults}
 use Rattle.cx_flattening.specs.Embedded.{Stands}
 use Rattle.cx_flattening.specs.FlatFaults.{flat_fault}
 

@@ -18,7 +18,7 @@ ghost use Rattle.cx_rules.specs.Wellformed.{IsDesign};
 ghost use Rattle.cx_flattening.specs.Invokes.{form_lasts};
 ghost use Rattle.cx_flattening.specs.Events.{spot};
 ghost use Rattle.cx_flattening.specs.Deeds.{Deed, History, deeds_in, own_entries};
-ghost use Rattle.cx_flattening.specs.Whole.{group_turn, whole_cycle, whole_main};
+ghost use Rattle.cx_flattening.specs.Whole.{group_turn, whole_cycle, whole_island, whole_main};
 ghost use Rattle.cx_flattening.specs.Flattened.{flat_form, flat_kids, flat_part};
 ghost use Rattle.cx_flattening.specs.Acting.{ActsAs};
 ghost use Rattle.cx_flattening.specs.Embedded.{IsFlattened, Stands};
@@ -31,7 +31,8 @@ ghost use Rattle.cx_flattening.specs.Turning.{TurnAs};
 ghost use Rattle.cx_flattening.specs.Controlled.{AllControlled};
 ghost use Rattle.cx_flattening.specs.FedOnce.{FedOnce};
 ghost use Rattle.cx_flattening.specs.Sampling.{AgreesAt};
-ghost use Rattle.cx_flattening.specs.Lists.{IsStaticOf, island_events};
+ghost use Rattle.cx_flattening.specs.Lists.{IsIsland, IsStaticOf, island_events};
+ghost use Rattle.cx_flattening.specs.Runs.{AnswerAs};
 
 /// A design without static components means what it means without them: it ends in the same turn with the same state, has the
 /// same fault in the same turn, or needs more turns.
@@ -75,4 +76,12 @@ pub fn flat_turns_are_those_of_the_tree()
         → g < length (part_of i).groups → IsFlattened i flat → AllFair i → Stands i 0 s z
         → NoCircle i (group g) [] → IsAcyclic flat (group g) → AcyclicBelow (cells_of flat)
         → TurnAs i (group_turn i held g s) (calls.group_turn flat held g z) }
+{}
+
+/// An island of the flat instance is that of the tree: it ends in as many turns in a state of the same cells, has the same fault
+/// in the same turn, at a sample or in a cycle, or needs more turns where that does.
+pub fn flat_islands_are_those_of_the_tree()
+    ensures { (i flat : Instance) (form : PlainForm) (held : Held) (s z : State) (n : ℕ)
+        → IsIsland i flat form → Stands i 0 s z
+        → AnswerAs i (whole_island i held form s n) (islands.island flat held (flat_form (flat_kids (cells_of i)) (part_of i) form) z n) }
 {}
