@@ -11,8 +11,8 @@ use Rattle.cx_flattening.specs.FlatDesign.{flat_of, reached_from, renumbered_par
 part_is_flat : (d : PlainDesign) (i : Instance) → IsFlatPart (renumbered_part d (flat_part i))
 part_is_flat d (Node part cells) = record { dynamic = refl; no_invoke = refl }
 
-pub flat_designs_are_flat : (d : PlainDesign) → IsFlat (flat_design d)
-flat_designs_are_flat d k there =
+pub flat_is_flat : (d : PlainDesign) → IsFlat (flat_design d)
+flat_is_flat d k there =
     let kept : List ℕ = reached_from d 0 (length d.components) in
     let within : k < length kept = subst (λ n. k < n) (length-map kept (λ j. renumbered_part d (flat_of d j))) there in
     subst IsFlatPart (sym (get_or-map (λ j. renumbered_part d (flat_of d j)) kept k 0 no_component within)) (part_is_flat d (component_of d (get_or kept k 0)))

@@ -34,3 +34,4 @@ mod FlatSpots
 mod FlatLooks
 mod IdleStands
 mod FlatIslands
+mod FlatDesigns

@@ -20,6 +20,7 @@ ghost use Rattle.cx_flattening.specs.Events.{spot};
 ghost use Rattle.cx_flattening.specs.Deeds.{Deed, History, deeds_in, own_entries};
 ghost use Rattle.cx_flattening.specs.Whole.{group_turn, whole_cycle, whole_island, whole_main};
 ghost use Rattle.cx_flattening.specs.Flattened.{flat_form, flat_kids, flat_part};
+ghost use Rattle.cx_flattening.specs.FlatDesign.{flat_design};
 ghost use Rattle.cx_flattening.specs.Acting.{ActsAs};
 ghost use Rattle.cx_flattening.specs.Embedded.{IsFlattened, Stands};
 ghost use Rattle.cx_flattening.specs.Levels.{IsKnown, OutputsSeen, own_of};
@@ -84,4 +85,9 @@ pub fn flat_islands_are_those_of_the_tree()
     ensures { (i flat : Instance) (form : PlainForm) (held : Held) (s z : State) (n : ℕ)
         → IsIsland i flat form → Stands i 0 s z
         → AnswerAs i (whole_island i held form s n) (islands.island flat held (flat_form (flat_kids (cells_of i)) (part_of i) form) z n) }
+{}
+
+/// A flat design has no static component and no static invoke.
+pub fn flat_designs_are_flat()
+    ensures { (d : PlainDesign) → IsFlat (flat_design d) }
 {}
