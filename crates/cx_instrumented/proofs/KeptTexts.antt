@@ -8,11 +8,13 @@ use Rattle.cx_rules.specs.Sizes.{design_size, weight_of}
 use Rattle.cx_rules.specs.Wellformed.{IsDesign}
 use Rattle.cx_vtree.specs.Sound.{is_sound}
 use Rattle.cx_power.proofs.SourceLemmas.{source_reset}
+use Rattle.cx_scripts.specs.Laws.{SourcesRealiseAlways}
 use Rattle.cx_emit.proofs.Soundness.{emitted_sound}
 use Rattle.cx_bytes.specs.Laws.{HasGuards}
 use Rattle.cx_bytes.specs.Shallow.{IsShallow}
 use Rattle.cx_bytes.proofs.WrittenBytes.{written_bytes}
 use Rattle.cx_compiler.specs.Compiled.{EmitsWithin, IsDesignWritten, IsRealised, IsShortWithin, IsTextOf, written_net, written_source}
+use Rattle.cx_compiler.proofs.WrittenCells.{written_cells}
 use Rattle.cx_compiler.proofs.WrittenLength.{short}
 use Rattle.cx_compiler.proofs.WrittenNets.{HasWords, net_emitted, nets_weigh}
 use Rattle.cx_compiler.proofs.WrittenShape.{written_shape, written_names}
@@ -36,8 +38,8 @@ module _ (d : PlainDesign) (design : IsDesign d) (flat : IsFlat d) (accepted : I
       short (instrumented d) (new_design within) (is_flat d design flat) (accepted_kept d design accepted limits) within (keeps_guards d design guards) (is_shallow d design shallow)
       (emitted_sound (written_net (instrumented d)) (emits_within within))
 
-  pub is_text : IsShallow d → IsRealised (instrumented d) → (answer : List ℕ) → IsDesignWritten (instrumented d) answer → IsTextOf (instrumented d) answer
-  is_text shallow realised answer h =
+  pub is_text : SourcesRealiseAlways → IsShallow d → IsRealised (instrumented d) → (answer : List ℕ) → IsDesignWritten (instrumented d) answer → IsTextOf (instrumented d) answer
+  is_text always shallow realised answer h =
       let within : design_size (instrumented d) ≤ COMPILE_SIZE = h.0 in
       let small : design_size (instrumented d) ≤ 16384 = within in
       let new = new_design within in
@@ -49,8 +51,10 @@ module _ (d : PlainDesign) (design : IsDesign d) (flat : IsFlat d) (accepted : I
         source = written_source (instrumented d);
         spelled = h.1;
         realises = realised new no_static kept;
+        always = always (instrumented d) new no_static kept sound;
         reset = source_reset (written_net (instrumented d));
         shape = written_shape (instrumented d) new no_static kept sound;
+        cells = written_cells (instrumented d) new;
         names = written_names (instrumented d);
         nets = nets_weigh (instrumented d) new no_static kept (record { small = small; parts = parts; words = keeps_words d design (omega (arith, small)) words });
         small =

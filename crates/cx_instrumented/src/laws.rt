@@ -12,6 +12,8 @@ ghost use Rattle.cx_compiler.specs.Compiled.{EmitsWithin, IsDesignWritten, IsRea
 ghost use Rattle.cx_compiler.proofs.WrittenNets.{HasWords};
 ghost use Rattle.cx_profiling.specs.Instrumented.{instrumented};
 
+use cx_scripts::laws::sources_realise_always;
+
 /// An instrumented design has no static component where its design has none.
 pub fn instrumented_is_flat()
     ensures { (d : PlainDesign) → IsDesign d → IsFlat d → IsFlat (instrumented d) }
@@ -39,4 +41,6 @@ pub fn instrumented_is_written()
     ensures short { (d : PlainDesign) → IsDesign d → IsFlat d → IsAccepted d → KeepsStage 7 (instrumented d) → HasGuards d → HasWords d → IsShallow d → IsShortWithin (instrumented d) }
     ensures text { (d : PlainDesign) → IsDesign d → IsFlat d → IsAccepted d → KeepsStage 7 (instrumented d) → HasGuards d → HasWords d → IsShallow d → IsRealised (instrumented d)
         → (answer : List ℕ) → IsDesignWritten (instrumented d) answer → IsTextOf (instrumented d) answer }
-{}
+{
+    sources_realise_always();
+}

@@ -8,4 +8,4 @@ pub returns-clause-short : goal.returns-clause-short
 returns-clause-short c = short_within
 
 pub returns-clause-text : goal.returns-clause-text
-returns-clause-text c = is_text
+returns-clause-text c = λ d design flat accepted limits guards words. is_text d design flat accepted limits guards words c.sources_realise_always.ensures
