@@ -72,7 +72,7 @@ row_is_comment row h = record {
   body = codes " shared" ++ (32 ∷ row.component) ++ (32 ∷ row.cell) ++ (32 ∷ row.kept);
   in_line =
       joined_in_line (codes " shared" ++ (32 ∷ row.component) ++ (32 ∷ row.cell)) (32 ∷ row.kept)
-      (joined_in_line (codes " shared" ++ (32 ∷ row.component)) (32 ∷ row.cell) (joined_in_line (codes " shared") (32 ∷ row.component) refl h.0.0) h.0.1) h.0.2;
+      (joined_in_line (codes " shared" ++ (32 ∷ row.component)) (32 ∷ row.cell) (joined_in_line (codes " shared") (32 ∷ row.component) refl h.0) h.1) h.2;
   is = simp append_assoc;
 }
 

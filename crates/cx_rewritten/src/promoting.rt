@@ -13,13 +13,12 @@ ghost use Rattle.cx_rewritten.specs.PromotedTexts as texts;
 ghost use Rattle.cx_rewritten.specs.PromotedTexts.{IsPromotedText, row_line};
 
 use crate::laws::promoted_texts_end_no_later;
-use crate::lines::push_word;
+use crate::lines::{push_number, push_word};
 use cx_ast::Tree;
 use cx_design::Checked;
 use cx_print::print;
 use cx_promote::{PromotedRow, promote};
 use cx_text::Memory;
-use itoa::Buffer;
 use std::alloc::Global;
 
 /// Writes the tree in which groups of known length are static and runs of them static seqs, behind a line for each such group. The
@@ -69,8 +68,7 @@ fn push_line(text: &mut Vec<u8>, row: &PromotedRow) -> Result<(), Memory>
     text.extend_from_slice(b"// promoted")?;
     push_word(text, row.component.bytes())?;
     push_word(text, row.group.bytes())?;
-    let mut buffer = Buffer::new();
-    push_word(text, buffer.format(row.cycles).as_bytes())?;
+    push_number(text, row.cycles)?;
     text.push(b'\n')?;
     Ok(())
 }
