@@ -54,3 +54,8 @@ comments_of line P each (row ∷ rows) h =
 pub all_joined : {A : Type 0} (P : A → Type 0) (xs ys : List A) → AllByRecursion P xs → AllByRecursion P ys → AllByRecursion P (xs ++ ys)
 all_joined P [] ys h k = k
 all_joined P (x ∷ xs) ys h k = (h.0, all_joined P xs ys h.1 k)
+
+-- a text to which five pieces were added
+pub five_added : (t head a b c end one two three four five : List ℕ) → one ≡ t ++ head → two ≡ one ++ a → three ≡ two ++ b → four ≡ three ++ c → five ≡ four ++ end → five ≡ t ++ (head ++ a ++ b ++ c ++ end)
+five_added t head a b c end one two three four five h i j k l =
+    l ∙ ap (λ x. x ++ end) (k ∙ ap (λ x. x ++ c) (j ∙ ap (λ x. x ++ b) (i ∙ ap (λ x. x ++ a) h))) ∙ simp append_assoc
