@@ -167,7 +167,7 @@ module _ (d : PlainDesign) (design : IsDesign d) (accepted : IsAccepted d) (m k 
     arm_group g inside = statement_known part (below_dynamic v.context) Dynamic arm g (arm_forms (length (list_of done)) arm arm_at) inside
 
     -- no later arm drives a cell that the arm drives
-    undriven_later : (c : ℕ) → drives part arm c ≡ true → groups_drive part (groups_in_all later) c ≡ false
+    pub undriven_later : (c : ℕ) → drives part arm c ≡ true → groups_drive part (groups_in_all later) c ≡ false
     unfolding two
     undriven_later c e = by (groups_drive part (groups_in_all later) c) refl
       where
@@ -178,7 +178,7 @@ module _ (d : PlainDesign) (design : IsDesign d) (accepted : IsAccepted d) (m k 
             absurd (unshared d accepted k at.within v stands c (two r.0 r.1 r.2, e, footprints.driven r.3))
 
     -- and none enables a group that the arm enables
-    not_later : (g : ℕ) → is_comb (group_at part g).kind ≡ false → In (groups_of arm) g → In (groups_in_all later) g → ⊥
+    pub not_later : (g : ℕ) → is_comb (group_at part g).kind ≡ false → In (groups_of arm) g → In (groups_in_all later) g → ⊥
     unfolding two
     not_later g plain here there =
         let r = arm_of g later there in

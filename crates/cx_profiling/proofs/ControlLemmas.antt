@@ -46,14 +46,14 @@ use Rattle.cx_profiling.proofs.EnabledLemmas.{Known, statement_known}
 use Rattle.cx_profiling.proofs.ArmLemmas.{all_forms, arms_merge}
 use Rattle.cx_profiling.proofs.LeafLemmas.{rests, called_instance, same_called, same_kind, group_leaf, test_leaf, call_leaf, island_leaf}
 
-control_child : (cells : Cells) (c : ℕ) (child : Instance) → cell_at cells c ≡ OfInstance child → (held : Held) (s : State) (n : ℕ) → control_below cells c held s n ≡ run_control child held s n
+pub control_child : (cells : Cells) (c : ℕ) (child : Instance) → cell_at cells c ≡ OfInstance child → (held : Held) (s : State) (n : ℕ) → control_below cells c held s n ≡ run_control child held s n
 control_child no_cells c child e held s n = absurd (nothing_instance child e)
 control_child (a_primitive row rest) zero child e held s n = absurd (row_instance row child e)
 control_child (a_primitive row rest) (suc c) child e held s n = control_child rest c child e held s n
 control_child (an_instance x rest) zero child e held s n = ap (λ y. run_control y held s n) (instance_is x child e)
 control_child (an_instance x rest) (suc c) child e held s n = control_child rest c child e held s n
 
-count_child : (cells : Cells) (c : ℕ) (child : Instance) → cell_at cells c ≡ OfInstance child → (held : Held) (s : State) (n : ℕ) → count_below cells c held s n ≡ count_control child held s n
+pub count_child : (cells : Cells) (c : ℕ) (child : Instance) → cell_at cells c ≡ OfInstance child → (held : Held) (s : State) (n : ℕ) → count_below cells c held s n ≡ count_control child held s n
 count_child no_cells c child e held s n = absurd (nothing_instance child e)
 count_child (a_primitive row rest) zero child e held s n = absurd (row_instance row child e)
 count_child (a_primitive row rest) (suc c) child e held s n = count_child rest c child e held s n

@@ -49,10 +49,12 @@ pub mod CountWithin
 pub mod GroupLemmas
 pub mod EnabledLemmas
 pub mod ArmLemmas
+pub mod TallyAnswers
 pub mod FaultLemmas
 pub mod CallLemmas
 pub mod LeafLemmas
 pub mod ControlLemmas
+pub mod TallyWithin
 pub mod OutputLemmas
 pub mod StoreDrives
 pub mod MemoryLemmas

@@ -1,10 +1,13 @@
 //! Laws of the runs of instrumented designs: each function does nothing, and its clause is the law.
 
-ghost use Rattle.std.specs.Prelude.{◌≤◌, ℕ};
+ghost use Rattle.std.specs.Prelude.{◌≤◌, ℕ, List};
 ghost use Rattle.cx_meaning.specs.Designs.{PlainDesign};
+ghost use Rattle.cx_meaning.specs.Instances.{tree_of};
+ghost use Rattle.cx_meaning.specs.Sights.{In};
 ghost use Rattle.cx_rules.specs.Accepted.{IsAccepted};
 ghost use Rattle.cx_rules.specs.Wellformed.{IsDesign};
-ghost use Rattle.cx_profiling.specs.Counters.{entry_count};
+ghost use Rattle.cx_profiling.specs.Counters.{ProfileEntry, entries_of, entry_count};
+ghost use Rattle.cx_profiling.specs.Counting.{tally_of};
 ghost use Rattle.cx_profiling.specs.Instrumented.{instrumented};
 ghost use Rattle.cx_profiling.specs.RunsAlike.{InstrumentsAs, ReadsAs};
 
@@ -19,4 +22,10 @@ pub fn instrumented_runs_alike()
 /// budget, with the counts; a fault in a later turn, or that it goes on, tells that the design goes on.
 pub fn profile_reads_the_run()
     ensures { (d : PlainDesign) → IsDesign d → IsAccepted d → IsAccepted (instrumented d) → 1 ≤ entry_count d → ReadsAs d }
+{}
+
+/// No group is counted more often than the budget has turns.
+pub fn counts_are_within_turns()
+    ensures { (d : PlainDesign) → IsDesign d → IsAccepted d → (words : List (List ℕ)) (n : ℕ) (e : ProfileEntry) → In (entries_of (tree_of d)) e
+        → tally_of d words n e.path e.group ≤ n }
 {}
