@@ -46,7 +46,7 @@ get_or-right (x ∷ xs) ys n d = ap (λ k. get_or (x ∷ (xs ++ ys)) k d) (plus 
     plus : (a b : ℕ) → suc a + b ≡ suc (a + b)
     plus a b = omega arith
 
-get_or-mapped : {A B : Type 0} (f : A → B) (xs : List A) (n : ℕ) (a : A) (b : B) → n < length xs → get_or (map f xs) n b ≡ f (get_or xs n a)
+pub get_or-mapped : {A B : Type 0} (f : A → B) (xs : List A) (n : ℕ) (a : A) (b : B) → n < length xs → get_or (map f xs) n b ≡ f (get_or xs n a)
 get_or-mapped f [] n a b less = absurd (omega (arith, less))
 get_or-mapped f (x ∷ xs) zero a b less = refl
 get_or-mapped f (x ∷ xs) (suc n) a b less = get_or-mapped f xs n a b (omega (arith, less))

@@ -186,7 +186,7 @@ first_as i below look S gives (x ∷ xs) (q ∷ qs) r =
     one sights.Undefined w e u v same told = ap (λ z. fault_of q z v) e ∙ ap (λ p. Some (fault_at faults.Undefined p)) (sym told)
 
 -- a turn, and then the rest
-turn_then_as : (i flat : Instance) (s z : State) (x y : Turn State Fault) (go more : State → Answer State Fault) → TurnAs i x y → Stands i 0 (idle i s) (idle flat z) → ((after w : State) → Stands i 0 after w → AnswerAs i (go after) (more w))
+pub turn_then_as : (i flat : Instance) (s z : State) (x y : Turn State Fault) (go more : State → Answer State Fault) → TurnAs i x y → Stands i 0 (idle i s) (idle flat z) → ((after w : State) → Stands i 0 after w → AnswerAs i (go after) (more w))
     → AnswerAs i (turn_then (idle i) s x go) (turn_then (idle flat) z y more)
 turn_then_as i flat s z answers.Ends y go more h idles later = (idle flat z, ap (λ u. turn_then (idle flat) z u more) h, idles)
 turn_then_as i flat s z (answers.Goes after) y go more h idles later =

@@ -34,3 +34,5 @@ mod FlatSpots
 mod FlatLooks
 mod IdleStands
 mod FlatIslands
+mod FlatRows
+mod FlatTests

@@ -1,18 +1,19 @@
 //! Laws of static components and of flat instances: each function does nothing, and its clause is the law.
 
-ghost use Rattle.std.specs.Prelude.{◌≡◌, ◌<◌, ℕ, List, [], length};
+ghost use Rattle.std.specs.Prelude.{◌≡◌, ℕ, List, [], Option, Some};
 ghost use Rattle.cx_meaning.specs.declared.ports.PortRef.{PortRef};
 ghost use Rattle.cx_meaning.specs.declared.ports.PortRef.TheVariants.{Input};
 ghost use Rattle.cx_meaning.specs.Designs.{PlainDesign, PlainForm};
-ghost use Rattle.cx_meaning.specs.Instances.{Instance, State, cells_of, part_of};
-ghost use Rattle.cx_meaning.specs.Active.{Active, entries, group};
+ghost use Rattle.cx_meaning.specs.Instances.{Instance, State, cells_of, idle, part_of};
+ghost use Rattle.cx_meaning.specs.Active.{Active, entries};
 ghost use Rattle.cx_meaning.specs.Sights.{Held, seen};
 ghost use Rattle.cx_meaning.specs.Cycles.{cycle};
+ghost use Rattle.cx_meaning.specs.Answers.{turns_of};
 ghost use Rattle.cx_meaning.specs.Islands.{active_in, form_flat, form_length};
 ghost use Rattle.cx_meaning.specs.Islands as islands;
 ghost use Rattle.cx_meaning.specs.Calls as calls;
 ghost use Rattle.cx_meaning.specs.Running.{run_main};
-ghost use Rattle.cx_rules.specs.Circles.{AcyclicBelow, IsAcyclic};
+ghost use Rattle.cx_rules.specs.Externals.{external_rows};
 ghost use Rattle.cx_rules.specs.Flat.{IsFlat};
 ghost use Rattle.cx_rules.specs.Wellformed.{IsDesign};
 ghost use Rattle.cx_flattening.specs.Invokes.{form_lasts};
@@ -20,14 +21,15 @@ ghost use Rattle.cx_flattening.specs.Events.{spot};
 ghost use Rattle.cx_flattening.specs.Deeds.{Deed, History, deeds_in, own_entries};
 ghost use Rattle.cx_flattening.specs.Whole.{group_turn, whole_cycle, whole_island, whole_main};
 ghost use Rattle.cx_flattening.specs.Flattened.{flat_form, flat_kids, flat_part};
+ghost use Rattle.cx_flattening.specs.FlatDesign.{flat_design};
 ghost use Rattle.cx_flattening.specs.Acting.{ActsAs};
-ghost use Rattle.cx_flattening.specs.Embedded.{IsFlattened, Stands};
+ghost use Rattle.cx_flattening.specs.Embedded.{Stands};
 ghost use Rattle.cx_flattening.specs.Levels.{IsKnown, OutputsSeen, own_of};
 ghost use Rattle.cx_flattening.specs.Fair.{AllFair};
-ghost use Rattle.cx_flattening.specs.Seeing.{CellsSeen, NoCircle};
+ghost use Rattle.cx_flattening.specs.Seeing.{CellsSeen};
 ghost use Rattle.cx_flattening.specs.FlatFaults.{CycleAs};
 ghost use Rattle.cx_flattening.specs.Beside.{IsBeside};
-ghost use Rattle.cx_flattening.specs.Turning.{TurnAs};
+ghost use Rattle.cx_flattening.specs.Turning.{IsGroupBeside, TestAs, TurnAs};
 ghost use Rattle.cx_flattening.specs.Controlled.{AllControlled};
 ghost use Rattle.cx_flattening.specs.FedOnce.{FedOnce};
 ghost use Rattle.cx_flattening.specs.Sampling.{AgreesAt};
@@ -69,13 +71,17 @@ pub fn flat_lists_are_those_of_the_tree()
         (entries (active_in k t (form_flat (flat_part i) (flat_form (flat_kids (cells_of i)) (part_of i) form) 0 []))) }
 {}
 
-/// A turn of a group of the flat instance is that of the group in the tree: the last, one that goes on to a state of the same
-/// cells, or one with the same fault. While a group acts, static children rest.
+/// A turn of a group of the flat instance is that of the group in the tree, and so is its run; a condition says the same. While
+/// a group acts, static children rest.
 pub fn flat_turns_are_those_of_the_tree()
-    ensures { (i flat : Instance) (held : Held) (g : ℕ) (s z : State)
-        → g < length (part_of i).groups → IsFlattened i flat → AllFair i → Stands i 0 s z
-        → NoCircle i (group g) [] → IsAcyclic flat (group g) → AcyclicBelow (cells_of flat)
-        → TurnAs i (group_turn i held g s) (calls.group_turn flat held g z) }
+    ensures turn { (i flat : Instance) (held : Held) (g : ℕ) (s z : State)
+        → IsGroupBeside i flat (Some g) → Stands i 0 s z → TurnAs i (group_turn i held g s) (calls.group_turn flat held g z) }
+    ensures group { (i flat : Instance) (held : Held) (g n : ℕ) (s z : State)
+        → IsGroupBeside i flat (Some g) → Stands i 0 s z
+        → AnswerAs i (turns_of (idle i) (group_turn i held g) s n) (turns_of (idle flat) (calls.group_turn flat held g) z n) }
+    ensures test { (i flat : Instance) (held : Held) (p : PortRef) (with_group : Option ℕ) (s z : State)
+        → IsGroupBeside i flat with_group → IsKnown i p → Stands i 0 s z
+        → TestAs i (calls.test i held p with_group s) (calls.test flat held (own_of i p) with_group z) }
 {}
 
 /// An island of the flat instance is that of the tree: it ends in as many turns in a state of the same cells, has the same fault
@@ -84,4 +90,10 @@ pub fn flat_islands_are_those_of_the_tree()
     ensures { (i flat : Instance) (form : PlainForm) (held : Held) (s z : State) (n : ℕ)
         → IsIsland i flat form → Stands i 0 s z
         → AnswerAs i (whole_island i held form s n) (islands.island flat held (flat_form (flat_kids (cells_of i)) (part_of i) form) z n) }
+{}
+
+/// A flat design has no static components, and the external memories of the design.
+pub fn flat_designs_are_flat()
+    ensures flat { (d : PlainDesign) → IsFlat (flat_design d) }
+    ensures rows { (d : PlainDesign) → IsDesign d → external_rows (flat_design d) ≡ external_rows d }
 {}
