@@ -1,5 +1,6 @@
 -- The flat design has no static components, and the external memories of the design.
 use Rattle.std.proofs.Common.{◌≡◌, ℕ, zero, suc, ◌+◌, ◌<◌, ◌≤◌, inl, inr, Bool, true, false, ◌||◌, nat_eq, List, [], ◌∷◌, ◌++◌, length, map, get_or, Option, Some, None, refl, sym, ap, ◌∙◌, subst, arith}
+use Rattle.std.proofs.lemmas.List.{append-nil, get_or-map, length-map}
 use Rattle.std.specs.Prelude.{if◌then◌else◌}
 use Rattle.std.proofs.lemmas.Bool.{eq-eqb}
 use Rattle.cx_text.specs.Loading.{PlainRow}
@@ -16,7 +17,6 @@ use Rattle.cx_flattening.specs.Whole.{is_static}
 use Rattle.cx_flattening.specs.Copies.{count_if}
 use Rattle.cx_flattening.specs.Flattened.{Kids, kid_if, kept_if, kept, block, blocks, flat_cells, inner_cell, wire_of, flat_part, flat_kids}
 use Rattle.cx_flattening.specs.FlatDesign.{any_of, flat_of, leads_within, is_reached, reached_from, reached_below, renumbered_kind, renumbered_cell, renumbered_part, flat_design}
-use Rattle.cx_flattening.proofs.FlatGroups.{get_or-mapped, length-mapped}
 
 -- NO STATIC COMPONENTS
 flat_is_flat : (i : Instance) → IsFlatPart (flat_part i)
@@ -24,7 +24,7 @@ flat_is_flat (Node part cells) = record { dynamic = refl; no_invoke = refl }
 
 pub flat_design_flat : (d : PlainDesign) → IsFlat (flat_design d)
 flat_design_flat d k less =
-    subst IsFlatPart (sym (get_or-mapped (λ j. renumbered_part d (flat_of d j)) (reached_from d 0 (length d.components)) k 0 no_component (subst (λ n. k < n) (length-mapped (λ j. renumbered_part d (flat_of d j)) (reached_from d 0 (length d.components))) less)))
+    subst IsFlatPart (sym (get_or-map (λ j. renumbered_part d (flat_of d j)) (reached_from d 0 (length d.components)) k 0 no_component (subst (λ n. k < n) (length-map (reached_from d 0 (length d.components)) (λ j. renumbered_part d (flat_of d j))) less)))
     (let h = flat_is_flat (component_of d (get_or (reached_from d 0 (length d.components)) k 0)) in record { dynamic = h.dynamic; no_invoke = h.no_invoke })
 
 -- THE NEW NUMBER of one that is reached
@@ -92,7 +92,7 @@ module _ (d : PlainDesign) where
   pub main_is : d.main < length d.components → component_at (flat_design d) (flat_design d).main ≡ renumbered_part d (flat_of d d.main)
   main_is less =
       let r = reached_place 0 d.main (length d.components) (reached_below d d.main) less (ap (is_reached d) (zero_plus d.main) ∙ itself (length d.components) d.main) (zero_sum (reached_below d d.main) ∙ ap (reached_below d) (sym (zero_plus d.main))) in
-      get_or-mapped (λ j. renumbered_part d (flat_of d j)) (reached_from d 0 (length d.components)) (reached_below d d.main) 0 no_component r.0
+      get_or-map (λ j. renumbered_part d (flat_of d j)) (reached_from d 0 (length d.components)) (reached_below d d.main) 0 no_component r.0
       ∙ ap (λ j. renumbered_part d (flat_of d j)) (r.1 ∙ zero_plus d.main)
     where
       zero_plus : (a : ℕ) → 0 + a ≡ a
@@ -172,20 +172,12 @@ module _ (d : PlainDesign) (design : IsDesign d) where
       choice true f = absurd (subst (IsExternal d d.main) e (((design.components d.main design.main_there).cells c i).external f))
 
   flat_rows_within : (n : ℕ) → rows_of (flat_part (tree_within d n d.main)).cells ≡ rows_of (component_at d d.main).cells
-  flat_rows_within zero = rows-both (component_at d d.main).cells [] ∙ append_none (rows_of (component_at d d.main).cells)
-    where
-      append_none : (l : List PlainRow) → l ++ [] ≡ l
-      append_none [] = refl
-      append_none (x ∷ xs) = ap (λ r. x ∷ r) (append_none xs)
+  flat_rows_within zero = rows-both (component_at d d.main).cells [] ∙ append-nil (rows_of (component_at d d.main).cells)
   flat_rows_within (suc n) =
       rows-both (kept (flat_kids (cells_for (tree_within d n) (component_at d d.main).cells)) (component_at d d.main).cells) (blocks (flat_kids (cells_for (tree_within d n) (component_at d d.main).cells)) (component_at d d.main).cells)
       ∙ ap (λ l. rows_of (kept (flat_kids (cells_for (tree_within d n) (component_at d d.main).cells)) (component_at d d.main).cells) ++ l) (blocks_none (flat_kids (cells_for (tree_within d n) (component_at d d.main).cells)) (component_at d d.main).cells)
-      ∙ append_none (rows_of (kept (flat_kids (cells_for (tree_within d n) (component_at d d.main).cells)) (component_at d d.main).cells))
+      ∙ append-nil (rows_of (kept (flat_kids (cells_for (tree_within d n) (component_at d d.main).cells)) (component_at d d.main).cells))
       ∙ kept_rows (tree_within d n) (component_at d d.main).cells none_external
-    where
-      append_none : (l : List PlainRow) → l ++ [] ≡ l
-      append_none [] = refl
-      append_none (x ∷ xs) = ap (λ r. x ∷ r) (append_none xs)
 
   -- THE SAME EXTERNAL MEMORIES
   pub flat_rows : external_rows (flat_design d) ≡ external_rows d

@@ -20,7 +20,7 @@ use Rattle.cx_flattening.specs.Fair.{AllFair}
 use Rattle.cx_flattening.specs.Levels.{IsKnown, own_of}
 use Rattle.cx_flattening.specs.Seeing.{NoCircle}
 use Rattle.cx_flattening.specs.Beside.{IsBeside}
-use Rattle.cx_flattening.specs.FlatFaults.{flat_port, flat_fault}
+use Rattle.cx_flattening.specs.FlatFaults.{flat_fault}
 use Rattle.cx_flattening.specs.Sampling.{placed}
 use Rattle.cx_flattening.specs.Turning.{TestAs, IsGroupBeside}
 use Rattle.cx_flattening.specs.Runs.{AnswerAs}
