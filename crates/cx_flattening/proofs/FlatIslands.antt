@@ -12,7 +12,7 @@ use Rattle.cx_meaning.specs.Instances.{Instance, Node, Cells, no_cells, a_primit
 use Rattle.cx_meaning.specs.Truths.{truth_of}
 use Rattle.cx_meaning.specs.Active.{nothing, entries}
 use Rattle.cx_meaning.specs.Sights.{Look, Held, seen}
-use Rattle.cx_meaning.specs.Cycles.{Fault, fault_at, Ended, Goes, Faults, cycle}
+use Rattle.cx_meaning.specs.Cycles.{Fault, Ended, Goes, Faults, cycle}
 use Rattle.cx_meaning.specs.Answers.{Answer, End, More, Turn, turn_then, after_turns, idle_turn}
 use Rattle.cx_meaning.specs.Answers as answers
 use Rattle.cx_meaning.specs.Islands.{kind_length, group_length, or_zero, form_length, length_of, sum_length, max_length, Condition, condition, Occurrence, occurrence, rounds_from, form_flat, flat, seq_flat, par_flat, is_one, fault_of, turn_of, unless_unclear, active_in, looked_at, island_turn, island_from, island}

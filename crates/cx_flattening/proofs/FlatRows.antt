@@ -1,21 +1,19 @@
 -- The flat design has no static components, and the external memories of the design.
-use Rattle.std.proofs.Common.{◌≡◌, ℕ, zero, suc, ◌+◌, ◌<◌, ◌≤◌, inl, inr, Bool, true, false, ◌||◌, nat_eq, List, [], ◌∷◌, ◌++◌, length, map, get_or, Option, Some, None, refl, sym, ap, ◌∙◌, subst, arith}
+use Rattle.std.proofs.Common.{◌≡◌, ℕ, zero, suc, ◌+◌, ◌<◌, ◌≤◌, inl, inr, Bool, true, false, ◌||◌, List, [], ◌∷◌, ◌++◌, length, map, get_or, Option, Some, None, refl, sym, ap, ◌∙◌, subst, arith}
 use Rattle.std.proofs.lemmas.List.{append-nil, get_or-map, length-map}
 use Rattle.std.specs.Prelude.{if◌then◌else◌}
 use Rattle.std.proofs.lemmas.Bool.{eq-eqb}
-use Rattle.cx_text.specs.Loading.{PlainRow}
 use Rattle.cx_meaning.specs.declared.kinds.PortDecl.{PortDecl}
 use Rattle.cx_meaning.specs.Designs.{PlainKind, OfPrimitive, OfComponent, PlainCell, PlainComponent, PlainDesign, component_at, no_component}
-use Rattle.cx_meaning.specs.Instances.{Instance, Node, Cells, no_cells, a_primitive, an_instance, part_of, cells_of, add_cell, cells_for, tree_within}
+use Rattle.cx_meaning.specs.Instances.{Instance, Node, add_cell, cells_for, tree_within}
 use Rattle.cx_meaning.specs.Sights.{In}
-use Rattle.cx_meaning.proofs.DesignsLemmas.{same_part}
 use Rattle.cx_rules.specs.Ports.{component_of}
-use Rattle.cx_rules.specs.Externals.{numbers_of, row_for, if_external, rows_of, external_rows}
-use Rattle.cx_rules.specs.Wellformed.{IsExternal, IsCell, IsDesign}
+use Rattle.cx_rules.specs.Externals.{row_for, if_external, rows_of, external_rows}
+use Rattle.cx_rules.specs.Wellformed.{IsExternal, IsDesign}
 use Rattle.cx_rules.specs.Flat.{IsFlatPart, IsFlat}
 use Rattle.cx_flattening.specs.Whole.{is_static}
 use Rattle.cx_flattening.specs.Copies.{count_if}
-use Rattle.cx_flattening.specs.Flattened.{Kids, kid_if, kept_if, kept, block, blocks, flat_cells, inner_cell, wire_of, flat_part, flat_kids}
+use Rattle.cx_flattening.specs.Flattened.{Kids, kid_if, kept_if, kept, block, blocks, inner_cell, wire_of, flat_part, flat_kids}
 use Rattle.cx_flattening.specs.FlatDesign.{any_of, flat_of, leads_within, is_reached, reached_from, reached_below, renumbered_kind, renumbered_cell, renumbered_part, flat_design}
 
 -- NO STATIC COMPONENTS

@@ -1,25 +1,21 @@
 -- GROUPS AND TESTS: a group runs in the flat instance as in the tree, and a condition says the same.
-use Rattle.std.proofs.Common.{◌≡◌, ℕ, zero, suc, ◌+◌, ◌<◌, List, [], length, Option, Some, None, refl, sym, ap, ◌∙◌, subst, arith}
+use Rattle.std.proofs.Common.{◌≡◌, ℕ, zero, suc, ◌+◌, [], Option, Some, None, refl, sym, ap, ◌∙◌, arith}
 use Rattle.cx_meaning.specs.declared.ports.PortRef.{PortRef}
 use Rattle.cx_meaning.specs.declared.ports.PortRef.TheVariants as ports
 use Rattle.cx_meaning.specs.declared.sights.FaultKind.{FaultKind}
 use Rattle.cx_meaning.specs.declared.sights.FaultKind.TheVariants as faults
-use Rattle.cx_meaning.specs.Instances.{Instance, Node, part_of, cells_of, State, idle}
+use Rattle.cx_meaning.specs.Instances.{Instance, Node, State, idle}
 use Rattle.cx_meaning.specs.Truths.{Truth, truth_of}
 use Rattle.cx_meaning.specs.Truths as truths
-use Rattle.cx_meaning.specs.Active.{nothing, group, comb}
+use Rattle.cx_meaning.specs.Active.{nothing, group}
 use Rattle.cx_meaning.specs.Sights.{Held, seen}
 use Rattle.cx_meaning.specs.Cycles.{fault_at}
-use Rattle.cx_meaning.specs.Answers.{turns_of, Test, Holds, Fails, Unclear}
+use Rattle.cx_meaning.specs.Answers.{turns_of, Unclear}
 use Rattle.cx_meaning.specs.Calls.{test_of, test}
 use Rattle.cx_meaning.specs.Calls as calls
-use Rattle.cx_rules.specs.Circles.{IsAcyclic, AcyclicBelow}
 use Rattle.cx_flattening.specs.Whole.{group_turn}
-use Rattle.cx_flattening.specs.Embedded.{IsFlattened, Stands}
-use Rattle.cx_flattening.specs.Fair.{AllFair}
+use Rattle.cx_flattening.specs.Embedded.{Stands}
 use Rattle.cx_flattening.specs.Levels.{IsKnown, own_of}
-use Rattle.cx_flattening.specs.Seeing.{NoCircle}
-use Rattle.cx_flattening.specs.Beside.{IsBeside}
 use Rattle.cx_flattening.specs.FlatFaults.{flat_fault}
 use Rattle.cx_flattening.specs.Sampling.{placed}
 use Rattle.cx_flattening.specs.Turning.{TestAs, IsGroupBeside}
