@@ -89,7 +89,7 @@ outcome_alike : (look other : Look) (c e : ℕ) (row : Row) (d : CellState) → 
 outcome_alike look other c e row d same = ap (λ (g : ℕ → Seen). after_enabling g row d (gather g (enables row) 0 row.ports)) (fun_ext same)
 
 -- the same state in all its cells is the same where it stands
-stands_alike : (i : Instance) (first : ℕ) (s t z w : State) → ((path : Path) → s path ≡ t path) → ((path : Path) → z path ≡ w path) → Stands i first s z → Stands i first t w
+pub stands_alike : (i : Instance) (first : ℕ) (s t z w : State) → ((path : Path) → s path ≡ t path) → ((path : Path) → z path ≡ w path) → Stands i first s z → Stands i first t w
 stands_alike i first s t z w same alike h = subst (λ x. Stands i first t x) (fun_ext alike) (subst (λ x. Stands i first x z) (fun_ext same) h)
 
 -- a child's own fault, by its place among the cells

@@ -155,7 +155,7 @@ later_as i (End after n) y h = (h.0, ap (after_turns 1) h.1, h.2)
 later_as i (answers.Fault f n) y h = ap (after_turns 1) h
 later_as i More y h = ap (after_turns 1) h
 
-turn_as : (i : Instance) (x y : Ended) → CycleAs i x y → TurnAs i (turn_of x) (turn_of y)
+pub turn_as : (i : Instance) (x y : Ended) → CycleAs i x y → TurnAs i (turn_of x) (turn_of y)
 turn_as i (Goes after) y h = (h.0, ap turn_of h.1, h.2)
 turn_as i (Faults f) y h = ap turn_of h
 

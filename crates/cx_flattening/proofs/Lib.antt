@@ -36,3 +36,4 @@ mod IdleStands
 mod FlatIslands
 mod FlatRows
 mod FlatTests
+mod FlatCalls

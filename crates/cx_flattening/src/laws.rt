@@ -12,15 +12,15 @@ ghost use Rattle.cx_meaning.specs.Answers.{turns_of};
 ghost use Rattle.cx_meaning.specs.Islands.{active_in, form_flat, form_length};
 ghost use Rattle.cx_meaning.specs.Islands as islands;
 ghost use Rattle.cx_meaning.specs.Calls as calls;
-ghost use Rattle.cx_meaning.specs.Running.{run_main};
+ghost use Rattle.cx_meaning.specs.Running.{Children, run_main};
 ghost use Rattle.cx_rules.specs.Externals.{external_rows};
 ghost use Rattle.cx_rules.specs.Flat.{IsFlat};
 ghost use Rattle.cx_rules.specs.Wellformed.{IsDesign};
 ghost use Rattle.cx_flattening.specs.Invokes.{form_lasts};
 ghost use Rattle.cx_flattening.specs.Events.{spot};
 ghost use Rattle.cx_flattening.specs.Deeds.{Deed, History, deeds_in, own_entries};
-ghost use Rattle.cx_flattening.specs.Whole.{group_turn, whole_cycle, whole_island, whole_main};
-ghost use Rattle.cx_flattening.specs.Flattened.{flat_form, flat_kids, flat_part};
+ghost use Rattle.cx_flattening.specs.Whole.{call, group_turn, whole_cycle, whole_island, whole_main};
+ghost use Rattle.cx_flattening.specs.Flattened.{flat_form, flat_kids, flat_part, kept_at};
 ghost use Rattle.cx_flattening.specs.FlatDesign.{flat_design};
 ghost use Rattle.cx_flattening.specs.Acting.{ActsAs};
 ghost use Rattle.cx_flattening.specs.Embedded.{Stands};
@@ -35,6 +35,7 @@ ghost use Rattle.cx_flattening.specs.FedOnce.{FedOnce};
 ghost use Rattle.cx_flattening.specs.Sampling.{AgreesAt};
 ghost use Rattle.cx_flattening.specs.Lists.{IsIsland, IsStaticOf, island_events};
 ghost use Rattle.cx_flattening.specs.Runs.{AnswerAs};
+ghost use Rattle.cx_flattening.specs.Calling.{IsCallBeside, RunsAs};
 
 /// A design without static components means what it means without them: it ends in the same turn with the same state, has the
 /// same fault in the same turn, or needs more turns.
@@ -90,6 +91,15 @@ pub fn flat_islands_are_those_of_the_tree()
     ensures { (i flat : Instance) (form : PlainForm) (held : Held) (s z : State) (n : ℕ)
         → IsIsland i flat form → Stands i 0 s z
         → AnswerAs i (whole_island i held form s n) (islands.island flat held (flat_form (flat_kids (cells_of i)) (part_of i) form) z n) }
+{}
+
+/// A call of a dynamic child in the flat instance is that in the tree, where the control of the child runs alike: its inputs are
+/// seen alike, its state and its fault stand where the child stands, and the group captures alike in the turn after it.
+pub fn flat_calls_are_those_of_the_tree()
+    ensures { (i flat child : Instance) (held : Held) (g c : ℕ) (children others : Children) (s z : State) (n : ℕ)
+        → IsCallBeside i flat g c child → RunsAs child c (kept_at (flat_kids (cells_of i)) c) children others → Stands i 0 s z
+        → AnswerAs i (call i children held g c s n)
+        (calls.call flat others held g (kept_at (flat_kids (cells_of i)) c) z n) }
 {}
 
 /// A flat design has no static components, and the external memories of the design.
