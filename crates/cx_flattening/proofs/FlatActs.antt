@@ -1,5 +1,6 @@
 -- WHAT ACTS of the flat component, where what is done in the tree stands beside it and no static child is fed twice.
 use Rattle.std.proofs.Common.{◌≡◌, ◌≢◌, ℕ, zero, suc, ◌+◌, ◌-◌, ◌<◌, ◌≤◌, inl, inr, ⊎_elim, Bool, true, false, List, [], ◌∷◌, ◌++◌, length, map, get_or, Option, Some, None, nat_eq, refl, sym, ap, ◌∙◌, subst, arith}
+use Rattle.std.proofs.lemmas.List.{append-nil, length-append, length-map}
 use Rattle.std.specs.Prelude.{◌⊎◌, flat_map, take, if◌then◌else◌}
 use Rattle.std.proofs.lemmas.Bool.{cases_eq, cases_lt, ne_eqb, eq-eqb}
 use Rattle.cx_meaning.specs.Designs.{PlainAssign, PlainInvoke, PlainComponent}
@@ -15,15 +16,10 @@ use Rattle.cx_flattening.specs.Flattened.{Kids, kid_at, flat_kids, flat_part, co
 use Rattle.cx_flattening.specs.Acting.{fed_by, IsUsed, IsOf, ActsAs, AllActAs}
 use Rattle.cx_flattening.specs.Fair.{IsFair, AllFair, AllFairBelow}
 use Rattle.cx_flattening.specs.FedOnce.{one_more, count_fed, FedOnce, FedOnceBelow}
-use Rattle.cx_flattening.proofs.FlatAssigns.{length-both}
-use Rattle.cx_flattening.proofs.FlatGroups.{enabled_grows, enabled_get, copies_flat, length-mapped}
+use Rattle.cx_flattening.proofs.FlatGroups.{enabled_grows, enabled_get, copies_flat}
 use Rattle.cx_flattening.proofs.LevelSights.{kid-static}
 use Rattle.cx_flattening.proofs.FlatDeeds.{lower, entry_by, Pairs, none_done, own_group, an_invoke}
 use Rattle.cx_flattening.proofs.FlatTurns.{still_acts}
-
-append_none : {A : Type 0} (xs : List A) → xs ++ [] ≡ xs
-append_none [] = refl
-append_none (x ∷ xs) = ap (λ l. x ∷ l) (append_none xs)
 
 -- OFFSETS in lists
 abbrev or_else : Option ℕ → Option ℕ → Option ℕ
@@ -105,19 +101,19 @@ module _ (kids : Kids) (part : PlainComponent) where
   copies_before : (vs : List PlainInvoke) (j m : ℕ) → j < m → j < length vs → length (flat_map (copies kids part) (take j vs)) + length (copies kids part (get_or vs j no_invoke)) ≤ length (flat_map (copies kids part) (take m vs))
   copies_before [] j m less there = absurd (omega (arith, there))
   copies_before (v ∷ vs) zero zero less there = absurd (omega (arith, less))
-  copies_before (v ∷ vs) zero (suc m) less there = let all = length-both (copies kids part v) (flat_map (copies kids part) (take m vs)) in omega (arith, all)
+  copies_before (v ∷ vs) zero (suc m) less there = let all = length-append (copies kids part v) (flat_map (copies kids part) (take m vs)) in omega (arith, all)
   copies_before (v ∷ vs) (suc j) zero less there = absurd (omega (arith, less))
   copies_before (v ∷ vs) (suc j) (suc m) less there =
       let ih = copies_before vs j m (omega (arith, less)) (omega (arith, there)) in
-      let one = length-both (copies kids part v) (flat_map (copies kids part) (take j vs)) in
-      let two = length-both (copies kids part v) (flat_map (copies kids part) (take m vs)) in
+      let one = length-append (copies kids part v) (flat_map (copies kids part) (take j vs)) in
+      let two = length-append (copies kids part v) (flat_map (copies kids part) (take m vs)) in
       omega (arith, ih, one, two)
 
   -- a copy is among those of its invoke
   copy_within : (j g : ℕ) (kid : PlainComponent) → kid_at kids (invoke_at part j).cell ≡ Some kid → IsUsed kid g → g < length kid.groups → enabled_below (groups_of kid.control) g < length (copies kids part (invoke_at part j))
   copy_within j g kid its used there =
       let r = enabled_get (groups_of kid.control) 0 kid.groups g (enabled_below (groups_of kid.control) g) (ap (λ k. is_one_of k (groups_of kid.control)) (zero_plus g) ∙ used) there (zero_plus (enabled_below (groups_of kid.control) g) ∙ ap (enabled_below (groups_of kid.control)) (sym (zero_plus g))) in
-      let same : length (copies kids part (invoke_at part j)) ≡ length (enabled_groups (groups_of kid.control) 0 kid.groups) = ap length (copies_flat kids part (invoke_at part j) kid its) ∙ length-mapped _ (enabled_groups (groups_of kid.control) 0 kid.groups) in
+      let same : length (copies kids part (invoke_at part j)) ≡ length (enabled_groups (groups_of kid.control) 0 kid.groups) = ap length (copies_flat kids part (invoke_at part j) kid its) ∙ length-map (enabled_groups (groups_of kid.control) 0 kid.groups) _ in
       let inside = r.0 in
       omega (arith, same, inside)
     where
@@ -291,7 +287,7 @@ module _ (part : PlainComponent) (cells : Cells) (fair : IsFair (Node part cells
           fed = feeds_it (invoke_at part m).cell (invoke_at part m).inputs (map (lower ((invoke_at part m).cell ∷ [])) kds ++ ds) e;
           inner_deeds = kds;
           inner_entries = kes;
-          below = subst (λ c. deeds_below d (map (lower (c ∷ [])) kds ++ ds) ≡ kds) (sym e) (below-there d kds ds ∙ ap (λ l. kds ++ l) q.none_below ∙ append_none kds);
+          below = subst (λ c. deeds_below d (map (lower (c ∷ [])) kds ++ ds) ≡ kds) (sym e) (below-there d kds ds ∙ ap (λ l. kds ++ l) q.none_below ∙ append-nil kds);
           pairs = subst (λ x. Pairs x kds kes) one inner;
           all_used = used_here;
           used = λ g u.

@@ -1,6 +1,6 @@
 -- What acts among the assignments of a flat component: lists of them behind each other, those that drive other ports, copies for an invoke.
 use Rattle.std.proofs.Common.{◌≡◌, ℕ, suc, ◌+◌, ◌<◌, inl, inr, Bool, true, false, List, [], ◌∷◌, ◌++◌, length, map, Option, Some, None, refl, sym, ap, ◌∙◌, subst, arith}
-use Rattle.std.proofs.lemmas.List.{map-append}
+use Rattle.std.proofs.lemmas.List.{map-append, append_assoc}
 use Rattle.cx_meaning.specs.declared.ports.PortRef.{PortRef}
 use Rattle.cx_meaning.specs.Designs.{PlainAssign, PlainGroup}
 use Rattle.cx_meaning.specs.Active.{Active, owned, owned_by_groups, same_port, acting}
@@ -11,22 +11,11 @@ use Rattle.cx_flattening.specs.Targets.{AllUsed}
 use Rattle.cx_flattening.proofs.Sorting.{acting_both}
 use Rattle.cx_flattening.proofs.CopiedAssigns.{acting_copied, acting_none, acting_elsewhere}
 
-pub length-both : {A : Type 0} (xs ys : List A) → length (xs ++ ys) ≡ length xs + length ys
-length-both [] ys = let none : length ys ≡ 0 + length ys = omega arith in none
-length-both (x ∷ xs) ys = ap suc (length-both xs ys) ∙ plus (length xs) (length ys)
-  where
-    plus : (a b : ℕ) → suc (a + b) ≡ suc a + b
-    plus a b = omega arith
-
 pub owned-both : (o : Option ℕ) (xs ys : List PlainAssign) → owned o (xs ++ ys) ≡ owned o xs ++ owned o ys
 owned-both o [] ys = refl
 owned-both o (a ∷ xs) ys = ap (λ l. record { owner = o; assign = a } ∷ l) (owned-both o xs ys)
 
 -- groups behind others have the numbers behind
-append_through : {A : Type 0} (xs ys zs : List A) → (xs ++ ys) ++ zs ≡ xs ++ (ys ++ zs)
-append_through [] ys zs = refl
-append_through (x ∷ xs) ys zs = ap (λ l. x ∷ l) (append_through xs ys zs)
-
 pub groups-both : (n : ℕ) (xs ys : List PlainGroup) → owned_by_groups n (xs ++ ys) ≡ owned_by_groups n xs ++ owned_by_groups (n + length xs) ys
 groups-both n [] ys = ap (λ k. owned_by_groups k ys) (plus n)
   where
@@ -34,7 +23,7 @@ groups-both n [] ys = ap (λ k. owned_by_groups k ys) (plus n)
     plus a = omega arith
 groups-both n (x ∷ xs) ys =
     ap (λ l. owned (Some n) x.assigns ++ l) (groups-both (suc n) xs ys ∙ ap (λ k. owned_by_groups (suc n) xs ++ owned_by_groups k ys) (plus n (length xs)))
-    ∙ sym (append_through (owned (Some n) x.assigns) (owned_by_groups (suc n) xs) (owned_by_groups (n + suc (length xs)) ys))
+    ∙ sym (append_assoc (owned (Some n) x.assigns) (owned_by_groups (suc n) xs) (owned_by_groups (n + suc (length xs)) ys))
   where
     plus : (a b : ℕ) → suc a + b ≡ a + suc b
     plus a b = omega arith

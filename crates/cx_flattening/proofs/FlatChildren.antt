@@ -1,5 +1,6 @@
 -- A STATIC CHILD ACTS IN THE HOST as what it does, where the instance that holds it acts there.
 use Rattle.std.proofs.Common.{◌≡◌, ℕ, zero, suc, ◌+◌, ◌<◌, ⊎_elim, Bool, true, false, List, [], ◌∷◌, length, map, Some, None, nat_eq, refl, sym, ap, ◌∙◌, subst, arith}
+use Rattle.std.proofs.lemmas.List.{length-append}
 use Rattle.cx_meaning.specs.declared.ports.PortRef.{PortRef}
 use Rattle.cx_meaning.specs.declared.ports.PortRef.TheVariants as ports
 use Rattle.cx_meaning.specs.declared.sights.Seen.TheVariants.{Undefined}
@@ -23,7 +24,6 @@ use Rattle.cx_flattening.specs.Levels.{OutputsSeen, InFlat, Asked, IsHosted, IsP
 use Rattle.cx_flattening.specs.Fair.{IsNamed, IsFair}
 use Rattle.cx_flattening.proofs.FlatDrivers.{fed_drivers, idle_drivers}
 use Rattle.cx_flattening.specs.Flattened.{kept, blocks}
-use Rattle.cx_flattening.proofs.FlatAssigns.{length-both}
 use Rattle.cx_flattening.proofs.MovedTwice.{moved_twice}
 use Rattle.cx_flattening.proofs.Placing.{kept_less}
 use Rattle.cx_flattening.proofs.Standing.{in_flat_cells, within_child}
@@ -59,7 +59,7 @@ kid_is (an_instance child rest) (suc c) kid e = kid_is rest c kid e
 pub kept_of : (i : Instance) → IsFair i → (d : ℕ) (child : Instance) → cell_at (cells_of i) d ≡ OfInstance child → is_static child ≡ false → kept_at (flat_kids (cells_of i)) d < block_size (Some (flat_part i))
 kept_of (Node part cells) fair d child at dynamic =
     let inside = kept_less (flat_kids cells) part.cells d (within_child (Node part cells) fair d child at) (kid-dynamic cells d child at dynamic) in
-    let all = length-both (kept (flat_kids cells) part.cells) (blocks (flat_kids cells) part.cells) in
+    let all = length-append (kept (flat_kids cells) part.cells) (blocks (flat_kids cells) part.cells) in
     omega (arith, inside, all)
 
 pub start_in : (i : Instance) → IsFair i → (d e : ℕ) (kid : PlainComponent) → kid_at (flat_kids (cells_of i)) d ≡ Some kid → e < block_size (Some kid) → start_of (flat_kids (cells_of i)) (part_of i) d + e < block_size (Some (flat_part i))

@@ -1,5 +1,6 @@
 -- A CYCLE: the cells of a host, among which those of a tree stand, end a cycle as the tree does, where what is seen of them is the same.
 use Rattle.std.proofs.Common.{◌≡◌, ℕ, zero, suc, ◌+◌, ◌<◌, ◌≤◌, inl, inr, ⊎_elim, Bool, true, false, List, [], ◌∷◌, length, Option, Some, None, refl, sym, ap, ◌∙◌, subst, arith}
+use Rattle.std.proofs.lemmas.List.{length-append}
 use Rattle.std.proofs.Math.Path.{fun_ext}
 use Rattle.std.specs.Prelude.{◌⊎◌, if◌then◌else◌}
 use Rattle.std.proofs.lemmas.Bool.{cases_eq, cases_lt}
@@ -22,11 +23,10 @@ use Rattle.cx_flattening.specs.Flattened.{Kids, kid_at, kid_if, kept_if, kept, b
 use Rattle.cx_flattening.specs.Embedded.{HasWires, IsEmbedded, AreEmbedded, Stands, AllStand}
 use Rattle.cx_flattening.specs.Fair.{AllFair, AllFairBelow}
 use Rattle.cx_flattening.specs.Seeing.{CellsSeen, AllSeen}
-use Rattle.cx_flattening.specs.FlatFaults.{flat_port, port_in, flat_fault, EndsAs}
+use Rattle.cx_flattening.specs.FlatFaults.{spot_if, flat_spot, spot_in, at_spot, flat_fault, EndsAs}
 use Rattle.cx_flattening.specs.Sampling.{placed}
 use Rattle.cx_flattening.proofs.PortLemmas.{own-kept}
 use Rattle.cx_flattening.proofs.FirstFaults.{first_split}
-use Rattle.cx_flattening.proofs.FlatAssigns.{length-both}
 use Rattle.cx_flattening.proofs.Standing.{TwinAt, embedded_row, embedded_dynamic, stands_row, stands_dynamic, length-block}
 use Rattle.cx_flattening.proofs.LevelSights.{kid-row, kid-static, kid-dynamic, flat-outputs}
 
@@ -80,7 +80,7 @@ block-all (a_primitive row rest) (x ∷ xs) e = let ih = block-all rest xs (omeg
 block-all (an_instance child rest) [] e = absurd (omega (arith, e))
 block-all (an_instance child rest) (x ∷ xs) e =
     let ih = block-all rest xs (omega (arith, e)) in
-    let all = length-both (block (kid_if (is_static child) (flat_part child)) x) (blocks (flat_kids rest) xs) in
+    let all = length-append (block (kid_if (is_static child) (flat_part child)) x) (blocks (flat_kids rest) xs) in
     let size = length-block (kid_if (is_static child) (flat_part child)) x in
     omega (arith, ih, all, size)
 
@@ -89,16 +89,18 @@ outcome_alike : (look other : Look) (c e : ℕ) (row : Row) (d : CellState) → 
 outcome_alike look other c e row d same = ap (λ (g : ℕ → Seen). after_enabling g row d (gather g (enables row) 0 row.ports)) (fun_ext same)
 
 -- the same state in all its cells is the same where it stands
-stands_alike : (i : Instance) (first : ℕ) (s t z w : State) → ((path : Path) → s path ≡ t path) → ((path : Path) → z path ≡ w path) → Stands i first s z → Stands i first t w
+pub stands_alike : (i : Instance) (first : ℕ) (s t z w : State) → ((path : Path) → s path ≡ t path) → ((path : Path) → z path ≡ w path) → Stands i first s z → Stands i first t w
 stands_alike i first s t z w same alike h = subst (λ x. Stands i first t x) (fun_ext alike) (subst (λ x. Stands i first x z) (fun_ext same) h)
 
 -- a child's own fault, by its place among the cells
-pub port-in : (cells : Cells) (c : ℕ) (child : Instance) (first : ℕ) (path : Path) (p : PortRef) → cell_at cells c ≡ OfInstance child → port_in cells c first path p ≡ flat_port child first path p
-port-in no_cells c child first path p e = absurd (cc)
-port-in (a_primitive row rest) zero child first path p e = absurd (cc)
-port-in (a_primitive row rest) (suc c) child first path p e = port-in rest c child first path p e
-port-in (an_instance other rest) zero child first path p e = let same : other ≡ child = cc in ap (λ k. flat_port k first path p) same
-port-in (an_instance other rest) (suc c) child first path p e = port-in rest c child first path p e
+pub spot-in : (cells : Cells) (c : ℕ) (child : Instance) (start cell : ℕ) (path : Path) (p : PortRef) → cell_at cells c ≡ OfInstance child → is_static child ≡ true → spot_in cells c start cell path p ≡ flat_spot child start path p
+spot-in no_cells c child start cell path p e static = absurd (cc)
+spot-in (a_primitive row rest) zero child start cell path p e static = absurd (cc)
+spot-in (a_primitive row rest) (suc c) child start cell path p e static = spot-in rest c child start cell path p e static
+spot-in (an_instance other rest) zero child start cell path p e static =
+    let same : other ≡ child = cc in
+    ap (λ b. spot_if b cell (flat_spot other start path p) (flat_spot other 0 path p)) (ap is_static same ∙ static) ∙ ap (λ k. flat_spot k start path p) same
+spot-in (an_instance other rest) (suc c) child start cell path p e static = spot-in rest c child start cell path p e static
 
 abbrev told : Instance → ℕ → Option Fault → Option Fault
 told i first None = None
@@ -256,7 +258,7 @@ module _ (host : Cells) (look : Look) (z : State) where
       block_ends (Faults f) x h ends = block_split ∙ ap (λ y. or_later y (first_fault out (first + start_of kids part c) (length kid.cells))) h
       block_ends (Goes after) (Faults f) h ends =
           block_split ∙ ap (λ y. or_later y (first_fault out (first + start_of kids part c) (length kid.cells))) h.0 ∙ ends
-          ∙ ap (λ p. Some (record { kind = f.kind; path = []; port = p })) (sym (port-in cells c child (first + start_of kids part c) f.path f.port at))
+          ∙ ap (λ x. Some (at_spot f.kind x)) (sym (spot-in cells c child (first + start_of kids part c) (first + kept_at kids c) f.path f.port at static))
       block_ends (Goes after) (Goes own) h ends = (
         block_split ∙ ap (λ y. or_later y (first_fault out (first + start_of kids part c) (length kid.cells))) h.0 ∙ ends.0,
         record {
@@ -383,11 +385,11 @@ module _ (host : Cells) (look : Look) (z : State) where
     ends count (Goes after) h = (ap (first_fault out first) all ∙ h.0, all_stand cells 0 (λ n. ap (cell_at cells) (sym (zero_plus n))) after h.1)
       where
         all : length (flat_cells kids part.cells) ≡ start_of kids part (cell_count cells)
-        all = let both = length-both (kept kids part.cells) (blocks kids part.cells) in let some = block-all cells part.cells count in omega (arith, both, some)
+        all = let both = length-append (kept kids part.cells) (blocks kids part.cells) in let some = block-all cells part.cells count in omega (arith, both, some)
     ends count (Faults f) h = ap (first_fault out first) all ∙ h
       where
         all : length (flat_cells kids part.cells) ≡ start_of kids part (cell_count cells)
-        all = let both = length-both (kept kids part.cells) (blocks kids part.cells) in let some = block-all cells part.cells count in omega (arith, both, some)
+        all = let both = length-append (kept kids part.cells) (blocks kids part.cells) in let some = block-all cells part.cells count in omega (arith, both, some)
 
   mutual
     -- A CYCLE OF THE TREE is one of the host's cells

@@ -1,6 +1,6 @@
 -- THE LIST OF THE FLAT COMPONENT does in a cycle what the tree does: its own groups, and for each invoke the copies of what the child does.
 use Rattle.std.proofs.Common.{◌≡◌, ℕ, zero, suc, ◌+◌, ◌-◌, ◌<◌, inl, inr, ⊎_elim, Bool, true, false, ◌&&◌, nat_le, nat_lt, List, [], ◌∷◌, ◌++◌, length, map, Option, Some, None, refl, sym, ap, ◌∙◌, subst, arith}
-use Rattle.std.proofs.lemmas.List.{map-append}
+use Rattle.std.proofs.lemmas.List.{map-append, append-nil, append_assoc}
 use Rattle.cx_meaning.specs.declared.ports.PortRef.{PortRef}
 use Rattle.cx_meaning.specs.declared.ports.PortRef.TheVariants as ports
 use Rattle.cx_meaning.specs.Designs.{PlainInvoke, PlainComponent, PlainForm, Empty, Enable, Seq, Par, If, While, Repeat, StaticSeq, StaticPar, StaticIf, StaticRepeat, Timed, PlainStatement, Placed, PlainStatements, no_statements, a_statement}
@@ -28,14 +28,6 @@ use Rattle.cx_flattening.proofs.LevelSights.{kid-static}
 use Rattle.cx_flattening.proofs.FlatLengths.{LastsAlike, copied_one, Lasting, lasting_left, lasting_right, AllThere, there_left, there_right, invoke_lasting, one_lasting, kids_last, captures_in_it}
 use Rattle.cx_flattening.proofs.Windows.{deeds-both, events-child, InWindow, window_now, ControlWithin, kids_within}
 
-append_none : {A : Type 0} (xs : List A) → xs ++ [] ≡ xs
-append_none [] = refl
-append_none (x ∷ xs) = ap (λ l. x ∷ l) (append_none xs)
-
-append_through : {A : Type 0} (xs ys zs : List A) → (xs ++ ys) ++ zs ≡ xs ++ (ys ++ zs)
-append_through [] ys zs = refl
-append_through (x ∷ xs) ys zs = ap (λ l. x ∷ l) (append_through xs ys zs)
-
 -- a deed below a path, and an entry by the number of its group's copy
 abbrev pub lower : Path → Deed → Deed
 lower at (Acts path e) = Acts (at ++ path) e
@@ -46,8 +38,8 @@ entry_by copy e = record { group = copy e.group; offset = e.offset }
 
 lower_twice : (at : Path) (c : ℕ) (list : List Deed) → map (lower at) (map (lower (c ∷ [])) list) ≡ map (lower (at ++ (c ∷ []))) list
 lower_twice at c [] = refl
-lower_twice at c (Acts path e ∷ rest) = ap (λ p. Acts p e ∷ map (lower at) (map (lower (c ∷ [])) rest)) (sym (append_through at (c ∷ []) path)) ∙ ap (λ l. Acts ((at ++ (c ∷ [])) ++ path) e ∷ l) (lower_twice at c rest)
-lower_twice at c (Fed path d inputs ∷ rest) = ap (λ p. Fed p d inputs ∷ map (lower at) (map (lower (c ∷ [])) rest)) (sym (append_through at (c ∷ []) path)) ∙ ap (λ l. Fed ((at ++ (c ∷ [])) ++ path) d inputs ∷ l) (lower_twice at c rest)
+lower_twice at c (Acts path e ∷ rest) = ap (λ p. Acts p e ∷ map (lower at) (map (lower (c ∷ [])) rest)) (sym (append_assoc at (c ∷ []) path)) ∙ ap (λ l. Acts ((at ++ (c ∷ [])) ++ path) e ∷ l) (lower_twice at c rest)
+lower_twice at c (Fed path d inputs ∷ rest) = ap (λ p. Fed p d inputs ∷ map (lower at) (map (lower (c ∷ [])) rest)) (sym (append_assoc at (c ∷ []) path)) ∙ ap (λ l. Fed ((at ++ (c ∷ [])) ++ path) d inputs ∷ l) (lower_twice at c rest)
 
 entry_twice : (copy other : ℕ → ℕ) (list : List Entry) → map (entry_by copy) (map (entry_by other) list) ≡ map (entry_by (λ g. copy (other g))) list
 entry_twice copy other [] = refl
@@ -65,8 +57,8 @@ pub pairs_both : {i : Instance} {ds ws : List Deed} {es xs : List Entry} → Pai
 pairs_both none_done other = other
 pairs_both (own_group e less rest) other = own_group e less (pairs_both rest other)
 pairs_both {i} {ws = ws} {xs = xs} (an_invoke {ds = ds} {kds = kds} {es = es} {kes = kes} j child there at static inner used rest) other =
-    subst (λ l. Pairs i (Fed [] (invoke_at (part_of i) j).cell (invoke_at (part_of i) j).inputs ∷ l) ((map (entry_by (copy_of (flat_kids (cells_of i)) (part_of i) (flat_part child) j)) kes ++ es) ++ xs)) (sym (append_through (map (lower ((invoke_at (part_of i) j).cell ∷ [])) kds) ds ws))
-    (subst (λ l. Pairs i (Fed [] (invoke_at (part_of i) j).cell (invoke_at (part_of i) j).inputs ∷ (map (lower ((invoke_at (part_of i) j).cell ∷ [])) kds ++ (ds ++ ws))) l) (sym (append_through (map (entry_by (copy_of (flat_kids (cells_of i)) (part_of i) (flat_part child) j)) kes) es xs))
+    subst (λ l. Pairs i (Fed [] (invoke_at (part_of i) j).cell (invoke_at (part_of i) j).inputs ∷ l) ((map (entry_by (copy_of (flat_kids (cells_of i)) (part_of i) (flat_part child) j)) kes ++ es) ++ xs)) (sym (append_assoc (map (lower ((invoke_at (part_of i) j).cell ∷ [])) kds) ds ws))
+    (subst (λ l. Pairs i (Fed [] (invoke_at (part_of i) j).cell (invoke_at (part_of i) j).inputs ∷ (map (lower ((invoke_at (part_of i) j).cell ∷ [])) kds ++ (ds ++ ws))) l) (sym (append_assoc (map (entry_by (copy_of (flat_kids (cells_of i)) (part_of i) (flat_part child) j)) kes) es xs))
     (an_invoke j child there at static inner used (pairs_both rest other)))
 
 -- nothing acts where nothing is done
@@ -207,7 +199,7 @@ module _ (h : History) (k : islands.History) (t : ℕ) where
         choice true = record {
           deeds = Acts [] (record { group = g; offset = t - x }) ∷ [];
           entries = record { group = g; offset = t - x } ∷ [];
-          are_deeds = ap (λ p. Acts p (record { group = g; offset = t - x }) ∷ []) (sym (append_none at));
+          are_deeds = ap (λ p. Acts p (record { group = g; offset = t - x }) ∷ []) (sym (append-nil at));
           are_entries = refl;
           pairs = own_group (record { group = g; offset = t - x }) less none_done;
           among = λ e i. ⊎_elim (λ (same_entry : record { group = g; offset = t - x } ≡ e). inl (ap (λ y. y.group) same_entry)) (λ none. absurd none) i;
@@ -266,12 +258,12 @@ module _ (h : History) (k : islands.History) (t : ℕ) where
         deeds = Fed [] v.cell v.inputs ∷ (map (lower (v.cell ∷ [])) found.deeds ++ []);
         entries = map (entry_by copied) found.entries ++ [];
         are_deeds =
-            ap (λ p. Fed p v.cell v.inputs ∷ ds) (sym (append_none at))
-            ∙ ap (λ l. Fed (at ++ []) v.cell v.inputs ∷ l) (found.are_deeds ∙ sym (lower_twice at v.cell found.deeds) ∙ ap (map (lower at)) (sym (append_none (map (lower (v.cell ∷ [])) found.deeds))));
-        are_entries = found.are_entries ∙ sym (entry_twice copy copied found.entries) ∙ ap (map (entry_by copy)) (sym (append_none (map (entry_by copied) found.entries)));
+            ap (λ p. Fed p v.cell v.inputs ∷ ds) (sym (append-nil at))
+            ∙ ap (λ l. Fed (at ++ []) v.cell v.inputs ∷ l) (found.are_deeds ∙ sym (lower_twice at v.cell found.deeds) ∙ ap (map (lower at)) (sym (append-nil (map (lower (v.cell ∷ [])) found.deeds))));
+        are_entries = found.are_entries ∙ sym (entry_twice copy copied found.entries) ∙ ap (map (entry_by copy)) (sym (append-nil (map (entry_by copied) found.entries)));
         pairs = an_invoke j its.child there its.stands its.static found.pairs (λ e i. in_one_of e.group (groups_of kid.control) (found.among e i)) none_done;
         among = λ e i.
-            let r = image_in (entry_by copied) found.entries e (subst (λ l. In l e) (append_none (map (entry_by copied) found.entries)) i) in
+            let r = image_in (entry_by copied) found.entries e (subst (λ l. In l e) (append-nil (map (entry_by copied) found.entries)) i) in
             subst (λ x. In (groups_of (copied_statement move copied kid.control)) x.group) r.2 (copied_one move copied kid.control r.0.group (found.among r.0 r.1));
       }
       feed_found false ds es found none =
@@ -334,7 +326,7 @@ module _ (h : History) (k : islands.History) (t : ℕ) where
             found_as (Node part cells) at copy (groups_in (with_capture None s)) (groups_of s) _
             (deed_if (is_now h t x (x + or_zero (invoke_at part j).latency) samples) (Fed at (invoke_at part j).cell (invoke_at part j).inputs) (deeds_in h t (events_below cells (invoke_at part j).cell (child_start j there its x samples)))) _
             (active_in k t (flat J (copied_statement f copy s) x conditions))
-            (ap (λ l. deed_if (is_now h t x (x + or_zero (invoke_at part j).latency) samples) (Fed at (invoke_at part j).cell (invoke_at part j).inputs) (deeds_in h t l)) (append_none (events_below cells (invoke_at part j).cell (child_start j there its x samples))))
+            (ap (λ l. deed_if (is_now h t x (x + or_zero (invoke_at part j).latency) samples) (Fed at (invoke_at part j).cell (invoke_at part j).inputs) (deeds_in h t l)) (append-nil (events_below cells (invoke_at part j).cell (child_start j there its x samples))))
             (ap (active_in k t) (with_none s x conditions)) (none_groups s) (invoke_found j there its x samples conditions same lasts_there)
         with_captures j there its (Some g) e x samples conditions same lasts_there =
             let s = copied_statement (invoke_port kids part (flat_part its.child) (invoke_at part j)) (copy_of kids part (flat_part its.child) j) (flat_part its.child).control in
@@ -354,7 +346,7 @@ module _ (h : History) (k : islands.History) (t : ℕ) where
             (deeds_in h t (group_events g (Some 1) (start (x + or_zero (invoke_at part j).latency) samples))))
             (active-both k t (flat J (copied_statement f copy s) x conditions) (occurrence (copy g) (x + length_of J (copied_statement f copy s)) conditions (group_length J (copy g)) ++ [])
             ∙ ap (λ l. active_in k t (flat J (copied_statement f copy s) x conditions) ++ active_in k t l)
-            (append_none (occurrence (copy g) (x + length_of J (copied_statement f copy s)) conditions (group_length J (copy g)))
+            (append-nil (occurrence (copy g) (x + length_of J (copied_statement f copy s)) conditions (group_length J (copy g)))
             ∙ ap (λ n. occurrence (copy g) (x + n) conditions (group_length J (copy g))) length_is ∙ ap (occurrence (copy g) (x + or_zero (invoke_at part j).latency) conditions) lasts_one))
             (λ n i. i)
             (found_both (Node part cells) at copy (groups_of s) (g ∷ []) _ _ _ _ (invoke_found j there its x samples conditions same lasts_there)

@@ -1,6 +1,7 @@
 -- WHAT DRIVES THE PORTS of a flat component: of the caller what drives them there, and of a block what drives them in the static child,
 -- by the copies for the invoke that feeds it.
 use Rattle.std.proofs.Common.{◌≡◌, ◌≢◌, ℕ, zero, suc, ◌+◌, ◌<◌, ⊎_elim, inl, inr, Bool, true, false, List, [], ◌∷◌, ◌++◌, length, map, Option, Some, None, refl, sym, ap, ◌∙◌, subst, arith}
+use Rattle.std.proofs.lemmas.List.{append-nil, length-append}
 use Rattle.std.specs.Prelude.{flat_map, take, get_or}
 use Rattle.std.proofs.lemmas.Bool.{cases_eq}
 use Rattle.cx_meaning.specs.declared.ports.PortRef.{PortRef}
@@ -22,7 +23,7 @@ use Rattle.cx_flattening.proofs.Sorting.{acting_both}
 use Rattle.cx_flattening.proofs.MovedDrivers.{drivers_mapped}
 use Rattle.cx_flattening.proofs.CopiedAssigns.{acting_copied, acting_none, acting_elsewhere}
 use Rattle.cx_flattening.proofs.PortLemmas.{not_same, own_same, InBlock, in_block, own_apart, block_apart, child_same}
-use Rattle.cx_flattening.proofs.FlatAssigns.{length-both, always-two, groups-two, groups_elsewhere, groups_moved, copies_from, copies_act, copies_still}
+use Rattle.cx_flattening.proofs.FlatAssigns.{always-two, groups-two, groups_elsewhere, groups_moved, copies_from, copies_act, copies_still}
 
 -- a map of ports moves an assignment as another does that agrees on what it names
 module _ (f g : PortRef → PortRef) where
@@ -114,10 +115,6 @@ module _ (kids : Kids) (part : PlainComponent) (has : HasTargets kids part) (mor
       always-two more x (always_if kids part k c) (always_from kids part (suc c) ks)
       ∙ ap (λ l. l ++ acting more x (owned None (always_from kids part (suc c) ks))) (one_beside x c k h.0) ∙ all_beside x (suc c) ks h.1
 
-  append_none : {A : Type 0} (xs : List A) → xs ++ [] ≡ xs
-  append_none [] = refl
-  append_none (y ∷ ys) = ap (λ l. y ∷ l) (append_none ys)
-
   -- of the continuous assignments of all children those of one
   one_always : (x : PortRef) (c : ℕ) (ks : Kids) (n : ℕ) (child : PlainComponent) → kid_at ks n ≡ Some child → ((m : ℕ) (other : PlainComponent) → kid_at ks m ≡ Some other → m ≢ n → AlwaysBeside x (c + m) other)
       → acting more x (owned None (always_from kids part c ks)) ≡ acting more x (owned None (map (moved_assign (child_port kids part child (c + n) (λ m. ports.Input m))) child.always))
@@ -126,7 +123,7 @@ module _ (kids : Kids) (part : PlainComponent) (has : HasTargets kids part) (mor
       always-two more x (always_if kids part k c) (always_from kids part (suc c) ks)
       ∙ ap (λ l. acting more x (owned None (always_if kids part k c)) ++ l)
       (all_beside x (suc c) ks (all_kids (AlwaysBeside x) (suc c) ks (λ m other f. subst (λ i. AlwaysBeside x i other) (plus c m) (beside (suc m) other f (not_zero m)))))
-      ∙ append_none (acting more x (owned None (always_if kids part k c)))
+      ∙ append-nil (acting more x (owned None (always_if kids part k c)))
       ∙ ap (λ o. acting more x (owned None (always_if kids part o c))) e
       ∙ ap (λ i. acting more x (owned None (map (moved_assign (child_port kids part child i (λ m. ports.Input m))) child.always))) (zero_plus c)
     where
@@ -216,7 +213,7 @@ module _ (kids : Kids) (part : PlainComponent) (has : HasTargets kids part) (mor
             (all_beside (own_port kids part p) 0 kids (all_kids (AlwaysBeside (own_port kids part p)) 0 kids
             (λ n child e a i. not_same (child_port kids part child (0 + n) (λ m. ports.Input m) a.target) (own_port kids part p)
             (λ same. own_apart kids part child (0 + n) p (child_port kids part child (0 + n) (λ m. ports.Input m) a.target) own (in_block kids part child (0 + n) (λ m. ports.Input m) a.target ((has.blocks n child e).always a i)) (sym same)))))
-            ∙ append_none (map (moved_acting (own_port kids part)) (acting act p (owned None part.always)))
+            ∙ append-nil (map (moved_acting (own_port kids part)) (acting act p (owned None part.always)))
 
         beside : (v : PlainInvoke) → CopiesBeside (own_port kids part p) v
         beside v child e a h = not_same (invoke_port kids part child v a.target) (own_port kids part p)
@@ -228,7 +225,7 @@ module _ (kids : Kids) (part : PlainComponent) (has : HasTargets kids part) (mor
             ∙ ap (λ l. l ++ acting more (own_port kids part p) (owned_by_groups (length part.groups) (flat_map (copies kids part) part.invokes)))
             (groups_moved (own_port kids part) act more p (own_port kids part p) 0 part.groups (λ m less. subst (λ k. more.offset k ≡ act.offset k) (zero_plus m) (same m less)) (λ x a i j. own_same kids part a.target p (has.groups x a i j) own))
             ∙ ap (λ l. map (moved_acting (own_port kids part)) (acting act p (owned_by_groups 0 part.groups)) ++ l) (invokes_beside (own_port kids part p) (length part.groups) part.invokes beside)
-            ∙ append_none (map (moved_acting (own_port kids part)) (acting act p (owned_by_groups 0 part.groups)))
+            ∙ append-nil (map (moved_acting (own_port kids part)) (acting act p (owned_by_groups 0 part.groups)))
           where
             zero_plus : (a : ℕ) → a ≡ 0 + a
             zero_plus a = omega arith
@@ -312,7 +309,7 @@ module _ (kids : Kids) (part : PlainComponent) (has : HasTargets kids part) (mor
 
       begun_later : (n : ℕ) (v : PlainInvoke) (vs : List PlainInvoke) (j : ℕ) → begun n (v ∷ vs) (suc j) ≡ begun (n + length (copies kids part v)) vs j
       begun_later n v vs j =
-          ap (λ k. n + k) (length-both (copies kids part v) (flat_map (copies kids part) (take j vs)))
+          ap (λ k. n + k) (length-append (copies kids part v) (flat_map (copies kids part) (take j vs)))
           ∙ plus n (length (copies kids part v)) (length (flat_map (copies kids part) (take j vs)))
         where
           plus : (a b d : ℕ) → a + (b + d) ≡ a + b + d
@@ -371,7 +368,7 @@ module _ (kids : Kids) (part : PlainComponent) (has : HasTargets kids part) (mor
             ∙ ap (λ l. acting more (move q) (owned_by_groups n (copies kids part w)) ++ l)
             (all_still (move q) inside (n + length (copies kids part w)) vs
             (λ j j_less j_at g u. ap (λ i. more.offset (i + enabled_below (groups_of child.control) g)) (sym (begun_later n w vs j)) ∙ still (suc j) (omega (arith, j_less)) j_at (not_zero j) g u))
-            ∙ append_none (acting more (move q) (owned_by_groups n (copies kids part w)))
+            ∙ append-nil (acting more (move q) (owned_by_groups n (copies kids part w)))
             ∙ ap (λ y. acting more (move q) (owned_by_groups n (copies kids part y))) e
             ∙ invoke_acts n (λ g u. ap (λ i. more.offset (i + enabled_below (groups_of child.control) g)) (plus_zero n) ∙ used g u) unused
           where

@@ -1,5 +1,6 @@
 -- The groups of a flat component by their numbers: the caller's own, and the copies, each as long as the group that it copies.
-use Rattle.std.proofs.Common.{◌≡◌, ℕ, zero, suc, ◌+◌, ◌<◌, ◌≤◌, inl, inr, Bool, true, false, ◌||◌, List, [], ◌∷◌, ◌++◌, length, map, get_or, Some, nat_eq, refl, sym, ap, ◌∙◌, subst, arith}
+use Rattle.std.proofs.Common.{◌≡◌, ℕ, zero, suc, ◌+◌, ◌<◌, ◌≤◌, inl, inr, Bool, true, false, ◌||◌, List, [], ◌∷◌, length, map, get_or, Some, nat_eq, refl, sym, ap, ◌∙◌, subst, arith}
+use Rattle.std.proofs.lemmas.List.{get_or_append_left, get_or-append-add, get_or-map, length-map}
 use Rattle.std.specs.Prelude.{flat_map, take}
 use Rattle.std.proofs.lemmas.Bool.{eq-eqb, eqb-true}
 use Rattle.std.proofs.lemmas.List.Concat.{get_or-flat_map}
@@ -29,31 +30,6 @@ one_of_in g (x ∷ xs) e = choice (nat_eq g x) refl e (one_of_in g xs)
     choice : (b : Bool) → nat_eq g x ≡ b → (b || is_one_of g xs) ≡ true → (is_one_of g xs ≡ true → In xs g) → In (x ∷ xs) g
     choice true f h later = inl (sym (eqb-true g x f))
     choice false f h later = inr (later h)
-
--- entries of a list
-get_or-left : {A : Type 0} (xs ys : List A) (n : ℕ) (d : A) → n < length xs → get_or (xs ++ ys) n d ≡ get_or xs n d
-get_or-left [] ys n d less = absurd (omega (arith, less))
-get_or-left (x ∷ xs) ys zero d less = refl
-get_or-left (x ∷ xs) ys (suc n) d less = get_or-left xs ys n d (omega (arith, less))
-
-get_or-right : {A : Type 0} (xs ys : List A) (n : ℕ) (d : A) → get_or (xs ++ ys) (length xs + n) d ≡ get_or ys n d
-get_or-right [] ys n d = ap (λ k. get_or ys k d) (plus n)
-  where
-    plus : (a : ℕ) → 0 + a ≡ a
-    plus a = omega arith
-get_or-right (x ∷ xs) ys n d = ap (λ k. get_or (x ∷ (xs ++ ys)) k d) (plus (length xs) n) ∙ get_or-right xs ys n d
-  where
-    plus : (a b : ℕ) → suc a + b ≡ suc (a + b)
-    plus a b = omega arith
-
-get_or-mapped : {A B : Type 0} (f : A → B) (xs : List A) (n : ℕ) (a : A) (b : B) → n < length xs → get_or (map f xs) n b ≡ f (get_or xs n a)
-get_or-mapped f [] n a b less = absurd (omega (arith, less))
-get_or-mapped f (x ∷ xs) zero a b less = refl
-get_or-mapped f (x ∷ xs) (suc n) a b less = get_or-mapped f xs n a b (omega (arith, less))
-
-pub length-mapped : {A B : Type 0} (f : A → B) (xs : List A) → length (map f xs) ≡ length xs
-length-mapped f [] = refl
-length-mapped f (x ∷ xs) = ap suc (length-mapped f xs)
 
 -- how many are enabled below grows
 pub enabled_grows : (used : List ℕ) (g n : ℕ) → enabled_below used g ≤ enabled_below used (g + n)
@@ -113,8 +89,8 @@ module _ (kids : Kids) (part : PlainComponent) where
   pub own-length : (g : ℕ) → g < length part.groups → group_length (flat_component kids part) g ≡ group_length part g
   own-length g less =
       ap (λ x. kind_length x.kind)
-      (get_or-left (map (moved_group (own_port kids part)) part.groups) (flat_map (copies kids part) part.invokes) g no_group (let same = length-mapped (moved_group (own_port kids part)) part.groups in omega (arith, less, same))
-      ∙ get_or-mapped (moved_group (own_port kids part)) part.groups g no_group no_group less)
+      (get_or_append_left (map (moved_group (own_port kids part)) part.groups) (flat_map (copies kids part) part.invokes) no_group g (let same = length-map part.groups (moved_group (own_port kids part)) in omega (arith, less, same))
+      ∙ get_or-map (moved_group (own_port kids part)) part.groups g no_group no_group less)
 
   pub copy-length : (j g : ℕ) (kid : PlainComponent) → j < length part.invokes → kid_at kids (invoke_at part j).cell ≡ Some kid → is_one_of g (groups_of kid.control) ≡ true → g < length kid.groups
       → group_length (flat_component kids part) (copy_of kids part kid j g) ≡ group_length kid g
@@ -123,12 +99,12 @@ module _ (kids : Kids) (part : PlainComponent) where
       let some = copies_flat (invoke_at part j) kid its in
       let r = enabled_get (groups_of kid.control) 0 kid.groups g (enabled_below (groups_of kid.control) g) (ap (λ k. is_one_of k (groups_of kid.control)) (zero_plus g) ∙ used) there (zero_sum (enabled_below (groups_of kid.control) g) ∙ ap (enabled_below (groups_of kid.control)) (sym (zero_plus g))) in
       ap (λ x. kind_length x.kind)
-      (ap (λ k. get_or (flat_groups kids part) k no_group) (place (length part.groups) (length (flat_map (copies kids part) (take j part.invokes))) (enabled_below (groups_of kid.control) g) (sym (length-mapped (moved_group (own_port kids part)) part.groups)))
-      ∙ get_or-right (map (moved_group (own_port kids part)) part.groups) (flat_map (copies kids part) part.invokes) (length (flat_map (copies kids part) (take j part.invokes)) + enabled_below (groups_of kid.control) g) no_group
+      (ap (λ k. get_or (flat_groups kids part) k no_group) (place (length part.groups) (length (flat_map (copies kids part) (take j part.invokes))) (enabled_below (groups_of kid.control) g) (sym (length-map part.groups (moved_group (own_port kids part)))))
+      ∙ get_or-append-add (map (moved_group (own_port kids part)) part.groups) (flat_map (copies kids part) part.invokes) (length (flat_map (copies kids part) (take j part.invokes)) + enabled_below (groups_of kid.control) g) no_group
       ∙ get_or-flat_map (copies kids part) part.invokes j (enabled_below (groups_of kid.control) g) no_invoke no_group less
-      (let same : length (copies kids part (invoke_at part j)) ≡ length (enabled_groups (groups_of kid.control) 0 kid.groups) = ap length some ∙ length-mapped (copied_group move) (enabled_groups (groups_of kid.control) 0 kid.groups) in let inside = r.0 in omega (arith, same, inside))
+      (let same : length (copies kids part (invoke_at part j)) ≡ length (enabled_groups (groups_of kid.control) 0 kid.groups) = ap length some ∙ length-map (enabled_groups (groups_of kid.control) 0 kid.groups) (copied_group move) in let inside = r.0 in omega (arith, same, inside))
       ∙ ap (λ l. get_or l (enabled_below (groups_of kid.control) g) no_group) some
-      ∙ get_or-mapped (copied_group move) (enabled_groups (groups_of kid.control) 0 kid.groups) (enabled_below (groups_of kid.control) g) no_group no_group r.0)
+      ∙ get_or-map (copied_group move) (enabled_groups (groups_of kid.control) 0 kid.groups) (enabled_below (groups_of kid.control) g) no_group no_group r.0)
       ∙ ap (λ x. kind_length x.kind) r.1
     where
       zero_plus : (a : ℕ) → 0 + a ≡ a

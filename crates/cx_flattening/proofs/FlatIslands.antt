@@ -1,5 +1,6 @@
 -- AN ISLAND of the flat instance is that of the tree: the same samples, the same cycles, the same end.
 use Rattle.std.proofs.Common.{◌≡◌, ℕ, zero, suc, ◌+◌, ◌*◌, max, true, false, nat_eq, List, [], ◌∷◌, ◌++◌, length, get_or, Option, Some, None, refl, sym, ap, ◌∙◌, subst, arith}
+use Rattle.std.proofs.lemmas.List.{append-nil, append_assoc}
 use Rattle.std.specs.Prelude.{if◌then◌else◌}
 use Rattle.cx_meaning.specs.declared.ports.PortRef.{PortRef}
 use Rattle.cx_meaning.specs.declared.ports.PortRef.TheVariants as ports
@@ -11,7 +12,7 @@ use Rattle.cx_meaning.specs.Instances.{Instance, Node, Cells, no_cells, a_primit
 use Rattle.cx_meaning.specs.Truths.{truth_of}
 use Rattle.cx_meaning.specs.Active.{nothing, entries}
 use Rattle.cx_meaning.specs.Sights.{Look, Held, seen}
-use Rattle.cx_meaning.specs.Cycles.{Fault, fault_at, Ended, Goes, Faults, cycle}
+use Rattle.cx_meaning.specs.Cycles.{Fault, Ended, Goes, Faults, cycle}
 use Rattle.cx_meaning.specs.Answers.{Answer, End, More, Turn, turn_then, after_turns, idle_turn}
 use Rattle.cx_meaning.specs.Answers as answers
 use Rattle.cx_meaning.specs.Islands.{kind_length, group_length, or_zero, form_length, length_of, sum_length, max_length, Condition, condition, Occurrence, occurrence, rounds_from, form_flat, flat, seq_flat, par_flat, is_one, fault_of, turn_of, unless_unclear, active_in, looked_at, island_turn, island_from, island}
@@ -20,16 +21,16 @@ use Rattle.cx_flattening.specs.Invokes.{form_lasts}
 use Rattle.cx_flattening.specs.Events.{Spot, spot, Event}
 use Rattle.cx_flattening.specs.Deeds.{History, no_history, own_entries, deeds_in, looked_in, and_now, fault_in, or_later, first_unclear}
 use Rattle.cx_flattening.specs.Whole.{whole_cycle, look_below, whole_turn, whole_from, whole_island}
-use Rattle.cx_flattening.specs.Flattened.{Kids, flat_kids, flat_part, flat_form, start_of}
+use Rattle.cx_flattening.specs.Flattened.{kept_at, Kids, flat_kids, flat_part, flat_form, start_of}
 use Rattle.cx_flattening.specs.Acting.{ActsAs}
 use Rattle.cx_flattening.specs.Embedded.{Stands}
-use Rattle.cx_flattening.specs.FlatFaults.{flat_port, flat_fault, CycleAs}
+use Rattle.cx_flattening.specs.FlatFaults.{flat_spot, at_spot, flat_fault, CycleAs}
 use Rattle.cx_flattening.specs.Beside.{IsBeside}
 use Rattle.cx_flattening.specs.Turning.{TurnAs}
 use Rattle.cx_flattening.specs.Runs.{AnswerAs}
 use Rattle.cx_flattening.specs.Sampling.{AllSpots, SpotsBelow, SampledAlike, AgreesAt}
 use Rattle.cx_flattening.specs.Lists.{island_events, IsIsland}
-use Rattle.cx_flattening.proofs.FlatCycles.{port-in}
+use Rattle.cx_flattening.proofs.FlatCycles.{spot-in}
 use Rattle.cx_flattening.proofs.FlatTops.{flat_seen, flat_cycle, all_numbers, top_played}
 use Rattle.cx_flattening.proofs.FlatTurns.{still_tops}
 use Rattle.cx_flattening.proofs.FlatLists.{island_length, island_acts, island_looks}
@@ -48,28 +49,20 @@ module _ (R T V : Spot → PortRef → Type 0) (join : (x : Spot) (q : PortRef) 
     below_joined (a_primitive row rest) kids part c first at a b = below_joined rest kids part (suc c) first at a b
     below_joined (an_instance child rest) kids part c first at a b = (λ static. all_joined child (first + start_of kids part c) (at ++ (c ∷ [])) (a.0 static) (b.0 static), below_joined rest kids part (suc c) first at a.1 b.1)
 
-append_through : {A : Type 0} (xs ys zs : List A) → (xs ++ ys) ++ zs ≡ xs ++ (ys ++ zs)
-append_through [] ys zs = refl
-append_through (x ∷ xs) ys zs = ap (λ l. x ∷ l) (append_through xs ys zs)
-
-append_none : {A : Type 0} (xs : List A) → xs ++ [] ≡ xs
-append_none [] = refl
-append_none (x ∷ xs) = ap (λ l. x ∷ l) (append_none xs)
-
 -- THE PORT of a fault at a spot
 abbrev IsToldAt : Instance → Spot → PortRef → Type 0
-IsToldAt top x q = flat_port top 0 x.at x.port ≡ q
+IsToldAt top x q = flat_spot top 0 x.at x.port ≡ spot [] q
 
 module _ (top : Instance) where
   mutual
-    spots_told : (i : Instance) (first : ℕ) (at : Path) → ((path : Path) (p : PortRef) → flat_port top 0 (at ++ path) p ≡ flat_port i first path p) → AllSpots (IsToldAt top) i first at
+    spots_told : (i : Instance) (first : ℕ) (at : Path) → ((path : Path) (p : PortRef) → flat_spot top 0 (at ++ path) p ≡ flat_spot i first path p) → AllSpots (IsToldAt top) i first at
     spots_told (Node part cells) first at same =
-        (λ p named own. ap (λ path. flat_port top 0 path p) (sym (append_none at)) ∙ same [] p, below_told cells part cells 0 (λ n. ap (cell_at cells) (plus n)) first at same)
+        (λ p named own. ap (λ path. flat_spot top 0 path p) (sym (append-nil at)) ∙ same [] p, below_told cells part cells 0 (λ n. ap (cell_at cells) (plus n)) first at same)
       where
         plus : (a : ℕ) → a ≡ 0 + a
         plus a = omega arith
 
-    below_told : (rest : Cells) (part : PlainComponent) (cells : Cells) (c : ℕ) → ((n : ℕ) → cell_at rest n ≡ cell_at cells (c + n)) → (first : ℕ) (at : Path) → ((path : Path) (p : PortRef) → flat_port top 0 (at ++ path) p ≡ flat_port (Node part cells) first path p)
+    below_told : (rest : Cells) (part : PlainComponent) (cells : Cells) (c : ℕ) → ((n : ℕ) → cell_at rest n ≡ cell_at cells (c + n)) → (first : ℕ) (at : Path) → ((path : Path) (p : PortRef) → flat_spot top 0 (at ++ path) p ≡ flat_spot (Node part cells) first path p)
         → SpotsBelow (IsToldAt top) (flat_kids cells) part rest c first at
     below_told no_cells part cells c tail first at same = tt
     below_told (a_primitive row rest) part cells c tail first at same = below_told rest part cells (suc c) (λ n. tail (suc n) ∙ ap (cell_at cells) (plus c n)) first at same
@@ -78,7 +71,7 @@ module _ (top : Instance) where
         plus a b = omega arith
     below_told (an_instance child rest) part cells c tail first at same = (
       λ static. spots_told child (first + start_of (flat_kids cells) part c) (at ++ (c ∷ []))
-          (λ path p. ap (λ whole. flat_port top 0 whole p) (append_through at (c ∷ []) path) ∙ same (c ∷ path) p ∙ port-in cells c child (first + start_of (flat_kids cells) part c) path p at_cell),
+          (λ path p. ap (λ whole. flat_spot top 0 whole p) (append_assoc at (c ∷ []) path) ∙ same (c ∷ path) p ∙ spot-in cells c child (first + start_of (flat_kids cells) part c) (first + kept_at (flat_kids cells) c) path p at_cell static),
       below_told rest part cells (suc c) (λ n. tail (suc n) ∙ ap (cell_at cells) (plus c n)) first at same,
     )
       where
@@ -162,7 +155,7 @@ later_as i (End after n) y h = (h.0, ap (after_turns 1) h.1, h.2)
 later_as i (answers.Fault f n) y h = ap (after_turns 1) h
 later_as i More y h = ap (after_turns 1) h
 
-turn_as : (i : Instance) (x y : Ended) → CycleAs i x y → TurnAs i (turn_of x) (turn_of y)
+pub turn_as : (i : Instance) (x y : Ended) → CycleAs i x y → TurnAs i (turn_of x) (turn_of y)
 turn_as i (Goes after) y h = (h.0, ap turn_of h.1, h.2)
 turn_as i (Faults f) y h = ap turn_of h
 
@@ -182,11 +175,11 @@ first_as i below look S gives (x ∷ xs) (q ∷ qs) r =
   where
     one : (y w : Seen) → w ≡ y → (u v : Option Fault) → v ≡ told_fault i u → IsToldAt i x q → fault_of q w v ≡ told_fault i (or_later (fault_in x.at (fault_of x.port y None)) u)
     one (sights.Value b) w e u v same told = ap (λ z. fault_of q z v) e ∙ same
-    one sights.Conflict w e u v same told = ap (λ z. fault_of q z v) e ∙ ap (λ p. Some (fault_at faults.Conflict p)) (sym told)
-    one sights.Undefined w e u v same told = ap (λ z. fault_of q z v) e ∙ ap (λ p. Some (fault_at faults.Undefined p)) (sym told)
+    one sights.Conflict w e u v same told = ap (λ z. fault_of q z v) e ∙ ap (λ y. Some (at_spot faults.Conflict y)) (sym told)
+    one sights.Undefined w e u v same told = ap (λ z. fault_of q z v) e ∙ ap (λ y. Some (at_spot faults.Undefined y)) (sym told)
 
 -- a turn, and then the rest
-turn_then_as : (i flat : Instance) (s z : State) (x y : Turn State Fault) (go more : State → Answer State Fault) → TurnAs i x y → Stands i 0 (idle i s) (idle flat z) → ((after w : State) → Stands i 0 after w → AnswerAs i (go after) (more w))
+pub turn_then_as : (i flat : Instance) (s z : State) (x y : Turn State Fault) (go more : State → Answer State Fault) → TurnAs i x y → Stands i 0 (idle i s) (idle flat z) → ((after w : State) → Stands i 0 after w → AnswerAs i (go after) (more w))
     → AnswerAs i (turn_then (idle i) s x go) (turn_then (idle flat) z y more)
 turn_then_as i flat s z answers.Ends y go more h idles later = (idle flat z, ap (λ u. turn_then (idle flat) z u more) h, idles)
 turn_then_as i flat s z (answers.Goes after) y go more h idles later =
@@ -209,10 +202,10 @@ look_is (Node part cells) held s (c ∷ path) p = refl
 look_own : (i : Instance) (held : Held) (s : State) (p : PortRef) → seen i held nothing s p ≡ look_below i held s [] p
 look_own (Node part cells) held s p = refl
 
-told_input : (i : Instance) (n : ℕ) → flat_port i 0 [] (ports.Input n) ≡ ports.Input n
+told_input : (i : Instance) (n : ℕ) → flat_spot i 0 [] (ports.Input n) ≡ spot [] (ports.Input n)
 told_input (Node part cells) n = refl
 
-told_below : (i : Instance) (path : Path) (p : PortRef) → flat_port i 0 ([] ++ path) p ≡ flat_port i 0 path p
+told_below : (i : Instance) (path : Path) (p : PortRef) → flat_spot i 0 ([] ++ path) p ≡ flat_spot i 0 path p
 told_below i path p = refl
 
 -- samples agree after those of one more cycle

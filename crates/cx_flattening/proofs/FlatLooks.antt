@@ -1,5 +1,6 @@
 -- THE PORTS AT WHICH THE LIST OF THE FLAT COMPONENT LOOKS in a cycle stand, one by one, for those at which the tree looks.
 use Rattle.std.proofs.Common.{◌≡◌, ℕ, zero, suc, ◌+◌, ◌-◌, ◌<◌, inl, inr, Bool, true, false, ◌&&◌, nat_eq, List, [], ◌∷◌, ◌++◌, length, Option, Some, None, refl, sym, ap, ◌∙◌, subst, arith}
+use Rattle.std.proofs.lemmas.List.{append-nil}
 use Rattle.cx_meaning.specs.declared.ports.PortRef.{PortRef}
 use Rattle.cx_meaning.specs.declared.ports.PortRef.TheVariants as ports
 use Rattle.cx_meaning.specs.Designs.{PlainComponent, PlainForm, Empty, Enable, Seq, Par, If, While, Repeat, StaticSeq, StaticPar, StaticIf, StaticRepeat, Timed, PlainStatement, Placed, PlainStatements, no_statements, a_statement}
@@ -56,10 +57,6 @@ ports-both k t (islands.Looks port at conditions ∷ xs) ys = choice (nat_eq t a
     choice : (b : Bool) → looked_at k t (xs ++ ys) ≡ looked_at k t xs ++ looked_at k t ys → port_if b port (looked_at k t (xs ++ ys)) ≡ port_if b port (looked_at k t xs) ++ looked_at k t ys
     choice true ih = ap (λ l. port ∷ l) ih
     choice false ih = ih
-
-append_none : {A : Type 0} (xs : List A) → xs ++ [] ≡ xs
-append_none [] = refl
-append_none (x ∷ xs) = ap (λ l. x ∷ l) (append_none xs)
 
 module _ (S : Spot → PortRef → Type 0) where
   spots_child : (kids : Kids) (part : PlainComponent) (rest : Cells) (c n first : ℕ) (at : Path) (child : Instance) → SpotsBelow S kids part rest c first at → cell_at rest n ≡ OfInstance child → is_static child ≡ true
@@ -149,7 +146,7 @@ module _ (S : Spot → PortRef → Type 0) where
 
       capture_looks : (o : Option ℕ) (s : PlainStatement) (x : ℕ) (b : Beginning) (conditions : List Condition) (xs : List Spot) → AllRelated S xs (looked_at k t (flat J (copied_statement f copy s) x conditions))
           → AllRelated S (xs ++ looked_in h t (capture_events o b)) (looked_at k t (form_flat J (copied_form f copy (with_capture o s)) x conditions))
-      capture_looks None (Placed form place) x b conditions xs r = subst (λ l. AllRelated S l (looked_at k t (form_flat J (copied_form f copy form) x conditions))) (sym (append_none xs)) r
+      capture_looks None (Placed form place) x b conditions xs r = subst (λ l. AllRelated S l (looked_at k t (form_flat J (copied_form f copy form) x conditions))) (sym (append-nil xs)) r
       capture_looks (Some g) s x b conditions xs r =
           subst (AllRelated S (xs ++ [])) (sym (ports-both k t (flat J (copied_statement f copy s) x conditions) (occurrence (copy g) (x + length_of J (copied_statement f copy s)) conditions (group_length J (copy g)) ++ [])))
           (related_both S xs [] (looked_at k t (flat J (copied_statement f copy s) x conditions)) _ r (none (group_length J (copy g))))

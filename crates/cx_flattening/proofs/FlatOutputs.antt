@@ -1,5 +1,6 @@
 -- WHAT OUTPUTS ARE SEEN AS: those of an instance whose cells stand in a host are seen there as in the instance, whatever acts.
 use Rattle.std.proofs.Common.{◌≡◌, ℕ, zero, suc, ◌+◌, ◌<◌, inl, true, false, [], ◌∷◌, ◌++◌, length, map, Some, None, refl, sym, ap, ◌∙◌, subst, arith}
+use Rattle.std.proofs.lemmas.List.{length-append}
 use Rattle.cx_prim.specs.Rows.{Row}
 use Rattle.cx_meaning.specs.declared.ports.PortRef.{PortRef}
 use Rattle.cx_meaning.specs.declared.ports.PortRef.TheVariants as ports
@@ -22,7 +23,6 @@ use Rattle.cx_flattening.specs.Levels.{IsKnown, IsLevel, IsBase, IsHosted, Outpu
 use Rattle.cx_flattening.specs.Fair.{IsNamed, IsFair, AllFair, AllFairBelow}
 use Rattle.cx_flattening.proofs.Placing.{kept_less}
 use Rattle.cx_flattening.proofs.PortLemmas.{own-kept}
-use Rattle.cx_flattening.proofs.FlatAssigns.{length-both}
 use Rattle.cx_flattening.proofs.FlatDrivers.{own_drivers, idle_drivers}
 use Rattle.cx_flattening.proofs.StillPorts.{own_still, block_still}
 use Rattle.cx_flattening.proofs.MovedTwice.{moved_twice, moved_still}
@@ -102,7 +102,7 @@ module _ (part : PlainComponent) (cells : Cells) (fair : IsFair (Node part cells
   block_target : (p : PortRef) → Resting (Node part cells) p → OwnTarget kids part p → BlockTarget (flat_part (Node part cells)) (own_port kids part p)
   block_target (ports.Cell c p) rest own =
       subst (BlockTarget (flat_part (Node part cells))) (sym (own-kept kids part c p own.1))
-      (let less = kept_less kids part.cells c own.0 own.1 in let all = length-both (kept kids part.cells) (blocks kids part.cells) in omega (arith, less, all))
+      (let less = kept_less kids part.cells c own.0 own.1 in let all = length-append (kept kids part.cells) (blocks kids part.cells) in omega (arith, less, all))
   block_target (ports.Input n) rest own = absurd own
   block_target (ports.Output n) rest own = an_output_there n rest
   block_target (ports.Done g) rest own = absurd (no_hole g rest)
@@ -202,7 +202,7 @@ module _ (part : PlainComponent) (cells : Cells) (fair : IsFair (Node part cells
     pub kept_inside : (c : ℕ) → c < length part.cells → kid_at kids c ≡ None → kept_at kids c < length (flat_part (Node part cells)).cells
     kept_inside c less e =
         let inside = kept_less kids part.cells c less e in
-        let all = length-both (kept kids part.cells) (blocks kids part.cells) in
+        let all = length-append (kept kids part.cells) (blocks kids part.cells) in
         omega (arith, inside, all)
 
     module _ (outputs : (n : ℕ) → n < length part.outputs → seen host held more z (f (ports.Output n)) ≡ target_seen sights.Undefined (seen host held more z) (drivers (part_of host) more (f (ports.Output n))))

@@ -1,5 +1,6 @@
 -- UNDER THE CONTINUOUS ASSIGNMENTS ALONE each port of the tree that may be tested is seen in the flat instance as in the tree.
-use Rattle.std.proofs.Common.{◌≡◌, ℕ, zero, suc, ◌+◌, ⊎_elim, List, [], ◌∷◌, ◌++◌, length, Option, Some, None, refl, sym, ap, ◌∙◌, arith}
+use Rattle.std.proofs.Common.{◌≡◌, ℕ, zero, suc, ◌+◌, ⊎_elim, [], ◌∷◌, ◌++◌, length, Option, Some, None, refl, sym, ap, ◌∙◌, arith}
+use Rattle.std.proofs.lemmas.List.{append-nil, append_assoc}
 use Rattle.std.specs.Prelude.{◌-◌}
 use Rattle.std.proofs.Math.Path.{fun_ext}
 use Rattle.cx_meaning.specs.declared.ports.PortRef.{PortRef}
@@ -23,14 +24,6 @@ use Rattle.cx_flattening.proofs.FlatOutputs.{kids_seen}
 use Rattle.cx_flattening.proofs.FlatSights.{played_found}
 use Rattle.cx_flattening.proofs.FlatChildren.{idle_played}
 use Rattle.cx_flattening.proofs.FlatSeen.{Alive, none_fed}
-
-append_through : {A : Type 0} (xs ys zs : List A) → (xs ++ ys) ++ zs ≡ xs ++ (ys ++ zs)
-append_through [] ys zs = refl
-append_through (x ∷ xs) ys zs = ap (λ l. x ∷ l) (append_through xs ys zs)
-
-append_none : {A : Type 0} (xs : List A) → xs ++ [] ≡ xs
-append_none [] = refl
-append_none (x ∷ xs) = ap (λ l. x ∷ l) (append_none xs)
 
 -- what is seen at a path, where something acts of the instance itself
 abbrev pub look_from : Instance → Held → Active → State → Path → Look
@@ -61,7 +54,7 @@ module _ (host : Instance) (host_held : Held) (more : Active) (z : State) (acycl
       λ p named own.
           sym (ap (seen host host_held more z) (place p named own))
           ∙ played_found part cells fair.0 (kids_seen cells fair.1) host host_held more z acyclic deeper first f held act inner s inputs outputs holes played calm.0 calm.1 p (asked p named own)
-          ∙ sym (looks [] p) ∙ ap (λ path. below path p) (append_none at),
+          ∙ sym (looks [] p) ∙ ap (λ path. below path p) (append-nil at),
       spots_below cells part cells 0 (λ n. ap (cell_at cells) (plus n)) fair fair.1 first f held act inner s inputs outputs holes played does.1 calm calm.2 alive at looks,
     )
       where
@@ -105,7 +98,7 @@ module _ (host : Instance) (host_held : Held) (more : Active) (z : State) (acycl
           (idle_played part cells fair.0 (kids_seen cells fair.1) host host_held more z acyclic deeper first f held act inner s inputs outputs holes played c child at_cell static (fair_own child fair_rest.0) [] calm.0 calm.1 alive h.0 h.2 idle)
           h.2 (calm_rest.0 static) (λ d sources e n less. none_fed d [] sources refl e) (at ++ (c ∷ []))
           (λ path p.
-          ap (λ whole. below whole p) (append_through at (c ∷ []) path) ∙ looks (c ∷ path) p ∙ look_at-child cells c child (under c s) path p at_cell
+          ap (λ whole. below whole p) (append_assoc at (c ∷ []) path) ∙ looks (c ∷ path) p ∙ look_at-child cells c child (under c s) path p at_cell
           ∙ still_look child (seen (Node part cells) held act s) c (under c s) path p))
           (λ fed. absurd (none_fed c [] _ refl fed.fed))
           h.3,

@@ -34,4 +34,6 @@ mod FlatSpots
 mod FlatLooks
 mod IdleStands
 mod FlatIslands
-mod FlatDesigns
+mod FlatRows
+mod FlatTests
+mod FlatCalls

@@ -1,5 +1,6 @@
 -- What stands at a cell of an instance, where its cells are embedded in a host; and what is known of its children.
 use Rattle.std.proofs.Common.{◌≡◌, ℕ, zero, suc, ◌+◌, ◌<◌, ◌≤◌, true, false, List, [], ◌∷◌, length, map, Option, Some, None, refl, sym, ap, ◌∙◌, subst, arith}
+use Rattle.std.proofs.lemmas.List.{length-append, length-map}
 use Rattle.cx_prim.specs.Rows.{Row}
 use Rattle.cx_meaning.specs.declared.kinds.PortDecl.{PortDecl}
 use Rattle.cx_meaning.specs.declared.ports.PortRef.TheVariants as ports
@@ -13,7 +14,6 @@ use Rattle.cx_flattening.specs.Whole.{is_static}
 use Rattle.cx_flattening.specs.Flattened.{Kids, kid_at, kept, block, blocks, flat_cells, block_size, block_at, inner_cell, wire_of, flat_part, kept_at, start_of, wire_at}
 use Rattle.cx_flattening.specs.Embedded.{IsLike, wire_row, HasWires, IsEmbedded, AreEmbedded, Stands, AllStand}
 use Rattle.cx_flattening.specs.Fair.{IsFair, AllFair}
-use Rattle.cx_flattening.proofs.FlatAssigns.{length-both}
 
 plus : (a b : ℕ) → suc a + b ≡ a + suc b
 plus a b = omega arith
@@ -90,32 +90,28 @@ wire_there (output ∷ outputs) e (suc n) host h less =
     (r.0, ap (cell_at host) (sym (plus e n)) ∙ r.1)
 
 -- a block ends among the flat cells
-length-map : {A B : Type 0} (f : A → B) (xs : List A) → length (map f xs) ≡ length xs
-length-map f [] = refl
-length-map f (x ∷ xs) = ap suc (length-map f xs)
-
 pub length-block : (k : Option PlainComponent) (x : PlainCell) → length (block k x) ≡ block_size k
 length-block None x = refl
 length-block (Some child) x =
-    length-both (map (inner_cell x) child.cells) (map (wire_of x) child.outputs)
-    ∙ ap (λ n. n + length (map (wire_of x) child.outputs)) (length-map (inner_cell x) child.cells) ∙ ap (λ n. length child.cells + n) (length-map (wire_of x) child.outputs)
+    length-append (map (inner_cell x) child.cells) (map (wire_of x) child.outputs)
+    ∙ ap (λ n. n + length (map (wire_of x) child.outputs)) (length-map child.cells (inner_cell x)) ∙ ap (λ n. length child.cells + n) (length-map child.outputs (wire_of x))
 
 block_within : (kids : Kids) (cells : List PlainCell) (c : ℕ) (child : PlainComponent) → c < length cells → kid_at kids c ≡ Some child → block_at kids c + block_size (Some child) ≤ length (blocks kids cells)
 block_within [] cells c child less e = absurd (cc)
 block_within (k ∷ ks) [] c child less e = absurd (omega (arith, less))
 block_within (k ∷ ks) (x ∷ xs) zero child less e =
-    let here = length-both (block k x) (blocks ks xs) in
+    let here = length-append (block k x) (blocks ks xs) in
     let size : length (block k x) ≡ block_size (Some child) = length-block k x ∙ ap block_size e in
     omega (arith, here, size)
 block_within (k ∷ ks) (x ∷ xs) (suc c) child less e =
-    let here = length-both (block k x) (blocks ks xs) in
+    let here = length-append (block k x) (blocks ks xs) in
     let size = length-block k x in
     let ih = block_within ks xs c child (omega (arith, less)) e in
     omega (arith, here, size, ih)
 
 pub in_flat_cells : (kids : Kids) (part : PlainComponent) (c m : ℕ) (child : PlainComponent) → c < length part.cells → kid_at kids c ≡ Some child → m < block_size (Some child) → start_of kids part c + m < length (flat_cells kids part.cells)
 in_flat_cells kids part c m child less e inside =
-    let all = length-both (kept kids part.cells) (blocks kids part.cells) in
+    let all = length-append (kept kids part.cells) (blocks kids part.cells) in
     let within = block_within kids part.cells c child less e in
     omega (arith, all, within, inside)
 

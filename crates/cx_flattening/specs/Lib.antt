@@ -20,3 +20,4 @@ pub mod FedOnce
 pub mod Sampling
 pub mod Lists
 pub mod Runs
+pub mod Calling

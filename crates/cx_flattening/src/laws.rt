@@ -1,39 +1,41 @@
 //! Laws of static components and of flat instances: each function does nothing, and its clause is the law.
 
-ghost use Rattle.std.specs.Prelude.{◌≡◌, ◌<◌, ℕ, List, [], length};
+ghost use Rattle.std.specs.Prelude.{◌≡◌, ℕ, List, [], Option, Some};
 ghost use Rattle.cx_meaning.specs.declared.ports.PortRef.{PortRef};
 ghost use Rattle.cx_meaning.specs.declared.ports.PortRef.TheVariants.{Input};
 ghost use Rattle.cx_meaning.specs.Designs.{PlainDesign, PlainForm};
-ghost use Rattle.cx_meaning.specs.Instances.{Instance, State, cells_of, part_of};
-ghost use Rattle.cx_meaning.specs.Active.{Active, entries, group};
+ghost use Rattle.cx_meaning.specs.Instances.{Instance, State, cells_of, idle, part_of};
+ghost use Rattle.cx_meaning.specs.Active.{Active, entries};
 ghost use Rattle.cx_meaning.specs.Sights.{Held, seen};
 ghost use Rattle.cx_meaning.specs.Cycles.{cycle};
+ghost use Rattle.cx_meaning.specs.Answers.{turns_of};
 ghost use Rattle.cx_meaning.specs.Islands.{active_in, form_flat, form_length};
 ghost use Rattle.cx_meaning.specs.Islands as islands;
 ghost use Rattle.cx_meaning.specs.Calls as calls;
-ghost use Rattle.cx_meaning.specs.Running.{run_main};
-ghost use Rattle.cx_rules.specs.Circles.{AcyclicBelow, IsAcyclic};
+ghost use Rattle.cx_meaning.specs.Running.{Children, run_main};
+ghost use Rattle.cx_rules.specs.Externals.{external_rows};
 ghost use Rattle.cx_rules.specs.Flat.{IsFlat};
 ghost use Rattle.cx_rules.specs.Wellformed.{IsDesign};
 ghost use Rattle.cx_flattening.specs.Invokes.{form_lasts};
 ghost use Rattle.cx_flattening.specs.Events.{spot};
 ghost use Rattle.cx_flattening.specs.Deeds.{Deed, History, deeds_in, own_entries};
-ghost use Rattle.cx_flattening.specs.Whole.{group_turn, whole_cycle, whole_island, whole_main};
-ghost use Rattle.cx_flattening.specs.Flattened.{flat_form, flat_kids, flat_part};
+ghost use Rattle.cx_flattening.specs.Whole.{call, group_turn, whole_cycle, whole_island, whole_main};
+ghost use Rattle.cx_flattening.specs.Flattened.{flat_form, flat_kids, flat_part, kept_at};
 ghost use Rattle.cx_flattening.specs.FlatDesign.{flat_design};
 ghost use Rattle.cx_flattening.specs.Acting.{ActsAs};
-ghost use Rattle.cx_flattening.specs.Embedded.{IsFlattened, Stands};
+ghost use Rattle.cx_flattening.specs.Embedded.{Stands};
 ghost use Rattle.cx_flattening.specs.Levels.{IsKnown, OutputsSeen, own_of};
 ghost use Rattle.cx_flattening.specs.Fair.{AllFair};
-ghost use Rattle.cx_flattening.specs.Seeing.{CellsSeen, NoCircle};
+ghost use Rattle.cx_flattening.specs.Seeing.{CellsSeen};
 ghost use Rattle.cx_flattening.specs.FlatFaults.{CycleAs};
 ghost use Rattle.cx_flattening.specs.Beside.{IsBeside};
-ghost use Rattle.cx_flattening.specs.Turning.{TurnAs};
+ghost use Rattle.cx_flattening.specs.Turning.{IsGroupBeside, TestAs, TurnAs};
 ghost use Rattle.cx_flattening.specs.Controlled.{AllControlled};
 ghost use Rattle.cx_flattening.specs.FedOnce.{FedOnce};
 ghost use Rattle.cx_flattening.specs.Sampling.{AgreesAt};
 ghost use Rattle.cx_flattening.specs.Lists.{IsIsland, IsStaticOf, island_events};
 ghost use Rattle.cx_flattening.specs.Runs.{AnswerAs};
+ghost use Rattle.cx_flattening.specs.Calling.{IsCallBeside, RunsAs};
 
 /// A design without static components means what it means without them: it ends in the same turn with the same state, has the
 /// same fault in the same turn, or needs more turns.
@@ -70,13 +72,17 @@ pub fn flat_lists_are_those_of_the_tree()
         (entries (active_in k t (form_flat (flat_part i) (flat_form (flat_kids (cells_of i)) (part_of i) form) 0 []))) }
 {}
 
-/// A turn of a group of the flat instance is that of the group in the tree: the last, one that goes on to a state of the same
-/// cells, or one with the same fault. While a group acts, static children rest.
+/// A turn of a group of the flat instance is that of the group in the tree, and so is its run; a condition says the same. While
+/// a group acts, static children rest.
 pub fn flat_turns_are_those_of_the_tree()
-    ensures { (i flat : Instance) (held : Held) (g : ℕ) (s z : State)
-        → g < length (part_of i).groups → IsFlattened i flat → AllFair i → Stands i 0 s z
-        → NoCircle i (group g) [] → IsAcyclic flat (group g) → AcyclicBelow (cells_of flat)
-        → TurnAs i (group_turn i held g s) (calls.group_turn flat held g z) }
+    ensures turn { (i flat : Instance) (held : Held) (g : ℕ) (s z : State)
+        → IsGroupBeside i flat (Some g) → Stands i 0 s z → TurnAs i (group_turn i held g s) (calls.group_turn flat held g z) }
+    ensures group { (i flat : Instance) (held : Held) (g n : ℕ) (s z : State)
+        → IsGroupBeside i flat (Some g) → Stands i 0 s z
+        → AnswerAs i (turns_of (idle i) (group_turn i held g) s n) (turns_of (idle flat) (calls.group_turn flat held g) z n) }
+    ensures test { (i flat : Instance) (held : Held) (p : PortRef) (with_group : Option ℕ) (s z : State)
+        → IsGroupBeside i flat with_group → IsKnown i p → Stands i 0 s z
+        → TestAs i (calls.test i held p with_group s) (calls.test flat held (own_of i p) with_group z) }
 {}
 
 /// An island of the flat instance is that of the tree: it ends in as many turns in a state of the same cells, has the same fault
@@ -87,7 +93,17 @@ pub fn flat_islands_are_those_of_the_tree()
         → AnswerAs i (whole_island i held form s n) (islands.island flat held (flat_form (flat_kids (cells_of i)) (part_of i) form) z n) }
 {}
 
-/// A flat design has no static component and no static invoke.
+/// A call of a dynamic child in the flat instance is that in the tree, where the control of the child runs alike: its inputs are
+/// seen alike, its state and its fault stand where the child stands, and the group captures alike in the turn after it.
+pub fn flat_calls_are_those_of_the_tree()
+    ensures { (i flat child : Instance) (held : Held) (g c : ℕ) (children others : Children) (s z : State) (n : ℕ)
+        → IsCallBeside i flat g c child → RunsAs child c (kept_at (flat_kids (cells_of i)) c) children others → Stands i 0 s z
+        → AnswerAs i (call i children held g c s n)
+        (calls.call flat others held g (kept_at (flat_kids (cells_of i)) c) z n) }
+{}
+
+/// A flat design has no static components, and the external memories of the design.
 pub fn flat_designs_are_flat()
-    ensures { (d : PlainDesign) → IsFlat (flat_design d) }
+    ensures flat { (d : PlainDesign) → IsFlat (flat_design d) }
+    ensures rows { (d : PlainDesign) → IsDesign d → external_rows (flat_design d) ≡ external_rows d }
 {}
