@@ -37,3 +37,11 @@ mod FlatIslands
 mod FlatRows
 mod FlatTests
 mod FlatCalls
+mod CellLayout
+mod Reached
+mod TreeLevels
+mod FlatTrees
+mod FlatStarts
+mod FlatArms
+mod FlatStatements
+mod FlatRuns

@@ -21,3 +21,5 @@ pub mod Sampling
 pub mod Lists
 pub mod Runs
 pub mod Calling
+pub mod Arms
+pub mod Asking

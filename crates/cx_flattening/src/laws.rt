@@ -4,7 +4,7 @@ ghost use Rattle.std.specs.Prelude.{◌≡◌, ℕ, List, [], Option, Some};
 ghost use Rattle.cx_meaning.specs.declared.ports.PortRef.{PortRef};
 ghost use Rattle.cx_meaning.specs.declared.ports.PortRef.TheVariants.{Input};
 ghost use Rattle.cx_meaning.specs.Designs.{PlainDesign, PlainForm};
-ghost use Rattle.cx_meaning.specs.Instances.{Instance, State, cells_of, idle, part_of};
+ghost use Rattle.cx_meaning.specs.Instances.{Instance, IsSettled, State, cells_of, idle, part_of, start, tree_of};
 ghost use Rattle.cx_meaning.specs.Active.{Active, entries};
 ghost use Rattle.cx_meaning.specs.Sights.{Held, seen};
 ghost use Rattle.cx_meaning.specs.Cycles.{cycle};
@@ -12,18 +12,18 @@ ghost use Rattle.cx_meaning.specs.Answers.{turns_of};
 ghost use Rattle.cx_meaning.specs.Islands.{active_in, form_flat, form_length};
 ghost use Rattle.cx_meaning.specs.Islands as islands;
 ghost use Rattle.cx_meaning.specs.Calls as calls;
-ghost use Rattle.cx_meaning.specs.Running.{Children, run_main};
+ghost use Rattle.cx_meaning.specs.Running.{Children, run_control, run_main};
 ghost use Rattle.cx_rules.specs.Externals.{external_rows};
 ghost use Rattle.cx_rules.specs.Flat.{IsFlat};
 ghost use Rattle.cx_rules.specs.Wellformed.{IsDesign};
 ghost use Rattle.cx_flattening.specs.Invokes.{form_lasts};
 ghost use Rattle.cx_flattening.specs.Events.{spot};
 ghost use Rattle.cx_flattening.specs.Deeds.{Deed, History, deeds_in, own_entries};
-ghost use Rattle.cx_flattening.specs.Whole.{call, group_turn, whole_cycle, whole_island, whole_main};
+ghost use Rattle.cx_flattening.specs.Whole.{call, group_turn, whole_control, whole_cycle, whole_island, whole_main};
 ghost use Rattle.cx_flattening.specs.Flattened.{flat_form, flat_kids, flat_part, kept_at};
 ghost use Rattle.cx_flattening.specs.FlatDesign.{flat_design};
 ghost use Rattle.cx_flattening.specs.Acting.{ActsAs};
-ghost use Rattle.cx_flattening.specs.Embedded.{Stands};
+ghost use Rattle.cx_flattening.specs.Embedded.{IsFlattened, Stands};
 ghost use Rattle.cx_flattening.specs.Levels.{IsKnown, OutputsSeen, own_of};
 ghost use Rattle.cx_flattening.specs.Fair.{AllFair};
 ghost use Rattle.cx_flattening.specs.Seeing.{CellsSeen};
@@ -36,6 +36,7 @@ ghost use Rattle.cx_flattening.specs.Sampling.{AgreesAt};
 ghost use Rattle.cx_flattening.specs.Lists.{IsIsland, IsStaticOf, island_events};
 ghost use Rattle.cx_flattening.specs.Runs.{AnswerAs};
 ghost use Rattle.cx_flattening.specs.Calling.{IsCallBeside, RunsAs};
+ghost use Rattle.cx_flattening.specs.Asking.{TreeAsks};
 
 /// A design without static components means what it means without them: it ends in the same turn with the same state, has the
 /// same fault in the same turn, or needs more turns.
@@ -106,4 +107,20 @@ pub fn flat_calls_are_those_of_the_tree()
 pub fn flat_designs_are_flat()
     ensures flat { (d : PlainDesign) → IsFlat (flat_design d) }
     ensures rows { (d : PlainDesign) → IsDesign d → external_rows (flat_design d) ≡ external_rows d }
+{}
+
+/// The tree of the flat design is the flat instance of the tree of the design, and both start in the same state of all cells, with
+/// the same words of the external memories.
+pub fn flat_trees_are_flattened()
+    ensures cells { (d : PlainDesign) → IsDesign d → IsFlattened (tree_of d) (tree_of (flat_design d)) }
+    ensures starts { (d : PlainDesign) (words : List (List ℕ)) → IsDesign d
+        → Stands (tree_of d) 0 (start (tree_of d) words) (start (tree_of (flat_design d)) words) }
+{}
+
+/// The control of a tree runs in its flat instance as in the tree, with what is asked of each of its statements: it ends in as many
+/// turns in a state of the same cells, has the fault in the same turn, or needs more turns where that does.
+pub fn flat_runs_are_those_of_the_tree()
+    ensures { (i flat : Instance) (held : Held) (s z : State) (n : ℕ)
+        → TreeAsks i flat → Stands i 0 s z → IsSettled flat z
+        → AnswerAs i (whole_control i held s n) (run_control flat held z n) }
 {}
