@@ -1,23 +1,21 @@
 -- THE RUN of a tree and of its flat instance: control over control, by induction on the tree.
-use Rattle.std.proofs.Common.{◌≡◌, ℕ, zero, suc, ◌+◌, false, [], ◌∷◌, refl, sym, ap, ◌∙◌, subst, arith}
+use Rattle.std.proofs.Common.{◌≡◌, ℕ, zero, suc, ◌+◌, false, ◌∷◌, sym, ap, ◌∙◌, subst, arith}
 use Rattle.cx_meaning.specs.Designs.{PlainComponent}
-use Rattle.cx_meaning.specs.Instances.{Instance, Node, Cells, no_cells, a_primitive, an_instance, OfInstance, cells_of, cell_at, Path, State, under, idle_at, idle_below, IsSettled}
+use Rattle.cx_meaning.specs.Instances.{Instance, Node, Cells, no_cells, a_primitive, an_instance, OfInstance, cells_of, cell_at, State, under, IsSettled}
 use Rattle.cx_meaning.specs.Sights.{Held}
-use Rattle.cx_meaning.specs.Cycles.{Fault}
-use Rattle.cx_meaning.specs.Answers.{Answer}
 use Rattle.cx_meaning.specs.Control.{run}
 use Rattle.cx_meaning.specs.Running.{leaves, run_control, control_below}
-use Rattle.cx_prim.specs.CellStates.{CellState}
 use Rattle.cx_flattening.specs.Whole.{is_static, whole_control, whole_below}
 use Rattle.cx_flattening.specs.Flattened.{kept_at, flat_kids}
 use Rattle.cx_flattening.specs.Embedded.{Stands}
 use Rattle.cx_flattening.specs.Runs.{AnswerAs}
 use Rattle.cx_flattening.specs.Asking.{RunAsks, TreeAsks, ChildrenAsk}
 use Rattle.cx_flattening.proofs.Standing.{stands_dynamic}
+use Rattle.cx_flattening.proofs.IdleStands.{idle-child}
 use Rattle.cx_flattening.proofs.FlatArms.{plus, zero_plus}
 use Rattle.cx_flattening.proofs.FlatStatements.{statement_as, twin_place}
 
--- the control and the idle edges of a child are those at its cell
+-- the control of a child is that at its cell
 child_runs : (cells : Cells) (c : ℕ) (child : Instance) → cell_at cells c ≡ OfInstance child → (held : Held) (s : State) (n : ℕ) → control_below cells c held s n ≡ run_control child held s n
 child_runs no_cells c child e held s n = absurd (cc)
 child_runs (a_primitive row rest) zero child e held s n = absurd (cc)
@@ -25,15 +23,8 @@ child_runs (a_primitive row rest) (suc c) child e held s n = child_runs rest c c
 child_runs (an_instance other rest) zero child e held s n = let same : other ≡ child = cc in ap (λ x. run_control x held s n) same
 child_runs (an_instance other rest) (suc c) child e held s n = child_runs rest c child e held s n
 
-child_idles : (cells : Cells) (c : ℕ) (child : Instance) (path : Path) (d : CellState) → cell_at cells c ≡ OfInstance child → idle_below cells c path d ≡ idle_at child path d
-child_idles no_cells c child path d e = absurd (cc)
-child_idles (a_primitive row rest) zero child path d e = absurd (cc)
-child_idles (a_primitive row rest) (suc c) child path d e = child_idles rest c child path d e
-child_idles (an_instance other rest) zero child path d e = let same : other ≡ child = cc in ap (λ i. idle_at i path d) same
-child_idles (an_instance other rest) (suc c) child path d e = child_idles rest c child path d e
-
 child_settled : (part : PlainComponent) (cells : Cells) (c : ℕ) (child : Instance) (z : State) → cell_at cells c ≡ OfInstance child → IsSettled (Node part cells) z → IsSettled child (under c z)
-child_settled part cells c child z at settled path = sym (child_idles cells c child path (z (c ∷ path)) at) ∙ settled (c ∷ path)
+child_settled part cells c child z at settled path = sym (idle-child cells c child path (z (c ∷ path)) at) ∙ settled (c ∷ path)
 
 first_zero : (a : ℕ) → 0 + a ≡ a
 first_zero a = omega arith

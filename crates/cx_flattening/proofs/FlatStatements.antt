@@ -8,10 +8,10 @@ use Rattle.cx_meaning.specs.declared.kinds.GroupKind.TheVariants as kinds
 use Rattle.cx_meaning.specs.declared.ports.PortRef.{PortRef}
 use Rattle.cx_meaning.specs.declared.ports.PortRef.TheVariants as ports
 use Rattle.cx_meaning.specs.Designs.{PlainAssign, PlainComponent, group_at, no_group, no_place, PlainForm, Empty, Enable, Seq, Par, If, While, Repeat, StaticSeq, StaticPar, StaticIf, StaticRepeat, Timed, PlainStatement, Placed, PlainStatements, no_statements, a_statement}
-use Rattle.cx_meaning.specs.Instances.{Instance, Node, Cells, At, Nothing, OfRow, OfInstance, part_of, cells_of, cell_at, Path, State, under, merge, idle, IsSettled}
+use Rattle.cx_meaning.specs.Instances.{Instance, Node, Cells, At, Nothing, OfRow, OfInstance, cell_at, Path, State, under, merge, idle, IsSettled}
 use Rattle.cx_meaning.specs.Sights.{Held, In}
 use Rattle.cx_meaning.specs.Cycles.{Fault}
-use Rattle.cx_meaning.specs.Answers.{Answer, End, More, Meaning, after_turns, then_do, stay, idle_turn, Test, Holds, Fails, Unclear, chosen, test_turn, loop, loop_of, rounds}
+use Rattle.cx_meaning.specs.Answers.{Answer, End, More, Meaning, after_turns, then_do, stay, idle_turn, Test, Holds, Fails, Unclear, chosen, test_turn, loop, rounds}
 use Rattle.cx_meaning.specs.Answers as answers
 use Rattle.cx_meaning.specs.Control.{Leaves, drives, groups_drive, group_drives, groups_of, groups_in_all, run, run_form, run_parts, run_arms}
 use Rattle.cx_meaning.specs.Islands.{island}
@@ -31,7 +31,6 @@ use Rattle.cx_flattening.specs.Flattened.{Kids, kid_at, kept_at, start_of, flat_
 use Rattle.cx_flattening.specs.Embedded.{Stands}
 use Rattle.cx_flattening.specs.Fair.{IsFair}
 use Rattle.cx_flattening.specs.Targets.{OwnTarget}
-use Rattle.cx_flattening.specs.FlatFaults.{flat_fault}
 use Rattle.cx_flattening.specs.Beside.{kept_done}
 use Rattle.cx_flattening.specs.Turning.{TestAs}
 use Rattle.cx_flattening.specs.Runs.{AnswerAs}

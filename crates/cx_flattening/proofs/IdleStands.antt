@@ -9,7 +9,7 @@ use Rattle.cx_flattening.specs.Flattened.{kept_at, start_of, flat_kids}
 use Rattle.cx_flattening.specs.Embedded.{IsEmbedded, AreEmbedded, Stands, AllStand}
 
 -- below a component's cell every cell makes the idle edge of the child
-idle-child : (cells : Cells) (c : ℕ) (child : Instance) (path : Path) (d : CellState) → cell_at cells c ≡ OfInstance child → idle_below cells c path d ≡ idle_at child path d
+pub idle-child : (cells : Cells) (c : ℕ) (child : Instance) (path : Path) (d : CellState) → cell_at cells c ≡ OfInstance child → idle_below cells c path d ≡ idle_at child path d
 idle-child no_cells c child path d e = absurd (cc)
 idle-child (a_primitive row rest) zero child path d e = absurd (cc)
 idle-child (a_primitive row rest) (suc c) child path d e = idle-child rest c child path d e
