@@ -3,7 +3,7 @@ use Rattle.std.proofs.Common.{◌≡◌, ℕ, zero, suc, ◌+◌, ◌<◌, ◌�
 use Rattle.std.specs.List.{list_all, list_any}
 use Rattle.std.proofs.lemmas.Bool.{cases_eq}
 use Rattle.std.proofs.lemmas.List.{get_or-set_same, get_or-set_other, length-set, reverse-append, map-set, map-append, get_or-map, length-map}
-use Rattle.std.proofs.lemmas.List.Folds.{list_any-append, list_all-append, list_any_more, list_any_at}
+use Rattle.std.proofs.lemmas.List.Folds.{list_any-append, list_all-append, list_any_more}
 use Rattle.cx_text.proofs.ListLaws.{take_all}
 use Rattle.cx_meaning.specs.Designs.{PlainCell, PlainKind, PlainComponent}
 use Rattle.cx_meaning.specs.Control.{assigns_drive}
@@ -14,9 +14,9 @@ use Rattle.cx_sharing.specs.Giving.{Kept, is_in, takes, give, kept_after, kept_o
 use Rattle.cx_sharing.specs.Meeting.{meet}
 use Rattle.cx_sharing.specs.Uses.{kind_in, is_candidate, is_combinational, assigns_use}
 use Rattle.cx_share.specs.declared.giving.Kept as memory
-use Rattle.cx_share.specs.Givings.{no_kept, Within, AllWithin, Put, KeptBy, AreKeepers, plain_kept}
-use Rattle.cx_share.proofs.MarkLemmas.{or-false, just_is, just_itself, just_other}
-use Rattle.cx_share.proofs.UseLemmas.{or-comm}
+use Rattle.cx_share.specs.Marks.{Adds, AreMarks}
+use Rattle.cx_share.specs.Givings.{no_kept, Within, AllWithin, AllNear, IsNear, Put, KeptBy, AreKeepers, plain_kept}
+use Rattle.cx_share.proofs.MarkLemmas.{or-assoc, or-comm, or-false, just_is, just_itself, just_other}
 
 -- a reversed list
 pub any-reverse : {A : Type 0} (p : A → Bool) (xs : List A) → list_any p (reverse xs) ≡ list_any p xs
@@ -200,27 +200,72 @@ kept_more part c kept new same none first =
 pub now_given : (part : PlainComponent) (c : ℕ) (ks new : List Kept) → is_candidate part c ≡ true → ks ≡ kept_after part c → new ≡ give part c ks → new ≡ kept_after part (c + 1)
 now_given part c ks new candidate same given = rw (add-one c, candidate) (given ∙ ap (give part c) same)
 
--- given cells that are below a bound, as they lie in memory
-pub all_given : (n : ℕ) (xs : List ℕ) → ((x : ℕ) → is_in x (reverse xs) ≡ true → x < n) → (k d : ℕ) → k < length xs → get_or xs k d < n
-all_given n xs h k d lt =
-    h (get_or xs k d) (any-reverse (λ y. nat_eq y (get_or xs k d)) xs ∙ list_any_at (λ y. nat_eq y (get_or xs k d)) xs k d lt (sym (just_is (get_or xs k d) (get_or xs k d)) ∙ just_itself (get_or xs k d)))
-
--- what a kept one takes, by its given cells as they lie in memory
-pub takes_by : (part : PlainComponent) (c : ℕ) (k : memory.Kept) (alike met any : Bool) → alike ≡ same_kind (kind_in part.cells k.cell) (kind_in part.cells c) → met ≡ meet part k.cell c
-    → any ≡ list_any (λ x. meet part x c) k.given.items → (alike && (not met && not any)) ≡ takes part c (plain_kept k)
-takes_by part c k alike met any a m g =
-    ap (λ v. v && (not met && not any)) a
-    ∙ ap (λ v. same_kind (kind_in part.cells k.cell) (kind_in part.cells c) && (not v && not any)) m
-    ∙ ap (λ v. same_kind (kind_in part.cells k.cell) (kind_in part.cells c) && (not (meet part k.cell c) && v))
-    (ap not g ∙ none_of (λ x. meet part x c) k.given.items ∙ sym (all-reverse (λ x. not (meet part x c)) k.given.items))
+-- what a kept one takes, by the marks of those that are near
+near_takes : (part : PlainComponent) (c : ℕ) (k : memory.Kept) → takes part c (plain_kept k) ≡ (same_kind (kind_in part.cells k.cell) (kind_in part.cells c) && not (meet part k.cell c || list_any (λ x. meet part x c) k.given.items))
+near_takes part c k =
+    ap (λ v. same_kind (kind_in part.cells k.cell) (kind_in part.cells c) && (not (meet part k.cell c) && v)) (all-reverse (λ x. not (meet part x c)) k.given.items ∙ sym (none_of (λ x. meet part x c) k.given.items))
+    ∙ ap (λ v. same_kind (kind_in part.cells k.cell) (kind_in part.cells c) && v) (sym (by (meet part k.cell c) (list_any (λ x. meet part x c) k.given.items)))
   where
+    by : (a b : Bool) → not (a || b) ≡ (not a && not b)
+    by true b = refl
+    by false b = refl
+
     none_of : (p : ℕ → Bool) (xs : List ℕ) → not (list_any p xs) ≡ list_all (λ x. not (p x)) xs
     none_of p [] = refl
     none_of p (x ∷ xs) = by (p x) (list_any p xs) ∙ ap (λ v. not (p x) && v) (none_of p xs)
-      where
-        by : (a b : Bool) → not (a || b) ≡ (not a && not b)
-        by true b = refl
-        by false b = refl
+
+pub takes_by : (part : PlainComponent) (c : ℕ) (k : memory.Kept) (near : Bool) → IsNear part k → c < length part.cells → near ≡ get_or k.near c false
+    → (same_kind (kind_in part.cells k.cell) (kind_in part.cells c) && not near) ≡ takes part c (plain_kept k)
+takes_by part c k near n lt at = ap (λ v. same_kind (kind_in part.cells k.cell) (kind_in part.cells c) && not v) (at ∙ n.marks c lt) ∙ sym (near_takes part c k)
+
+pub takes_none : (part : PlainComponent) (c : ℕ) (k : memory.Kept) (near : Bool) → IsNear part k → c < length part.cells → near ≡ get_or k.near c false → near ≡ true → false ≡ takes part c (plain_kept k)
+takes_none part c k near n lt at met = sym (and-none (same_kind (kind_in part.cells k.cell) (kind_in part.cells c))) ∙ ap (λ v. same_kind (kind_in part.cells k.cell) (kind_in part.cells c) && not v) (sym met) ∙ takes_by part c k near n lt at
+  where
+    and-none : (b : Bool) → (b && false) ≡ false
+    and-none true = refl
+    and-none false = refl
+
+pub takes_alike : (part : PlainComponent) (c : ℕ) (k : memory.Kept) (near : Bool) → IsNear part k → c < length part.cells → near ≡ get_or k.near c false → near ≡ false
+    → same_kind (kind_in part.cells k.cell) (kind_in part.cells c) ≡ takes part c (plain_kept k)
+takes_alike part c k near n lt at free =
+    sym (and-true (same_kind (kind_in part.cells k.cell) (kind_in part.cells c))) ∙ ap (λ v. same_kind (kind_in part.cells k.cell) (kind_in part.cells c) && not v) (sym free) ∙ takes_by part c k near n lt at
+
+-- the marks of those that are near
+pub near_kept : (part : PlainComponent) (c : ℕ) (k : memory.Kept) (row : List Bool) → k.cell ≡ c → k.given.items ≡ [] → k.near ≡ row → length row ≡ length part.cells → AreMarks row (meet part c) → IsNear part k
+near_kept part c k row same none there wide m = record {
+  count = ap length there ∙ wide;
+  marks = λ y lt.
+      let below : y < length row = omega (arith, wide) in
+      ap (λ xs. get_or xs y false) there ∙ m y below ∙ sym (or-false (meet part c y)) ∙ ap (λ n. meet part n y || false) (sym same)
+      ∙ ap (λ xs. meet part k.cell y || list_any (λ x. meet part x y) xs) (sym none);
+}
+
+pub near_given : (part : PlainComponent) (c : ℕ) (before new : memory.Kept) (row : List Bool) → new.cell ≡ before.cell → new.given.items ≡ before.given.items ++ c ∷ []
+    → Adds before.near new.near (λ y. get_or row y false) → length row ≡ length part.cells → AreMarks row (meet part c) → IsNear part before → IsNear part new
+near_given part c before new row same more p wide m n = record {
+  count = p.count ∙ n.count;
+  marks = λ y lt.
+      let below : y < length row = omega (arith, wide) in
+      let there : y < length before.near = omega (arith, n.count) in
+      p.marks y there ∙ ap (λ v. v || get_or row y false) (n.marks y lt) ∙ ap (λ v. (meet part before.cell y || list_any (λ x. meet part x y) before.given.items) || v) (m y below)
+      ∙ or-assoc (meet part before.cell y) (list_any (λ x. meet part x y) before.given.items) (meet part c y)
+      ∙ ap (λ v. meet part before.cell y || v) (ap (λ v. list_any (λ x. meet part x y) before.given.items || v) (sym (or-false (meet part c y))) ∙ sym (list_any-append (λ x. meet part x y) before.given.items (c ∷ [])))
+      ∙ ap (λ xs. meet part before.cell y || list_any (λ x. meet part x y) xs) (sym more) ∙ ap (λ d. meet part d y || list_any (λ x. meet part x y) new.given.items) (sym same);
+}
+
+pub near_at : (part : PlainComponent) (kept : List memory.Kept) (i : ℕ) (k : memory.Kept) → i < length kept → k ≡ get_or kept i k → AllNear part kept → IsNear part k
+near_at part [] i k lt at n = absurd (omega arith)
+near_at part (one ∷ kept) zero k lt at n = rw at n.0
+near_at part (one ∷ kept) (suc i) k lt at n = near_at part kept i k (let h : suc i < suc (length kept) = lt in omega arith) at n.1
+
+pub near_set : (part : PlainComponent) (kept : List memory.Kept) (i : ℕ) (k : memory.Kept) → AllNear part kept → IsNear part k → AllNear part (set kept i k)
+near_set part [] i k n new = tt
+near_set part (one ∷ kept) zero k n new = (new, n.1)
+near_set part (one ∷ kept) (suc i) k n new = (n.0, near_set part kept i k n.1 new)
+
+pub near_push : (part : PlainComponent) (kept : List memory.Kept) (k : memory.Kept) → AllNear part kept → IsNear part k → AllNear part (kept ++ k ∷ [])
+near_push part [] k n new = (new, tt)
+near_push part (one ∷ kept) k n new = (n.0, near_push part kept k n.1 new)
 
 -- what stands in lists in memory
 pub kept_at : (kept : List memory.Kept) (i : ℕ) (k : memory.Kept) → i < length kept → k ≡ get_or kept i k → get_or (map plain_kept kept) i no_kept ≡ plain_kept k

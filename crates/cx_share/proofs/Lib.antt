@@ -1,4 +1,5 @@
 mod MarkLemmas
+mod BitLemmas
 mod TableLemmas
 mod UseLemmas
 mod KindLemmas

@@ -1,13 +1,12 @@
 -- Marks that are added, one set after another.
-use Rattle.std.proofs.Common.{◌≡◌, ℕ, zero, suc, ◌+◌, ◌<◌, ◌≤◌, Bool, true, false, ◌||◌, nat_eq, tests, List, [], ◌∷◌, ◌++◌, get_or, set, take, length, map, refl, sym, ap, ◌∙◌, arith, ⊎_elim}
+use Rattle.std.proofs.Common.{◌≡◌, ℕ, zero, suc, ◌+◌, ◌<◌, ◌≤◌, Bool, true, false, ◌||◌, nat_eq, tests, List, [], ◌∷◌, ◌++◌, get_or, take, length, map, replicate, refl, sym, ap, ◌∙◌, arith, ⊎_elim}
 use Rattle.std.proofs.lemmas.Bool.{cases_eq}
-use Rattle.std.proofs.lemmas.List.{get_or-set_same, get_or-set_other, get_or_append_left, get_or_at, length-set}
+use Rattle.std.proofs.lemmas.List.{get_or_append_left, get_or_at, get_or_past, ext_get_or, length-replicate}
+use Rattle.std.proofs.lemmas.List.FromFn.{get_or-map-range_with_len, length-map-range_with_len}
+use Rattle.std.proofs.lemmas.List.Folds.{list_any_more}
 use Rattle.cx_text.proofs.ListLaws.{take_all}
-use Rattle.std.proofs.lemmas.List.Folds.{list_any_more, list_any-append}
 use Rattle.cx_meaning.specs.Instances.{Set, just}
-use Rattle.cx_sharing.specs.Giving.{is_in}
-use Rattle.cx_share.specs.Marks.{AreMarks, Adds, any_of}
-use Rattle.cx_share.specs.Using.{Below}
+use Rattle.cx_share.specs.Marks.{AreMarks, Adds, any_of, marks_by}
 
 pub or-assoc : (a b c : Bool) → ((a || b) || c) ≡ (a || (b || c))
 or-assoc true b c = refl
@@ -16,6 +15,12 @@ or-assoc false b c = refl
 pub or-false : (a : Bool) → (a || false) ≡ a
 or-false true = refl
 or-false false = refl
+
+pub or-comm : (a b : Bool) → (a || b) ≡ (b || a)
+or-comm true true = refl
+or-comm true false = refl
+or-comm false true = refl
+or-comm false false = refl
 
 eq_less : (d : ℕ) → false ≡ nat_eq zero (suc d)
 eq_less d = grind (arith, tests)
@@ -56,30 +61,40 @@ adds_then a b c s t p q = record {
 pub adds_same : (a b : List Bool) (s t : Set) → ((c : ℕ) → c < length a → s c ≡ t c) → Adds a b s → Adds a b t
 adds_same a b s t h p = record { count = p.count; marks = λ c lt. p.marks c lt ∙ ap (λ v. get_or a c false || v) (h c lt) }
 
--- a mark is set
-pub adds_one : (xs : List Bool) (cell : ℕ) → cell < length xs → Adds xs (set xs cell true) (just cell)
-adds_one xs cell inside = record {
-  count = length-set xs cell true;
-  marks = λ c lt. ⊎_elim
-      (λ e. subst_to c e)
-      (λ h. get_or-set_other xs cell c true false h ∙ sym (or-false (get_or xs c false)) ∙ ap (λ v. get_or xs c false || v) (sym (just_other cell c (λ e. h (sym e)))))
-      (cases_eq c cell);
-}
-  where
-    or-true : (a : Bool) → (a || true) ≡ true
-    or-true true = refl
-    or-true false = refl
+-- the marks of a set
+pub by_long : (count : ℕ) (set : Set) → length (marks_by count set) ≡ count
+by_long count set = length-map-range_with_len set 0 count
 
-    here : get_or (set xs cell true) cell false ≡ (get_or xs cell false || just cell cell)
-    here = get_or-set_same xs cell true false inside ∙ sym (or-true (get_or xs cell false)) ∙ ap (λ v. get_or xs cell false || v) (sym (just_itself cell))
+pub by_at : (count : ℕ) (set : Set) (c : ℕ) → c < count → get_or (marks_by count set) c false ≡ set c
+by_at count set c lt = get_or-map-range_with_len set 0 count c c false lt (omega arith)
 
-    subst_to : (c : ℕ) → c ≡ cell → get_or (set xs cell true) c false ≡ (get_or xs c false || just cell c)
-    subst_to c e = rw e here
+pub by_past : (count : ℕ) (set : Set) (c : ℕ) → count ≤ c → get_or (marks_by count set) c false ≡ false
+by_past count set c past = get_or_past (marks_by count set) c false (omega (arith, by_long count set))
 
--- a cell that is not there has no mark
-pub adds_beyond : (xs : List Bool) (cell : ℕ) → length xs ≤ cell → Adds xs xs (just cell)
-adds_beyond xs cell outside =
-    adds_same xs xs (λ c. false) (just cell) (λ c lt. sym (just_other cell c (λ e. let h : c < c = omega (arith, e) in absurd (omega (arith, h))))) (adds_none xs)
+pub by_same : (count : ℕ) (s t : Set) → ((c : ℕ) → c < count → s c ≡ t c) → marks_by count s ≡ marks_by count t
+by_same count s t h =
+    ext_get_or false (marks_by count s) (marks_by count t) (by_long count s ∙ sym (by_long count t)) (λ c lt.
+    let below : c < count = omega (arith, by_long count s) in
+    by_at count s c below ∙ h c below ∙ sym (by_at count t c below))
+
+none_marked : (n c : ℕ) → get_or (replicate n false) c false ≡ false
+none_marked zero c = refl
+none_marked (suc n) zero = refl
+none_marked (suc n) (suc c) = none_marked n c
+
+-- a set that is added to no marks
+pub filled : (count : ℕ) (marks : List Bool) (set : Set) → Adds (replicate count false) marks set → marks ≡ marks_by count set
+filled count marks set p =
+    let wide : length marks ≡ count = p.count ∙ length-replicate count false in
+    ext_get_or false marks (marks_by count set) (wide ∙ sym (by_long count set)) (λ c lt.
+    let below : c < count = omega (arith, wide) in
+    p.marks c (omega (arith, below, length-replicate count false)) ∙ ap (λ v. v || set c) (none_marked count c) ∙ sym (by_at count set c below))
+
+pub filled_count : (count : ℕ) (marks : List Bool) (set : Set) → Adds (replicate count false) marks set → length marks ≡ count
+filled_count count marks set p = p.count ∙ length-replicate count false
+
+pub filled_at : (count : ℕ) (marks : List Bool) (set : Set) → Adds (replicate count false) marks set → (c : ℕ) → c < count → get_or marks c false ≡ set c
+filled_at count marks set p c lt = ap (λ m. get_or m c false) (filled count marks set p) ∙ by_at count set c lt
 
 -- from no marks
 pub marks_added : (old new : List Bool) (set : Set) → AreMarks old (λ c. false) → Adds old new set → AreMarks new set
@@ -107,47 +122,6 @@ adds_all f xs i old new end p = let all : take i xs ≡ xs = take_all xs i end i
 pub any_of-map : {A B : Type 0} (f : B → Set) (g : A → B) (xs : List A) (c : ℕ) → any_of (λ x. f (g x)) xs c ≡ any_of f (map g xs) c
 any_of-map f g [] c = refl
 any_of-map f g (x ∷ xs) c = ap (λ v. f (g x) c || v) (any_of-map f g xs c)
-
-pub any_of-same : {A : Type 0} (f g : A → Set) (xs : List A) (c : ℕ) → ((x : A) → f x c ≡ g x c) → any_of f xs c ≡ any_of g xs c
-any_of-same f g [] c h = refl
-any_of-same f g (x ∷ xs) c h = ap (λ v. v || any_of f xs c) (h x) ∙ ap (λ v. g x c || v) (any_of-same f g xs c h)
-
-pub is_in-any_of : (xs : List ℕ) (c : ℕ) → any_of just xs c ≡ is_in c xs
-is_in-any_of xs c = any_of-same just (λ x n. nat_eq x n) xs c (λ x. just_is x c)
-
-is_in_push : (cells : List ℕ) (i c : ℕ) → is_in c (cells ++ i ∷ []) ≡ (is_in c cells || just i c)
-is_in_push cells i c =
-    list_any-append (λ x. nat_eq x c) cells (i ∷ []) ∙ ap (λ v. is_in c cells || v) (or-false (nat_eq i c) ∙ sym (just_is i c))
-
-pub members_begin : (marks : List Bool) → Below marks 0 []
-members_begin marks = record { found = λ c lt. absurd (omega arith); later = λ c le. refl }
-
-pub members_more : (marks : List Bool) (i : ℕ) (cells : List ℕ) → get_or marks i false ≡ true → Below marks i cells → Below marks (i + 1) (cells ++ i ∷ [])
-members_more marks i cells marked b = record {
-  found = λ c lt. ⊎_elim (λ e. same c e) (λ h. other c h (let below : c < i = omega (arith, h) in b.found c below)) (cases_eq c i);
-  later = λ c le. other c (λ e. absurd (omega (arith, e))) (b.later c (omega arith));
-}
-  where
-    other : (c : ℕ) → (c ≡ i → ⊥) → {v : Bool} → is_in c cells ≡ v → is_in c (cells ++ i ∷ []) ≡ v
-    other c h e = is_in_push cells i c ∙ ap (λ v. is_in c cells || v) (just_other i c (λ x. h (sym x))) ∙ or-false (is_in c cells) ∙ e
-
-    here : is_in i (cells ++ i ∷ []) ≡ get_or marks i false
-    here = is_in_push cells i i ∙ ap (λ v. v || just i i) (b.later i (omega arith)) ∙ just_itself i ∙ sym marked
-
-    same : (c : ℕ) → c ≡ i → is_in c (cells ++ i ∷ []) ≡ get_or marks c false
-    same c e = rw e here
-
-pub members_same : (marks : List Bool) (i : ℕ) (cells : List ℕ) → get_or marks i false ≡ false → Below marks i cells → Below marks (i + 1) cells
-members_same marks i cells bare b = record {
-  found = λ c lt. ⊎_elim (λ e. same c e) (λ h. b.found c (omega (arith, h))) (cases_eq c i);
-  later = λ c le. b.later c (omega arith);
-}
-  where
-    here : is_in i cells ≡ get_or marks i false
-    here = b.later i (omega arith) ∙ sym bare
-
-    same : (c : ℕ) → c ≡ i → is_in c cells ≡ get_or marks c false
-    same c e = rw e here
 
 -- marks that are pushed, one for each cell
 pub marks_next : (set : Set) (old : List Bool) (n : ℕ) (b : Bool) → length old ≡ n → ((c : ℕ) → c < n → get_or old c false ≡ set c) → b ≡ set n

@@ -1,101 +1,77 @@
 -- Which cells meet, group by group and statement by statement.
-use Rattle.std.proofs.Common.{◌≡◌, ℕ, zero, suc, ◌<◌, Bool, false, ◌||◌, ◌&&◌, List, [], ◌∷◌, get_or, length, replicate, refl, sym, ap, ◌∙◌, arith}
+use Rattle.std.proofs.Common.{◌≡◌, ℕ, ◌<◌, Bool, true, false, ◌||◌, ◌&&◌, List, [], ◌∷◌, get_or, length, map, replicate, refl, ap, ◌∙◌, arith}
 use Rattle.std.specs.List.{list_any}
-use Rattle.std.proofs.lemmas.List.{length-replicate, length-map, get_or-map}
-use Rattle.std.specs.declared.vec.Vec.{Vec}
 use Rattle.cx_meaning.specs.Designs.{PlainComponent, PlainStatement}
-use Rattle.cx_meaning.specs.Instances.{Set, just}
-use Rattle.cx_meaning.specs.Control.{groups_of}
-use Rattle.cx_rules.specs.Items.{Visited, statements_in, tests_of}
-use Rattle.cx_race.specs.Cells.{tested_by}
-use Rattle.cx_sharing.specs.Giving.{is_in}
-use Rattle.cx_sharing.specs.Meeting.{has_both, arms_meet, form_meets, meet}
-use Rattle.cx_sharing.specs.Uses.{assigns_use, group_uses, uses}
-use Rattle.cx_share.specs.Marks.{AreMarks, Adds, any_of, lists_of}
-use Rattle.cx_share.specs.Tables.{row_at, IsTable, Joins, pairs_of, IsMeeting}
-use Rattle.cx_share.specs.Using.{Lists}
-use Rattle.cx_share.proofs.MarkLemmas.{adds_then, marks_added}
+use Rattle.cx_meaning.specs.Instances.{Set}
+use Rattle.cx_rules.specs.Items.{Visited, statements_in}
+use Rattle.cx_sharing.specs.Meeting.{has_both, arms_meet, form_meets}
+use Rattle.cx_sharing.specs.Uses.{assigns_use, uses}
+use Rattle.cx_share.specs.Marks.{AreMarks, Adds, marks_by}
+use Rattle.cx_share.specs.Tables.{row_at, IsTable, Joins, pairs_of, marked_pairs, in_order, IsMeeting}
+use Rattle.cx_share.specs.Using.{arm_marks, group_marks}
+use Rattle.cx_share.proofs.MarkLemmas.{adds_then, by_at, filled, marks_added}
 use Rattle.cx_share.proofs.TableLemmas.{joins_then, joins_same, joined_table, blank_table, blank_marks}
-use Rattle.cx_share.proofs.UseLemmas.{both_listed, one_more_arm, or-comm, port_cells}
 
-none_marked : (n c : ℕ) → get_or (replicate n false) c false ≡ false
-none_marked zero c = refl
-none_marked (suc n) zero = refl
-none_marked (suc n) (suc c) = none_marked n c
+-- a cell in one of several sets, by their marks
+any_marks : {A : Type 0} (count : ℕ) (f : A → Set) (xs : List A) (y : ℕ) → y < count → list_any (λ s. get_or s y false) (map (λ x. marks_by count (f x)) xs) ≡ list_any (λ x. f x y) xs
+any_marks count f [] y lt = refl
+any_marks count f (x ∷ xs) y lt =
+    ap (λ v. v || list_any (λ s. get_or s y false) (map (λ z. marks_by count (f z)) xs)) (by_at count (f x) y lt) ∙ ap (λ v. f x y || v) (any_marks count f xs y lt)
 
-pub filled_marks : (count : ℕ) (marks : List Bool) (set : Set) → Adds (replicate count false) marks set → AreMarks marks set
-filled_marks count marks set p = marks_added (replicate count false) marks set (λ c lt. none_marked count c) p
+-- two cells of one set
+both_marks : {A : Type 0} (count : ℕ) (f : A → Set) (xs : List A) (x y : ℕ) → x < count → y < count
+    → pairs_of (λ s. marked_pairs s s) (map (λ a. marks_by count (f a)) xs) x y ≡ pairs_of (λ a. has_both (f a)) xs x y
+both_marks count f [] x y h k = refl
+both_marks count f (a ∷ rest) x y h k =
+    ap (λ v. (v && get_or (marks_by count (f a)) y false) || pairs_of (λ s. marked_pairs s s) (map (λ z. marks_by count (f z)) rest) x y) (by_at count (f a) x h)
+    ∙ ap (λ v. (f a x && v) || pairs_of (λ s. marked_pairs s s) (map (λ z. marks_by count (f z)) rest) x y) (by_at count (f a) y k)
+    ∙ ap (λ v. (f a x && f a y) || v) (both_marks count f rest x y h k)
 
-pub filled_count : (count : ℕ) (marks : List Bool) (set : Set) → Adds (replicate count false) marks set → length marks ≡ count
-filled_count count marks set p = p.count ∙ length-replicate count false
+pub groups_joined : (part : PlainComponent) (a b : List (List Bool)) → IsTable (length part.cells) a → Joins a b (pairs_of (λ s. marked_pairs s s) (group_marks part))
+    → Joins a b (pairs_of (λ g. has_both (assigns_use g.assigns)) part.groups)
+groups_joined part a b t j =
+    joins_same (length part.cells) a b (pairs_of (λ s. marked_pairs s s) (group_marks part)) (pairs_of (λ g. has_both (assigns_use g.assigns)) part.groups) t
+    (both_marks (length part.cells) (λ g. assigns_use g.assigns) part.groups) j
 
--- the members of marks that are a set
-pub listed_set : (count : ℕ) (marks : List Bool) (set : Set) (cells : List ℕ) → length marks ≡ count → AreMarks marks set
-    → Lists (length marks) (λ c. get_or marks c false) cells → Lists count set cells
-listed_set count marks set cells wide m l = λ c lt.
-    let below : c < length marks = omega (arith, wide) in
-    l c below ∙ m c below
+-- the two of a condition
+pub test_joined : (count : ℕ) (s t : Set) (mid marks : List Bool) (a b : List (List Bool)) → IsTable count a → Adds (replicate count false) mid s → Adds mid marks t
+    → Joins a b (marked_pairs marks marks) → Joins a b (has_both (λ c. s c || t c))
+test_joined count s t mid marks a b table p q j =
+    let both : Set = λ c. s c || t c in
+    let whole : marks ≡ marks_by count both = filled count marks both (adds_then (replicate count false) mid marks s t p q) in
+    joins_same count a b (marked_pairs marks marks) (has_both both) table
+    (λ x y h k. ap (λ m. get_or m x false && get_or m y false) whole ∙ ap (λ v. v && get_or (marks_by count both) y false) (by_at count both x h) ∙ ap (λ v. both x && v) (by_at count both y k))
+    j
 
-pub filled_list : (count : ℕ) (marks : List Bool) (set : Set) (cells : List ℕ) → Adds (replicate count false) marks set
-    → Lists (length marks) (λ c. get_or marks c false) cells → Lists count set cells
-filled_list count marks set cells p l = listed_set count marks set cells (filled_count count marks set p) (filled_marks count marks set p) l
+-- arms, in order and the other way round
+arms_in_order : (part : PlainComponent) (arms : List PlainStatement) (x y : ℕ) → x < length part.cells → y < length part.cells
+    → (in_order (arm_marks part arms) x y || in_order (arm_marks part arms) y x) ≡ arms_meet part arms x y
+arms_in_order part [] x y h k = refl
+arms_in_order part (arm ∷ later) x y h k =
+    one (get_or (marks_by (length part.cells) (uses part arm)) x false) (uses part arm x) (list_any (λ s. get_or s y false) (arm_marks part later)) (list_any (λ s. uses part s y) later)
+    (get_or (marks_by (length part.cells) (uses part arm)) y false) (uses part arm y) (list_any (λ s. get_or s x false) (arm_marks part later)) (list_any (λ s. uses part s x) later)
+    (in_order (arm_marks part later) x y) (in_order (arm_marks part later) y x) (arms_meet part later x y)
+    (by_at (length part.cells) (uses part arm) x h) (any_marks (length part.cells) (uses part) later y k) (by_at (length part.cells) (uses part arm) y k) (any_marks (length part.cells) (uses part) later x h)
+    (arms_in_order part later x y h k)
+  where
+    turned : (p u q v : Bool) → ((p || u) || (q || v)) ≡ (p || q || (u || v))
+    turned true u q v = refl
+    turned false true true v = refl
+    turned false true false v = refl
+    turned false false q v = refl
 
-pub same_list : (count : ℕ) (s t : Set) (cells : List ℕ) → ((c : ℕ) → s c ≡ t c) → Lists count s cells → Lists count t cells
-same_list count s t cells h l = λ c lt. l c lt ∙ h c
+    one : (ax ax' ly ly' ay ay' lx lx' u v met : Bool) → ax ≡ ax' → ly ≡ ly' → ay ≡ ay' → lx ≡ lx' → (u || v) ≡ met
+        → (((ax && ly) || u) || ((ay && lx) || v)) ≡ ((ax' && ly') || (ay' && lx') || met)
+    one ax ax' ly ly' ay ay' lx lx' u v met a b c d e =
+        turned (ax && ly) u (ay && lx) v ∙ ap (λ w. (w && ly) || (ay && lx) || (u || v)) a ∙ ap (λ w. (ax' && w) || (ay && lx) || (u || v)) b
+        ∙ ap (λ w. (ax' && ly') || (w && lx) || (u || v)) c ∙ ap (λ w. (ax' && ly') || (ay' && w) || (u || v)) d ∙ ap (λ w. (ax' && ly') || (ay' && lx') || w) e
 
--- what a statement uses
-pub used_list : (part : PlainComponent) (s : PlainStatement) (groups tested : List ℕ) (count : ℕ) (mid marks : List Bool) (cells : List ℕ)
-    → groups ≡ groups_of s → tested ≡ tested_by s → Adds (replicate count false) mid (any_of (group_uses part) groups) → Adds mid marks (any_of just tested)
-    → Lists (length marks) (λ c. get_or marks c false) cells → Lists count (uses part s) cells
-used_list part s groups tested count mid marks cells g t p q l =
-    same_list count (λ c. any_of (group_uses part) groups c || any_of just tested c) (uses part s) cells
-    (λ c. ap (λ gs. any_of (group_uses part) gs c || any_of just tested c) g
-    ∙ ap (λ ts. any_of (group_uses part) (groups_of s) c || any_of just ts c) t
-    ∙ ap (λ v. any_of (group_uses part) (groups_of s) c || v) (port_cells (tests_of s) c))
-    (filled_list count marks (λ c. any_of (group_uses part) groups c || any_of just tested c) cells
-    (adds_then (replicate count false) mid marks (any_of (group_uses part) groups) (any_of just tested) p q) l)
-
--- any two of a list are any two of a set
-pub joins_listed : (count : ℕ) (set : Set) (cells : List ℕ) (a b : List (List Bool)) → IsTable count a → Lists count set cells
-    → Joins a b (λ x y. is_in x cells && is_in y cells) → Joins a b (has_both set)
-joins_listed count set cells a b t l j =
-    joins_same count a b (λ x y. is_in x cells && is_in y cells) (has_both set) t
-    (λ x y h k. ap (λ v. v && is_in y cells) (l x h) ∙ ap (λ v. set x && v) (l y k)) j
-
--- an arm with the later ones, both ways
-pub arm_joined : (marks : List Bool) (cells later : List ℕ) (a b c : List (List Bool)) → IsTable (length marks) a → Lists (length marks) (λ n. get_or marks n false) later
-    → Joins a b (λ x y. is_in x cells && is_in y later) → Joins b c (λ x y. is_in x later && is_in y cells)
-    → Joins a c (λ x y. (is_in x cells && get_or marks y false) || (get_or marks x false && is_in y cells))
-arm_joined marks cells later a b c t l p q =
-    joins_same (length marks) a c (λ x y. (is_in x cells && is_in y later) || (is_in x later && is_in y cells))
-    (λ x y. (is_in x cells && get_or marks y false) || (get_or marks x false && is_in y cells)) t
-    (λ x y h k. ap (λ v. (is_in x cells && v) || (is_in x later && is_in y cells)) (l y k) ∙ ap (λ v. (is_in x cells && get_or marks y false) || (v && is_in y cells)) (l x h))
-    (joins_then a b c (λ x y. is_in x cells && is_in y later) (λ x y. is_in x later && is_in y cells) p q)
-
--- one more arm
-pub arm_more : (part : PlainComponent) (arm : PlainStatement) (rest : List PlainStatement) (count : ℕ) (later : List Bool) (cells : List ℕ) (a b c : List (List Bool))
-    → IsTable count a → length later ≡ count → AreMarks later (any_of (uses part) rest) → Lists count (uses part arm) cells → Joins a b (arms_meet part rest)
-    → Joins b c (λ x y. (is_in x cells && get_or later y false) || (get_or later x false && is_in y cells)) → Joins a c (arms_meet part (arm ∷ rest))
-arm_more part arm rest count later cells a b c t wide m l p q =
-    joins_same count a c
-    (λ x y. arms_meet part rest x y || ((is_in x cells && get_or later y false) || (get_or later x false && is_in y cells))) (arms_meet part (arm ∷ rest)) t
-    (λ x y h k.
-    let left : x < length later = omega (arith, wide) in
-    let right : y < length later = omega (arith, wide) in
-    ap (λ v. arms_meet part rest x y || ((v && get_or later y false) || (get_or later x false && is_in y cells))) (l x h)
-    ∙ ap (λ v. arms_meet part rest x y || ((uses part arm x && v) || (get_or later x false && is_in y cells))) (m y right)
-    ∙ ap (λ v. arms_meet part rest x y || ((uses part arm x && any_of (uses part) rest y) || (v && is_in y cells))) (m x left)
-    ∙ ap (λ v. arms_meet part rest x y || ((uses part arm x && any_of (uses part) rest y) || (any_of (uses part) rest x && v))) (l y k)
-    ∙ one_more_arm part arm rest x y)
-    (joins_then a b c (arms_meet part rest) (λ x y. (is_in x cells && get_or later y false) || (get_or later x false && is_in y cells)) p q)
-
-pub marks_more : (part : PlainComponent) (arm : PlainStatement) (rest : List PlainStatement) (count : ℕ) (later new : List Bool) (cells : List ℕ)
-    → length later ≡ count → AreMarks later (any_of (uses part) rest) → Lists count (uses part arm) cells → Adds later new (λ c. is_in c cells)
-    → AreMarks new (any_of (uses part) (arm ∷ rest))
-marks_more part arm rest count later new cells wide m l p = λ c lt.
-    let below : c < length later = omega (arith, p.count) in
-    let inside : c < count = omega (arith, wide) in
-    p.marks c below ∙ ap (λ v. v || is_in c cells) (m c below) ∙ ap (λ v. any_of (uses part) rest c || v) (l c inside) ∙ or-comm (any_of (uses part) rest c) (uses part arm c)
+pub arms_joined : (part : PlainComponent) (arms : List PlainStatement) (one two a b c : List (List Bool)) → one ≡ arm_marks part arms → two ≡ arm_marks part arms → IsTable (length part.cells) a
+    → Joins a b (in_order one) → Joins b c (λ x y. in_order two y x) → Joins a c (arms_meet part arms)
+arms_joined part arms one two a b c e f t p q =
+    joins_same (length part.cells) a c (λ x y. in_order one x y || in_order two y x) (arms_meet part arms) t
+    (λ x y h k. ap (λ sets. in_order sets x y || in_order two y x) e ∙ ap (λ sets. in_order (arm_marks part arms) x y || in_order sets y x) f ∙ arms_in_order part arms x y h k)
+    (joins_then a b c (in_order one) (λ x y. in_order two y x) p q)
 
 -- two sets of pairs in an empty table
 made_table : (count : ℕ) (first second : ℕ → Set) (a b c : List (List Bool)) → a ≡ replicate count (replicate count false) → Joins a b first → Joins b c second → IsTable count c
@@ -113,40 +89,11 @@ made_marks count first second a b c blank p q x h =
     marks_added (row_at a x) (row_at c x) (λ y. first x y || second x y) none (both.rows x inside)
 
 -- ALL THAT MEET
-pub meeting_made : (part : PlainComponent) (lists : List (List ℕ)) (visited : List Visited) (a b c : List (List Bool))
-    → a ≡ replicate (length part.cells) (replicate (length part.cells) false) → ((g : ℕ) → Lists (length part.cells) (group_uses part g) (get_or lists g []))
-    → visited ≡ statements_in part → Joins a b (pairs_of (λ cells x y. is_in x cells && is_in y cells) lists)
-    → Joins b c (pairs_of (λ v. form_meets part v.form) visited) → IsMeeting part c
-meeting_made part lists visited a b c blank used seen p q =
-    let table : IsTable (length part.cells) c =
-    made_table (length part.cells) (pairs_of (λ cells x y. is_in x cells && is_in y cells) lists) (pairs_of (λ v. form_meets part v.form) visited) a b c blank p q in
-    record {
-      table = table;
-      pairs = λ x h y lt.
-          let wide : length (row_at c x) ≡ length part.cells = table.width x h in
-          let below : y < length part.cells = omega (arith, wide) in
-          made_marks (length part.cells) (pairs_of (λ cells n m. is_in n cells && is_in m cells) lists) (pairs_of (λ v. form_meets part v.form) visited) a b c blank p q x h y lt
-          ∙ ap (λ v. v || list_any (λ w. form_meets part w.form x y) visited) (both_listed lists part.groups x y (λ g. used g x h) (λ g. used g y below))
-          ∙ ap (λ vs. list_any (λ g. has_both (assigns_use g.assigns) x y) part.groups || list_any (λ v. form_meets part v.form x y) vs) seen;
-    }
-
--- a table as it lies in memory
-pub table_long : (A : Type 0) (count : ℕ) (table : List (Vec Bool A)) → IsTable count (lists_of table) → length table ≡ count
-table_long A count table t = sym (length-map table (λ (v : Vec Bool A). v.items)) ∙ t.height
-
-pub row_there : (A : Type 0) (table : List (Vec Bool A)) (x : ℕ) (row : Vec Bool A) → x < length table → row ≡ get_or table x row → row_at (lists_of table) x ≡ row.items
-row_there A table x row lt at = get_or-map (λ (v : Vec Bool A). v.items) table x row [] lt ∙ ap (λ (v : Vec Bool A). v.items) (sym at)
-
-pub row_long : (A : Type 0) (count : ℕ) (table : List (Vec Bool A)) (x : ℕ) (row : Vec Bool A) → IsTable count (lists_of table) → x < count → row ≡ get_or table x row → length row.items ≡ count
-row_long A count table x row t lt at =
-    let inside : x < length table = rw (table_long A count table t) lt in
-    ap length (sym (row_there A table x row inside at)) ∙ t.width x lt
-
-pub met_there : (A : Type 0) (part : PlainComponent) (table : List (Vec Bool A)) (x y : ℕ) (row : Vec Bool A) → IsMeeting part (lists_of table) → x < length part.cells → y < length part.cells
-    → row ≡ get_or table x row → get_or row.items y false ≡ meet part x y
-met_there A part table x y row m h k at =
-    let inside : x < length table = rw (table_long A (length part.cells) table m.table) h in
-    let there : row_at (lists_of table) x ≡ row.items = row_there A table x row inside at in
-    let wide : length (row_at (lists_of table) x) ≡ length part.cells = m.table.width x h in
-    let below : y < length (row_at (lists_of table) x) = omega (arith, wide) in
-    ap (λ r. get_or r y false) (sym there) ∙ m.pairs x h y below
+pub meeting_made : (part : PlainComponent) (visited : List Visited) (a b c : List (List Bool)) → a ≡ replicate (length part.cells) (replicate (length part.cells) false) → visited ≡ statements_in part
+    → Joins a b (pairs_of (λ g. has_both (assigns_use g.assigns)) part.groups) → Joins b c (pairs_of (λ v. form_meets part v.form) visited) → IsMeeting part c
+meeting_made part visited a b c blank seen p q = record {
+  table = made_table (length part.cells) (pairs_of (λ g. has_both (assigns_use g.assigns)) part.groups) (pairs_of (λ v. form_meets part v.form) visited) a b c blank p q;
+  pairs = λ x h y lt.
+      made_marks (length part.cells) (pairs_of (λ g. has_both (assigns_use g.assigns)) part.groups) (pairs_of (λ v. form_meets part v.form) visited) a b c blank p q x h y lt
+      ∙ ap (λ vs. list_any (λ g. has_both (assigns_use g.assigns) x y) part.groups || list_any (λ v. form_meets part v.form x y) vs) seen;
+}

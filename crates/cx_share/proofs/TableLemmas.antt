@@ -1,13 +1,14 @@
 -- Marks of pairs that are added, one set of pairs after another.
-use Rattle.std.proofs.Common.{◌≡◌, ℕ, zero, suc, ◌+◌, ◌<◌, ◌≤◌, Bool, true, false, ◌||◌, ◌&&◌, List, [], ◌∷◌, get_or, set, take, length, map, replicate, refl, sym, ap, ◌∙◌, arith, ⊎_elim}
-use Rattle.std.proofs.lemmas.Bool.{cases_eq}
-use Rattle.std.proofs.lemmas.List.{get_or-set_same, get_or-set_other, length-set, length-map, map-set, get_or-map, get_or-replicate, length-replicate}
+use Rattle.std.proofs.Common.{◌≡◌, ℕ, zero, suc, ◌+◌, ◌<◌, ◌≤◌, Bool, true, false, ◌||◌, ◌&&◌, not, nat_lt, List, [], ◌∷◌, get_or, set, take, length, map, replicate, refl, sym, ap, ◌∙◌, arith, ⊎_elim, add-one}
+use Rattle.std.specs.List.{list_any}
+use Rattle.std.proofs.lemmas.Bool.{cases_eq, cases_lt, lt-ltb, le-ltb, true≢false}
+use Rattle.std.proofs.lemmas.List.{get_or-set_same, get_or-set_other, get_or_past, length-set, get_or-replicate, length-replicate}
+use Rattle.std.proofs.lemmas.List.Folds.{list_any_more}
 use Rattle.cx_text.proofs.ListLaws.{take_all}
 use Rattle.cx_meaning.specs.Instances.{Set, just}
-use Rattle.std.specs.declared.vec.Vec.{Vec}
-use Rattle.cx_share.specs.Marks.{AreMarks, Adds, any_of, lists_of}
-use Rattle.cx_share.specs.Tables.{row_at, IsTable, Joins, pairs_of}
-use Rattle.cx_share.proofs.MarkLemmas.{adds_none, adds_then, adds_same, adds_at, adds_step, any_of-map, just_itself, just_other}
+use Rattle.cx_share.specs.Marks.{AreMarks, Adds, any_of}
+use Rattle.cx_share.specs.Tables.{row_at, IsTable, Joins, pairs_of, between, marked_pairs, in_order}
+use Rattle.cx_share.proofs.MarkLemmas.{or-comm, or-false, adds_none, adds_then, adds_same, adds_step, any_of-map, just_itself, just_other}
 
 pub joins_none : (rows : List (List Bool)) → Joins rows rows (λ x y. false)
 joins_none rows = record { count = refl; rows = λ x lt. adds_none (row_at rows x) }
@@ -67,27 +68,7 @@ joins_row rows one row set_of inside p = record {
         let at : row_at (set rows one row) x ≡ row_at rows x = get_or-set_other rows one x row [] h in
         rw at (adds_same (row_at rows x) (row_at rows x) (λ y. false) (λ y. just one x && set_of y) (λ y lt. and-false (just one x) (set_of y) (just_other one x (λ e. h (sym e)))) (adds_none (row_at rows x)))
 
--- a row that is not there
-pub joins_beyond : (rows : List (List Bool)) (one : ℕ) (set_of : Set) → length rows ≤ one → Joins rows rows (λ x y. just one x && set_of y)
-joins_beyond rows one set_of outside = record {
-  count = refl;
-  rows = λ x lt. adds_same (row_at rows x) (row_at rows x) (λ y. false) (λ y. just one x && set_of y)
-      (λ y below. none x lt y) (adds_none (row_at rows x));
-}
-  where
-    none : (x : ℕ) → x < length rows → (y : ℕ) → false ≡ (just one x && set_of y)
-    none x lt y = let e : just one x ≡ false = just_other one x (λ e. absurd (omega (arith, e))) in rw e refl
-
 -- one more set of pairs of a list of them
-pub joins_at : {A : Type 0} (f : A → ℕ → Set) (xs : List A) (i : ℕ) (d : A) (old mid new : List (List Bool)) → i < length xs
-    → Joins old mid (pairs_of f (take i xs)) → Joins mid new (f (get_or xs i d)) → Joins old new (pairs_of f (take (i + 1) xs))
-joins_at f xs i d old mid new inside p q = record {
-  count = q.count ∙ p.count;
-  rows = λ n lt.
-      let below : n < length mid = omega (arith, p.count) in
-      adds_at (λ a. f a n) xs i d (row_at old n) (row_at mid n) (row_at new n) inside (p.rows n lt) (q.rows n below);
-}
-
 pub joins_step : {A : Type 0} (f : A → ℕ → Set) (xs : List A) (i : ℕ) (x : A) (old mid new : List (List Bool)) → i < length xs → x ≡ get_or xs i x
     → Joins old mid (pairs_of f (take i xs)) → Joins mid new (f x) → Joins old new (pairs_of f (take (i + 1) xs))
 joins_step f xs i x old mid new inside is p q = record {
@@ -117,17 +98,6 @@ blank_marks count x lt =
     none (suc n) zero = refl
     none (suc n) (suc y) = none n y
 
--- each of one list with each of another
-pub pairs_with : (ones : List ℕ) (others : Set) (x y : ℕ) → pairs_of (λ one n m. just one n && others m) ones x y ≡ (any_of just ones x && others y)
-pairs_with [] others x y = refl
-pairs_with (one ∷ ones) others x y = ap (λ v. (just one x && others y) || v) (pairs_with ones others x y) ∙ and-or (just one x) (any_of just ones x) (others y)
-  where
-    and-or : (a b w : Bool) → ((a && w) || (b && w)) ≡ ((a || b) && w)
-    and-or true b true = refl
-    and-or true true false = refl
-    and-or true false false = refl
-    and-or false b w = refl
-
 pub joins_eq : (a b : List (List Bool)) (p q : ℕ → Set) → ((x y : ℕ) → p x y ≡ q x y) → Joins a b p → Joins a b q
 joins_eq a b p q h f = record { count = f.count; rows = λ x lt. adds_same (row_at a x) (row_at b x) (p x) (q x) (λ y below. h x y) (f.rows x lt) }
 
@@ -135,11 +105,194 @@ joins_eq a b p q h f = record { count = f.count; rows = λ x lt. adds_same (row_
 pub joins_map : {A B : Type 0} (f : B → ℕ → Set) (g : A → B) (xs : List A) (a b : List (List Bool)) → Joins a b (pairs_of (λ x. f (g x)) xs) → Joins a b (pairs_of f (map g xs))
 joins_map f g xs a b j = joins_eq a b (pairs_of (λ x. f (g x)) xs) (pairs_of f (map g xs)) (λ x y. any_of-map (λ v. f v x) g xs y) j
 
--- a row that is changed, as it lies in memory
-pub row_joined : (A : Type 0) (set_of : Set) (table : List (Vec Bool A)) (one : ℕ) (before new : Vec Bool A) → one < length table → before ≡ get_or table one before → Adds before.items new.items set_of
-    → Joins (lists_of table) (lists_of (set table one new)) (λ x y. just one x && set_of y)
-row_joined A set_of table one before new lt at p =
-    let inside : one < length (lists_of table) = rw (length-map table (λ (v : Vec Bool A). v.items)) lt in
-    let there : row_at (lists_of table) one ≡ before.items = get_or-map (λ (v : Vec Bool A). v.items) table one before [] lt ∙ ap (λ (v : Vec Bool A). v.items) (sym at) in
-    let changed : lists_of (set table one new) ≡ set (lists_of table) one new.items = map-set (λ (v : Vec Bool A). v.items) table one new in
-    rw changed (joins_row (lists_of table) one new.items set_of inside (rw there p))
+-- RANGES of first cells
+between_none : (n : ℕ) (p : ℕ → Set) (x y : ℕ) → false ≡ between n n p x y
+between_none n p x y = by (nat_lt x n) (p x y)
+  where
+    by : (b v : Bool) → false ≡ (not b && (b && v))
+    by true v = refl
+    by false v = refl
+
+between_next : (from n : ℕ) (p : ℕ → Set) (x y : ℕ) → from ≤ n → (between from n p x y || (just n x && p x y)) ≡ between from (suc n) p x y
+between_next from n p x y le = ⊎_elim (λ lt. before lt) (λ past. inside past) (cases_lt x from)
+  where
+    before : x < from → (between from n p x y || (just n x && p x y)) ≡ between from (suc n) p x y
+    before lt =
+        let first : nat_lt x from ≡ true = lt-ltb x from lt in
+        let other : just n x ≡ false = just_other n x (λ e. absurd (omega (arith, e))) in
+        rw (first, other) refl
+
+    inside : from ≤ x → (between from n p x y || (just n x && p x y)) ≡ between from (suc n) p x y
+    inside past =
+        let first : nat_lt x from ≡ false = le-ltb x from past in
+        ⊎_elim
+        (λ lt.
+        let here : nat_lt x n ≡ true = lt-ltb x n lt in
+        let there : nat_lt x (suc n) ≡ true = lt-ltb x (suc n) (omega arith) in
+        let other : just n x ≡ false = just_other n x (λ e. absurd (omega (arith, e))) in
+        rw (first, here, there, other) (or-false (p x y)))
+        (λ beyond.
+        let here : nat_lt x n ≡ false = le-ltb x n beyond in
+        ⊎_elim
+        (λ (e : n ≡ x).
+        let there : nat_lt x (suc n) ≡ true = lt-ltb x (suc n) (omega arith) in
+        let same : just n x ≡ true = ap (just n) (sym e) ∙ just_itself n in
+        rw (first, here, there, same) refl)
+        (λ h.
+        let there : nat_lt x (suc n) ≡ false = le-ltb x (suc n) (omega (arith, h)) in
+        let other : just n x ≡ false = just_other n x h in
+        rw (first, here, there, other) refl)
+        (cases_eq n x))
+        (cases_lt x n)
+
+between_then : (a b c : ℕ) (p : ℕ → Set) (x y : ℕ) → a ≤ b → b ≤ c → (between a b p x y || between b c p x y) ≡ between a c p x y
+between_then a b c p x y ab bc = ⊎_elim (λ lt. before lt) (λ past. inside past) (cases_lt x a)
+  where
+    before : x < a → (between a b p x y || between b c p x y) ≡ between a c p x y
+    before lt =
+        let first : nat_lt x a ≡ true = lt-ltb x a lt in
+        let second : nat_lt x b ≡ true = lt-ltb x b (omega arith) in
+        rw (first, second) refl
+
+    inside : a ≤ x → (between a b p x y || between b c p x y) ≡ between a c p x y
+    inside past =
+        let first : nat_lt x a ≡ false = le-ltb x a past in
+        ⊎_elim
+        (λ lt.
+        let second : nat_lt x b ≡ true = lt-ltb x b lt in
+        let third : nat_lt x c ≡ true = lt-ltb x c (omega arith) in
+        rw (first, second, third) (or-false (p x y)))
+        (λ beyond. let second : nat_lt x b ≡ false = le-ltb x b beyond in rw (first, second) refl)
+        (cases_lt x b)
+
+between_all : (n : ℕ) (p : ℕ → Set) (x y : ℕ) → x < n → between 0 n p x y ≡ p x y
+between_all n p x y lt =
+    let first : nat_lt x 0 ≡ false = le-ltb x 0 (omega arith) in
+    let second : nat_lt x n ≡ true = lt-ltb x n lt in
+    rw (first, second) refl
+
+pub joins_begin : (rows : List (List Bool)) (n : ℕ) (p : ℕ → Set) → Joins rows rows (between n n p)
+joins_begin rows n p = joins_eq rows rows (λ x y. false) (between n n p) (between_none n p) (joins_none rows)
+
+pub joins_next : (rows mid new : List (List Bool)) (from n : ℕ) (p : ℕ → Set) → from ≤ n → Joins rows mid (between from n p) → Joins mid new (λ x y. just n x && p x y) → Joins rows new (between from (n + 1) p)
+joins_next rows mid new from n p le f g =
+    rw (add-one n)
+    (joins_eq rows new (λ x y. between from n p x y || (just n x && p x y)) (between from (suc n) p) (λ x y. between_next from n p x y le) (joins_then rows mid new (between from n p) (λ x y. just n x && p x y) f g))
+
+pub joins_range : (rows mid new : List (List Bool)) (a b c : ℕ) (p : ℕ → Set) → a ≤ b → b ≤ c → Joins rows mid (between a b p) → Joins mid new (between b c p) → Joins rows new (between a c p)
+joins_range rows mid new a b c p ab bc f g =
+    joins_eq rows new (λ x y. between a b p x y || between b c p x y) (between a c p) (λ x y. between_then a b c p x y ab bc) (joins_then rows mid new (between a b p) (between b c p) f g)
+
+-- a range without pairs
+pub joins_bare : (rows new : List (List Bool)) (a b c : ℕ) (p : ℕ → Set) → a ≤ b → b ≤ c → ((x y : ℕ) → b ≤ x → x < c → p x y ≡ false) → Joins rows new (between a b p) → Joins rows new (between a c p)
+joins_bare rows new a b c p ab bc none f =
+    joins_range rows new new a b c p ab bc f (joins_eq new new (λ x y. false) (between b c p) (λ x y. bare x y) (joins_none new))
+  where
+    bare : (x y : ℕ) → false ≡ between b c p x y
+    bare x y =
+        ⊎_elim
+        (λ lt. let first : nat_lt x b ≡ true = lt-ltb x b lt in rw first refl)
+        (λ past.
+        let first : nat_lt x b ≡ false = le-ltb x b past in
+        ⊎_elim
+        (λ lt. let second : nat_lt x c ≡ true = lt-ltb x c lt in rw (first, second) (sym (none x y past lt)))
+        (λ beyond. let second : nat_lt x c ≡ false = le-ltb x c beyond in rw (first, second) refl)
+        (cases_lt x c))
+        (cases_lt x b)
+
+pub joins_whole : (count n : ℕ) (rows new : List (List Bool)) (p : ℕ → Set) → IsTable count rows → count ≤ n → Joins rows new (between 0 n p) → Joins rows new p
+joins_whole count n rows new p t le f = joins_same count rows new (between 0 n p) p t (λ x y h k. between_all n p x y (omega arith)) f
+
+-- a row of those with which a cell stands
+pub joins_one : (rows : List (List Bool)) (one : ℕ) (row ones others : List Bool) → one < length rows → get_or ones one false ≡ true → Adds (row_at rows one) row (λ y. get_or others y false)
+    → Joins rows (set rows one row) (λ x y. just one x && marked_pairs ones others x y)
+joins_one rows one row ones others inside has p =
+    joins_eq rows (set rows one row) (λ x y. just one x && get_or others y false) (λ x y. just one x && marked_pairs ones others x y) (λ x y. pair x y) (joins_row rows one row (λ y. get_or others y false) inside p)
+  where
+    pair : (x y : ℕ) → (just one x && get_or others y false) ≡ (just one x && marked_pairs ones others x y)
+    pair x y =
+        ⊎_elim
+        (λ (e : one ≡ x). let here : get_or ones x false ≡ true = ap (λ n. get_or ones n false) (sym e) ∙ has in rw here refl)
+        (λ h. let other : just one x ≡ false = just_other one x h in rw other refl)
+        (cases_eq one x)
+
+pub joins_absent : (rows : List (List Bool)) (one : ℕ) (ones others : List Bool) → get_or ones one false ≡ false → Joins rows rows (λ x y. just one x && marked_pairs ones others x y)
+joins_absent rows one ones others none = joins_eq rows rows (λ x y. false) (λ x y. just one x && marked_pairs ones others x y) (λ x y. pair x y) (joins_none rows)
+  where
+    pair : (x y : ℕ) → false ≡ (just one x && marked_pairs ones others x y)
+    pair x y =
+        ⊎_elim
+        (λ (e : one ≡ x).
+        let here : get_or ones x false ≡ false = ap (λ n. get_or ones n false) (sym e) ∙ none in
+        let same : just one x ≡ true = ap (just one) (sym e) ∙ just_itself one in
+        rw (same, here) refl)
+        (λ h. let other : just one x ≡ false = just_other one x h in rw other refl)
+        (cases_eq one x)
+
+-- a cell that has a mark is there
+pub marked_inside : (marks : List Bool) (c : ℕ) → get_or marks c false ≡ true → c < length marks
+marked_inside marks c has =
+    ⊎_elim (λ lt. lt) (λ past. let none : get_or marks c false ≡ false = get_or_past marks c false past in absurd (true≢false (sym has ∙ none))) (cases_lt c (length marks))
+
+-- SETS IN ORDER: one more set, and those before it
+and-false : (a : Bool) → (a && false) ≡ false
+and-false true = refl
+and-false false = refl
+
+grown : (a b o g e : Bool) → (((a && b) || o) || (g && (a || e))) ≡ ((a && (b || g)) || (o || (g && e)))
+grown false b o g e = refl
+grown true true o g e = refl
+grown true false true true e = refl
+grown true false true false e = refl
+grown true false false true e = refl
+grown true false false false e = refl
+
+order_next : (sets : List (List Bool)) (i : ℕ) (d : List Bool) (x y : ℕ) → i < length sets
+    → (in_order (take i sets) y x || (get_or (get_or sets i d) x false && list_any (λ s. get_or s y false) (take i sets))) ≡ in_order (take (suc i) sets) y x
+order_next [] i d x y lt = absurd (omega arith)
+order_next (s ∷ ss) zero d x y lt = and-false (get_or s x false) ∙ sym (or-false (get_or s y false && false) ∙ and-false (get_or s y false))
+order_next (s ∷ ss) (suc i) d x y lt =
+    let below : i < length ss = let h : suc i < suc (length ss) = lt in omega arith in
+    let new = get_or ss i d in
+    let some : (list_any (λ t. get_or t x false) (take i ss) || get_or new x false) ≡ list_any (λ t. get_or t x false) (take (suc i) ss) =
+    sym (list_any_more (λ t. get_or t x false) ss i d below) ∙ ap (λ n. list_any (λ t. get_or t x false) (take n ss)) (add-one i) in
+    grown (get_or s y false) (list_any (λ t. get_or t x false) (take i ss)) (in_order (take i ss) y x) (get_or new x false) (list_any (λ t. get_or t y false) (take i ss))
+    ∙ ap (λ v. (get_or s y false && v) || (in_order (take i ss) y x || (get_or new x false && list_any (λ t. get_or t y false) (take i ss)))) some
+    ∙ ap (λ v. (get_or s y false && list_any (λ t. get_or t x false) (take (suc i) ss)) || v) (order_next ss i d x y below)
+
+pub order_more : (sets : List (List Bool)) (i : ℕ) (set : List Bool) (earlier : List Bool) (count : ℕ) (a b c : List (List Bool)) → i < length sets → set ≡ get_or sets i set → IsTable count a → length earlier ≡ count
+    → AreMarks earlier (any_of (λ s n. get_or s n false) (take i sets)) → Joins a b (λ x y. in_order (take i sets) y x) → Joins b c (marked_pairs set earlier)
+    → Joins a c (λ x y. in_order (take (i + 1) sets) y x)
+order_more sets i set earlier count a b c lt at t wide m f g =
+    rw (add-one i)
+    (joins_same count a c (λ x y. in_order (take i sets) y x || marked_pairs set earlier x y) (λ x y. in_order (take (suc i) sets) y x) t
+    (λ x y h k.
+    let below : y < length earlier = omega (arith, wide) in
+    ap (λ v. in_order (take i sets) y x || (get_or set x false && v)) (m y below)
+    ∙ ap (λ s. in_order (take i sets) y x || (get_or s x false && list_any (λ s. get_or s y false) (take i sets))) at
+    ∙ order_next sets i set x y lt)
+    (joins_then a b c (λ x y. in_order (take i sets) y x) (marked_pairs set earlier) f g))
+
+-- one more set, and those after it
+pub order_before : (set : List Bool) (rest : List (List Bool)) (later : List Bool) (count : ℕ) (a b c : List (List Bool)) → IsTable count a → length later ≡ count
+    → AreMarks later (any_of (λ s n. get_or s n false) rest) → Joins a b (in_order rest) → Joins b c (marked_pairs set later) → Joins a c (in_order (set ∷ rest))
+order_before set rest later count a b c t wide m f g =
+    joins_same count a c (λ x y. in_order rest x y || marked_pairs set later x y) (in_order (set ∷ rest)) t
+    (λ x y h k.
+    let below : y < length later = omega (arith, wide) in
+    ap (λ v. in_order rest x y || (get_or set x false && v)) (m y below) ∙ or-comm (in_order rest x y) (get_or set x false && list_any (λ s. get_or s y false) rest))
+    (joins_then a b c (in_order rest) (marked_pairs set later) f g)
+
+-- the marks of one more set
+pub later_more : (set later new : List Bool) (rest : List (List Bool)) → AreMarks later (any_of (λ s n. get_or s n false) rest) → Adds later new (λ c. get_or set c false)
+    → AreMarks new (any_of (λ s n. get_or s n false) (set ∷ rest))
+later_more set later new rest m p c lt =
+    let below : c < length later = omega (arith, p.count) in
+    p.marks c below ∙ ap (λ v. v || get_or set c false) (m c below) ∙ or-comm (any_of (λ s n. get_or s n false) rest c) (get_or set c false)
+
+pub earlier_more : (sets : List (List Bool)) (i : ℕ) (set earlier new : List Bool) → i < length sets → set ≡ get_or sets i set → AreMarks earlier (any_of (λ s n. get_or s n false) (take i sets))
+    → Adds earlier new (λ c. get_or set c false) → AreMarks new (any_of (λ s n. get_or s n false) (take (i + 1) sets))
+earlier_more sets i set earlier new lt at m p c inside =
+    let below : c < length earlier = omega (arith, p.count) in
+    p.marks c below ∙ ap (λ v. v || get_or set c false) (m c below) ∙ ap (λ s. any_of (λ s n. get_or s n false) (take i sets) c || get_or s c false) at
+    ∙ sym (list_any_more (λ s. get_or s c false) sets i set lt)

@@ -1,22 +1,26 @@
--- Which cells parts use, as lists.
-use Rattle.std.proofs.Common.{◌≡◌, ℕ, suc, ◌+◌, ◌<◌, ◌≤◌, Bool, true, false, ◌||◌, ◌&&◌, List, [], ◌∷◌, ◌++◌, get_or, length, flat_map, refl, sym, ap, ◌∙◌, arith, ⊎_elim}
+-- Which cells parts use, as marks.
+use Rattle.std.proofs.Common.{◌≡◌, ℕ, zero, suc, ◌<◌, ◌≤◌, Bool, false, ◌||◌, List, [], ◌∷◌, get_or, take, length, map, flat_map, replicate, refl, sym, ap, subst, ◌∙◌, arith}
 use Rattle.std.specs.List.{list_any}
-use Rattle.std.proofs.lemmas.Bool.{cases_eq, cases_lt}
-use Rattle.std.proofs.lemmas.List.{get_or_append_left, get_or_at, get_or_past, length-append}
+use Rattle.std.proofs.lemmas.List.{get_or_past, get_or-map, length-map}
 use Rattle.std.proofs.lemmas.List.Folds.{list_any-append}
+use Rattle.cx_text.proofs.ListLaws.{take_all}
 use Rattle.cx_meaning.specs.declared.ports.PortRef.{PortRef}
 use Rattle.cx_meaning.specs.declared.ports.PortRef.TheVariants as ports
 use Rattle.cx_meaning.specs.declared.ports.PlacedPort.{PlacedPort}
-use Rattle.cx_meaning.specs.Designs.{PlainAssign, PlainGroup, PlainComponent, no_group, PlainStatement}
-use Rattle.cx_meaning.specs.Instances.{just}
-use Rattle.cx_meaning.specs.Control.{targets_cell, assigns_drive}
-use Rattle.cx_race.specs.Cells.{cell_in, port_cell}
-use Rattle.cx_sharing.specs.Giving.{is_in}
-use Rattle.cx_sharing.specs.Meeting.{has_both, arms_meet}
-use Rattle.cx_sharing.specs.Uses.{assigns_use, uses}
-use Rattle.cx_share.specs.Marks.{any_of}
-use Rattle.cx_share.specs.Using.{Lists, Listed}
-use Rattle.cx_share.proofs.MarkLemmas.{or-false}
+use Rattle.cx_meaning.specs.Designs.{PlainAssign, PlainComponent, no_group, PlainStatement}
+use Rattle.cx_meaning.specs.Instances.{Set, just}
+use Rattle.cx_meaning.specs.Control.{targets_cell, assigns_drive, groups_of}
+use Rattle.cx_rules.specs.Items.{tests_of}
+use Rattle.cx_design.specs.declared.cells.Cell.{Cell}
+use Rattle.cx_design.specs.declared.groups.Group.{Group}
+use Rattle.cx_design.specs.declared.statements.Statement.{Statement}
+use Rattle.cx_design.specs.PlainForms.{plain_cell, plain_group, plain_statement}
+use Rattle.cx_race.specs.Cells.{cell_in, port_cell, tested_by}
+use Rattle.cx_sharing.specs.Uses.{assigns_use, group_uses, uses}
+use Rattle.cx_share.specs.Marks.{Adds, any_of, marks_by}
+use Rattle.cx_share.specs.Tables.{AreWide}
+use Rattle.cx_share.specs.Using.{arm_marks, group_marks}
+use Rattle.cx_share.proofs.MarkLemmas.{or-false, adds_none, adds_same, adds_then, by_at, by_long, by_same, filled}
 
 -- the cells of ports
 pub port_cells : (ps : List PlacedPort) (c : ℕ) → any_of just (flat_map port_cell ps) c ≡ list_any (λ p. targets_cell p.port c) ps
@@ -36,79 +40,71 @@ pub drives-any_of : (assigns : List PlainAssign) (c : ℕ) → any_of (λ a. tar
 drives-any_of [] c = refl
 drives-any_of (a ∷ rest) c = ap (λ v. targets_cell a.target c || v) (drives-any_of rest c)
 
-pub listed_none : (count : ℕ) (groups : List PlainGroup) → Listed count groups 0 []
-listed_none count groups = record { listed = refl; each = λ g lt. absurd (omega arith) }
+-- marks that are each as long
+pub wide_by : {A : Type 0} (count : ℕ) (f : A → Set) (xs : List A) → AreWide count (map (λ x. marks_by count (f x)) xs)
+wide_by count f [] k lt = absurd (omega arith)
+wide_by count f (x ∷ xs) zero lt = by_long count (f x)
+wide_by count f (x ∷ xs) (suc k) lt = wide_by count f xs k (let h : suc k < suc (length (map (λ y. marks_by count (f y)) xs)) = lt in omega arith)
 
-pub listed_more : (count : ℕ) (groups : List PlainGroup) (i : ℕ) (lists : List (List ℕ)) (cells : List ℕ) → Listed count groups i lists
-    → Lists count (assigns_use (get_or groups i no_group).assigns) cells → Listed count groups (i + 1) (lists ++ cells ∷ [])
-listed_more count groups i lists cells l h = record {
-  listed = length_push lists cells ∙ ap (λ n. n + 1) l.listed;
-  each = λ g lt. ⊎_elim (λ e. here g e) (λ other. before g (let below : g < i = omega (arith, other) in below)) (cases_eq g i);
-}
+pub wide_groups : (part : PlainComponent) → AreWide (length part.cells) (group_marks part)
+wide_groups part = wide_by (length part.cells) (λ g. assigns_use g.assigns) part.groups
+
+pub wide_arms : (part : PlainComponent) (arms : List PlainStatement) → AreWide (length part.cells) (arm_marks part arms)
+wide_arms part arms = wide_by (length part.cells) (uses part) arms
+
+pub arms_wide : (part : PlainComponent) (arms : List PlainStatement) (count : ℕ) (sets : List (List Bool)) → count ≡ length part.cells → sets ≡ arm_marks part arms → AreWide count sets
+arms_wide part arms count sets wide same = subst (λ n. AreWide n sets) (sym wide) (subst (AreWide (length part.cells)) (sym same) (wide_arms part arms))
+
+-- the marks of a group by its number
+pub group_there : (part : PlainComponent) (g : ℕ) (marks : List Bool) → g < length (group_marks part) → marks ≡ get_or (group_marks part) g marks → marks ≡ marks_by (length part.cells) (group_uses part g)
+group_there part g marks lt at =
+    at ∙ get_or-map (λ k. marks_by (length part.cells) (assigns_use k.assigns)) part.groups g no_group marks (let same = length-map part.groups (λ k. marks_by (length part.cells) (assigns_use k.assigns)) in omega (arith, same, lt))
+
+pub group_added : (part : PlainComponent) (g : ℕ) (marks old new : List Bool) → g < length (group_marks part) → marks ≡ get_or (group_marks part) g marks → length old ≡ length part.cells
+    → Adds old new (λ c. get_or marks c false) → Adds old new (group_uses part g)
+group_added part g marks old new lt at wide p =
+    adds_same old new (λ c. get_or marks c false) (group_uses part g)
+    (λ c below. ap (λ m. get_or m c false) (group_there part g marks lt at) ∙ by_at (length part.cells) (group_uses part g) c (omega (arith, wide, below))) p
+
+pub group_long : (part : PlainComponent) (g : ℕ) (marks : List Bool) → g < length (group_marks part) → marks ≡ get_or (group_marks part) g marks → length marks ≡ length part.cells
+group_long part g marks lt at = ap length (group_there part g marks lt at) ∙ by_long (length part.cells) (group_uses part g)
+
+-- a number that names no group
+pub group_past : (part : PlainComponent) (g : ℕ) (old : List Bool) → length (group_marks part) ≤ g → Adds old old (group_uses part g)
+group_past part g old past =
+    let none : get_or part.groups g no_group ≡ no_group = get_or_past part.groups g no_group (let same = length-map part.groups (λ k. marks_by (length part.cells) (assigns_use k.assigns)) in omega (arith, same, past)) in
+    adds_same old old (λ c. false) (group_uses part g) (λ c lt. sym (ap (λ k. assigns_use k.assigns c) none)) (adds_none old)
+
+-- what a statement uses
+pub statement_used : (part : PlainComponent) (s : PlainStatement) (groups tested : List ℕ) (count : ℕ) (mid marks : List Bool)
+    → groups ≡ groups_of s → tested ≡ tested_by s → Adds (replicate count false) mid (any_of (group_uses part) groups) → Adds mid marks (any_of just tested)
+    → marks ≡ marks_by count (uses part s)
+statement_used part s groups tested count mid marks g t p q =
+    filled count marks (λ c. any_of (group_uses part) groups c || any_of just tested c)
+    (adds_then (replicate count false) mid marks (any_of (group_uses part) groups) (any_of just tested) p q)
+    ∙ by_same count (λ c. any_of (group_uses part) groups c || any_of just tested c) (uses part s)
+    (λ c lt. ap (λ gs. any_of (group_uses part) gs c || any_of just tested c) g
+    ∙ ap (λ ts. any_of (group_uses part) (groups_of s) c || any_of just ts c) t
+    ∙ ap (λ v. any_of (group_uses part) (groups_of s) c || v) (port_cells (tests_of s) c))
+
+-- the sets of all groups, and of all arms, as they are pushed
+pub groups_listed : (cells : List Cell) (groups : List Group) (i : ℕ) (used : List (List Bool)) → length groups ≤ i
+    → used ≡ map (λ g. marks_by (length cells) (assigns_use (plain_group g).assigns)) (take i groups)
+    → used ≡ map (λ g. marks_by (length (map plain_cell cells)) (assigns_use g.assigns)) (map plain_group groups)
+groups_listed cells groups i used end h =
+    h ∙ ap (map (λ g. marks_by (length cells) (assigns_use (plain_group g).assigns))) (take_all groups i end) ∙ over groups (length cells)
+    ∙ ap (λ n. map (λ g. marks_by n (assigns_use g.assigns)) (map plain_group groups)) (sym (length-map cells plain_cell))
   where
-    length_push : (xs : List (List ℕ)) (x : List ℕ) → length (xs ++ x ∷ []) ≡ length xs + 1
-    length_push xs x = length-append xs (x ∷ [])
+    over : (gs : List Group) (n : ℕ) → map (λ g. marks_by n (assigns_use (plain_group g).assigns)) gs ≡ map (λ g. marks_by n (assigns_use g.assigns)) (map plain_group gs)
+    over [] n = refl
+    over (g ∷ gs) n = ap (λ rest. marks_by n (assigns_use (plain_group g).assigns) ∷ rest) (over gs n)
 
-    before : (g : ℕ) → g < i → Lists count (assigns_use (get_or groups g no_group).assigns) (get_or (lists ++ cells ∷ []) g [])
-    before g lt =
-        let at : get_or (lists ++ cells ∷ []) g [] ≡ get_or lists g [] = get_or_append_left lists (cells ∷ []) [] g (omega (arith, l.listed)) in
-        rw at (l.each g lt)
-
-    here : (g : ℕ) → g ≡ i → Lists count (assigns_use (get_or groups g no_group).assigns) (get_or (lists ++ cells ∷ []) g [])
-    here g e =
-        let at : get_or (lists ++ cells ∷ []) i [] ≡ cells = get_or_at lists cells [] [] i l.listed in
-        rw (e, at) h
-
--- of all groups
-pub listed_all : (count : ℕ) (groups : List PlainGroup) (i : ℕ) (lists : List (List ℕ)) → length groups ≤ i → Listed count groups i lists
-    → (g : ℕ) → Lists count (assigns_use (get_or groups g no_group).assigns) (get_or lists g [])
-listed_all count groups i lists end l g = ⊎_elim (λ lt. l.each g lt) (λ le. beyond le) (cases_lt g i)
+pub arms_listed : (part : PlainComponent) (cells : List Cell) (arms : List Statement) (i : ℕ) (sets : List (List Bool)) → part.cells ≡ map plain_cell cells → length arms ≤ i
+    → sets ≡ map (λ s. marks_by (length cells) (uses part (plain_statement s))) (take i arms) → sets ≡ arm_marks part (map plain_statement arms)
+arms_listed part cells arms i sets same end h =
+    h ∙ ap (map (λ s. marks_by (length cells) (uses part (plain_statement s)))) (take_all arms i end) ∙ over arms (length cells)
+    ∙ ap (λ n. map (λ s. marks_by n (uses part s)) (map plain_statement arms)) (sym (length-map cells plain_cell) ∙ sym (ap length same))
   where
-    beyond : i ≤ g → Lists count (assigns_use (get_or groups g no_group).assigns) (get_or lists g [])
-    beyond le =
-        let none : get_or lists g [] ≡ [] = get_or_past lists g [] (omega (arith, l.listed)) in
-        let no : get_or groups g no_group ≡ no_group = get_or_past groups g no_group (omega arith) in
-        rw (none, no) (λ c lt. refl)
-
--- what groups use, taken together, by their lists
-pub both_listed : (lists : List (List ℕ)) (groups : List PlainGroup) (x y : ℕ)
-    → ((g : ℕ) → is_in x (get_or lists g []) ≡ assigns_use (get_or groups g no_group).assigns x)
-    → ((g : ℕ) → is_in y (get_or lists g []) ≡ assigns_use (get_or groups g no_group).assigns y)
-    → list_any (λ cells. is_in x cells && is_in y cells) lists ≡ list_any (λ g. has_both (assigns_use g.assigns) x y) groups
-both_listed [] [] x y h k = refl
-both_listed [] (g ∷ gs) x y h k =
-    let here : false ≡ assigns_use g.assigns x = h 0 in
-    both_listed [] gs x y (λ n. h (suc n)) (λ n. k (suc n)) ∙ ap (λ v. (v && assigns_use g.assigns y) || list_any (λ g. has_both (assigns_use g.assigns) x y) gs) here
-both_listed (l ∷ ls) [] x y h k =
-    let here : is_in x l ≡ false = h 0 in
-    ap (λ v. (v && is_in y l) || list_any (λ cells. is_in x cells && is_in y cells) ls) here ∙ both_listed ls [] x y (λ n. h (suc n)) (λ n. k (suc n))
-both_listed (l ∷ ls) (g ∷ gs) x y h k =
-    let here : is_in x l ≡ assigns_use g.assigns x = h 0 in
-    let there : is_in y l ≡ assigns_use g.assigns y = k 0 in
-    ap (λ v. (v && is_in y l) || list_any (λ cells. is_in x cells && is_in y cells) ls) here
-    ∙ ap (λ v. (assigns_use g.assigns x && v) || list_any (λ cells. is_in x cells && is_in y cells) ls) there
-    ∙ ap (λ v. (assigns_use g.assigns x && assigns_use g.assigns y) || v) (both_listed ls gs x y (λ n. h (suc n)) (λ n. k (suc n)))
-
--- an arm before others: what the others do among themselves, and the arm with each of them, both ways
-pub one_more_arm : (part : PlainComponent) (arm : PlainStatement) (later : List PlainStatement) (x y : ℕ)
-    → (arms_meet part later x y || ((uses part arm x && any_of (uses part) later y) || (any_of (uses part) later x && uses part arm y))) ≡ arms_meet part (arm ∷ later) x y
-one_more_arm part arm later x y = turned (arms_meet part later x y) (uses part arm x && any_of (uses part) later y) (any_of (uses part) later x) (uses part arm y)
-  where
-    or-true : (b : Bool) → (b || true) ≡ true
-    or-true true = refl
-    or-true false = refl
-
-    turned : (met one other arm_y : Bool) → (met || (one || (other && arm_y))) ≡ (one || (arm_y && other) || met)
-    turned true true other arm_y = refl
-    turned true false other arm_y = sym (or-true (arm_y && other))
-    turned false true other arm_y = refl
-    turned false false true true = refl
-    turned false false true false = refl
-    turned false false false true = refl
-    turned false false false false = refl
-
-pub or-comm : (a b : Bool) → (a || b) ≡ (b || a)
-or-comm true true = refl
-or-comm true false = refl
-or-comm false true = refl
-or-comm false false = refl
+    over : (ss : List Statement) (n : ℕ) → map (λ s. marks_by n (uses part (plain_statement s))) ss ≡ map (λ s. marks_by n (uses part s)) (map plain_statement ss)
+    over [] n = refl
+    over (s ∷ ss) n = ap (λ rest. marks_by n (uses part (plain_statement s)) ∷ rest) (over ss n)

@@ -1,8 +1,10 @@
 -- What is kept, as it lies in memory, and the cells that stand for cells.
-use Rattle.std.specs.Prelude.{◌≡◌, ℕ, ◌<◌, true, List, [], ◌∷◌, get_or, length, reverse, if◌then◌else◌}
+use Rattle.std.specs.Prelude.{◌≡◌, ℕ, ◌<◌, true, false, ◌||◌, List, [], ◌∷◌, get_or, length, reverse, if◌then◌else◌}
+use Rattle.std.specs.List.{list_any}
 use Rattle.cx_meaning.specs.Designs.{PlainComponent, no_component}
 use Rattle.cx_sharing.specs.Giving as giving
 use Rattle.cx_sharing.specs.Giving.{is_in, keeper, keeper_in}
+use Rattle.cx_sharing.specs.Meeting.{meet}
 use Rattle.cx_share.specs.declared.giving.Kept.{Kept}
 
 abbrev pub plain_kept : Kept → giving.Kept
@@ -11,6 +13,15 @@ plain_kept k = record { cell = k.cell; given = reverse k.given.items }
 -- what stands for one whose number names none
 abbrev pub no_kept : giving.Kept
 no_kept = record { cell = 0; given = [] }
+
+-- the marks of a kept one are those of the cells that meet it or one that was given to it
+pub record IsNear (part : PlainComponent) (k : Kept) : Type 0 where
+  pub count : length k.near ≡ length part.cells
+  pub marks : (c : ℕ) → c < length part.cells → get_or k.near c false ≡ (meet part k.cell c || list_any (λ x. meet part x c) k.given.items)
+
+abbrev pub AllNear : PlainComponent → List Kept → Type 0
+AllNear part [] = Unit {0}
+AllNear part (k ∷ ks) = IsNear part k × AllNear part ks
 
 -- a kept cell and those that were given to it are below a bound
 pub record Within (n : ℕ) (k : giving.Kept) : Type 0 where

@@ -1,4 +1,5 @@
 pub mod Marks
+pub mod Bits
 pub mod Using
 pub mod Tables
 pub mod Givings

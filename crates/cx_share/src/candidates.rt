@@ -7,7 +7,7 @@ ghost use Rattle.cx_sharing.specs.Uses.{is_candidate, is_combinational as is_com
 ghost use Rattle.cx_share.specs.Marks.{Adds, AreMarks, any_of};
 
 use crate::kinds::is_combinational;
-use crate::marks::{add_port, is_marked, no_cells};
+use crate::marks::{Marks, add_port};
 use crate::using::add_assigns;
 use cx_design::{Assign, Cell, Component, Group};
 use cx_text::Memory;
@@ -18,15 +18,15 @@ pub(crate) fn candidates(alloc: Global, part: &Component) -> Result<Vec<bool>, M
     ensures length { IfOk result (λ marks. length marks.items ≡ length part.now.cells.items) }
     ensures value { IfOk result (λ marks. AreMarks marks.items (is_candidate (plain_component part.now))) }
 {
-    let mut driven = no_cells(alloc, part.cells.len())?;
+    let mut driven = Marks::new(alloc, part.cells.len())?;
     add_driven(&mut driven, part.groups.as_slice());
-    let mut named = no_cells(alloc, part.cells.len())?;
+    let mut named = Marks::new(alloc, part.cells.len())?;
     add_assigns(alloc, &mut named, part.always.as_slice())?;
     let mut marks = Vec::with_capacity(alloc, part.cells.len())?;
     let cells = part.cells.as_slice();
     for (number, cell) in cells.iter().enumerate() {
-        let is_driven = is_marked(driven.as_slice(), number);
-        let is_named = is_marked(named.as_slice(), number);
+        let is_driven = driven.has(number);
+        let is_named = named.has(number);
         marks.push(is_free(cell, is_driven, is_named))?;
     }
     Ok(marks)
@@ -40,8 +40,8 @@ fn is_free(cell: &Cell, is_driven: bool, is_named: bool) -> bool
 }
 
 /// Adds the cells of which groups drive a port.
-fn add_driven(marks: &mut Vec<bool>, groups: &[Group])
-    ensures value { Adds marks.old.items marks.new.items (any_of (λ g. assigns_drive g.assigns) (map plain_group groups.now)) }
+fn add_driven(marks: &mut Marks, groups: &[Group])
+    ensures value { Adds marks.old marks.new (any_of (λ g. assigns_drive g.assigns) (map plain_group groups.now)) }
 {
     for group in groups {
         add_targets(marks, group.assigns.as_slice());
@@ -49,8 +49,8 @@ fn add_driven(marks: &mut Vec<bool>, groups: &[Group])
 }
 
 /// Adds the cells of which assignments drive a port.
-fn add_targets(marks: &mut Vec<bool>, assigns: &[Assign])
-    ensures value { Adds marks.old.items marks.new.items (assigns_drive (plain_assigns assigns.now)) }
+fn add_targets(marks: &mut Marks, assigns: &[Assign])
+    ensures value { Adds marks.old marks.new (assigns_drive (plain_assigns assigns.now)) }
 {
     for assign in assigns {
         add_port(marks, assign.target);

@@ -1,29 +1,29 @@
 //! Giving: each candidate is given to the first kept one that takes it, else it is kept.
 
-ghost use Rattle.std.specs.Prelude.{◌≡◌, ◌<◌, ◌&&◌, not, ℕ, [], ◌∷◌, true, false, IfOk, IfSome, IfNone, OnOk, get_or, length, map, if◌then◌else◌, All};
-ghost use Rattle.std.specs.List.{list_any};
+ghost use Rattle.std.specs.Prelude.{◌≡◌, ◌<◌, ℕ, [], ◌∷◌, ◌++◌, true, false, IfOk, IfSome, IfNone, OnOk, get_or, length, map};
 ghost use Rattle.cx_design.specs.PlainForms.{plain_component, plain_kind};
 ghost use Rattle.cx_sharing.specs.Giving as giving;
 ghost use Rattle.cx_sharing.specs.Giving.{kept_of, keeper_in};
 ghost use Rattle.cx_sharing.specs.Meeting.{meet};
 ghost use Rattle.cx_sharing.specs.Uses.{is_candidate, kind_in};
-ghost use Rattle.cx_share.specs.Marks.{AreMarks, lists_of};
+ghost use Rattle.cx_share.specs.Marks.{Adds, AreMarks, lists_of};
 ghost use Rattle.cx_share.specs.Tables.{IsMeeting};
-ghost use Rattle.cx_share.specs.Givings.{AllKeepers, AllWithin, AreKeepers, KeptBy, Put, Within, no_kept, plain_kept};
+ghost use Rattle.cx_share.specs.Givings.{AllKeepers, AllNear, AllWithin, AreKeepers, IsNear, KeptBy, Put, Within, no_kept, plain_kept};
 
 use crate::candidates::candidates;
 use crate::kinds::is_same_kind;
-use crate::marks::is_marked;
+use crate::marks::Marks;
 use crate::meeting::meeting;
 use cx_design::{CellKind, Component};
 use cx_text::Memory;
 use std::alloc::Global;
 
-/// A kept cell, and those that were given to it, in cell order.
+/// A kept cell, those that were given to it, in cell order, and the cells that meet one of them.
 #[derive(Drop)]
 pub(crate) struct Kept {
     pub cell: usize,
     pub given: Vec<usize>,
+    pub near: Marks,
 }
 
 /// For each component the cells that stand for its cells.
@@ -53,83 +53,91 @@ fn kept_cells(
     alloc: Global,
     part: &Component,
     candidates: &[bool],
-    table: &[Vec<bool>],
+    table: &[Marks],
 ) -> Result<Vec<Kept>, Memory>
     requires count { length candidates.now ≡ length part.now.cells.items }
     requires candidates { AreMarks candidates.now (is_candidate (plain_component part.now)) }
-    requires table { IsMeeting (plain_component part.now) (lists_of table.now) }
+    requires table { IsMeeting (plain_component part.now) table.now }
     ensures value { IfOk result (λ kept. map plain_kept kept.items ≡ kept_of (plain_component part.now)) }
 {
     let mut kept = Vec::new(alloc);
     for cell in 0..part.cells.len() {
-        if !is_marked(candidates, cell) {
+        if !candidates[cell] {
             continue;
         }
-        give(alloc, &mut kept, part, table, cell)?;
+        give(alloc, &mut kept, part, &table[cell], cell)?;
     }
     Ok(kept)
 }
 
-/// Gives a cell to the first that takes it, or keeps it.
+/// Gives a cell to the first that takes it, or keeps it. The row is of those that it meets.
 fn give(
     alloc: Global,
     kept: &mut Vec<Kept>,
     part: &Component,
-    table: &[Vec<bool>],
+    row: &Marks,
     cell: usize,
 ) -> Result<(), Memory>
     requires cell { cell < length part.now.cells.items }
     requires kept { AllWithin cell (map plain_kept kept.old.items) }
-    requires table { IsMeeting (plain_component part.now) (lists_of table.now) }
+    requires near { AllNear (plain_component part.now) kept.old.items }
+    requires count { length row.now ≡ length part.now.cells.items }
+    requires row { AreMarks row.now (meet (plain_component part.now) cell) }
     ensures value { OnOk result (map plain_kept kept.new.items ≡ giving.give (plain_component part.now) cell (map plain_kept kept.old.items)) }
+    ensures near { OnOk result (AllNear (plain_component part.now) kept.new.items) }
 {
-    match first_taker(kept.as_slice(), part, table, cell) {
-        Some(taker) => kept[taker].given.push(cell)?,
+    match first_taker(kept.as_slice(), part, cell) {
+        Some(taker) => add_given(&mut kept[taker], row, cell)?,
         None => kept.push(Kept {
             cell,
             given: Vec::new(alloc),
+            near: row.copied()?,
         })?,
     }
     Ok(())
 }
 
+/// Adds a cell to those that were given. The row is of those that it meets.
+fn add_given(kept: &mut Kept, row: &Marks, cell: usize) -> Result<(), Memory>
+    requires count { length row.now ≡ length kept.old.near }
+    ensures cell { OnOk result (kept.new.cell ≡ kept.old.cell) }
+    ensures given { OnOk result (kept.new.given.items ≡ kept.old.given.items ++ cell ∷ []) }
+    ensures near { OnOk result (Adds kept.old.near kept.new.near (λ c. get_or row.now c false)) }
+{
+    kept.given.push(cell)?;
+    kept.near.join(row);
+    Ok(())
+}
+
 /// The number of the first that takes a cell.
-fn first_taker(kept: &[Kept], part: &Component, table: &[Vec<bool>], cell: usize) -> Option<usize>
+fn first_taker(kept: &[Kept], part: &Component, cell: usize) -> Option<usize>
     requires cell { cell < length part.now.cells.items }
     requires kept { AllWithin cell (map plain_kept kept.now) }
-    requires table { IsMeeting (plain_component part.now) (lists_of table.now) }
+    requires near { AllNear (plain_component part.now) kept.now }
     ensures within { IfSome result (λ i. i < length kept.now) }
     ensures takes { IfSome result (λ i. giving.takes (plain_component part.now) cell (get_or (map plain_kept kept.now) i no_kept) ≡ true) }
     ensures first { IfSome result (λ i. (k : ℕ) → k < i → giving.takes (plain_component part.now) cell (get_or (map plain_kept kept.now) k no_kept) ≡ false) }
     ensures none { IfNone result ((k : ℕ) → k < length kept.now → giving.takes (plain_component part.now) cell (get_or (map plain_kept kept.now) k no_kept) ≡ false) }
 {
     for (number, keeper) in kept.iter().enumerate() {
-        if takes(keeper, part, table, cell) {
+        if takes(keeper, part, cell) {
             return Some(number);
         }
     }
     None
 }
 
-/// Whether a kept one takes a cell: they are of one kind, and the cell meets neither it nor any that was given to it.
-fn takes(kept: &Kept, part: &Component, table: &[Vec<bool>], cell: usize) -> bool
+/// Whether a kept one takes a cell: the cell meets neither it nor any that was given to it, and they are of one kind.
+fn takes(kept: &Kept, part: &Component, cell: usize) -> bool
     requires cell { cell < length part.now.cells.items }
     requires kept { Within cell (plain_kept kept.now) }
-    requires table { IsMeeting (plain_component part.now) (lists_of table.now) }
+    requires near { IsNear (plain_component part.now) kept.now }
     ensures value { result ≡ giving.takes (plain_component part.now) cell (plain_kept kept.now) }
 {
-    is_taken(
-        is_same_kind(kind_at(part, kept.cell), kind_at(part, cell)),
-        meets(part, table, kept.cell, cell),
-        meets_any(part, table, kept.given.as_slice(), cell),
-    )
-}
-
-/// Of one kind, and not met.
-fn is_taken(is_alike: bool, is_met: bool, is_met_by_given: bool) -> bool
-    ensures value { result ≡ (is_alike && (not is_met && not is_met_by_given)) }
-{
-    is_alike && (!is_met && !is_met_by_given)
+    if kept.near.has(cell) {
+        return false;
+    }
+    is_same_kind(kind_at(part, kept.cell), kind_at(part, cell))
 }
 
 /// What a cell is of.
@@ -139,31 +147,6 @@ fn kind_at(part: &Component, cell: usize) -> &CellKind
 {
     let cells = part.cells.as_slice();
     &cells[cell].kind
-}
-
-/// Whether a cell meets one of several.
-fn meets_any(part: &Component, table: &[Vec<bool>], given: &[usize], cell: usize) -> bool
-    requires cell { cell < length part.now.cells.items }
-    requires given { All (λ x. x < length part.now.cells.items) given.now }
-    requires table { IsMeeting (plain_component part.now) (lists_of table.now) }
-    ensures value { result ≡ list_any (λ x. meet (plain_component part.now) x cell) given.now }
-{
-    for other in given {
-        if meets(part, table, *other, cell) {
-            return true;
-        }
-    }
-    false
-}
-
-/// Whether two cells meet.
-fn meets(part: &Component, table: &[Vec<bool>], one: usize, other: usize) -> bool
-    requires one { one < length part.now.cells.items }
-    requires other { other < length part.now.cells.items }
-    requires table { IsMeeting (plain_component part.now) (lists_of table.now) }
-    ensures value { result ≡ meet (plain_component part.now) one other }
-{
-    table[one][other]
 }
 
 /// For each of so many cells the number of the cell that stands for it.

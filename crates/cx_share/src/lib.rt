@@ -8,6 +8,7 @@ mod kinds;
 mod marks;
 mod meeting;
 mod naming;
+mod pairs;
 mod rows;
 mod sharing;
 mod using;

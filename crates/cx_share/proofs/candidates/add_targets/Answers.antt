@@ -8,16 +8,16 @@ use Rattle.cx_share.proofs.UseLemmas.{drives-any_of}
 use Rattle.cx_share.proofs.candidates.add_targets.Goals as goal
 
 pub loop-assign-init : goal.loop-assign-init
-loop-assign-init c = adds_none c.args.marks.now.items
+loop-assign-init c = adds_none c.args.marks.now
 
 pub loop-assign-preserved : goal.loop-assign-preserved
 loop-assign-preserved c =
     let f = λ (a : Assign). targets_cell a.target in
-    adds_step f c.args.assigns.now c.loop-assign.assign-index c.assign-item.result c.args.marks.now.items c.loop-assign.marks.items c.add_port.new.marks.items c.loop-assign-test.true c.assign-item.is c.loop-assign.invariant c.add_port.ensures.value
+    adds_step f c.args.assigns.now c.loop-assign.assign-index c.assign-item.result c.args.marks.now c.loop-assign.marks c.add_port.new.marks c.loop-assign-test.true c.assign-item.is c.loop-assign.invariant c.add_port.ensures.value
 
 pub returns : goal.returns
 returns c = record {
-  value = adds_same c.args.marks.now.items c.loop-assign.marks.items (any_of (λ a. targets_cell a.target) c.args.assigns.now) (assigns_drive (plain_assigns c.args.assigns.now))
+  value = adds_same c.args.marks.now c.loop-assign.marks (any_of (λ a. targets_cell a.target) c.args.assigns.now) (assigns_drive (plain_assigns c.args.assigns.now))
       (λ n lt. any_of-map (λ a. targets_cell a.target) plain_assign c.args.assigns.now n ∙ drives-any_of (plain_assigns c.args.assigns.now) n)
-      (adds_all (λ a. targets_cell a.target) c.args.assigns.now c.loop-assign.assign-index c.args.marks.now.items c.loop-assign.marks.items c.loop-assign-test.false c.loop-assign.invariant);
+      (adds_all (λ a. targets_cell a.target) c.args.assigns.now c.loop-assign.assign-index c.args.marks.now c.loop-assign.marks c.loop-assign-test.false c.loop-assign.invariant);
 }

@@ -5,4 +5,4 @@ use Rattle.cx_share.proofs.candidates.add_targets.Given as goal
 
 -- the cells that the assignments so far drive are added
 abbrev pub invariant-loop-assign : goal.invariant-loop-assign
-invariant-loop-assign l = Adds l.initial.marks.items l.marks.items (any_of (λ a. targets_cell a.target) (take l.assign-index l.assigns))
+invariant-loop-assign l = Adds l.initial.marks l.marks (any_of (λ a. targets_cell a.target) (take l.assign-index l.assigns))

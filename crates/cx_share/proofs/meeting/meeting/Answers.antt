@@ -2,7 +2,6 @@ use Rattle.std.proofs.Common.{◌≡◌, ◌∙◌, ap, sym, map, length, replic
 use Rattle.std.proofs.lemmas.List.{length-map}
 use Rattle.cx_design.specs.PlainForms.{plain_cell, plain_component}
 use Rattle.cx_design_parts.specs.Items.{plain_visited}
-use Rattle.cx_share.specs.Marks.{lists_of}
 use Rattle.cx_share.proofs.MeetLemmas.{meeting_made}
 use Rattle.cx_share.proofs.meeting.meeting.Goals as goal
 
@@ -10,9 +9,9 @@ pub returns : goal.returns
 returns c =
     let part = plain_component c.args.part.now in
     let wide : c.len.result ≡ length c.args.part.now.cells.items = omega (arith, c.len.ensures, c.args.part.now.cells.ok.0) in
-    let blank : lists_of c.in_ok-table.table.items ≡ replicate (length part.cells) (replicate (length part.cells) false) =
+    let blank : c.in_ok-table.table.items ≡ replicate (length part.cells) (replicate (length part.cells) false) =
     c.in_ok-table.ensures.value ∙ ap (λ n. replicate n (replicate n false)) (wide ∙ sym (length-map c.args.part.now.cells.items plain_cell)) in
     record {
-      value = meeting_made part (lists_of c.in_ok-used.used.items) (map plain_visited c.in_ok-statements.statements.items) (lists_of c.in_ok-table.table.items) (lists_of c.add_lists.new.table.items) (lists_of c.add_forms.new.table.items)
-          blank c.in_ok-used.ensures.value c.in_ok-statements.ensures.value (rw c.as_slice.ensures.value at c.add_lists.ensures.value) (rw c.as_slice-3.ensures.value at c.in_ok-add_forms.ensures.value);
+      value = meeting_made part (map plain_visited c.in_ok-statements.statements.items) c.in_ok-table.table.items c.add_groups.new.table.items c.add_forms.new.table.items
+          blank c.in_ok-statements.ensures.value c.add_groups.ensures.value (rw c.as_slice-3.ensures.value at c.in_ok-add_forms.ensures.value);
     }

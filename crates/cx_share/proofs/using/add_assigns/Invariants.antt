@@ -6,4 +6,4 @@ use Rattle.cx_share.proofs.using.add_assigns.Given as goal
 
 -- what the assignments so far use is added
 abbrev pub invariant-loop-assign : goal.invariant-loop-assign
-invariant-loop-assign l = Adds l.initial.marks.items l.marks.items (any_of (λ a. assign_uses (plain_assign a)) (take l.assign-index l.assigns))
+invariant-loop-assign l = Adds l.initial.marks l.marks (any_of (λ a. assign_uses (plain_assign a)) (take l.assign-index l.assigns))

@@ -6,4 +6,4 @@ use Rattle.cx_share.proofs.using.add_groups.Given as goal
 
 -- what the groups so far use is added
 abbrev pub invariant-loop-group : goal.invariant-loop-group
-invariant-loop-group l = Adds l.initial.marks.items l.marks.items (any_of (group_uses (plain_component l.part)) (take l.group-index l.groups))
+invariant-loop-group l = Adds l.initial.marks l.marks (any_of (group_uses (plain_component l.part)) (take l.group-index l.groups))

@@ -5,4 +5,4 @@ use Rattle.cx_share.proofs.using.add_ports.Given as goal
 
 -- the cells of the ports so far are added
 abbrev pub invariant-loop-port : goal.invariant-loop-port
-invariant-loop-port l = Adds l.initial.marks.items l.marks.items (any_of (λ p. targets_cell p.port) (take l.port-index l.ports))
+invariant-loop-port l = Adds l.initial.marks l.marks (any_of (λ p. targets_cell p.port) (take l.port-index l.ports))

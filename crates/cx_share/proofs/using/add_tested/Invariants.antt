@@ -5,4 +5,4 @@ use Rattle.cx_share.proofs.using.add_tested.Given as goal
 
 -- the cells so far are added
 abbrev pub invariant-loop-cell : goal.invariant-loop-cell
-invariant-loop-cell l = Adds l.initial.marks.items l.marks.items (any_of just (take l.cell-index l.cells))
+invariant-loop-cell l = Adds l.initial.marks l.marks (any_of just (take l.cell-index l.cells))

@@ -1,8 +1,0 @@
-use Rattle.std.proofs.Common.{take}
-use Rattle.cx_meaning.specs.Instances.{just}
-use Rattle.cx_share.specs.Marks.{Adds, any_of}
-use Rattle.cx_share.proofs.marks.add_cells.Given as goal
-
--- the cells so far are added
-abbrev pub invariant-loop-cell : goal.invariant-loop-cell
-invariant-loop-cell l = Adds l.initial.marks.items l.marks.items (any_of just (take l.cell-index l.cells))

@@ -1,7 +1,0 @@
-use Rattle.std.proofs.Common.{◌≡◌, false, replicate}
-use Rattle.cx_share.specs.Marks.{lists_of}
-use Rattle.cx_share.proofs.meeting.no_pairs.Given as goal
-
--- the rows so far
-abbrev pub invariant-loop-row : goal.invariant-loop-row
-invariant-loop-row l = lists_of l.table.items ≡ replicate l._row (replicate l.count false)
