@@ -1,0 +1,15 @@
+pub mod CopyLemmas
+pub mod DoneLemmas
+pub mod CountLemmas
+pub mod ShownPorts
+pub mod GrowLemmas
+pub mod SameLemmas
+pub mod StepLemmas
+pub mod ReachLemmas
+pub mod GainLemmas
+pub mod NamingLemmas
+pub mod WalkLemmas
+pub mod RowLemmas
+pub mod MadeLemmas
+pub mod DesignLemmas
+pub mod LimitLemmas

@@ -1,0 +1,9 @@
+pub mod Profiles
+pub mod Rows
+pub mod Walks
+pub mod Counted
+pub mod Renumbering
+pub mod Gains
+pub mod Naming
+pub mod Growing
+pub mod Making

@@ -1,0 +1,21 @@
+//! The design that counts the cycles of its own groups: a counter for each, and in main a memory of the counts.
+#![tactic(auto)]
+
+mod components;
+mod copies;
+mod counted;
+mod counters;
+mod entries;
+mod free_names;
+mod gained;
+mod growing;
+mod instrumenting;
+mod numbers;
+mod outputs;
+mod reaching;
+mod renumbering;
+mod statements;
+mod stores;
+
+pub use entries::ProfiledGroup;
+pub use instrumenting::{Profiled, instrument};
