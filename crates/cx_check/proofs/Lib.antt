@@ -1,3 +1,4 @@
+pub mod BuiltLemmas
 pub mod PlaceLemmas
 mod StageLemmas
 pub mod Verdicts

@@ -1,5 +1,5 @@
 -- The breaks of the stage are those of its three families of rules.
-use Rattle.std.proofs.Common.{◌≡◌, ℕ, List, ◌++◌, Option, None, ◌⊎◌, inl, inr, refl, sym, ap, ◌∙◌, subst, arith}
+use Rattle.std.proofs.Common.{◌≡◌, ℕ, List, ◌++◌, Option, None, inl, inr, refl, sym, ap, ◌∙◌, subst, arith}
 use Rattle.cx_text.specs.declared.places.Place.{Place}
 use Rattle.cx_text.specs.declared.rules.Rule.{Rule}
 use Rattle.cx_text.specs.declared.rules.Rule.TheVariants as rules
@@ -27,7 +27,9 @@ of_shape d rule spot place name (inr (inr (inl o))) = under_rule d rule rules.Al
 of_shape d rule spot place name (inr (inr (inr (inl o)))) = under_rule d rule rules.CombEnable spot place name o.0 (refl, o.1)
 of_shape d rule spot place name (inr (inr (inr (inr (inl o))))) = under_rule d rule rules.StaticGuard spot place name o.0 (refl, o.1)
 of_shape d rule spot place name (inr (inr (inr (inr (inr (inl o)))))) = under_rule d rule rules.StaticShape spot place name o.0 (refl, inr (inl o.1))
-of_shape d rule spot place name (inr (inr (inr (inr (inr (inr o)))))) = under_rule d rule rules.StaticShape spot place name o.0 (refl, inr (inr (inl o.1)))
+of_shape d rule spot place name (inr (inr (inr (inr (inr (inr (inl o))))))) = under_rule d rule rules.StaticShape spot place name o.0 (refl, inr (inr (inl o.1)))
+of_shape d rule spot place name (inr (inr (inr (inr (inr (inr (inr (inl o)))))))) = under_rule d rule rules.StaticShape spot place name o.0 (refl, inr (inr (inr (inr (inl o.1)))))
+of_shape d rule spot place name (inr (inr (inr (inr (inr (inr (inr (inr o)))))))) = under_rule d rule rules.StaticShape spot place name o.0 (refl, inr (inr (inr (inr (inr o.1)))))
 
 of_state : (d : PlainDesign) (rule : Rule) (spot : Spot) (place : Place) (name : List ℕ) → StateBreaks d rule spot place name → StageBreaks 4 d rule spot place name
 of_state d rules.BadByte spot place name o = absurd o
@@ -53,7 +55,7 @@ of_state d rules.DoneNotState spot place name o = (refl, o)
 of_state d rules.AlwaysEnable spot place name o = absurd o
 of_state d rules.CombEnable spot place name o = absurd o
 of_state d rules.StaticGuard spot place name o = absurd o
-of_state d rules.StaticShape spot place name o = (refl, inr (inr (inr o)))
+of_state d rules.StaticShape spot place name o = (refl, inr (inr (inr (inl o))))
 of_state d rules.CallShape spot place name o = absurd o
 of_state d rules.OutputNotState spot place name o = (refl, o)
 of_state d rules.CombCycle spot place name o = absurd o
@@ -99,8 +101,10 @@ in_families d rules.CombEnable spot place name h o = inl (inl (inr (inr (inr (in
 in_families d rules.StaticGuard spot place name h o = inl (inl (inr (inr (inr (inr (inl (refl, o)))))))
 in_families d rules.StaticShape spot place name h (inl o) = inl (inl (inr (inl (refl, o))))
 in_families d rules.StaticShape spot place name h (inr (inl o)) = inl (inl (inr (inr (inr (inr (inr (inl (refl, o))))))))
-in_families d rules.StaticShape spot place name h (inr (inr (inl o))) = inl (inl (inr (inr (inr (inr (inr (inr (refl, o))))))))
-in_families d rules.StaticShape spot place name h (inr (inr (inr o))) = inl (inr o)
+in_families d rules.StaticShape spot place name h (inr (inr (inl o))) = inl (inl (inr (inr (inr (inr (inr (inr (inl (refl, o)))))))))
+in_families d rules.StaticShape spot place name h (inr (inr (inr (inl o)))) = inl (inr o)
+in_families d rules.StaticShape spot place name h (inr (inr (inr (inr (inl o))))) = inl (inl (inr (inr (inr (inr (inr (inr (inr (inl (refl, o))))))))))
+in_families d rules.StaticShape spot place name h (inr (inr (inr (inr (inr o))))) = inl (inl (inr (inr (inr (inr (inr (inr (inr (inr (refl, o))))))))))
 in_families d rules.CallShape spot place name h o = inr (refl, o)
 in_families d rules.OutputNotState spot place name h o = inl (inr o)
 in_families d rules.CombCycle spot place name h o = absurd (omega (arith, h))

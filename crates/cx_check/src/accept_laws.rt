@@ -2,6 +2,7 @@
 
 ghost use Rattle.cx_text.specs.declared.diagnostics.Diagnostic.{Diagnostic};
 ghost use Rattle.cx_ast.specs.PlainTree.{PlainTree};
+ghost use Rattle.cx_rules.specs.Flat.{IsFlat};
 ghost use Rattle.cx_numbering.specs.DesignOf.{design_of};
 ghost use Rattle.cx_check.specs.Acceptance.{IsAcceptedTree, TreeBreak};
 ghost use Rattle.cx_check.specs.Verdicts.{IsSame};
@@ -11,4 +12,9 @@ ghost use Rattle.cx_check.specs.Verdicts.{IsSame};
 pub fn one_verdict()
     ensures accepted { (tree : PlainTree) (told : Diagnostic) → IsAcceptedTree tree → TreeBreak tree told → ⊥ }
     ensures refused { (tree : PlainTree) (told other : Diagnostic) → TreeBreak tree told → TreeBreak tree other → IsSame (design_of tree) told other }
+{}
+
+/// An accepted tree has no static component and no static invoke, as these are left out as a whole; so its design is flat.
+pub fn accepted_designs_are_flat()
+    ensures { (tree : PlainTree) → IsAcceptedTree tree → IsFlat (design_of tree) }
 {}

@@ -22,6 +22,7 @@ use Rattle.cx_rules.specs.Footprints.{Mentions, SideLeads, PartLeads, CellLeads,
 use Rattle.cx_rules.specs.Spots.{AnAssign, AGroup}
 use Rattle.cx_rules.specs.ShapeRules.{is_hole_of, some_target}
 use Rattle.cx_rules.specs.CallShape.{Calls, go_port, IsOutside, IsMisshapen}
+use Rattle.cx_rules.specs.InvokeShape.{is_static_port}
 use Rattle.cx_rules.specs.Accepted.{IsAccepted}
 use Rattle.cx_rules.proofs.CircleLemmas.{Reached, a_tree, no_tree, reached}
 use Rattle.cx_meaning.proofs.InstancesLemmas.{row_instance, instance_row, instance_is}
@@ -140,6 +141,7 @@ group_stands part g a i =
 pub record KeepsCalls (i whole : Instance) : Type 0 where
   pub beside : IsBeside i whole
   pub shaped : (o : Owned) → In (source_order (part_of whole)) o → IsOutside whole o ⊎ IsMisshapen whole o → ⊥
+  pub dynamic : (o : Owned) → In (source_order (part_of whole)) o → is_static_port whole o.assign.target ≡ true → ⊥
   pub driven : (g : ℕ) → g < length (part_of whole).groups → is_plain (group_at (part_of whole) g).kind ≡ true → (c : ℕ) → Calls whole (group_at (part_of whole) g).assigns c
       → (some_target (same_port (go_port c)) (group_at (part_of whole) g).assigns && some_target (is_hole_of g) (group_at (part_of whole) g).assigns) ≡ false → ⊥
 
@@ -173,17 +175,23 @@ module _ (d : PlainDesign) (accepted : IsAccepted d) (k : ℕ) (within : k < len
       accepted.shapes CallShape (record { component = k; part = AnAssign n.0 }) o.assign.place (path_of (component_of d k) o.assign.target) refl
       (inl (record { within = within; number = n.0; is = refl; assign = o; stands = n.1; breaks = (breaks, (refl, refl)) }))
 
+  dynamic_kept : (o : Owned) → In (source_order (part_of (component_of d k))) o → is_static_port (component_of d k) o.assign.target ≡ true → ⊥
+  dynamic_kept o m static =
+      let n = number_in (source_order (component_at d k)) o (subst (λ part. In (source_order part) o) (same_part d (length d.components) k) m) in
+      accepted.shapes CallShape (record { component = k; part = AnAssign n.0 }) o.assign.place (path_of (component_of d k) o.assign.target) refl
+      (inr (inr (inl (record { within = within; number = n.0; is = refl; assign = o; stands = n.1; breaks = (static, (refl, refl)) }))))
+
   driven_kept : (g : ℕ) → g < length (part_of (component_of d k)).groups → is_plain (group_at (part_of (component_of d k)) g).kind ≡ true → (c : ℕ) → Calls (component_of d k) (group_at (part_of (component_of d k)) g).assigns c
       → (some_target (same_port (go_port c)) (group_at (part_of (component_of d k)) g).assigns && some_target (is_hole_of g) (group_at (part_of (component_of d k)) g).assigns) ≡ false → ⊥
   driven_kept g there plain c calls lacks =
       accepted.shapes CallShape (record { component = k; part = AGroup g }) (group_at (part_of (component_of d k)) g).place (group_at (part_of (component_of d k)) g).name refl
-      (inr (record {
+      (inr (inl (record {
         within = within;
         number = g;
         is = refl;
         stands = subst (λ part. g < length (PlainComponent.groups part)) (same_part d (length d.components) k) there;
         breaks = (plain, (c, calls, lacks), (refl, refl));
-      }))
+      })))
 
   pub keeps_calls : (i : Instance) → IsBeside i (component_of d k) → KeepsCalls i (component_of d k)
-  keeps_calls i beside = record { beside = beside; shaped = shape_kept; driven = driven_kept }
+  keeps_calls i beside = record { beside = beside; shaped = shape_kept; dynamic = dynamic_kept; driven = driven_kept }

@@ -244,14 +244,14 @@ module _ (d : PlainDesign) (design : IsDesign d) (accepted : IsAccepted d) where
     abbrev KeepsStatic : PlainComponent → Type 0
     KeepsStatic part = (v : Visited) → In (statements_in part) v → v.context ≡ Dynamic → is_static v.form ≡ true → (0 < form_length part v.form) × ((g : ℕ) → In (groups_in v.form) g → is_some (group_length part g) ≡ true)
 
-    statics : KeepsStatic (part_of (instance_at (tree_of d) path))
-    statics = instance_part KeepsStatic of_component_here bare path
+    statics : IsFlat d → KeepsStatic (part_of (instance_at (tree_of d) path))
+    statics flat = instance_part KeepsStatic of_component_here bare path
       where
         of_component_here : (k : ℕ) → k < length d.components → KeepsStatic (component_at d k)
         of_component_here k l v i dynamic static =
             let all = λ (w : Visited) (j : In (visits v) w). all_may d accepted k l w (visited Dynamic (component_at d k).control v w i j) in
-            let it = static_form (component_at d k) v.context v.form (subst (λ c. may_stand (component_at d k) c v.form ≡ true) (sym dynamic) (static_may (component_at d k) v.form static)) (λ w j. all w (inr j)) in
-            (static_lasts d accepted k l v i static it.has, it.static)
+            let it = static_form (component_at d k) (flat k l).no_invoke v.context v.form (subst (λ c. may_stand (component_at d k) c v.form ≡ true) (sym dynamic) (static_may (component_at d k) v.form static)) (λ w j. all w (inr j)) in
+            (static_lasts d accepted k l flat v i static it.has, it.static)
 
         bare : KeepsStatic no_component
         bare v (inl e) dynamic static = absurd (false_true (subst (λ w. is_static w.form ≡ true) (sym e) static))
@@ -279,9 +279,9 @@ module _ (d : PlainDesign) (design : IsDesign d) (accepted : IsAccepted d) where
             same a b f = cc
         of_kind (OfComponent k) p e has = absurd (cc)
 
-    lasts : (form : PlainForm) (place : Place) → Stands (instance_at (tree_of d) path) (Placed form place) → is_island_form (part_of (instance_at (tree_of d) path)) form ≡ true → 0 < form_length (part_of (instance_at (tree_of d) path)) form
-    lasts Empty place stands e = absurd (false_true e)
-    lasts (Enable g) place stands e = of_length (group_length (part_of (instance_at (tree_of d) path)) g) refl e
+    lasts : IsFlat d → (form : PlainForm) (place : Place) → Stands (instance_at (tree_of d) path) (Placed form place) → is_island_form (part_of (instance_at (tree_of d) path)) form ≡ true → 0 < form_length (part_of (instance_at (tree_of d) path)) form
+    lasts flat Empty place stands e = absurd (false_true e)
+    lasts flat (Enable g) place stands e = of_length (group_length (part_of (instance_at (tree_of d) path)) g) refl e
       where
         there : g < length (part_of (instance_at (tree_of d) path)).groups
         there = (forms (record { context = Dynamic; form = Enable g; place = place }) stands).0
@@ -289,16 +289,16 @@ module _ (d : PlainDesign) (design : IsDesign d) (accepted : IsAccepted d) where
         of_length : (o : Option ℕ) → group_length (part_of (instance_at (tree_of d) path)) g ≡ o → is_some o ≡ true → 0 < or_zero o
         of_length None is f = absurd (false_true f)
         of_length (Some n) is f = group_lengths g n there is
-    lasts (Seq parts) place stands e = absurd (false_true e)
-    lasts (Par arms) place stands e = absurd (false_true e)
-    lasts (If test comb a b) place stands e = absurd (false_true e)
-    lasts (While test comb a) place stands e = absurd (false_true e)
-    lasts (Repeat count a) place stands e = absurd (false_true e)
-    lasts (StaticSeq length parts) place stands e = (statics (record { context = Dynamic; form = StaticSeq length parts; place = place }) stands refl refl).0
-    lasts (StaticPar length arms) place stands e = (statics (record { context = Dynamic; form = StaticPar length arms; place = place }) stands refl refl).0
-    lasts (StaticIf length test a b) place stands e = (statics (record { context = Dynamic; form = StaticIf length test a b; place = place }) stands refl refl).0
-    lasts (StaticRepeat length count a) place stands e = (statics (record { context = Dynamic; form = StaticRepeat length count a; place = place }) stands refl refl).0
-    lasts (Timed k) place stands e = absurd (false_true e)
+    lasts flat (Seq parts) place stands e = absurd (false_true e)
+    lasts flat (Par arms) place stands e = absurd (false_true e)
+    lasts flat (If test comb a b) place stands e = absurd (false_true e)
+    lasts flat (While test comb a) place stands e = absurd (false_true e)
+    lasts flat (Repeat count a) place stands e = absurd (false_true e)
+    lasts flat (StaticSeq length parts) place stands e = (statics flat (record { context = Dynamic; form = StaticSeq length parts; place = place }) stands refl refl).0
+    lasts flat (StaticPar length arms) place stands e = (statics flat (record { context = Dynamic; form = StaticPar length arms; place = place }) stands refl refl).0
+    lasts flat (StaticIf length test a b) place stands e = (statics flat (record { context = Dynamic; form = StaticIf length test a b; place = place }) stands refl refl).0
+    lasts flat (StaticRepeat length count a) place stands e = (statics flat (record { context = Dynamic; form = StaticRepeat length count a; place = place }) stands refl refl).0
+    lasts flat (Timed k) place stands e = absurd (false_true e)
 
     no_invoke : IsFlat d → (part_of (instance_at (tree_of d) path)).invokes ≡ []
     no_invoke flat = instance_part (λ part. part.invokes ≡ []) (λ k l. (flat k l).no_invoke) refl path
@@ -356,11 +356,11 @@ module _ (d : PlainDesign) (design : IsDesign d) (accepted : IsAccepted d) where
         (λ part cells more is keeps stands e. let it = drives_driving cells (group_at part g).assigns c e in plain_group (Node part cells) (Node part more) keeps g it.assign it.is_in c it.port below it.target stands)
     plain_if_driven (of_nothing none) g c below = λ stands e. absurd (nothing_drives (part_of (instance_at (tree_of d) path)) none g c e)
 
-    no_static_calls : (form : PlainForm) (place : Place) (c : ℕ) (child : Instance) → Stands (instance_at (tree_of d) path) (Placed form place) → is_static form ≡ true → cell_at (cells_of (instance_at (tree_of d) path)) c ≡ OfInstance child
+    no_static_calls : IsFlat d → (form : PlainForm) (place : Place) (c : ℕ) (child : Instance) → Stands (instance_at (tree_of d) path) (Placed form place) → is_static form ≡ true → cell_at (cells_of (instance_at (tree_of d) path)) c ≡ OfInstance child
         → drives (part_of (instance_at (tree_of d) path)) (Placed form place) c ≡ true → ⊥
-    no_static_calls form place c child stands static at_child e =
+    no_static_calls flat form place c child stands static at_child e =
         let g = driver (part_of (instance_at (tree_of d) path)) (groups_in form) c e in
-        let timed = (statics (record { context = Dynamic; form = form; place = place }) stands refl static).1 g.0 g.1 in
+        let timed = (statics flat (record { context = Dynamic; form = form; place = place }) stands refl static).1 g.0 g.1 in
         not_both (group_at (part_of (instance_at (tree_of d) path)) g.0).kind (plain_if_driven (instance_stands d path) g.0 c child at_child g.2) timed
       where
         not_both : (kind : GroupKind) → is_plain kind ≡ true → is_some (kind_length kind) ≡ true → ⊥
@@ -374,10 +374,10 @@ module _ (d : PlainDesign) (design : IsDesign d) (accepted : IsAccepted d) where
       rules = instance_rules;
       is_untimed = untimed flat;
       unshared = λ v i c. none_shared d accepted path v i c;
-      lasts = lasts;
+      lasts = lasts flat;
       calls = λ g place c stands e. calls_of (instance_stands d path) g c (group_there g place stands) e;
       calls_it = λ g place c child stands at_child e. called_if_driven (instance_stands d path) g c child at_child (one_group (part_of (instance_at (tree_of d) path)) g c e);
-      no_island_calls = no_static_calls;
+      no_island_calls = no_static_calls flat;
       own_inputs = own_inputs;
     }
       where

@@ -1,5 +1,6 @@
 -- What the rules say of a group that calls, in an instance of the tree.
-use Rattle.std.proofs.Common.{◌≡◌, ℕ, suc, ◌+◌, ◌<◌, ◌⊎◌, inl, inr, Bool, true, false, ◌&&◌, ◌||◌, nat_eq, List, [], ◌∷◌, Some, None, length, refl, sym, ap, ◌∙◌, subst}
+use Rattle.std.proofs.Common.{◌≡◌, ℕ, suc, ◌+◌, ◌<◌, ◌⊎◌, inl, inr, Bool, true, false, ◌&&◌, ◌||◌, nat_eq, List, [], ◌∷◌, Option, Some, None, length, refl, sym, ap, ◌∙◌, subst}
+use Rattle.std.specs.Prelude.{is_some}
 use Rattle.std.proofs.lemmas.Bool.{eqb-true, true_from_ne_false}
 use Rattle.std.proofs.lemmas.Bool.Decides.{eqb_tells}
 use Rattle.cx_prim.specs.Rows.{Row}
@@ -15,6 +16,7 @@ use Rattle.cx_rules.specs.Ports.{enables_cell, is_primitive_enable, is_instance,
 use Rattle.cx_rules.specs.Items.{is_plain}
 use Rattle.cx_rules.specs.Footprints.{Depends}
 use Rattle.cx_rules.specs.ShapeRules.{is_hole_of, some_target}
+use Rattle.cx_rules.specs.InvokeShape.{latency_at, is_static_port}
 use Rattle.cx_rules.proofs.FoundLemmas.{same_is}
 use Rattle.cx_rules.specs.CallShape.{is_port_of, Calls, go_port, is_right_go, wrong_go, done_port, is_register_enable, with_target, is_right_enable, captured, wanted_dones, is_right_done, CallBreak, another_cell, input_by_output, wrong_enable, wrong_done}
 use Rattle.cx_control.proofs.BesideLemmas.{IsBeside, depends_too, group_stands, KeepsCalls}
@@ -104,6 +106,14 @@ module _ (i whole : Instance) (keeps : KeepsCalls i whole) where
   part_port_there : (p : PortRef) (c n : ℕ) (child : Instance) → p ≡ ports.Cell c n → cell_at (cells_of i) c ≡ OfInstance child → is_part_port whole p ≡ true
   part_port_there p c n child e at = ap (is_part_port whole) e ∙ ap is_instance ((KeepsCalls.beside keeps).parts c child at).1
 
+  -- what is driven is no cell of a static component
+  dynamic_of : (o : Owned) → In (source_order part) o → (c n : ℕ) (child : Instance) → o.assign.target ≡ ports.Cell c n → cell_at (cells_of whole) c ≡ OfInstance child → (part_of child).latency ≡ None
+  dynamic_of o stands c n child e at = by (part_of child).latency refl
+    where
+      by : (latency : Option ℕ) → (part_of child).latency ≡ latency → (part_of child).latency ≡ None
+      by None is = is
+      by (Some n) is = absurd (keeps.dynamic o stands (ap (is_static_port whole) e ∙ ap (λ x. is_some (latency_at x)) at ∙ ap is_some is))
+
   -- nothing continuous drives a port of a component cell
   pub none_outside : (o : Owned) → In (source_order part) o → o.owner ≡ None → (c n : ℕ) (child : Instance) → o.assign.target ≡ ports.Cell c n → cell_at (cells_of i) c ≡ OfInstance child → ⊥
   none_outside o stands owner c n child e at = keeps.shaped o stands (inl (part_port_there o.assign.target c n child e at, inl owner))
@@ -122,6 +132,7 @@ module _ (i whole : Instance) (keeps : KeepsCalls i whole) where
     calls_of a j c n child e at = record {
       child = ((KeepsCalls.beside keeps).parts c child at).0;
       is_component = ((KeepsCalls.beside keeps).parts c child at).1;
+      dynamic = dynamic_of (record { owner = Some g; assign = a }) (group_stands part g a j) c n ((KeepsCalls.beside keeps).parts c child at).0 e ((KeepsCalls.beside keeps).parts c child at).1;
       driven = some_in (is_port_of c) assigns a j (ap (is_port_of c) e ∙ equal c);
     }
 

@@ -17,6 +17,7 @@ use Rattle.cx_control.specs.InstanceRules.{Stands}
 use Rattle.cx_meaning.proofs.SightsLaws.{number_in, behind_comb, in_left, in_right}
 use Rattle.cx_meaning.proofs.ControlLaws.{groups_drive_in}
 use Rattle.cx_text.proofs.NumberLaws.{suc_zero, zero_suc, false_true}
+use Rattle.cx_rules.proofs.InvokesLemmas.{drives_more, reads_more}
 
 -- the statement as it is visited in dynamic control
 abbrev pub as_visited : PlainStatement → Visited
@@ -124,8 +125,8 @@ are_apart part (s ∷ ss) unshared = (first, are_apart part ss later)
   where
     first : (t : PlainStatement) → In ss t → Apart (λ u. spots_of (drives part u)) (λ u. reads_spot (Reads part u)) s t
     first t i = let n = number_in ss t i in record {
-      first = λ x. spots_apart part s t (λ c d r. unshared c (record { one = 0; other = suc n.0; differ = zero_suc n.0; first = s; second = t; first_stands = refl; second_stands = n.1 }, d, r)) x;
-      second = λ x. spots_apart part t s (λ c d r. unshared c (record { one = suc n.0; other = 0; differ = suc_zero n.0; first = t; second = s; first_stands = n.1; second_stands = refl }, d, r)) x;
+      first = λ x. spots_apart part s t (λ c d r. unshared c (record { one = 0; other = suc n.0; differ = zero_suc n.0; first = s; second = t; first_stands = refl; second_stands = n.1 }, drives_more part s c d, reads_more part t c r)) x;
+      second = λ x. spots_apart part t s (λ c d r. unshared c (record { one = suc n.0; other = 0; differ = suc_zero n.0; first = t; second = s; first_stands = n.1; second_stands = refl }, drives_more part t c d, reads_more part s c r)) x;
     }
 
     later : (c : ℕ) → IsShared part ss c → ⊥

@@ -30,6 +30,7 @@ use Rattle.cx_control.proofs.StandLaws.{groups_all}
 use Rattle.cx_meaning.proofs.DesignsLemmas.{same_part}
 use Rattle.cx_rules.proofs.FrameLemmas.{acting_alike}
 use Rattle.cx_meaning.proofs.ControlLaws.{groups_drive_in}
+use Rattle.cx_rules.proofs.InvokesLemmas.{drives_more, reads_more}
 
 only_is : (g h o : ℕ) → only_at g h ≡ Some o → g ≡ h
 only_is g h o e = by (nat_eq g h) refl e
@@ -109,7 +110,7 @@ unshared_later part s rest none c (two, d, r) = none c (
 later_drives_not : (part : PlainComponent) (s : PlainStatement) (rest : List PlainStatement) → Unshared part (s ∷ rest) → (t : PlainStatement) → In rest t → (c : ℕ) → drives part t c ≡ true → Reads part s c → ⊥
 later_drives_not part s rest none t i c d r =
     let n = number_in rest t i in
-    none c (record { one = suc n.0; other = 0; differ = λ e. differ n.0 e; first = t; second = s; first_stands = n.1; second_stands = refl }, d, r)
+    none c (record { one = suc n.0; other = 0; differ = λ e. differ n.0 e; first = t; second = s; first_stands = n.1; second_stands = refl }, drives_more part t c d, reads_more part s c r)
   where
     differ : (n : ℕ) → suc n ≡ 0 → ⊥
     differ n e = cc

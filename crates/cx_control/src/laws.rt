@@ -26,7 +26,7 @@ use cx_laws::laws::{
 /// Every instance of an accepted design without static components keeps the rules that its control needs.
 pub fn instances_keep_rules()
     ensures rules { (d : PlainDesign) (path : Path) → IsDesign d → IsFlat d → IsAccepted d → ControlRules (instance_at (tree_of d) path) }
-    ensures islands { (d : PlainDesign) (path : Path) → IsAccepted d → IslandRules (instance_at (tree_of d) path) }
+    ensures islands { (d : PlainDesign) (path : Path) → IsFlat d → IsAccepted d → IslandRules (instance_at (tree_of d) path) }
 {
     cycles_keep_the_rest();
     own_inputs_suffice();

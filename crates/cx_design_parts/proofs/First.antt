@@ -2,7 +2,7 @@
 use Rattle.std.proofs.Common.{◌≡◌, ℕ, Bool, true, false, cond, List, [], ◌∷◌, length, Option, Some, None, ◌⊎◌, inl, inr, ⊎_elim, refl, sym, ap, ◌∙◌, subst}
 use Rattle.cx_meaning.specs.Designs.{PlainDesign}
 use Rattle.cx_meaning.specs.Sights.{In}
-use Rattle.cx_rules.specs.Spots.{Part, Itself, AnAssign, AStatement, AGroup, Whole}
+use Rattle.cx_rules.specs.Spots.{Part, Itself, ABind, AnAssign, AStatement, AGroup, Whole}
 use Rattle.cx_rules.specs.Accepted.{number_of, part_key, comes_before}
 use Rattle.cx_design_parts.specs.Breaks.{Broken, key, earlier, first_of}
 use Rattle.cx_design_parts.specs.Answers.{AreBreaks, IsAnswer, answer_of}
@@ -53,6 +53,7 @@ key_length b = by_part b.spot.part
   where
     by_part : (part : Part) → length (b.place.line ∷ b.place.column ∷ number_of b.rule ∷ b.spot.component ∷ part_key part) ≡ 6
     by_part (Itself n) = refl
+    by_part (ABind n) = refl
     by_part (AnAssign n) = refl
     by_part (AStatement n) = refl
     by_part (AGroup n) = refl

@@ -18,6 +18,7 @@ pub record Broken : Type 0 where
 
 abbrev pub plain_part : Part → spots.Part
 plain_part (parts.Itself n) = spots.Itself n
+plain_part (parts.Bind n) = spots.ABind n
 plain_part (parts.Assign n) = spots.AnAssign n
 plain_part (parts.Statement n) = spots.AStatement n
 plain_part (parts.Group n) = spots.AGroup n

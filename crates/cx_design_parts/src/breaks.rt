@@ -11,11 +11,12 @@ use cx_design::Refusal;
 use cx_text::{Diagnostic, Name, Place, Rule};
 use std::marker::Model;
 
-/// A part of a component, by its number in the component's list of its kind: an assignment in source order, a statement in
-/// pre-order, a group; or the component itself, with the number of a word of the rule.
+/// A part of a component, by its number in the component's list of its kind: an input that a static invoke binds, an assignment
+/// in source order, a statement in pre-order, a group; or the component itself, with the number of a word of the rule.
 #[derive(Clone, Copy, Debug, PartialEq, Eq)]
 pub enum Part {
     Itself(usize),
+    Bind(usize),
     Assign(usize),
     Statement(usize),
     Group(usize),

@@ -28,9 +28,10 @@ fn part_key(part: Part) -> [u64; 2]
 {
     match part {
         Part::Itself(word) => [0, word as u64],
-        Part::Assign(number) => [1, number as u64],
-        Part::Statement(number) => [2, number as u64],
-        Part::Group(number) => [3, number as u64],
+        Part::Bind(number) => [1, number as u64],
+        Part::Assign(number) => [2, number as u64],
+        Part::Statement(number) => [3, number as u64],
+        Part::Group(number) => [4, number as u64],
     }
 }
 

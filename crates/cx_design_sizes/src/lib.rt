@@ -11,5 +11,5 @@ mod words;
 pub use context::{LimitContext, below_dynamic};
 pub use islands::{form_length, form_occurrences, group_length, is_island_form, length_of};
 pub use order::children_first;
-pub use sizes::{component_size, design_size};
+pub use sizes::{assigns_size, component_size, design_size, groups_size};
 pub use tallies::{LimitTally, component_tallies, tree_tally};

@@ -1,12 +1,16 @@
--- A design keeps what it does in one way at most.
-use Rattle.std.proofs.Common.{ℕ, Option, Some, None}
+-- A design without static components keeps what it does in one way at most.
+use Rattle.std.proofs.Common.{◌≡◌, ℕ, ◌<◌, List, [], ◌∷◌, length, Option, Some, None, arith}
 use Rattle.std.proofs.Props.{props}
 use Rattle.cx_meaning.specs.declared.ports.PortRef.{PortRef}
 use Rattle.cx_meaning.specs.declared.ports.PortRef.TheVariants as ports
-use Rattle.cx_meaning.specs.Designs.{PlainAssign, PlainCell, PlainKind, OfPrimitive, OfComponent, PlainComponent, PlainDesign, PlainForm, Empty, Enable, Seq, Par, If, While, Repeat, StaticSeq, StaticPar, StaticIf, StaticRepeat, Timed}
+use Rattle.cx_meaning.specs.Designs.{PlainAssign, PlainInvoke, PlainCell, PlainKind, OfPrimitive, OfComponent, PlainComponent, PlainDesign, component_at, PlainForm, Empty, Enable, Seq, Par, If, While, Repeat, StaticSeq, StaticPar, StaticIf, StaticRepeat, Timed}
 use Rattle.cx_meaning.specs.Instances.{Instance}
+use Rattle.cx_meaning.specs.Sights.{In}
+use Rattle.cx_rules.specs.Flat.{IsFlat}
+use Rattle.cx_rules.specs.Invokes.{invokes_of}
+use Rattle.cx_rules.specs.Ports.{component_of}
 use Rattle.cx_rules.specs.Items.{Visited}
-use Rattle.cx_rules.specs.Wellformed.{IsThere, IsAssign, IsWith, IsForm, IsStatement, IsKind, IsExternal, IsCell, IsComponent, IsDesign}
+use Rattle.cx_rules.specs.Wellformed.{IsThere, IsAssign, IsWith, IsForm, IsStatement, IsInvoke, IsKind, IsExternal, IsCell, IsComponent, IsDesign}
 
 there_prop : (i : Instance) (t : PortRef) → IsProp (IsThere i t)
 there_prop i (ports.Cell c p) = hlevel props
@@ -50,8 +54,22 @@ statement_prop i v = hlevel (props, there_prop, form_prop)
 cell_prop : (d : PlainDesign) (k : ℕ) (cell : PlainCell) → IsProp (IsCell d k cell)
 cell_prop d k cell = hlevel (props, kind_prop, external_prop)
 
-component_prop : (d : PlainDesign) (k : ℕ) → IsProp (IsComponent d k)
-component_prop d k = hlevel (props, assign_prop, statement_prop, cell_prop)
+-- what is said of each of no static invokes, and of each of their numbers
+of_none_prop : (vs : List PlainInvoke) (P : PlainInvoke → Type 0) → vs ≡ [] → IsProp ((v : PlainInvoke) → In vs v → P v)
+of_none_prop [] P e = λ f g. λ i v x. let same : f v x ≡ g v x = absurd x in same i
+of_none_prop (v ∷ vs) P e = absurd cc
 
-pub design_prop : (d : PlainDesign) → IsProp (IsDesign d)
-design_prop d = hlevel (props, component_prop)
+numbered_none_prop : (vs : List PlainInvoke) (P : ℕ → Type 0) → vs ≡ [] → IsProp ((n : ℕ) → n < length vs → P n)
+numbered_none_prop [] P e = λ f g. λ i n lt. let same : f n lt ≡ g n lt = absurd (omega (arith, lt)) in same i
+numbered_none_prop (v ∷ vs) P e = absurd cc
+
+component_prop : (d : PlainDesign) (k : ℕ) → (component_at d k).invokes ≡ [] → IsProp (IsComponent d k)
+component_prop d k none =
+    let invokes : IsProp ((v : PlainInvoke) → In (component_at d k).invokes v → IsInvoke (component_of d k) v) = of_none_prop (component_at d k).invokes (IsInvoke (component_of d k)) none in
+    let invoked : IsProp ((n : ℕ) → n < length (component_at d k).invokes → In (invokes_of (component_at d k).control) n) = numbered_none_prop (component_at d k).invokes (In (invokes_of (component_at d k).control)) none in
+    hlevel (props, assign_prop, statement_prop, cell_prop, invokes, invoked)
+
+pub design_prop : (d : PlainDesign) → IsFlat d → IsProp (IsDesign d)
+design_prop d flat =
+    let parts : (k : ℕ) → k < length d.components → IsProp (IsComponent d k) = λ k within. component_prop d k (flat k within).no_invoke in
+    hlevel (props, parts)

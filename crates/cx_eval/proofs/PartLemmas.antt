@@ -6,6 +6,7 @@ use Rattle.cx_rules.specs.Accepted.{IsAccepted}
 use Rattle.cx_rules.specs.Ports.{component_of}
 use Rattle.cx_rules.specs.Sizes.{instances_below}
 use Rattle.cx_rules.specs.Wellformed.{IsDesign}
+use Rattle.cx_rules.specs.Flat.{IsFlat}
 use Rattle.cx_state.proofs.TreeLemmas.{count_paths}
 use Rattle.cx_state.specs.declared.tables.InstanceRow.{InstanceRow}
 use Rattle.cx_state.specs.Tables.{IsNumber, IsTable, row_at}
@@ -17,10 +18,10 @@ use Rattle.cx_rules.proofs.PortsLemmas.{part_is as component_part}
 pub cells_few : (d : PlainDesign) (k : ℕ) → IsDesign d → length (component_at d k).cells < 2 ^ 32
 cells_few d k design = let few = part_few d.components k in let all = design.few_parts in omega (arith, few, all)
 
-pub number_few : (d : PlainDesign) (n : ℕ) → IsAccepted d → n < length (paths_of (tree_of d)) → n < 2 ^ 32
-number_few d n accepted lt =
+pub number_few : (d : PlainDesign) (n : ℕ) → IsFlat d → IsAccepted d → n < length (paths_of (tree_of d)) → n < 2 ^ 32
+number_few d n flat accepted lt =
     let all : length (paths_of (tree_of d)) ≡ instances_below (tree_of d) = count_paths (tree_of d) in
-    let few : instances_below (tree_of d) ≤ 4096 = few_instances d accepted.limits in
+    let few : instances_below (tree_of d) ≤ 4096 = few_instances d flat accepted.limits in
     omega (arith, all, few, lt)
 
 -- a component's cells in the tree

@@ -9,6 +9,7 @@ use Rattle.std.proofs.lemmas.Option.{slice_get-get_or, slice_get-map}
 use Rattle.cx_prim.specs.CellStates.{CellState}
 use Rattle.cx_meaning.specs.Instances.{paths_of, tree_of}
 use Rattle.cx_rules.specs.Wellformed.{IsDesign}
+use Rattle.cx_rules.specs.Flat.{IsFlat}
 use Rattle.cx_design.specs.declared.actives.Active.{Active}
 use Rattle.cx_design.specs.declared.designs.Design.{Design}
 use Rattle.cx_design.specs.PlainDesigns.{plain_design}
@@ -33,8 +34,8 @@ use Rattle.cx_eval.specs.Tables.{AreRooms, AreTables, asked_in, cells_at, design
 use Rattle.cx_eval.proofs.DesignProp.{design_prop}
 use Rattle.cx_text.proofs.ListLaws.{set_other, set_same}
 
-pub kept_design : (design : Design) → IsDesign (plain_design design)
-kept_design design = ∥∥₁_elim design.keeps (design_prop (plain_design design)) (λ d. d)
+pub kept_design : (design : Design) → IsFlat (plain_design design) → IsDesign (plain_design design)
+kept_design design flat = ∥∥₁_elim design.keeps (design_prop (plain_design design) flat) (λ d. d)
 
 some_below : {A : Type 0} (xs : List A) (n : ℕ) → n < length xs → slice_get xs n ≡ None → ⊥
 some_below [] n lt e = absurd (omega (arith, lt))

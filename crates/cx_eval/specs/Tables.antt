@@ -5,6 +5,7 @@ use Rattle.cx_meaning.specs.declared.sights.Seen.{Seen}
 use Rattle.cx_meaning.specs.Designs.{PlainDesign, PlainCell, component_at}
 use Rattle.cx_rules.specs.Accepted.{IsAccepted}
 use Rattle.cx_rules.specs.Wellformed.{IsDesign}
+use Rattle.cx_rules.specs.Flat.{IsFlat}
 use Rattle.cx_design.specs.declared.actives.Active.{Active}
 use Rattle.cx_design.specs.declared.actives.Active.TheVariants as actives
 use Rattle.cx_design.specs.PlainDesigns.{plain_design}
@@ -31,9 +32,10 @@ pub record AreSteppingParts (d : PlainDesign) (parts : List SteppingCells) : Typ
   pub count : length parts ≡ length d.components
   pub each : (k : ℕ) (part : SteppingCells) → slice_get parts k ≡ Some part → AreSteppingCells (component_at d k).cells part
 
--- the tables are those of an accepted design
+-- the tables are those of an accepted design without static components
 pub record AreTables (t : Tables) : Type 0 where
   pub design : IsDesign (design_of t)
+  pub flat : IsFlat (design_of t)
   pub accepted : IsAccepted (design_of t)
   pub table : IsTable (design_of t) t.table.rows.items t.table.children.items
   pub numbered : IsNodesOf (design_of t) t.table.rows.items t.nodes

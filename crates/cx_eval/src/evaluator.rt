@@ -9,6 +9,7 @@ ghost use Rattle.cx_meaning.specs.declared.ports.PortRef.TheVariants.{Done};
 ghost use Rattle.cx_state.specs.States.{IsStateOf, plain_state};
 ghost use Rattle.cx_eval.specs.Evaluated.{CanAct, Cycled, IsPort, IsSeen, Turned};
 ghost use Rattle.cx_eval_cycle.specs.Passes.{IsAscending, listed_in};
+ghost use Rattle.cx_rules.specs.Flat.{IsFlat};
 
 use crate::cycling::{cycle_all, cycle_listed};
 use crate::sights::seen_in;
@@ -48,8 +49,9 @@ impl<'a> Model for Evaluator<'a> {
 }
 
 impl<'a> Evaluator<'a> {
-    /// An evaluator of an accepted design.
+    /// An evaluator of an accepted design without static components.
     pub fn new(alloc: Global, design: &'a Checked) -> Result<Evaluator<'a>, Memory>
+        requires flat { IsFlat (plain_design design.now) }
         ensures value { IfOk result (λ e. e ≡ design.entry.now) }
     {
         let tables = Tables::new(alloc, design)?;

@@ -3,6 +3,7 @@
 ghost use Rattle.std.specs.Prelude.{◌≡◌, ◌<◌, IfOk, length};
 ghost use Rattle.cx_meaning.specs.Instances.{paths_of, tree_of};
 ghost use Rattle.cx_rules.specs.Wellformed.{IsDesign};
+ghost use Rattle.cx_rules.specs.Flat.{IsFlat};
 ghost use Rattle.cx_design.specs.PlainDesigns.{plain_design};
 ghost use Rattle.cx_state.specs.States.{IsStateOf, plain_state};
 ghost use Rattle.cx_eval_network.specs.Askings.{IsAsking, asked_of};
@@ -35,6 +36,7 @@ pub(crate) struct Tables<'a> {
 impl<'a> Tables<'a> {
     /// The tables of an accepted design.
     pub(crate) fn new(alloc: Global, design: &'a Checked) -> Result<Tables<'a>, Memory>
+        requires flat { IsFlat (plain_design design.now) }
         ensures design { IfOk result (λ tables. tables.design.now ≡ design.now) }
         ensures tables { IfOk result AreTables }
     {

@@ -94,7 +94,7 @@ module _ (d : PlainDesign) (design : IsDesign d) (accepted : IsAccepted d) (k : 
   no_sunk_test v p n i e is =
       let at = number_in (statements_in (component_at d k)) v i in
       accepted.widths NotASource (record { component = k; part = AStatement at.0 }) p.place (path_of (component_of d k) p.port) refl
-      (inr (record { within = within; number = at.0; is = refl; statement = v; stands = at.1; breaks = (p, e, ap (is_target_only (component_of d k)) is, (refl, refl)) }))
+      (inr (inl (record { within = within; number = at.0; is = refl; statement = v; stands = at.1; breaks = (p, e, ap (is_target_only (component_of d k)) is, (refl, refl)) })))
 
   no_enable : (o : Owned) (c p : ℕ) (row : Row) → In (source_order (component_at d k)) o → o.owner ≡ None → o.assign.target ≡ ports.Cell c p → cell_at (cells_of (component_of d k)) c ≡ OfRow row → side_of row p ≡ sides.Enable → ⊥
   no_enable o c p row i owner target at side =

@@ -15,6 +15,7 @@ use Rattle.cx_rules.specs.Spots.{AStatement}
 use Rattle.cx_rules.specs.RaceRule.{Arms, arms_of, IsShared}
 use Rattle.cx_rules.specs.Accepted.{IsAccepted}
 use Rattle.cx_rules.proofs.CircleLemmas.{Reached, a_tree, no_tree, reached}
+use Rattle.cx_rules.proofs.InvokesLemmas.{drives_more, reads_more}
 use Rattle.cx_frames.specs.Arms.{all_drive}
 use Rattle.cx_meaning.proofs.DesignsLemmas.{same_part}
 use Rattle.cx_meaning.proofs.SightsLaws.{number_in}
@@ -107,4 +108,5 @@ apart_from d accepted path v done later arm stands arms c reads drives =
       first_stands = in_front done (arm ∷ later) r.number r.arm r.stands;
       second_stands = right_behind done later arm;
     } in
-    none_shared d accepted path v stands c (subst (λ x. IsShared (part_of (instance_at (tree_of d) path)) x c) (sym arms) (two, r.drives, reads))
+    let part = part_of (instance_at (tree_of d) path) in
+    none_shared d accepted path v stands c (subst (λ x. IsShared part x c) (sym arms) (two, drives_more part r.arm c r.drives, reads_more part arm c reads))

@@ -1,9 +1,8 @@
 -- In an accepted design islands are short.
-use Rattle.std.proofs.Common.{◌≡◌, ℕ, ◌<◌, ◌≤◌, nat_lt, nat_le, ◌&&◌, inl, inr, ⊎_elim, Bool, true, false, length, Some, None, refl, sym, ap, ◌∙◌, subst}
-use Rattle.std.specs.Prelude.{if◌then◌else◌}
-use Rattle.std.proofs.lemmas.Bool.{cases_lt, le-leb, and_from}
+use Rattle.std.proofs.Common.{◌≡◌, ℕ, ◌<◌, ◌≤◌, inl, inr, ⊎_elim, true, false, length, refl, sym, ap, ◌∙◌, subst}
+use Rattle.std.proofs.lemmas.Bool.{cases_lt}
 use Rattle.std.proofs.lemmas.List.{get_or_past}
-use Rattle.cx_text.specs.declared.limits.TheConstants.{OCCURRENCES, REPETITIONS}
+use Rattle.cx_text.specs.declared.limits.TheConstants.{REPETITIONS}
 use Rattle.cx_text.specs.declared.rules.Rule.TheVariants.{Limit}
 use Rattle.cx_meaning.specs.Designs.{PlainComponent, PlainDesign, component_at, no_component}
 use Rattle.cx_meaning.specs.Instances.{Instance, part_of, tree_of, Path, instance_at}
@@ -11,26 +10,18 @@ use Rattle.cx_meaning.specs.Sights.{In}
 use Rattle.cx_meaning.specs.Islands.{form_length}
 use Rattle.cx_rules.specs.Ports.{component_of}
 use Rattle.cx_rules.specs.Items.{Visited, statements_in}
-use Rattle.cx_rules.specs.StaticControl.{is_island, form_occurrences}
-use Rattle.cx_rules.specs.LimitRule.{Limited, OnRepeat, OnOccurrences, OnLatency, word_of, count_in, is_too_many, statement_limit}
+use Rattle.cx_rules.specs.StaticControl.{is_island}
+use Rattle.cx_rules.specs.LimitRule.{word_of}
 use Rattle.cx_rules.specs.Spots.{AStatement}
+use Rattle.cx_rules.specs.Flat.{IsFlat}
 use Rattle.cx_rules.specs.Accepted.{IsAccepted}
+use Rattle.cx_rules.proofs.CountsLemmas.{lasts_within}
+use Rattle.cx_rules.proofs.LimitRuleLemmas.{over_latency}
 use Rattle.cx_rules.proofs.CircleLemmas.{Reached, a_tree, no_tree, reached}
 use Rattle.cx_meaning.proofs.SightsLaws.{number_in}
 use Rattle.cx_meaning.proofs.DesignsLemmas.{same_part}
 
--- some limit is exceeded where the last one is
-some_limit : (many occurs long : Bool) → long ≡ true → (limited : Limited) × ((if many then Some OnRepeat else if occurs then Some OnOccurrences else if long then Some OnLatency else None) ≡ Some limited)
-some_limit true occurs long e = (OnRepeat, refl)
-some_limit false true long e = (OnOccurrences, refl)
-some_limit false false long e = (OnLatency, ap (λ b. if b then Some OnLatency else None) e)
-
-exceeds : (part : PlainComponent) (v : Visited) → is_island part v ≡ true → REPETITIONS ≤ form_length part v.form → (limited : Limited) × (statement_limit part v ≡ Some limited)
-exceeds part v island long =
-    some_limit (is_too_many (count_in v.form)) (is_island part v && nat_lt OCCURRENCES (form_occurrences part v.form)) (is_island part v && nat_le REPETITIONS (form_length part v.form))
-    (and_from (is_island part v) (nat_le REPETITIONS (form_length part v.form)) island (le-leb REPETITIONS (form_length part v.form) long))
-
-module _ (d : PlainDesign) (accepted : IsAccepted d) (v : Visited) where
+module _ (d : PlainDesign) (flat : IsFlat d) (accepted : IsAccepted d) (v : Visited) where
   abbrev IsShort : PlainComponent → Type 0
   IsShort part = In (statements_in part) v → is_island part v ≡ true → form_length part v.form < REPETITIONS
 
@@ -40,7 +31,8 @@ module _ (d : PlainDesign) (accepted : IsAccepted d) (v : Visited) where
       (λ l. l)
       (λ l. let n = number_in (statements_in (component_at d k)) v i in
       let part : part_of (component_of d k) ≡ component_at d k = same_part d (length d.components) k in
-      let over = exceeds (part_of (component_of d k)) v (ap (λ x. is_island x v) part ∙ island) (subst (λ x. REPETITIONS ≤ form_length x v.form) (sym part) l) in
+      let long = lasts_within d flat (length d.components) k v.form ∙ ap (λ x. form_length x v.form) part in
+      let over = over_latency (component_of d k) v (ap (λ x. is_island x v) part ∙ island) (subst (λ n. REPETITIONS ≤ n) (sym long) l) in
       absurd (accepted.limits Limit (record { component = k; part = AStatement n.0 }) v.place (word_of over.0) refl
       (inr (inr (inl (record { within = within; number = n.0; is = refl; statement = v; stands = n.1; breaks = (over.0, over.1, (refl, refl)) }))))))
       (cases_lt (form_length (component_at d k) v.form) REPETITIONS)

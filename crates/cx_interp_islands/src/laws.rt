@@ -9,6 +9,7 @@ ghost use Rattle.cx_meaning.specs.Sights.{In, Look};
 ghost use Rattle.cx_meaning.specs.Islands.{form_length};
 ghost use Rattle.cx_rules.specs.Items.{Visited, statements_in};
 ghost use Rattle.cx_rules.specs.StaticControl.{is_island};
+ghost use Rattle.cx_rules.specs.Flat.{IsFlat};
 ghost use Rattle.cx_rules.specs.Accepted.{IsAccepted};
 ghost use Rattle.cx_laws.specs.Samples.{Samples, says, active_by, samples_after};
 ghost use Rattle.cx_eval_drives.specs.Actives.{AreTogether};
@@ -17,11 +18,11 @@ ghost use Rattle.cx_interp_islands.specs.Sampled.{AreSampled};
 
 use cx_laws::laws::{samples_are_kept, samples_give_the_cycle, timers_give_the_active_groups};
 
-/// In an accepted design each island takes fewer cycles than the limit of repetitions, in each instance of its tree: its
+/// In an accepted design without static components each island takes fewer cycles than the limit of repetitions, in each instance of its tree: its
 /// length and its offsets fit 64 bits.
 pub fn accepted_islands_are_short()
     ensures { (d : PlainDesign) (path : Path) (v : Visited)
-        → IsAccepted d → In (statements_in (part_of (instance_at (tree_of d) path))) v
+        → IsFlat d → IsAccepted d → In (statements_in (part_of (instance_at (tree_of d) path))) v
         → is_island (part_of (instance_at (tree_of d) path)) v ≡ true
         → form_length (part_of (instance_at (tree_of d) path)) v.form < REPETITIONS }
 {}

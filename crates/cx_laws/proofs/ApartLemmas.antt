@@ -21,6 +21,7 @@ use Rattle.cx_rules.proofs.CircleLemmas.{Reached, a_tree, no_tree, reached, inst
 use Rattle.cx_laws.specs.Closures.{IsClosed}
 use Rattle.cx_laws.specs.Positions.{active_at}
 use Rattle.cx_laws.proofs.ReadsLemmas.{reads_least}
+use Rattle.cx_rules.proofs.InvokesLemmas.{drives_more, reads_more}
 use Rattle.cx_laws.proofs.IslandLemmas.{active_is, active_past}
 use Rattle.cx_laws.proofs.EdgeLemmas.{IsActive, enabled, StandApart, no_shared_circle}
 use Rattle.cx_laws.proofs.TogetherLemmas.{InPar, Together, among, together}
@@ -61,7 +62,8 @@ module _ (d : PlainDesign) (accepted : IsAccepted d) (k : ℕ) (within : k < len
   par_apart g f c p h r =
       let a = p.arms in
       let two : Arms (arms_of p.statement.form) = record { one = a.two.other; other = a.two.one; differ = λ e. a.two.differ (sym e); first = a.two.second; second = a.two.first; first_stands = a.two.second_stands; second_stands = a.two.first_stands } in
-      unshared d accepted k within p.statement p.stands c (two, groups_drive_in (component_at d k) (groups_of a.two.second) f c a.other h, group_reads (component_at d k) a.two.first g a.one r)
+      unshared d accepted k within p.statement p.stands c
+      (two, drives_more (component_at d k) a.two.second c (groups_drive_in (component_at d k) (groups_of a.two.second) f c a.other h), reads_more (component_at d k) a.two.first c (group_reads (component_at d k) a.two.first g a.one r))
 
   module _ (v : Visited) (stands : In (statements_in (component_at d k)) v) (h : History) (t : ℕ) where
     entries_within : (e f : Entry) → t < form_length (component_at d k) v.form → In (active_in h t (form_flat (component_at d k) v.form 0 [])) e → In (active_in h t (form_flat (component_at d k) v.form 0 [])) f → Together (statements_in (component_at d k)) e f

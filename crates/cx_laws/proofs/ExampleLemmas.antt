@@ -10,12 +10,13 @@ use Rattle.cx_meaning.specs.declared.ports.PortRef.TheVariants.{Cell, Done, Inpu
 use Rattle.cx_meaning.specs.Rows.{side_of}
 use Rattle.cx_meaning.specs.Designs.{PlainComponent, component_at, Enable, PlainStatement, Placed, form_of}
 use Rattle.cx_meaning.specs.Instances.{Instance, At, Nothing, OfRow, OfInstance, cell_at, cells_of, part_of}
-use Rattle.cx_meaning.specs.Control.{drives}
 use Rattle.cx_rules.specs.Ports.{component_of}
 use Rattle.cx_rules.specs.Items.{Dynamic}
 use Rattle.cx_rules.specs.Footprints as footprints
 use Rattle.cx_rules.specs.Footprints.{Reads, Rests}
+use Rattle.cx_rules.specs.Invokes.{drives_all}
 use Rattle.cx_rules.specs.RaceRule.{IsShared}
+use Rattle.cx_rules.proofs.InvokesLemmas.{reads_more}
 use Rattle.cx_rules.specs.Accepted.{Breaks}
 use Rattle.cx_laws.specs.Examples.{at, assign, racing, restless, statement_of_main, assign_of_main}
 use Rattle.cx_text.proofs.NumberLaws.{false_true}
@@ -43,7 +44,7 @@ zero_one : ◌≡◌ {A = ℕ} 0 1 → ⊥
 zero_one e = cc
 
 x_is_shared : IsShared racing_part arms 1
-x_is_shared = (record { one = 0; other = 1; differ = zero_one; first = g; second = h; first_stands = refl; second_stands = refl }, refl, x_is_read)
+x_is_shared = (record { one = 0; other = 1; differ = zero_one; first = g; second = h; first_stands = refl; second_stands = refl }, refl, reads_more racing_part h 1 x_is_read)
 
 -- no arm drives the memory, which is cell 0
 arm_is : (n : ℕ) (s : PlainStatement) → slice_get arms n ≡ Some s → (g ≡ s) ⊎ (h ≡ s)
@@ -60,9 +61,9 @@ arm_is (suc (suc n)) s e = absurd (none_some s e)
     none_some : (b : PlainStatement) → None ≡ Some b → ⊥
     none_some b e = cc
 
-memory_undriven : (s : PlainStatement) → (g ≡ s) ⊎ (h ≡ s) → drives racing_part s 0 ≡ true → ⊥
-memory_undriven s (inl e) d = false_true (subst (λ x. drives racing_part x 0 ≡ true) (sym e) d)
-memory_undriven s (inr e) d = false_true (subst (λ x. drives racing_part x 0 ≡ true) (sym e) d)
+memory_undriven : (s : PlainStatement) → (g ≡ s) ⊎ (h ≡ s) → drives_all racing_part s 0 ≡ true → ⊥
+memory_undriven s (inl e) d = false_true (subst (λ x. drives_all racing_part x 0 ≡ true) (sym e) d)
+memory_undriven s (inr e) d = false_true (subst (λ x. drives_all racing_part x 0 ≡ true) (sym e) d)
 
 x_is_first : (e : ℕ) → e < 1 → IsShared racing_part arms e → ⊥
 x_is_first zero l (two, d, r) = memory_undriven two.first (arm_is two.one two.first two.first_stands) d

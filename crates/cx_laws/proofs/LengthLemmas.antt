@@ -14,6 +14,10 @@ use Rattle.cx_rules.specs.StaticControl.{is_static, is_in_static, may_stand, for
 use Rattle.cx_rules.specs.ShapeRules.{enabled_name}
 use Rattle.cx_rules.specs.Spots.{AStatement}
 use Rattle.cx_rules.specs.Accepted.{IsAccepted}
+use Rattle.cx_rules.specs.Flat.{IsFlat}
+use Rattle.cx_rules.specs.Invokes.{form_lasts}
+use Rattle.cx_rules.proofs.CountsLemmas.{no_invokes, lasts_within}
+use Rattle.cx_rules.proofs.InvokesLemmas.{timed_may_not}
 use Rattle.cx_rules.proofs.CircleLemmas.{Reached, a_tree, no_tree, reached}
 use Rattle.cx_laws.specs.Positions.{StatementIfs, AllIfs, HasNoEmptyIf}
 use Rattle.cx_laws.proofs.VisitLemmas.{visited}
@@ -25,7 +29,7 @@ record StandsWell (part : PlainComponent) (v : Visited) : Type 0 where
   stands : is_in_static v.context ≡ true → may_stand part v.context v.form ≡ true
   lasts : is_static v.form ≡ true → form_has_length part v.context v.form ≡ true → 0 < form_length part v.form
 
-module _ (part : PlainComponent) where
+module _ (part : PlainComponent) (none : part.invokes ≡ []) where
   abbrev AllWell : List Visited → Type 0
   AllWell list = (v : Visited) → In list v → StandsWell part v
 
@@ -60,7 +64,7 @@ module _ (part : PlainComponent) where
         both_true (has_length part Branch a) (has_length part Branch b)
         (long Branch a refl (well_left (visit Branch a) (visit Branch b) w)) (long Branch b refl (well_right (visit Branch a) (visit Branch b) w))
     long_form context (StaticRepeat length count a) m w = long InStatic a refl w
-    long_form context (Timed k) m w = m
+    long_form context (Timed k) m w = false_true (sym (timed_may_not part none context k) ∙ m)
 
     long : (context : Context) (s : PlainStatement) → is_in_static context ≡ true → AllWell (visit context s) → has_length part context s ≡ true
     long context (Placed form place) e w = long_form context form ((w (record { context = context; form = form; place = place }) (inl refl)).stands e) (λ v i. w v (inr i))
@@ -98,7 +102,7 @@ module _ (part : PlainComponent) where
     ifs_all no_statements w = tt
     ifs_all (a_statement s ss) w = (ifs InStatic s (well_left (visit InStatic s) (visit_all InStatic ss) w), ifs_all ss (well_right (visit InStatic s) (visit_all InStatic ss) w))
 
-module _ (d : PlainDesign) (accepted : IsAccepted d) (k : ℕ) (within : k < length d.components) where
+module _ (d : PlainDesign) (flat : IsFlat d) (accepted : IsAccepted d) (k : ℕ) (within : k < length d.components) where
   may : (v : Visited) → In (statements_in (component_at d k)) v → is_in_static v.context ≡ true → may_stand (part_of (component_of d k)) v.context v.form ≡ true
   may v i static = go (may_stand (part_of (component_of d k)) v.context v.form) refl
     where
@@ -114,7 +118,7 @@ module _ (d : PlainDesign) (accepted : IsAccepted d) (k : ℕ) (within : k < len
       ⊎_elim
       (λ l. l)
       (λ l. let n = number_in (statements_in (component_at d k)) v i in
-      let none : form_length (part_of (component_of d k)) v.form ≡ 0 = omega arith in
+      let none : form_lasts (part_of (component_of d k)) v.form ≡ 0 = let e = lasts_within d flat (length d.components) k v.form in omega (arith, e, l) in
       absurd (accepted.shapes StaticShape (record { component = k; part = AStatement n.0 }) v.place [] refl
       (inr (inr (inl (record { within = within; number = n.0; is = refl; statement = v; stands = n.1; breaks = (static, long, inr none, (refl, refl)) }))))))
       (cases_lt 0 (form_length (part_of (component_of d k)) v.form))
@@ -123,7 +127,7 @@ module _ (d : PlainDesign) (accepted : IsAccepted d) (k : ℕ) (within : k < len
   well v i = subst (λ x. StandsWell x v) (same_part d (length d.components) k) (record { stands = may v i; lasts = last v i })
 
   no_empty : (v : Visited) → In (statements_in (component_at d k)) v → HasNoEmptyIf (component_at d k) v.form
-  no_empty v i = ifs_form (component_at d k) v.context v.form v.place (λ w j. well w (visited _ (component_at d k).control v w i j))
+  no_empty v i = ifs_form (component_at d k) (no_invokes d flat k) v.context v.form v.place (λ w j. well w (visited _ (component_at d k).control v w i j))
 
 -- an instance without a component has no statement but the empty one
 no_empty_bare : (part : PlainComponent) → part ≡ no_component → (v : Visited) → In (statements_in part) v → HasNoEmptyIf part v.form
@@ -133,11 +137,11 @@ no_empty_bare part e v i = subst (λ x. HasNoEmptyIf x v.form) (sym e) (of_bare 
     of_bare (inl f) = subst (λ w. HasNoEmptyIf no_component w.form) f tt
     of_bare (inr none) = absurd none
 
-module _ (d : PlainDesign) (accepted : IsAccepted d) (v : Visited) where
+module _ (d : PlainDesign) (flat : IsFlat d) (accepted : IsAccepted d) (v : Visited) where
   no_empty_part : (k : ℕ) → In (statements_in (component_at d k)) v → HasNoEmptyIf (component_at d k) v.form
   no_empty_part k i =
       ⊎_elim
-      (λ l. no_empty d accepted k l v i)
+      (λ l. no_empty d flat accepted k l v i)
       (λ l. no_empty_bare (component_at d k) (get_or_past d.components k no_component l) v i)
       (cases_lt k (length d.components))
 

@@ -130,7 +130,7 @@ module _ (d : PlainDesign) (design : IsDesign d) (accepted : IsAccepted d) where
             let n = number_in (source_order (component_at d k)) o i in
             let first = ap (λ (t : Bool). if t then Some o.assign.target else first_unequal (component_of d k) (comparisons_of o.assign.guard)) e in
             absurd (accepted.widths rules.Width (record { component = k; part = AnAssign n.0 }) o.assign.place (path_of (component_of d k) o.assign.target) refl
-            (record { within = within; number = n.0; is = refl; assign = o; stands = n.1; breaks = (o.assign.target, first, (refl, refl)) }))
+            (inl (record { within = within; number = n.0; is = refl; assign = o; stands = n.1; breaks = (o.assign.target, first, (refl, refl)) })))
 
     assign_keeps : (o : Owned) → In (source_order (component_at d k)) o → KeepsWidth (component_of d k) o
     assign_keeps o i =

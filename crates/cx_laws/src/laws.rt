@@ -9,6 +9,7 @@ ghost use Rattle.cx_meaning.specs.Islands.{History, and_now, form_flat, form_len
 ghost use Rattle.cx_rules.specs.Items.{Visited, statements_in};
 ghost use Rattle.cx_rules.specs.Footprints.{Reads};
 ghost use Rattle.cx_rules.specs.Accepted.{IsAccepted};
+ghost use Rattle.cx_rules.specs.Flat.{IsFlat};
 ghost use Rattle.cx_rules.specs.Wellformed.{IsDesign};
 ghost use Rattle.cx_rules.specs.Circles.{IsAcyclic};
 ghost use Rattle.cx_laws.specs.Closures.{IsClosed};
@@ -47,10 +48,10 @@ pub fn timers_give_the_begun_ports()
         → looked_at h t (form_flat part form 0 []) ≡ begun_at part h t form }
 {}
 
-/// In an accepted design no static if is empty, in no instance of its tree.
+/// In an accepted design without static components no static if is empty, in no instance of its tree.
 pub fn accepted_has_no_empty_if()
     ensures { (d : PlainDesign) (path : Path) (v : Visited)
-        → IsAccepted d → In (statements_in (part_of (instance_at (tree_of d) path))) v
+        → IsFlat d → IsAccepted d → In (statements_in (part_of (instance_at (tree_of d) path))) v
         → HasNoEmptyIf (part_of (instance_at (tree_of d) path)) v.form }
 {}
 

@@ -1,3 +1,11 @@
+pub mod OrderLemmas
+pub mod NeededLemmas
+pub mod FlagLemmas
+pub mod InnerCaps
+pub mod CountingLemmas
+pub mod TreeLemmas
+pub mod TableLemmas
+pub mod AtLemmas
 pub mod ScanLemmas
 pub mod FirstLimit
 pub mod LimitBreaks

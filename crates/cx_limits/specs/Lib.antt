@@ -1,2 +1,5 @@
+pub mod Order
+pub mod Inners
+pub mod Rows
 pub mod Scan
 pub mod First

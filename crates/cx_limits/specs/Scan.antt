@@ -1,15 +1,20 @@
 -- A scan for the first limit that is exceeded: by place, and at one place what is looked at first.
-use Rattle.std.specs.Prelude.{ℕ, suc, nat_eq, nat_lt, Bool, ◌&&◌, ◌||◌, List, [], ◌∷◌, Option, Some, None, option_map, length, if◌then◌else◌}
+use Rattle.std.specs.Prelude.{ℕ, zero, suc, ◌+◌, nat_eq, nat_lt, Bool, ◌&&◌, ◌||◌, List, [], ◌∷◌, Option, Some, None, option_map, length, if◌then◌else◌}
 use Rattle.cx_text.specs.declared.places.Place.{Place}
 use Rattle.cx_text.specs.declared.limits.TheConstants.{CELLS, GROUPS, INSTANCES, INSTANCE_DEPTH, MEMORY_WORDS, WEIGHT}
-use Rattle.cx_meaning.specs.Designs.{PlainComponent}
+use Rattle.cx_meaning.specs.Designs.{PlainComponent, PlainDesign, component_at}
+use Rattle.cx_meaning.specs.Instances.{tree_of}
 use Rattle.cx_rules.specs.Items.{Visited, statements_in}
+use Rattle.cx_rules.specs.Counts.{Inners, groups_for}
 use Rattle.cx_rules.specs.LimitRule as rule
-use Rattle.cx_rules.specs.LimitRule.{OnCells, OnGroups, OnRepeat, OnOccurrences, OnLatency, OnInstances, OnDepth, OnWords, OnWeight, statement_limit}
+use Rattle.cx_rules.specs.LimitRule.{OnCells, OnGroups, OnRepeat, OnOccurrences, OnLatency, OnInstances, OnDepth, OnWords, OnWeight}
+use Rattle.cx_design_sizes.specs.Capped.{capped}
 use Rattle.cx_design_sizes.specs.declared.tallies.LimitTally.{LimitTally}
 use Rattle.cx_limits.specs.declared.found.Limited.{Limited}
 use Rattle.cx_limits.specs.declared.found.Limited.TheVariants as limited
 use Rattle.cx_limits.specs.declared.found.FoundBreak.{FoundBreak}
+use Rattle.cx_limits.specs.Inners.{cell_counts, below_at, limit_at}
+use Rattle.cx_limits.specs.Rows.{counts_of}
 
 abbrev pub told : rule.Limited → Limited
 told OnCells = limited.Cells
@@ -36,9 +41,9 @@ noted best place None = best
 noted best place (Some l) = Some (nearer best (record { place = place; limited = l }))
 
 -- past some statements of a component
-abbrev pub past_statements : PlainComponent → Option FoundBreak → List Visited → Option FoundBreak
-past_statements part best [] = best
-past_statements part best (v ∷ vs) = past_statements part (noted best v.place (option_map told (statement_limit part v))) vs
+abbrev pub past_statements : PlainComponent → Inners → Option FoundBreak → List Visited → Option FoundBreak
+past_statements part below best [] = best
+past_statements part below best (v ∷ vs) = past_statements part below (noted best v.place (option_map told (limit_at part below v))) vs
 
 -- what is told of a limit
 abbrev pub limited_of : Limited → rule.Limited
@@ -57,10 +62,13 @@ abbrev pub if_over : Limited → ℕ → ℕ → Option Limited
 if_over l limit count = if nat_lt limit count then Some l else None
 
 -- past the cells, the groups and the statements of a component
-abbrev pub past_part : Option FoundBreak → PlainComponent → Option FoundBreak
-past_part best part =
-    past_statements part (noted (noted best part.place (if_over limited.Cells CELLS (length part.cells))) part.place (if_over limited.Groups GROUPS (length part.groups)))
-    (statements_in part)
+abbrev pub past_own : Option FoundBreak → PlainComponent → Inners → Option FoundBreak
+past_own best part below =
+    noted (noted best part.place (if_over limited.Cells CELLS (capped (cell_counts below)))) part.place
+    (if_over limited.Groups GROUPS (capped (length part.groups + groups_for below part.invokes)))
+
+abbrev pub past_part : Option FoundBreak → PlainComponent → Inners → Option FoundBreak
+past_part best part below = past_statements part below (past_own best part below) (statements_in part)
 
 -- past the counts over the tree
 abbrev pub past_tree : Option FoundBreak → Place → LimitTally → Option FoundBreak
@@ -68,8 +76,16 @@ past_tree best place tally =
     noted (noted (noted (noted best place (if_over limited.Instances INSTANCES tally.instances)) place (if_over limited.Depth INSTANCE_DEPTH tally.depth))
     place (if_over limited.Words MEMORY_WORDS tally.words)) place (if_over limited.Weight WEIGHT tally.weight)
 
--- past components from a number on
-abbrev pub past_parts : ℕ → LimitTally → Option FoundBreak → ℕ → List PlainComponent → Option FoundBreak
-past_parts main tally best k [] = best
-past_parts main tally best k (part ∷ parts) =
-    past_parts main tally (if nat_eq k main then past_tree (past_part best part) part.place tally else past_part best part) (suc k) parts
+-- past the component of a number, and past the tree where it is main
+abbrev pub past_one : PlainDesign → Option FoundBreak → ℕ → Option FoundBreak
+past_one d best k =
+    if nat_eq k d.main then past_tree (past_part best (component_at d k) (below_at d k)) (component_at d k).place (counts_of (tree_of d))
+    else past_part best (component_at d k) (below_at d k)
+
+-- past the first so many components, and past all
+abbrev pub past_first : PlainDesign → ℕ → Option FoundBreak
+past_first d zero = None
+past_first d (suc k) = past_one d (past_first d k) k
+
+abbrev pub past_all : PlainDesign → Option FoundBreak
+past_all d = past_first d (length d.components)

@@ -2,7 +2,14 @@
 #![tactic(auto)]
 
 mod checking;
+mod counting;
 mod found;
+mod inners;
+mod lasts;
+mod needed;
+mod order;
+mod rows;
 mod statements;
+mod table;
 
 pub use checking::limits;

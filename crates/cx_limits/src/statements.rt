@@ -6,11 +6,16 @@ ghost use Rattle.cx_design.specs.PlainForms.{plain_component, plain_form, plain_
 ghost use Rattle.cx_rules.specs.Items.{visit, visit_parts, visit_all, statements_in};
 ghost use Rattle.cx_rules.specs.LimitRule as rule;
 ghost use Rattle.cx_design_sizes.specs.StatementSizes.{context_of};
+ghost use Rattle.cx_limits.specs.Inners.{limit_at};
+ghost use Rattle.cx_limits.specs.Rows.{plain_inners};
 ghost use Rattle.cx_limits.specs.Scan.{told, past_statements};
 
+use crate::counting::{form_counted, is_any_island};
 use crate::found::{FoundBreak, Limited, noted};
+use crate::inners::Inner;
+use crate::lasts::form_lasts;
 use cx_design::{Component, Form, Statement};
-use cx_design_sizes::{LimitContext, below_dynamic, form_length, form_occurrences, is_island_form};
+use cx_design_sizes::{LimitContext, below_dynamic};
 use cx_text::{OCCURRENCES, REPETITIONS};
 
 /// The count of a repeat or a static repeat.
@@ -45,21 +50,22 @@ fn is_too_many(count: Option<u64>) -> bool
 /// The first limit that a statement exceeds.
 fn statement_limit(
     part: &Component,
+    below: &[Option<Inner>],
     context: LimitContext,
     statement: &Statement,
 ) -> Option<Limited>
-    ensures { result ≡ option_map told (rule.statement_limit (plain_component part.now) (record { context = context_of context; form = form_of (plain_statement statement.now); place = place_of (plain_statement statement.now) })) }
+    ensures { result ≡ option_map told (limit_at (plain_component part.now) (plain_inners below.now) (record { context = context_of context; form = form_of (plain_statement statement.now); place = place_of (plain_statement statement.now) })) }
 {
     if is_too_many(count_in(&statement.form)) {
         return Some(Limited::Repeat);
     }
-    if context != LimitContext::Dynamic || !is_island_form(part, &statement.form) {
+    if !is_any_island(part, context, statement) {
         return None;
     }
-    if form_occurrences(part, &statement.form) > OCCURRENCES {
+    if form_counted(part, below, &statement.form) > OCCURRENCES {
         return Some(Limited::Occurrences);
     }
-    if form_length(part, &statement.form) >= REPETITIONS {
+    if form_lasts(part, &statement.form) >= REPETITIONS {
         return Some(Limited::Latency);
     }
     None
@@ -69,15 +75,17 @@ fn statement_limit(
 #[cycle(statement)]
 fn past(
     part: &Component,
+    below: &[Option<Inner>],
     best: Option<FoundBreak>,
     context: LimitContext,
     statement: &Statement,
 ) -> Option<FoundBreak>
-    ensures { result ≡ past_statements (plain_component part.now) best (visit (context_of context) (plain_statement statement.now)) }
+    ensures { result ≡ past_statements (plain_component part.now) (plain_inners below.now) best (visit (context_of context) (plain_statement statement.now)) }
 {
-    let limited = statement_limit(part, context, statement);
+    let limited = statement_limit(part, below, context, statement);
     past_parts(
         part,
+        below,
         noted(best, statement.place, limited),
         context,
         &statement.form,
@@ -88,32 +96,33 @@ fn past(
 #[cycle(statement)]
 fn past_parts(
     part: &Component,
+    below: &[Option<Inner>],
     best: Option<FoundBreak>,
     context: LimitContext,
     form: &Form,
 ) -> Option<FoundBreak>
-    ensures { result ≡ past_statements (plain_component part.now) best (visit_parts (context_of context) (plain_form form.now)) }
+    ensures { result ≡ past_statements (plain_component part.now) (plain_inners below.now) best (visit_parts (context_of context) (plain_form form.now)) }
 {
     match form {
         Form::Empty | Form::Enable(_) | Form::StaticInvoke(_) | Form::Timed(_) => best,
         Form::Seq(parts) | Form::Par(parts) => {
-            past_all(part, best, below_dynamic(context), parts)
+            past_all(part, below, best, below_dynamic(context), parts)
         }
         Form::StaticSeq { parts, .. } | Form::StaticPar { parts, .. } => {
-            past_all(part, best, LimitContext::InStatic, parts)
+            past_all(part, below, best, LimitContext::InStatic, parts)
         }
         Form::If { yes, no, .. } => {
-            let best = past(part, best, below_dynamic(context), yes);
-            past(part, best, below_dynamic(context), no)
+            let best = past(part, below, best, below_dynamic(context), yes);
+            past(part, below, best, below_dynamic(context), no)
         }
         Form::StaticIf { yes, no, .. } => {
-            let best = past(part, best, LimitContext::Branch, yes);
-            past(part, best, LimitContext::Branch, no)
+            let best = past(part, below, best, LimitContext::Branch, yes);
+            past(part, below, best, LimitContext::Branch, no)
         }
         Form::While { body, .. } | Form::Repeat { body, .. } => {
-            past(part, best, below_dynamic(context), body)
+            past(part, below, best, below_dynamic(context), body)
         }
-        Form::StaticRepeat { body, .. } => past(part, best, LimitContext::InStatic, body),
+        Form::StaticRepeat { body, .. } => past(part, below, best, LimitContext::InStatic, body),
     }
 }
 
@@ -121,22 +130,27 @@ fn past_parts(
 #[cycle(statement)]
 fn past_all(
     part: &Component,
+    below: &[Option<Inner>],
     best: Option<FoundBreak>,
     context: LimitContext,
     statements: &[Statement],
 ) -> Option<FoundBreak>
-    ensures { result ≡ past_statements (plain_component part.now) best (visit_all (context_of context) (plain_statements statements.now)) }
+    ensures { result ≡ past_statements (plain_component part.now) (plain_inners below.now) best (visit_all (context_of context) (plain_statements statements.now)) }
 {
     let mut best = best;
     for statement in statements {
-        best = past(part, best, context, statement);
+        best = past(part, below, best, context, statement);
     }
     best
 }
 
 /// The first so far, past all statements of a component.
-pub fn past_control(part: &Component, best: Option<FoundBreak>) -> Option<FoundBreak>
-    ensures { result ≡ past_statements (plain_component part.now) best (statements_in (plain_component part.now)) }
+pub fn past_control(
+    part: &Component,
+    below: &[Option<Inner>],
+    best: Option<FoundBreak>,
+) -> Option<FoundBreak>
+    ensures { result ≡ past_statements (plain_component part.now) (plain_inners below.now) best (statements_in (plain_component part.now)) }
 {
-    past(part, best, LimitContext::Dynamic, &part.control)
+    past(part, below, best, LimitContext::Dynamic, &part.control)
 }

@@ -1,12 +1,14 @@
 -- Statements one after another, and the groups of their invokes.
-use Rattle.std.proofs.Common.{◌≡◌, ℕ, suc, ◌+◌, ◌<◌, Bool, Option, None, Some, unwrap_or, List, [], ◌∷◌, ◌++◌, length, refl, sym, ◌∙◌, ap, arith, append_assoc, append-nil, length-append}
+use Rattle.std.proofs.Common.{◌≡◌, ℕ, suc, ◌+◌, ◌<◌, Bool, Option, None, Some, unwrap_or, List, [], ◌∷◌, ◌++◌, length, refl, sym, ◌∙◌, ap, arith, append_assoc, append-nil, length-append, true, false}
 use Rattle.cx_text.specs.declared.places.Place.{Place}
+use Rattle.cx_ast.specs.declared.statements.BindItem.{BindItem}
 use Rattle.cx_meaning.specs.declared.ports.PlacedPort.{PlacedPort}
 use Rattle.cx_ast.specs.PlainStatements as written
 use Rattle.cx_ast.specs.PlainTree.{PlainTree, PlainComponent}
-use Rattle.cx_meaning.specs.Designs.{PlainGroup, PlainStatement, Placed, If, StaticIf, PlainStatements, no_statements, a_statement, statements_of}
-use Rattle.cx_numbering.specs.DesignOf.{Invoke, invoke_group, invoke_groups, invokes_all, all_of, of_block, seq_form, go_port, cell_port}
-use Rattle.cx_names.specs.Added.{added, invokes_at, statement_of}
+use Rattle.cx_meaning.specs.Designs.{PlainGroup, PlainInvoke, PlainStatement, Placed, If, StaticIf, PlainStatements, no_statements, a_statement, statements_of}
+use Rattle.cx_numbering.specs.DesignOf.{Invoke, Next, first, invoke_group, capture_group, capture_count, is_static_invoke, after, after_static, past, plain_invoke_of, captures_for, groups_for, static_for, invoke_groups, static_invokes, invokes_all, all_of, of_block, seq_form, go_port, cell_port}
+use Rattle.cx_numbering.specs.Names.{group_names}
+use Rattle.cx_names.specs.Added.{Made, next_of, with_invoke, added, invokes_at, statement_of}
 
 -- statements before others
 abbrev pub joined : List PlainStatement → PlainStatements → PlainStatements
@@ -31,34 +33,83 @@ static_if_parts length {test = test} {a = a} {made_a = made_a} {made_b = made_b}
     ap (λ t. StaticIf length t made_a made_b) e ∙ ap (λ x. StaticIf length test x made_b) g ∙ ap (StaticIf length test a) h
 
 module _ (tree : PlainTree) (part : PlainComponent) where
-  pub added_append : (gs : List PlainGroup) (ks js : List Invoke) → added tree part gs (ks ++ js) ≡ added tree part (added tree part gs ks) js
-  added_append gs [] js = refl
-  added_append gs (k ∷ ks) js = added_append (gs ++ invoke_group tree part (length gs) k ∷ []) ks js
+  pub added_append : (made : Made) (ks js : List Invoke) → added tree part made (ks ++ js) ≡ added tree part (added tree part made ks) js
+  added_append made [] js = refl
+  added_append made (k ∷ ks) js = added_append (with_invoke tree part made k) ks js
 
-  pub added_length : (gs : List PlainGroup) (ks : List Invoke) → length (added tree part gs ks) ≡ length gs + length ks
-  added_length gs [] = omega arith
-  added_length gs (k ∷ ks) =
-      let more : length (gs ++ invoke_group tree part (length gs) k ∷ []) ≡ length gs + 1 = length-append gs (invoke_group tree part (length gs) k ∷ []) in
-      let rest = added_length (gs ++ invoke_group tree part (length gs) k ∷ []) ks in
-      omega (arith, more, rest)
+  -- the numbers that come next, behind an invoke and behind several
+  captured : (gs : List PlainGroup) (k : Invoke) (outputs : List BindItem) → length (gs ++ captures_for tree part k outputs) ≡ length gs + capture_count tree part outputs
+  captured gs k [] = length-append gs []
+  captured gs k (b ∷ bs) = length-append gs (capture_group tree part k ∷ [])
 
-  pub added_is : (gs : List PlainGroup) (n : ℕ) (ks : List Invoke) → length gs ≡ n → added tree part gs ks ≡ gs ++ invoke_groups tree part n ks
-  added_is gs n [] h = sym (append-nil gs)
-  added_is gs n (k ∷ ks) h =
-      let more : length (gs ++ invoke_group tree part (length gs) k ∷ []) ≡ length gs + 1 = length-append gs (invoke_group tree part (length gs) k ∷ []) in
-      added_is (gs ++ invoke_group tree part (length gs) k ∷ []) (suc n) ks (omega (arith, more, h))
-      ∙ append_assoc gs (invoke_group tree part (length gs) k ∷ []) (invoke_groups tree part (suc n) ks)
-      ∙ ap (λ m. gs ++ (invoke_group tree part m k ∷ invoke_groups tree part (suc n) ks)) h
+  one_longer : {A : Type 0} (xs : List A) (x : A) → length (xs ++ x ∷ []) ≡ suc (length xs)
+  one_longer xs x = let h = length-append xs (x ∷ []) in omega (arith, h)
 
-  all_then : (n : ℕ) (s : written.PlainStatement) (rest : written.PlainStatements) → all_of tree part n (written.StatementThen s rest) ≡ a_statement (statement_of tree part n s) (all_of tree part (n + length (invokes_at s)) rest)
+  no_longer : {A : Type 0} (xs : List A) → length (xs ++ []) ≡ length xs
+  no_longer xs = ap length (append-nil xs)
+
+  one_next : (made : Made) (k : Invoke) → next_of (with_invoke tree part made k) ≡ after tree part (next_of made) k
+  one_next made k = by (is_static_invoke tree part k)
+    where
+      by : (b : Bool) → next_of (record { groups = made.groups ++ groups_for tree part b (next_of made) k; invokes = made.invokes ++ static_for tree part b (next_of made) k }) ≡ after_static tree part b (next_of made) k.outputs
+      by true =
+          (let groups = captured made.groups k k.outputs in
+          let invokes = one_longer made.invokes (plain_invoke_of tree part (next_of made) k) in
+          λ i. record { group = groups i; invoke = invokes i })
+      by false =
+          (let groups = one_longer made.groups (invoke_group tree part (length made.groups) k) in
+          let invokes = no_longer made.invokes in
+          λ i. record { group = groups i; invoke = invokes i })
+
+  pub next_added : (made : Made) (ks : List Invoke) → next_of (added tree part made ks) ≡ past tree part (next_of made) ks
+  next_added made [] = refl
+  next_added made (k ∷ ks) = next_added (with_invoke tree part made k) ks ∙ ap (λ n. past tree part n ks) (one_next made k)
+
+  -- what is added for invokes stands behind
+  pub added_groups : (made : Made) (ks : List Invoke) → (added tree part made ks).groups ≡ made.groups ++ invoke_groups tree part (next_of made) ks
+  added_groups made [] = sym (append-nil made.groups)
+  added_groups made (k ∷ ks) =
+      let own = groups_for tree part (is_static_invoke tree part k) (next_of made) k in
+      added_groups (with_invoke tree part made k) ks
+      ∙ append_assoc made.groups own (invoke_groups tree part (next_of (with_invoke tree part made k)) ks)
+      ∙ ap (λ n. made.groups ++ (own ++ invoke_groups tree part n ks)) (one_next made k)
+
+  pub added_invokes : (made : Made) (ks : List Invoke) → (added tree part made ks).invokes ≡ made.invokes ++ static_invokes tree part (next_of made) ks
+  added_invokes made [] = sym (append-nil made.invokes)
+  added_invokes made (k ∷ ks) =
+      let own = static_for tree part (is_static_invoke tree part k) (next_of made) k in
+      added_invokes (with_invoke tree part made k) ks
+      ∙ append_assoc made.invokes own (static_invokes tree part (next_of (with_invoke tree part made k)) ks)
+      ∙ ap (λ n. made.invokes ++ (own ++ static_invokes tree part n ks)) (one_next made k)
+
+  -- before any invoke
+  pub first_next : (made : Made) → length made.groups ≡ length (group_names part) → made.invokes ≡ [] → next_of made ≡ first tree part
+  first_next made g v = let invokes : length made.invokes ≡ 0 = ap length v in λ i. record { group = g i; invoke = invokes i }
+
+  -- an invoke that is added
+  pub with_static : (made : Made) (k : Invoke) → is_static_invoke tree part k ≡ true → (gs : List PlainGroup) (vs : List PlainInvoke)
+      → gs ≡ made.groups ++ captures_for tree part k k.outputs → vs ≡ made.invokes ++ plain_invoke_of tree part (next_of made) k ∷ [] → record { groups = gs; invokes = vs } ≡ with_invoke tree part made k
+  with_static made k e gs vs g v =
+      let groups : gs ≡ made.groups ++ groups_for tree part (is_static_invoke tree part k) (next_of made) k = g ∙ ap (λ b. made.groups ++ groups_for tree part b (next_of made) k) (sym e) in
+      let invokes : vs ≡ made.invokes ++ static_for tree part (is_static_invoke tree part k) (next_of made) k = v ∙ ap (λ b. made.invokes ++ static_for tree part b (next_of made) k) (sym e) in
+      λ i. record { groups = groups i; invokes = invokes i }
+
+  pub with_call : (made : Made) (k : Invoke) → is_static_invoke tree part k ≡ false → (gs : List PlainGroup) (vs : List PlainInvoke)
+      → gs ≡ made.groups ++ invoke_group tree part (length made.groups) k ∷ [] → vs ≡ made.invokes → record { groups = gs; invokes = vs } ≡ with_invoke tree part made k
+  with_call made k e gs vs g v =
+      let groups : gs ≡ made.groups ++ groups_for tree part (is_static_invoke tree part k) (next_of made) k = g ∙ ap (λ b. made.groups ++ groups_for tree part b (next_of made) k) (sym e) in
+      let invokes : vs ≡ made.invokes ++ static_for tree part (is_static_invoke tree part k) (next_of made) k = v ∙ sym (append-nil made.invokes) ∙ ap (λ b. made.invokes ++ static_for tree part b (next_of made) k) (sym e) in
+      λ i. record { groups = groups i; invokes = invokes i }
+
+  all_then : (n : Next) (s : written.PlainStatement) (rest : written.PlainStatements) → all_of tree part n (written.StatementThen s rest) ≡ a_statement (statement_of tree part n s) (all_of tree part (past tree part n (invokes_at s)) rest)
   all_then n (written.Placed attributes form place) rest = refl
 
   invokes_then : (s : written.PlainStatement) (rest : written.PlainStatements) → invokes_all (written.StatementThen s rest) ≡ invokes_at s ++ invokes_all rest
   invokes_then (written.Placed attributes form place) rest = refl
 
   -- one more statement
-  pub one_more : (n m : ℕ) (before : List PlainStatement) (s : written.PlainStatement) (made : PlainStatement) (rest : written.PlainStatements) (all : PlainStatements) → made ≡ statement_of tree part n s
-      → m ≡ n + length (invokes_at s) → joined before (all_of tree part n (written.StatementThen s rest)) ≡ all → joined (before ++ made ∷ []) (all_of tree part m rest) ≡ all
+  pub one_more : (n m : Next) (before : List PlainStatement) (s : written.PlainStatement) (made : PlainStatement) (rest : written.PlainStatements) (all : PlainStatements) → made ≡ statement_of tree part n s
+      → m ≡ past tree part n (invokes_at s) → joined before (all_of tree part n (written.StatementThen s rest)) ≡ all → joined (before ++ made ∷ []) (all_of tree part m rest) ≡ all
   one_more n m before s made rest all is count h =
       joined_more before made (all_of tree part m rest)
       ∙ ap (λ x. joined before (a_statement x (all_of tree part m rest))) is
@@ -66,7 +117,7 @@ module _ (tree : PlainTree) (part : PlainComponent) where
       ∙ ap (joined before) (sym (all_then n s rest))
       ∙ h
 
-  pub added_more : (gs new : List PlainGroup) (s : written.PlainStatement) (rest : written.PlainStatements) (all : List PlainGroup) → new ≡ added tree part gs (invokes_at s)
+  pub added_more : (gs new : Made) (s : written.PlainStatement) (rest : written.PlainStatements) (all : Made) → new ≡ added tree part gs (invokes_at s)
       → added tree part gs (invokes_all (written.StatementThen s rest)) ≡ all → added tree part new (invokes_all rest) ≡ all
   added_more gs new s rest all is h =
       ap (λ xs. added tree part xs (invokes_all rest)) is ∙ sym (added_append gs (invokes_at s) (invokes_all rest)) ∙ ap (added tree part gs) (sym (invokes_then s rest)) ∙ h

@@ -13,7 +13,7 @@ use Rattle.cx_rules.specs.Items.{sources_of, operands_of, operands_in}
 use Rattle.cx_rules.specs.Ports.{component_of as instance_of}
 use Rattle.cx_rules.specs.Wellformed.{IsAssign, IsThere}
 use Rattle.cx_numbering.specs.Names.{is_among, cell_among, found_cell_ports, cell_of}
-use Rattle.cx_numbering.specs.DesignOf.{Invoke, cell_port, port_of, go_port, go_guard, found_go, register_of, register_done, input_assign, go_assign, capture_assigns, done_assign, invoke_group, design_of}
+use Rattle.cx_numbering.specs.DesignOf.{Invoke, cell_port, port_of, go_port, go_guard, found_go, register_of, register_done, input_assign, go_assign, capture_assigns, static_capture, capture_group, done_assign, invoke_group, design_of}
 use Rattle.cx_numbering.specs.NameRules.{is_clock, is_unknown}
 use Rattle.cx_names.proofs.Base.{in_at, in_map, flat_in, in_either}
 use Rattle.cx_names.proofs.NumberLemmas.{cell_found}
@@ -175,3 +175,15 @@ module _ (tree : PlainTree) (k : ℕ) (part : ast.PlainComponent) (at : slice_ge
         rest : In (go_assign tree part v ∷ (flat_map (capture_assigns tree part v) v.outputs ++ (done_assign tree part v g v.outputs ∷ []))) a → IsAssign (instance_of (design_of tree) k) (Some g) a
         rest (inl e) = subst (λ x. IsAssign (instance_of (design_of tree) k) (Some g) x) e (go_kept g)
         rest (inr j) = ⊎_elim capture last (in_either (flat_map (capture_assigns tree part v) v.outputs) (done_assign tree part v g v.outputs ∷ []) a j)
+
+    -- and those of the group that captures
+    static_capture_kept : (g : ℕ) (b : BindItem) (i : In v.outputs b) (a : PlainAssign) → In (static_capture tree part v b) a → IsAssign (instance_of (design_of tree) k) (Some g) a
+    static_capture_kept g b i a (inl e) = capture_kept g b i a (inl e)
+    static_capture_kept g b i a (inr (inl e)) =
+        subst (λ x. IsAssign (instance_of (design_of tree) k) (Some g) x) e
+        (cell_assign (Some g) _ (register_of tree part b) (codes "write_en") refl (register_port b i (codes "write_en") (register b i).start)
+        (λ p j. ⊎_elim (λ f. subst (λ q. IsSource tree k part at q.port) f one_source) (λ n. absurd n) j))
+    static_capture_kept g b i a (inr (inr n)) = absurd n
+
+    pub captures_kept : (g : ℕ) (a : PlainAssign) → In (capture_group tree part v).assigns a → IsAssign (instance_of (design_of tree) k) (Some g) a
+    captures_kept g a j = (let found = flat_in (static_capture tree part v) v.outputs a j in static_capture_kept g found.0 found.1 a found.2)

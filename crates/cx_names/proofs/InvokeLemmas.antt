@@ -11,7 +11,7 @@ use Rattle.cx_ast.specs.PlainTree.{PlainTree}
 use Rattle.cx_meaning.specs.Sights.{In}
 use Rattle.cx_numbering.specs.Names.{same_name, is_among, port_names, cell_among, CellOf, Neither, APrimitive, AComponent, cell_of, cell_port_names, found_cell_ports, cell_go}
 use Rattle.cx_numbering.specs.DesignOf.{Invoke}
-use Rattle.cx_numbering.specs.NameRules.{source_breaks, unknown, is_clock, is_component, found_component, is_unknown, is_reg, found_reg, is_register_in, kind_breaks, input_breaks, output_breaks, output_names, invoke_on, form_breaks}
+use Rattle.cx_numbering.specs.NameRules.{duplicates, bind_names, source_breaks, unknown, is_clock, is_static_end, is_component, found_component, is_unknown, is_reg, found_reg, is_register_in, kind_breaks, input_breaks, output_breaks, output_names, is_go_name, invoke_on, form_breaks}
 use Rattle.cx_ast.specs.PlainStatements as statements
 use Rattle.cx_names_scopes.proofs.NameLemmas.{is_among-cons, is_among-append}
 use Rattle.cx_names.proofs.Base.{append_none, flat_none, tell_none, in_at}
@@ -106,6 +106,7 @@ module _ (tree : PlainTree) (part : ast.PlainComponent) where
 
   -- what an invoke keeps
   pub record KeptInvoke (k : Invoke) : Type 0 where
+    pub binds : duplicates [] (bind_names k.inputs) ≡ []
     pub found : ast.PlainCell
     pub is : cell_among k.cell part.cells ≡ Some found
     pub go : is_none (cell_go (cell_of tree found)) ≡ false
@@ -113,14 +114,17 @@ module _ (tree : PlainTree) (part : ast.PlainComponent) where
     pub outputs : (b : BindItem) → In k.outputs b → output_breaks tree part k.cell (cell_of tree found) b ≡ []
 
   pub kept_invoke : (k : Invoke) → form_breaks tree part (statements.Invoke k.cell k.inputs k.outputs) k.place ≡ [] → KeptInvoke k
-  kept_invoke k h = by (cell_among k.cell part.cells) refl (append_none _ (invoke_on tree part k.cell k.inputs k.outputs k.place (cell_among k.cell part.cells)) h).1
+  kept_invoke k h =
+      let parts = append_none _ (invoke_on tree part k.cell k.inputs k.outputs k.place (cell_among k.cell part.cells)) h in
+      by (cell_among k.cell part.cells) refl (append_none (duplicates [] (bind_names k.inputs)) (duplicates [] (bind_names k.outputs)) parts.0).0 parts.1
     where
-      by : (o : Option ast.PlainCell) → cell_among k.cell part.cells ≡ o → invoke_on tree part k.cell k.inputs k.outputs k.place o ≡ [] → KeptInvoke k
-      by None e h = absurd cc
-      by (Some found) e h =
+      by : (o : Option ast.PlainCell) → cell_among k.cell part.cells ≡ o → duplicates [] (bind_names k.inputs) ≡ [] → invoke_on tree part k.cell k.inputs k.outputs k.place o ≡ [] → KeptInvoke k
+      by None e apart h = absurd cc
+      by (Some found) e apart h =
           let two = append_none _ (flat_map (output_breaks tree part k.cell (cell_of tree found)) k.outputs) h in
           let one = append_none _ (flat_map (input_breaks tree part k.cell (cell_of tree found)) k.inputs) two.0 in
           record {
+            binds = apart;
             found = found;
             is = e;
             go = tell_none _ _ _ _ one.0;
@@ -136,6 +140,13 @@ module _ (tree : PlainTree) (part : ast.PlainComponent) where
       let clock = (or_parts _ (is_clock tree part cell b.name) (tell_none _ _ _ _ one.1)).1 in
       ⊎_elim (λ i. i) (λ c. absurd (true≢false (sym c ∙ clock))) (or_either (is_among b.name (found_cell_ports tree (cell_among cell part.cells))) (is_clock tree part cell b.name) (not_not _ (tell_none _ _ _ _ one.0)))
 
+  -- and it is neither an output nor a go
+  pub input_only : (cell : List ℕ) (of : CellOf) (b : BindItem) → input_breaks tree part cell of b ≡ [] → (is_among b.name (output_names tree part of) ≡ false) × (is_go_name tree part (cell_go of) b.name ≡ false)
+  input_only cell of b h =
+      let two = append_none _ (source_breaks tree part b.value) h in
+      let one = append_none _ _ two.0 in
+      or_parts (is_among b.name (output_names tree part of)) _ (or_parts _ (is_clock tree part cell b.name) (tell_none _ _ _ _ one.1)).0
+
   pub input_source : (cell : List ℕ) (of : CellOf) (b : BindItem) → input_breaks tree part cell of b ≡ [] → source_breaks tree part b.value ≡ []
   input_source cell of b h = (append_none _ (source_breaks tree part b.value) h).1
 
@@ -145,7 +156,7 @@ module _ (tree : PlainTree) (part : ast.PlainComponent) where
       let two = append_none _ (unknown tree part b.value) three.0 in
       let one = append_none _ _ two.0 in
       ap (λ o. is_among b.name (found_cell_ports tree o)) e
-      ∙ by (cell_of tree found) (not_not _ (tell_none _ _ _ _ one.1))
+      ∙ by (cell_of tree found) (not_not _ (or_parts _ (is_static_end tree part cell b.name) (tell_none _ _ _ _ one.1)).0)
       (ap (λ o. is_among b.name (found_cell_ports tree o) || (found_component tree part o && (same_name b.name (codes "clk") || same_name b.name (codes "reset")))) (sym e) ∙ not_not _ (tell_none _ _ _ _ one.0))
     where
       by : (of : CellOf) → is_among b.name (output_names tree part of) ≡ true → (is_among b.name (cell_port_names of) || (is_component tree part of && (same_name b.name (codes "clk") || same_name b.name (codes "reset")))) ≡ true → is_among b.name (cell_port_names of) ≡ true

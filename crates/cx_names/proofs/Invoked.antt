@@ -1,14 +1,14 @@
 -- The assignments of an invoke's group: of two that are no sources and stand at one place the ports are one.
-use Rattle.std.proofs.Common.{◌≡◌, ℕ, suc, true, List, [], ◌∷◌, ◌++◌, map, flat_map, slice_get, Some, inl, inr, ⊎_elim, refl, sym, ap, ◌∙◌, subst, true≢false}
+use Rattle.std.proofs.Common.{◌≡◌, ℕ, true, List, [], ◌∷◌, ◌++◌, map, flat_map, slice_get, Some, inl, inr, ⊎_elim, refl, sym, ap, ◌∙◌, subst, true≢false}
 use Rattle.cx_ast.specs.declared.statements.BindItem.{BindItem}
 use Rattle.cx_ast.specs.PlainTree as ast
 use Rattle.cx_ast.specs.PlainTree.{PlainTree}
 use Rattle.cx_meaning.specs.declared.ports.PlacedPort.{PlacedPort}
-use Rattle.cx_meaning.specs.Designs.{Atom, PlainAssign, PlainGroup, guards_of}
+use Rattle.cx_meaning.specs.Designs.{Atom, PlainAssign, guards_of}
 use Rattle.cx_meaning.specs.Sights.{In}
 use Rattle.cx_rules.specs.Items.{sources_of, operands_of, operands_in}
 use Rattle.cx_rules.specs.Ports.{component_of as instance_of, is_target_only}
-use Rattle.cx_numbering.specs.DesignOf.{Invoke, at, one, register_done, input_assign, go_guard, go_assign, capture_assigns, done_assign, invoke_group, invoke_groups, design_of}
+use Rattle.cx_numbering.specs.DesignOf.{Invoke, at, one, register_done, input_assign, go_guard, go_assign, capture_assigns, static_capture, capture_group, done_assign, invoke_group, design_of}
 use Rattle.cx_numbering.specs.NameRules.{is_register_in}
 use Rattle.cx_names.proofs.Base.{in_map, flat_in, in_either}
 use Rattle.cx_names.proofs.Circles.{KeptCell}
@@ -75,8 +75,15 @@ module _ (tree : PlainTree) (k : ℕ) (part : ast.PlainComponent) (stands : slic
         rest (inl e) = subst Tells e go_tells
         rest (inr j) = ⊎_elim capture last (in_either (flat_map (capture_assigns tree part v) v.outputs) (done_assign tree part v g v.outputs ∷ []) a j)
 
-  -- the group of an invoke
-  pub invoked : (n : ℕ) (vs : List Invoke) (g : PlainGroup) → In (invoke_groups tree part n vs) g → (v : Invoke) × (m : ℕ) × In vs v × (invoke_group tree part m v ≡ g)
-  invoked n [] g i = absurd i
-  invoked n (v ∷ vs) g (inl e) = (v, n, inl refl, e)
-  invoked n (v ∷ vs) g (inr i) = let found = invoked (suc n) vs g i in (found.0, found.1, inr found.2, found.3)
+    -- and in the group that captures
+    static_tells : (b : BindItem) (a : PlainAssign) → In (static_capture tree part v b) a → Tells a
+    static_tells b a (inl s) = subst Tells s (λ p q i j tp tq e. alone _ p q i j)
+    static_tells b a (inr (inl s)) = subst Tells s (λ p q i j tp tq e. alone _ p q i j)
+    static_tells b a (inr (inr n)) = absurd n
+
+    pub captures_tell : (a : PlainAssign) → In (capture_group tree part v).assigns a → Tells a
+    captures_tell a j = (let found = flat_in (static_capture tree part v) v.outputs a j in static_tells found.0 a found.2)
+
+  -- what a static invoke binds
+  pub bind_tells : (v : Invoke) (b : BindItem) → Tells (input_assign tree part v b)
+  bind_tells v b p q i j tp tq e = alone _ p q i j

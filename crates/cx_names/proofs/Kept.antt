@@ -3,7 +3,7 @@ use Rattle.std.proofs.Common.{◌≡◌, true, false, [], ◌++◌, None, map, c
 use Rattle.cx_ast.specs.PlainTree.{PlainTree, PlainComponent, PlainPort, PlainCell}
 use Rattle.cx_meaning.specs.Sights.{In}
 use Rattle.cx_numbering.specs.Names.{is_among, component_names}
-use Rattle.cx_numbering.specs.NameRules.{named, duplicates, names_break, name_breaks, main_breaks, import_breaks, component_breaks, primitive_named, component_duplicates, port_breaks, cell_breaks, assign_breaks, standing, Standing, statements_in, Visited, form_breaks}
+use Rattle.cx_numbering.specs.NameRules.{named, duplicates, names_break, name_breaks, main_breaks, import_breaks, component_breaks, primitive_named, main_static, component_duplicates, port_breaks, cell_breaks, assign_breaks, standing, Standing, statements_in, Visited, form_breaks}
 use Rattle.cx_names.proofs.Base.{append_none, flat_none, tell_none, first_none}
 use Rattle.cx_text.proofs.BoolLaws.{not_not}
 
@@ -14,6 +14,7 @@ pub record Kept (tree : PlainTree) : Type 0 where
 
 pub record KeptPart (tree : PlainTree) (part : PlainComponent) : Type 0 where
   pub primitive : primitive_named part ≡ []
+  pub dynamic : main_static tree part ≡ []
   pub twice : component_duplicates part ≡ []
   pub inputs : (port : PlainPort) → In part.inputs port → port_breaks tree part true port ≡ []
   pub outputs : (port : PlainPort) → In part.outputs port → port_breaks tree part false port ≡ []
@@ -39,9 +40,11 @@ kept_part tree part h =
     let five = append_none _ (flat_map (cell_breaks tree part) part.cells) six.0 in
     let four = append_none _ (flat_map (port_breaks tree part false) part.outputs) five.0 in
     let three = append_none _ (flat_map (port_breaks tree part true) part.inputs) four.0 in
-    let two = append_none (primitive_named part) (component_duplicates part) three.0 in
+    let two = append_none (primitive_named part ++ main_static tree part) (component_duplicates part) three.0 in
+    let one = append_none (primitive_named part) (main_static tree part) two.0 in
     record {
-      primitive = two.0;
+      primitive = one.0;
+      dynamic = one.1;
       twice = two.1;
       inputs = λ port i. flat_none (port_breaks tree part true) part.inputs three.1 port i;
       outputs = λ port i. flat_none (port_breaks tree part false) part.outputs four.1 port i;

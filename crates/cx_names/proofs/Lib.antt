@@ -10,8 +10,12 @@ pub mod AssignLemmas
 pub mod Circles
 pub mod InvokeLemmas
 pub mod InvokeGroups
+pub mod Splits
 pub mod Statements
 pub mod Primitives
+pub mod EnabledGroups
+pub mod InvokedAll
+pub mod StaticInvokes
 pub mod PartLemmas
 pub mod Whole
 pub mod TargetLemmas

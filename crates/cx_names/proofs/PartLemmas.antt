@@ -10,10 +10,11 @@ use Rattle.cx_prim.specs.Table.{PrimitiveRow, row_of}
 use Rattle.cx_ast.specs.PlainTree as ast
 use Rattle.cx_ast.specs.PlainTree.{PlainTree}
 use Rattle.cx_meaning.specs.declared.kinds.PortDecl.{PortDecl}
+use Rattle.cx_meaning.specs.Designs.{PlainGroup}
 use Rattle.cx_meaning.specs.Sights.{In}
 use Rattle.cx_rules.specs.Wellformed.{IsCell, IsPort, AreApart, is_memory, first_number}
 use Rattle.cx_numbering.specs.Names.{is_own_name, if_not_own, signature_ports, port_names, component_names, cell_names, groups_in, group_names, component_among, CellOf, Neither, APrimitive, AComponent, cell_of, primitive_of, primitive_or, is_external}
-use Rattle.cx_numbering.specs.DesignOf.{Invoke, group_of, invoke_groups, control_invokes, kind_or, plain_cell_of, decl_of, component_of, design_of}
+use Rattle.cx_numbering.specs.DesignOf.{Invoke, Next, first, group_of, invoke_groups, control_invokes, kind_or, plain_cell_of, decl_of, component_of, design_of}
 use Rattle.cx_numbering.specs.NameRules as rules
 use Rattle.cx_numbering.specs.NameRules.{Standing, standing, named, duplicates, visit_block, is_main, is_narrow_memory, kind_breaks, external_breaks, port_breaks, is_wrong_port, has_other_attribute, is_on_side, primitive_named, component_duplicates, form_breaks}
 use Rattle.cx_names_scopes.proofs.NameLemmas.{same_name-true}
@@ -24,6 +25,7 @@ use Rattle.cx_names.proofs.Primitives.{no_timer, nameable}
 use Rattle.cx_names.proofs.There.{of_component}
 use Rattle.cx_names.proofs.Circles.{KeptCell}
 use Rattle.cx_names.proofs.InvokeLemmas.{row_kept}
+use Rattle.cx_names.proofs.Splits.{group_of_invoke}
 use Rattle.cx_text.proofs.BoolLaws.{not_not, and_both}
 
 -- PORTS of a signature
@@ -95,18 +97,23 @@ module _ (tree : PlainTree) (part : ast.PlainComponent) (kept : KeptPart tree pa
       apart (port_names (part.inputs ++ part.outputs)) d m n name (ap (λ ns. slice_get ns m) (sym same) ∙ p) (ap (λ ns. slice_get ns n) (sym same) ∙ q))
 
   -- the group of an invoke has no name
-  unnamed : (n : ℕ) (vs : List Invoke) (m : ℕ) (name : List ℕ) → slice_get (map (λ group. group.name) (invoke_groups tree part n vs)) m ≡ Some name → name ≡ []
-  unnamed n [] m name h = absurd cc
-  unnamed n (v ∷ vs) zero name h = cc
-  unnamed n (v ∷ vs) (suc m) name h = unnamed (suc n) vs m name h
+  unnamed : (n : Next) (vs : List Invoke) (m : ℕ) (name : List ℕ) → slice_get (map (λ group. group.name) (invoke_groups tree part n vs)) m ≡ Some name → name ≡ []
+  unnamed n vs m name h = by (slice_get (invoke_groups tree part n vs) m) refl (sym (slice_get-map (λ group. group.name) (invoke_groups tree part n vs) m) ∙ h)
+    where
+      by : (o : Option PlainGroup) → slice_get (invoke_groups tree part n vs) m ≡ o → option_map (λ (group : PlainGroup). group.name) o ≡ Some name → name ≡ []
+      by None e h = absurd cc
+      by (Some group) e h =
+          (let same : group.name ≡ name = cc in
+          let found = group_of_invoke tree part n vs m group e in
+          sym same ∙ ⊎_elim (λ l. ap (λ (g : PlainGroup). g.name) l) (λ r. ap (λ (g : PlainGroup). g.name) r) found.is)
 
   pub groups_apart : AreApart (map (λ group. group.name) (component_of tree part).groups)
   groups_apart m n name p q some =
-      (let invoked = invoke_groups tree part (length (group_names part)) (control_invokes tree part part.control) in
+      (let invoked = invoke_groups tree part (first tree part) (control_invokes tree part part.control) in
       let same : map (λ group. group.name) (component_of tree part).groups ≡ group_names part ++ map (λ group. group.name) invoked =
       map_append (λ group. group.name) (map (group_of tree part) (groups_in part.wires)) invoked ∙ ap (λ ns. ns ++ map (λ group. group.name) invoked) (map_map (group_of tree part) (λ group. group.name) (groups_in part.wires)) in
       let own : (i : ℕ) → slice_get (map (λ group. group.name) (component_of tree part).groups) i ≡ Some name → slice_get (group_names part) i ≡ Some name =
-      λ i h. ⊎_elim (λ l. l) (λ r. absurd (some (unnamed (length (group_names part)) (control_invokes tree part part.control) r.0 name r.2)))
+      λ i h. ⊎_elim (λ l. l) (λ r. absurd (some (unnamed (first tree part) (control_invokes tree part part.control) r.0 name r.2)))
       (at_either (group_names part) (map (λ group. group.name) invoked) i name (ap (λ ns. slice_get ns i) (sym same) ∙ h)) in
       apart (group_names part) distinct_groups m n name (own m p) (own n q))
 
@@ -145,6 +152,13 @@ module _ (tree : PlainTree) (part : ast.PlainComponent) (kept : KeptPart tree pa
       by : (b : Bool) → is_own_name port.name ≡ b → cond b (not (is_on_side tree part input port.name) || not (nat_eq port.width 1)) (is_main tree part) ≡ false → is_own_name port.name ≡ true
       by true e k = e
       by false e k = absurd (true≢false (sym main ∙ k))
+
+  pub main_is_dynamic : is_main tree part ≡ true → (component_of tree part).latency ≡ None
+  main_is_dynamic main = none part.length (sym (ap (λ b. b && is_some part.length) main) ∙ tell_none _ _ _ _ kept.dynamic)
+    where
+      none : (o : Option ℕ) → is_some o ≡ false → o ≡ None
+      none None h = refl
+      none (Some n) h = absurd (true≢false h)
 
   pub main_inputs : is_main tree part ≡ true → (component_of tree part).inputs ≡ []
   main_inputs main = ap (map (decl_of tree part)) (signature_none part.inputs (λ port i. own_in_main true port main (kept.inputs port i)))

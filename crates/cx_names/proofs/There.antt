@@ -18,9 +18,9 @@ use Rattle.cx_rules.specs.Ports.{component_of as instance_of}
 use Rattle.cx_rules.specs.ShapeRules.{is_hole}
 use Rattle.cx_rules.specs.Wellformed.{port_count, IsThere}
 use Rattle.cx_numbering.specs.Names.{number_of, is_among, is_own_name, signature_ports, port_names, component_names, cell_names, groups_in, group_names, cell_among, component_among, CellOf, Neither, APrimitive, AComponent, cell_of, primitive_of, primitive_or, cell_port_names, found_cell_ports}
-use Rattle.cx_numbering.specs.DesignOf.{number_or_0, own_port, cell_port, port_of, decl_of, group_of, plain_cell_of, kind_or, component_of, design_of, invoke_groups, control_invokes}
+use Rattle.cx_numbering.specs.DesignOf.{first, number_or_0, own_port, cell_port, port_of, decl_of, group_of, plain_cell_of, kind_or, component_of, design_of, invoke_groups, control_invokes}
 use Rattle.cx_numbering.specs.NameRules as rules
-use Rattle.cx_numbering.specs.NameRules.{is_own, is_clock, is_unknown, is_left_out, source_breaks, unknown}
+use Rattle.cx_numbering.specs.NameRules.{is_own, is_clock, is_static_end, is_unknown, is_left_out, source_breaks, unknown}
 use Rattle.cx_names_scopes.proofs.NameLemmas.{number_within}
 use Rattle.cx_names.proofs.Base.{append_none, tell_none}
 use Rattle.cx_names.proofs.NumberLemmas.{there, or_0, cell_found, part_found}
@@ -121,8 +121,8 @@ module _ (tree : PlainTree) (k : ℕ) (part : ast.PlainComponent) (at : slice_ge
   outputs_are : length (part_of (instance_of (design_of tree) k)).outputs ≡ length (port_names part.outputs)
   outputs_are = ap (λ p. length p.outputs) (part_is tree k part at) ∙ length-map (signature_ports part.outputs) (decl_of tree part) ∙ sym (length-map (signature_ports part.outputs) (λ p. p.name))
 
-  pub groups_are : length (component_of tree part).groups ≡ length (groups_in part.wires) + length (invoke_groups tree part (length (group_names part)) (control_invokes tree part part.control))
-  groups_are = length-append (map (group_of tree part) (groups_in part.wires)) (invoke_groups tree part (length (group_names part)) (control_invokes tree part part.control)) ∙ ap (λ n. n + length (invoke_groups tree part (length (group_names part)) (control_invokes tree part part.control))) (length-map (groups_in part.wires) (group_of tree part))
+  pub groups_are : length (component_of tree part).groups ≡ length (groups_in part.wires) + length (invoke_groups tree part (first tree part) (control_invokes tree part part.control))
+  groups_are = length-append (map (group_of tree part) (groups_in part.wires)) (invoke_groups tree part (first tree part) (control_invokes tree part part.control)) ∙ ap (λ n. n + length (invoke_groups tree part (first tree part) (control_invokes tree part part.control))) (length-map (groups_in part.wires) (group_of tree part))
 
   pub own_port_there : (name : List ℕ) → is_own tree part name ≡ true → IsThere (instance_of (design_of tree) k) (own_port (number_of name (port_names part.inputs)) (number_or_0 name (port_names part.outputs)))
   own_port_there name h = by (number_of name (port_names part.inputs)) refl (or_either (is_among name (port_names part.inputs)) (is_among name (port_names part.outputs)) h)
@@ -151,7 +151,7 @@ module _ (tree : PlainTree) (k : ℕ) (part : ast.PlainComponent) (at : slice_ge
   pub form_there : (form : OperandForm) → is_unknown tree part form ≡ false → is_left_out tree part form ≡ false → IsThere (instance_of (design_of tree) k) (port_of tree part form)
   form_there (operands.Own name) known kept = own_port_there name (⊎_elim (λ i. i) (λ o. absurd (true≢false (sym o ∙ kept))) (or_either (is_own tree part name) (is_own_name name) (not_not _ known)))
   form_there (operands.Port cell port) known kept =
-      cell_port_there cell port (⊎_elim (λ i. i) (λ o. absurd (true≢false (sym o ∙ kept))) (or_either (is_among port (found_cell_ports tree (cell_among cell part.cells))) (is_clock tree part cell port) (not_not _ known)))
+      cell_port_there cell port (⊎_elim (λ i. i) (λ o. absurd (true≢false (sym o ∙ (or_parts (is_clock tree part cell port) (is_static_end tree part cell port) kept).0))) (or_either (is_among port (found_cell_ports tree (cell_among cell part.cells))) (is_clock tree part cell port) (not_not _ known)))
   form_there (operands.Hole group hole) known kept = group_there group (and_left (is_among group (group_names part)) _ (not_not _ known))
     where
       and_left : (a b : Bool) → (a && b) ≡ true → a ≡ true

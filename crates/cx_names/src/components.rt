@@ -10,6 +10,7 @@ ghost use Rattle.cx_names.specs.Sites.{IsSite, tree_at, part_at};
 use crate::assigns::always;
 use crate::cells::cells;
 use crate::control::control;
+use crate::drafts::Draft;
 use crate::groups::groups;
 use crate::sites::Site;
 use cx_ast::PortItem;
@@ -62,17 +63,21 @@ pub(crate) fn component(alloc: Global, site: &Site) -> Result<Component, Memory>
     let inputs = decls(alloc, site, &part.inputs)?;
     let outputs = decls(alloc, site, &part.outputs)?;
     let cells = cells(alloc, site)?;
-    let mut groups = groups(alloc, site, &part.wires)?;
+    let groups = groups(alloc, site, &part.wires)?;
     let always = always(alloc, site, &part.wires)?;
-    let control = control(alloc, site, &mut groups)?;
+    let mut draft = Draft {
+        groups,
+        invokes: Vec::new(alloc),
+    };
+    let control = control(alloc, site, &mut draft)?;
     Ok(Component {
         name,
-        latency: None,
+        latency: part.length,
         inputs,
         outputs,
         cells,
-        groups,
-        invokes: Vec::new(alloc),
+        groups: draft.groups,
+        invokes: draft.invokes,
         always,
         control,
         place: part.place,

@@ -1,22 +1,24 @@
-//! Control by number, and the groups of its invokes.
+//! Control by number, and the groups and static invokes that it needs.
 
-ghost use Rattle.std.specs.Prelude.{◌≡◌, ◌∷◌, ◌++◌, [], OnOk, IfOk, length, map, option_map};
+ghost use Rattle.std.specs.Prelude.{◌≡◌, true, false, ◌∷◌, ◌++◌, [], OnOk, IfOk, length, map, option_map};
 ghost use Rattle.cx_ast.specs.PlainStatements as written;
 ghost use Rattle.cx_meaning.specs.Designs as plain;
-ghost use Rattle.cx_design.specs.PlainForms.{plain_form, plain_group, plain_statement, plain_statements};
+ghost use Rattle.cx_design.specs.PlainForms.{plain_form, plain_group, plain_invoke, plain_statement, plain_statements};
 ghost use Rattle.cx_numbering.specs.Names.{group_names};
 ghost use Rattle.cx_numbering.specs.DesignOf as design;
-ghost use Rattle.cx_numbering.specs.DesignOf.{invokes_in, invokes_of, invokes_else, invokes_all};
+ghost use Rattle.cx_numbering.specs.DesignOf.{invokes_in, invokes_of, invokes_else, invokes_all, is_static_invoke, invoke_latency};
 ghost use Rattle.cx_names.specs.Sites.{IsSite, tree_at, part_at};
 ghost use Rattle.cx_names.specs.Calls.{invoke_of};
-ghost use Rattle.cx_names.specs.Added.{added, statement_of, invokes_at};
+ghost use Rattle.cx_names.specs.Added.{added, made_of, next_of, statement_of, invokes_at, with_invoke};
 
+use crate::drafts::Draft;
 use crate::invokes::{Call, invoke_group};
 use crate::numbers::number;
 use crate::operands::{group_number, placed};
 use crate::sites::Site;
+use crate::static_invokes::{captures, static_invoke};
 use cx_ast::{Block, StatementForm, StatementItem};
-use cx_design::{Form, Group, Statement};
+use cx_design::{Form, Statement};
 use cx_text::{Memory, Name, Place};
 use std::alloc::Global;
 
@@ -65,15 +67,50 @@ fn comb_number(site: &Site, comb: &Option<Name>) -> Result<Option<u32>, Memory>
     }
 }
 
-// An invoke is the enable of a group of its own, which is added.
-fn invoke(alloc: Global, site: &Site, groups: &mut Vec<Group>, call: Call) -> Result<Form, Memory>
-    requires { IsSite site.now }
-    ensures value { IfOk result (λ f. plain_form f ≡ plain.Enable (length (map plain_group groups.old.items))) }
-    ensures groups { OnOk result (map plain_group groups.new.items ≡ added (tree_at site.now) (part_at site.now) (map plain_group groups.old.items) (invoke_of call.entry ∷ [])) }
+// A call is the enable of a group of its own, which is added.
+fn called(alloc: Global, site: &Site, draft: &mut Draft, call: Call) -> Result<Form, Memory>
+    requires site { IsSite site.now }
+    requires dynamic { is_static_invoke (tree_at site.now) (part_at site.now) (invoke_of call) ≡ false }
+    ensures value { IfOk result (λ f. plain_form f ≡ plain.Enable (next_of (made_of draft.old)).group) }
+    ensures made { OnOk result (made_of draft.new ≡ with_invoke (tree_at site.now) (part_at site.now) (made_of draft.old) (invoke_of call.entry)) }
 {
-    let number = number(groups.len())?;
-    groups.push(invoke_group(alloc, site, number, call)?)?;
+    let number = number(draft.groups.len())?;
+    draft.groups.push(invoke_group(alloc, site, number, call)?)?;
     Ok(Form::Enable(number))
+}
+
+// A static invoke is kept by its number; where it captures, the group that does so is added.
+fn kept(
+    alloc: Global,
+    site: &Site,
+    draft: &mut Draft,
+    call: Call,
+    latency: Option<u64>,
+) -> Result<Form, Memory>
+    requires site { IsSite site.now }
+    requires is_static { is_static_invoke (tree_at site.now) (part_at site.now) (invoke_of call) ≡ true }
+    requires latency { latency ≡ invoke_latency (tree_at site.now) (part_at site.now) (invoke_of call) }
+    ensures value { IfOk result (λ f. plain_form f ≡ plain.Timed (next_of (made_of draft.old)).invoke) }
+    ensures made { OnOk result (made_of draft.new ≡ with_invoke (tree_at site.now) (part_at site.now) (made_of draft.old) (invoke_of call.entry)) }
+{
+    let captures = captures(alloc, site, &mut draft.groups, call)?;
+    let number = number(draft.invokes.len())?;
+    let invoke = static_invoke(alloc, site, call, latency, captures)?;
+    draft.invokes.push(invoke)?;
+    Ok(Form::StaticInvoke(number))
+}
+
+// An invoke is a call, or a static one where the word stands there or the cell's component is static.
+fn invoke(alloc: Global, site: &Site, draft: &mut Draft, call: Call) -> Result<Form, Memory>
+    requires { IsSite site.now }
+    ensures value { IfOk result (λ f. plain_form f ≡ design.invoke_form (tree_at site.now) (part_at site.now) (is_static_invoke (tree_at site.now) (part_at site.now) (invoke_of call.entry)) (next_of (made_of draft.old))) }
+    ensures made { OnOk result (made_of draft.new ≡ added (tree_at site.now) (part_at site.now) (made_of draft.old) (invoke_of call.entry ∷ [])) }
+{
+    let latency = site.scope.latency(call.cell);
+    if call.is_written || latency.is_some() {
+        return kept(alloc, site, draft, call, latency);
+    }
+    called(alloc, site, draft, call)
 }
 
 // A statement without its place.
@@ -81,27 +118,27 @@ fn invoke(alloc: Global, site: &Site, groups: &mut Vec<Group>, call: Call) -> Re
 fn form(
     alloc: Global,
     site: &Site,
-    groups: &mut Vec<Group>,
+    draft: &mut Draft,
     item: &StatementForm,
     place: Place,
 ) -> Result<Form, Memory>
     requires { IsSite site.now }
-    ensures value { IfOk result (λ f. plain_form f ≡ design.form_of (tree_at site.now) (part_at site.now) (length (map plain_group groups.old.items)) place (written.plain_form item.now)) }
-    ensures groups { OnOk result (map plain_group groups.new.items ≡ added (tree_at site.now) (part_at site.now) (map plain_group groups.old.items) (invokes_in (written.plain_form item.now) place)) }
+    ensures value { IfOk result (λ f. plain_form f ≡ design.form_of (tree_at site.now) (part_at site.now) (next_of (made_of draft.old)) place (written.plain_form item.now)) }
+    ensures made { OnOk result (made_of draft.new ≡ added (tree_at site.now) (part_at site.now) (made_of draft.old) (invokes_in (written.plain_form item.now) place)) }
 {
     match item {
         StatementForm::Enable { group, .. } => Ok(Form::Enable(group_number(site, group)?)),
-        StatementForm::Seq { block, .. } => Ok(Form::Seq(parts(alloc, site, groups, block)?)),
-        StatementForm::Par { block, .. } => Ok(Form::Par(parts(alloc, site, groups, block)?)),
+        StatementForm::Seq { block, .. } => Ok(Form::Seq(parts(alloc, site, draft, block)?)),
+        StatementForm::Par { block, .. } => Ok(Form::Par(parts(alloc, site, draft, block)?)),
         StatementForm::StaticSeq { length, block, .. } => {
-            let parts = parts(alloc, site, groups, block)?;
+            let parts = parts(alloc, site, draft, block)?;
             Ok(Form::StaticSeq {
                 length: *length,
                 parts,
             })
         }
         StatementForm::StaticPar { length, block, .. } => {
-            let parts = parts(alloc, site, groups, block)?;
+            let parts = parts(alloc, site, draft, block)?;
             Ok(Form::StaticPar {
                 length: *length,
                 parts,
@@ -115,8 +152,8 @@ fn form(
         } => {
             let test = placed(site, test)?;
             let comb = comb_number(site, comb)?;
-            let yes = boxed_block(alloc, site, groups, false, yes)?;
-            let no = otherwise(alloc, site, groups, false, place, no)?;
+            let yes = boxed_block(alloc, site, draft, false, yes)?;
+            let no = otherwise(alloc, site, draft, false, place, no)?;
             Ok(Form::If {
                 test,
                 comb,
@@ -131,8 +168,8 @@ fn form(
             no,
         } => {
             let test = placed(site, test)?;
-            let yes = boxed_block(alloc, site, groups, true, yes)?;
-            let no = otherwise(alloc, site, groups, true, place, no)?;
+            let yes = boxed_block(alloc, site, draft, true, yes)?;
+            let no = otherwise(alloc, site, draft, true, place, no)?;
             Ok(Form::StaticIf {
                 length: *length,
                 test,
@@ -143,11 +180,11 @@ fn form(
         StatementForm::While { test, comb, body } => {
             let test = placed(site, test)?;
             let comb = comb_number(site, comb)?;
-            let body = boxed_block(alloc, site, groups, false, body)?;
+            let body = boxed_block(alloc, site, draft, false, body)?;
             Ok(Form::While { test, comb, body })
         }
         StatementForm::Repeat { count, body } => {
-            let body = boxed_block(alloc, site, groups, false, body)?;
+            let body = boxed_block(alloc, site, draft, false, body)?;
             Ok(Form::Repeat {
                 count: *count,
                 body,
@@ -158,7 +195,7 @@ fn form(
             count,
             body,
         } => {
-            let body = boxed_block(alloc, site, groups, true, body)?;
+            let body = boxed_block(alloc, site, draft, true, body)?;
             Ok(Form::StaticRepeat {
                 length: *length,
                 count: *count,
@@ -172,13 +209,30 @@ fn form(
         } => {
             let call = Call {
                 cell,
+                is_written: false,
+                length: None,
                 inputs,
                 outputs,
                 place,
             };
-            invoke(alloc, site, groups, call)
+            invoke(alloc, site, draft, call)
         }
-        StatementForm::StaticInvoke { .. } => Ok(Form::Empty),
+        StatementForm::StaticInvoke {
+            length,
+            cell,
+            inputs,
+            outputs,
+        } => {
+            let call = Call {
+                cell,
+                is_written: true,
+                length: *length,
+                inputs,
+                outputs,
+                place,
+            };
+            invoke(alloc, site, draft, call)
+        }
     }
 }
 
@@ -187,14 +241,14 @@ fn form(
 fn statement(
     alloc: Global,
     site: &Site,
-    groups: &mut Vec<Group>,
+    draft: &mut Draft,
     item: &StatementItem,
 ) -> Result<Statement, Memory>
     requires { IsSite site.now }
-    ensures value { IfOk result (λ s. plain_statement s ≡ statement_of (tree_at site.now) (part_at site.now) (length (map plain_group groups.old.items)) (written.plain_statement item.now)) }
-    ensures groups { OnOk result (map plain_group groups.new.items ≡ added (tree_at site.now) (part_at site.now) (map plain_group groups.old.items) (invokes_at (written.plain_statement item.now))) }
+    ensures value { IfOk result (λ s. plain_statement s ≡ statement_of (tree_at site.now) (part_at site.now) (next_of (made_of draft.old)) (written.plain_statement item.now)) }
+    ensures made { OnOk result (made_of draft.new ≡ added (tree_at site.now) (part_at site.now) (made_of draft.old) (invokes_at (written.plain_statement item.now))) }
 {
-    let form = form(alloc, site, groups, &item.form, item.place)?;
+    let form = form(alloc, site, draft, &item.form, item.place)?;
     Ok(Statement {
         form,
         place: item.place,
@@ -206,16 +260,16 @@ fn statement(
 fn statements(
     alloc: Global,
     site: &Site,
-    groups: &mut Vec<Group>,
+    draft: &mut Draft,
     items: &[StatementItem],
 ) -> Result<Vec<Statement>, Memory>
     requires { IsSite site.now }
-    ensures value { IfOk result (λ all. plain_statements all.items ≡ design.all_of (tree_at site.now) (part_at site.now) (length (map plain_group groups.old.items)) (written.statements_of (written.plain_statements items.now))) }
-    ensures groups { OnOk result (map plain_group groups.new.items ≡ added (tree_at site.now) (part_at site.now) (map plain_group groups.old.items) (invokes_all (written.statements_of (written.plain_statements items.now)))) }
+    ensures value { IfOk result (λ all. plain_statements all.items ≡ design.all_of (tree_at site.now) (part_at site.now) (next_of (made_of draft.old)) (written.statements_of (written.plain_statements items.now))) }
+    ensures made { OnOk result (made_of draft.new ≡ added (tree_at site.now) (part_at site.now) (made_of draft.old) (invokes_all (written.statements_of (written.plain_statements items.now)))) }
 {
     let mut all = Vec::with_capacity(alloc, items.len())?;
     for item in items {
-        let next = statement(alloc, site, groups, item)?;
+        let next = statement(alloc, site, draft, item)?;
         all.push(next)?;
     }
     Ok(all)
@@ -226,14 +280,14 @@ fn statements(
 fn parts(
     alloc: Global,
     site: &Site,
-    groups: &mut Vec<Group>,
+    draft: &mut Draft,
     block: &Block,
 ) -> Result<Vec<Statement>, Memory>
     requires { IsSite site.now }
-    ensures value { IfOk result (λ all. plain_statements all.items ≡ design.parts_of (tree_at site.now) (part_at site.now) (length (map plain_group groups.old.items)) (written.plain_block block.now)) }
-    ensures groups { OnOk result (map plain_group groups.new.items ≡ added (tree_at site.now) (part_at site.now) (map plain_group groups.old.items) (invokes_of (written.plain_block block.now))) }
+    ensures value { IfOk result (λ all. plain_statements all.items ≡ design.parts_of (tree_at site.now) (part_at site.now) (next_of (made_of draft.old)) (written.plain_block block.now)) }
+    ensures made { OnOk result (made_of draft.new ≡ added (tree_at site.now) (part_at site.now) (made_of draft.old) (invokes_of (written.plain_block block.now))) }
 {
-    statements(alloc, site, groups, &block.statements)
+    statements(alloc, site, draft, &block.statements)
 }
 
 // A block as one statement.
@@ -241,15 +295,15 @@ fn parts(
 fn block(
     alloc: Global,
     site: &Site,
-    groups: &mut Vec<Group>,
+    draft: &mut Draft,
     is_static: bool,
     item: &Block,
 ) -> Result<Statement, Memory>
     requires { IsSite site.now }
-    ensures value { IfOk result (λ s. plain_statement s ≡ design.block_of (tree_at site.now) (part_at site.now) is_static (length (map plain_group groups.old.items)) (written.plain_block item.now)) }
-    ensures groups { OnOk result (map plain_group groups.new.items ≡ added (tree_at site.now) (part_at site.now) (map plain_group groups.old.items) (invokes_of (written.plain_block item.now))) }
+    ensures value { IfOk result (λ s. plain_statement s ≡ design.block_of (tree_at site.now) (part_at site.now) is_static (next_of (made_of draft.old)) (written.plain_block item.now)) }
+    ensures made { OnOk result (made_of draft.new ≡ added (tree_at site.now) (part_at site.now) (made_of draft.old) (invokes_of (written.plain_block item.now))) }
 {
-    let all = parts(alloc, site, groups, item)?;
+    let all = parts(alloc, site, draft, item)?;
     Ok(joined(site, is_static, item.place, all))
 }
 
@@ -258,15 +312,15 @@ fn block(
 fn boxed_block(
     alloc: Global,
     site: &Site,
-    groups: &mut Vec<Group>,
+    draft: &mut Draft,
     is_static: bool,
     item: &Block,
 ) -> Result<Box<Statement>, Memory>
     requires { IsSite site.now }
-    ensures value { IfOk result (λ s. plain_statement s.value ≡ design.block_of (tree_at site.now) (part_at site.now) is_static (length (map plain_group groups.old.items)) (written.plain_block item.now)) }
-    ensures groups { OnOk result (map plain_group groups.new.items ≡ added (tree_at site.now) (part_at site.now) (map plain_group groups.old.items) (invokes_of (written.plain_block item.now))) }
+    ensures value { IfOk result (λ s. plain_statement s.value ≡ design.block_of (tree_at site.now) (part_at site.now) is_static (next_of (made_of draft.old)) (written.plain_block item.now)) }
+    ensures made { OnOk result (made_of draft.new ≡ added (tree_at site.now) (part_at site.now) (made_of draft.old) (invokes_of (written.plain_block item.now))) }
 {
-    let statement = block(alloc, site, groups, is_static, item)?;
+    let statement = block(alloc, site, draft, is_static, item)?;
     Ok(Box::new(alloc, statement)?)
 }
 
@@ -275,14 +329,14 @@ fn boxed_block(
 fn otherwise(
     alloc: Global,
     site: &Site,
-    groups: &mut Vec<Group>,
+    draft: &mut Draft,
     is_static: bool,
     place: Place,
     item: &Option<Block>,
 ) -> Result<Box<Statement>, Memory>
     requires { IsSite site.now }
-    ensures value { IfOk result (λ s. plain_statement s.value ≡ design.else_of (tree_at site.now) (part_at site.now) is_static (length (map plain_group groups.old.items)) place (written.else_of (option_map written.plain_block item.now))) }
-    ensures groups { OnOk result (map plain_group groups.new.items ≡ added (tree_at site.now) (part_at site.now) (map plain_group groups.old.items) (invokes_else (written.else_of (option_map written.plain_block item.now)))) }
+    ensures value { IfOk result (λ s. plain_statement s.value ≡ design.else_of (tree_at site.now) (part_at site.now) is_static (next_of (made_of draft.old)) place (written.else_of (option_map written.plain_block item.now))) }
+    ensures made { OnOk result (made_of draft.new ≡ added (tree_at site.now) (part_at site.now) (made_of draft.old) (invokes_else (written.else_of (option_map written.plain_block item.now)))) }
 {
     match item {
         None => {
@@ -293,22 +347,20 @@ fn otherwise(
             Ok(Box::new(alloc, empty)?)
         }
         Some(item) => {
-            let statement = block(alloc, site, groups, is_static, item)?;
+            let statement = block(alloc, site, draft, is_static, item)?;
             Ok(Box::new(alloc, statement)?)
         }
     }
 }
 
-/// The control of a component. The groups of its invokes are added to the others.
-pub(crate) fn control(
-    alloc: Global,
-    site: &Site,
-    groups: &mut Vec<Group>,
-) -> Result<Statement, Memory>
+/// The control of a component. The groups of its invokes are added to the others, and the static invokes to none.
+pub(crate) fn control(alloc: Global, site: &Site, draft: &mut Draft) -> Result<Statement, Memory>
     requires site { IsSite site.now }
-    requires groups { length (map plain_group groups.old.items) ≡ length (group_names (part_at site.now)) }
+    requires groups { length (map plain_group draft.old.groups.items) ≡ length (group_names (part_at site.now)) }
+    requires invokes { map plain_invoke draft.old.invokes.items ≡ [] }
     ensures value { IfOk result (λ s. plain_statement s ≡ design.control_of (tree_at site.now) (part_at site.now) (part_at site.now).control) }
-    ensures groups { OnOk result (map plain_group groups.new.items ≡ map plain_group groups.old.items ++ design.invoke_groups (tree_at site.now) (part_at site.now) (length (group_names (part_at site.now))) (design.control_invokes (tree_at site.now) (part_at site.now) (part_at site.now).control)) }
+    ensures groups { OnOk result (map plain_group draft.new.groups.items ≡ map plain_group draft.old.groups.items ++ design.invoke_groups (tree_at site.now) (part_at site.now) (design.first (tree_at site.now) (part_at site.now)) (design.control_invokes (tree_at site.now) (part_at site.now) (part_at site.now).control)) }
+    ensures invokes { OnOk result (map plain_invoke draft.new.invokes.items ≡ design.static_invokes (tree_at site.now) (part_at site.now) (design.first (tree_at site.now) (part_at site.now)) (design.control_invokes (tree_at site.now) (part_at site.now) (part_at site.now).control)) }
 {
     match &site.scope.part.control {
         None => Ok(Statement {
@@ -316,7 +368,7 @@ pub(crate) fn control(
             place: site.scope.part.place,
         }),
         Some(item) => {
-            let whole = block(alloc, site, groups, false, item)?;
+            let whole = block(alloc, site, draft, false, item)?;
             Ok(whole)
         }
     }

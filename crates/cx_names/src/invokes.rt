@@ -16,20 +16,22 @@ use cx_meaning::{GroupKind, PlacedPort, PortRef};
 use cx_text::{Memory, Name, Place};
 use std::alloc::Global;
 
-/// An invoke: the cell, what is bound, and where the statement stands.
+/// An invoke: the cell, whether the word static stands there and with what length, what is bound, and where the statement stands.
 #[derive(Clone, Copy)]
 pub(crate) struct Call<'a> {
     pub cell: &'a Name,
+    pub is_written: bool,
+    pub length: Option<u64>,
     pub inputs: &'a [BindItem],
     pub outputs: &'a [BindItem],
     pub place: Place,
 }
 
 /// The literal `1'd1`.
-const ONE: PortRef = PortRef::Literal(1, 1);
+pub(crate) const ONE: PortRef = PortRef::Literal(1, 1);
 
-// Adds the assignment of each bound input.
-fn add_inputs(site: &Site, assigns: &mut Vec<Assign>, call: Call) -> Result<(), Memory>
+/// Adds the assignment of each bound input.
+pub(crate) fn add_inputs(site: &Site, assigns: &mut Vec<Assign>, call: Call) -> Result<(), Memory>
     requires { IsSite site.now }
     ensures { OnOk result (plain_assigns assigns.new.items ≡ plain_assigns assigns.old.items ++ map (design.input_assign (tree_at site.now) (part_at site.now) (invoke_of call.entry)) call.entry.inputs.now) }
 {
@@ -107,8 +109,8 @@ fn go(alloc: Global, site: &Site, call: Call) -> Result<Assign, Memory>
     })
 }
 
-// A port of the register that an output is bound to.
-fn register_port(
+/// A port of the register that an output is bound to.
+pub(crate) fn register_port(
     alloc: Global,
     site: &Site,
     bind: &BindItem,
@@ -138,8 +140,13 @@ fn register_done(
     Ok(PlacedPort { port, place })
 }
 
-// The assignment of an output to its register.
-fn capture(alloc: Global, site: &Site, call: Call, bind: &BindItem) -> Result<Assign, Memory>
+/// The assignment of an output to its register.
+pub(crate) fn capture(
+    alloc: Global,
+    site: &Site,
+    call: Call,
+    bind: &BindItem,
+) -> Result<Assign, Memory>
     requires { IsSite site.now }
     ensures { IfOk result (λ a. plain_assign a ≡ capture_of (tree_at site.now) (part_at site.now) (invoke_of call.entry) bind.now) }
 {

@@ -7,6 +7,7 @@ mod cells;
 mod components;
 mod control;
 mod designs;
+mod drafts;
 mod groups;
 mod guards;
 mod invokes;
@@ -17,6 +18,7 @@ pub mod place_laws;
 mod ports;
 mod resolving;
 mod sites;
+mod static_invokes;
 pub mod target_laws;
 
 pub use designs::{Parts, design_parts};

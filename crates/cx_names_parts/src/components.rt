@@ -13,8 +13,8 @@ use crate::CellCircles;
 use crate::cells::cells;
 use cx_ast::Tree;
 use cx_names_rules::{
-    cell_duplicates, component_assigns, component_statements, group_duplicates, port_duplicates,
-    signature_ports, tell_if,
+    cell_duplicates, component_assigns, component_statements, group_duplicates, is_main,
+    port_duplicates, signature_ports, tell_if,
 };
 use cx_names_scopes::{Index, Scope};
 use cx_prim::PrimitiveName;
@@ -51,6 +51,22 @@ fn primitive_named(
     )
 }
 
+// Tells of a main that is static.
+fn main_static(alloc: Global, found: &mut Option<Diagnostic>, scope: &Scope) -> Result<(), Memory>
+    ensures { OnOk result (found.new ≡ first_of found.old (rules.main_static (tree_in scope.now) (part_in scope.now))) }
+{
+    let part = scope.part;
+    let is_broken = is_main(scope) && part.length.is_some();
+    tell_if(
+        alloc,
+        found,
+        is_broken,
+        Rule::LeftOut,
+        part.place,
+        &part.name,
+    )
+}
+
 // Tells of ports, cells and groups with the name of an earlier one.
 #[tactic(auto, using(cx_names_rules::proofs::FoundRules::in_turn))]
 fn duplicates(alloc: Global, found: &mut Option<Diagnostic>, scope: &Scope) -> Result<(), Memory>
@@ -65,9 +81,10 @@ fn duplicates(alloc: Global, found: &mut Option<Diagnostic>, scope: &Scope) -> R
 // Tells of the name of a component and of the names in it.
 #[tactic(auto, using(cx_names_rules::proofs::FoundRules::in_turn))]
 fn names(alloc: Global, found: &mut Option<Diagnostic>, scope: &Scope) -> Result<(), Memory>
-    ensures { OnOk result (found.new ≡ first_of found.old (rules.primitive_named (part_in scope.now) ++ rules.component_duplicates (part_in scope.now))) }
+    ensures { OnOk result (found.new ≡ first_of found.old (rules.primitive_named (part_in scope.now) ++ rules.main_static (tree_in scope.now) (part_in scope.now) ++ rules.component_duplicates (part_in scope.now))) }
 {
     primitive_named(alloc, found, scope)?;
+    main_static(alloc, found, scope)?;
     duplicates(alloc, found, scope)
 }
 

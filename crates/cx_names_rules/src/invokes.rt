@@ -8,7 +8,7 @@ ghost use Rattle.cx_names_rules.specs.Found.{first_of};
 
 use crate::duplicates::bind_duplicates;
 use crate::found::{tell_form_if, tell_if};
-use crate::operands::{has_cell_port, is_clock, source, unknown};
+use crate::operands::{has_cell_port, is_clock, is_static_end, source, unknown};
 use cx_ast::{BindItem, OperandForm};
 use cx_names_scopes::{CellKind, Scope, is_named};
 use cx_text::{Diagnostic, Memory, Name, Place, Rule};
@@ -63,6 +63,15 @@ fn is_no_input(scope: &Scope, cell: &Name, kind: &CellKind, port: &Name) -> bool
     ensures { result ≡ ((is_among port.now (rules.output_names (tree_in scope.now) (part_in scope.now) (kind_of kind.now)) || rules.is_go_name (tree_in scope.now) (part_in scope.now) (cell_go (kind_of kind.now)) port.now) || rules.is_clock (tree_in scope.now) (part_in scope.now) cell.now port.now) }
 {
     kind.has_output(scope, port) || is_go(scope, kind, port) || is_clock(scope, cell, port)
+}
+
+// Whether a port is no output that an invoke may bind.
+fn is_no_output(scope: &Scope, cell: &Name, kind: &CellKind, port: &Name) -> bool
+    requires scope { IsScope scope.now }
+    requires kind { IsKind kind.now }
+    ensures { result ≡ (not (is_among port.now (rules.output_names (tree_in scope.now) (part_in scope.now) (kind_of kind.now))) || rules.is_static_end (tree_in scope.now) (part_in scope.now) cell.now port.now) }
+{
+    !kind.has_output(scope, port) || is_static_end(scope, cell, port)
 }
 
 // Tells of an input of an invoke.
@@ -123,11 +132,11 @@ fn output(
         bind.place,
         &bind.name,
     )?;
-    let is_input = !kind.has_output(scope, &bind.name);
+    let is_wrong = is_no_output(scope, cell, kind, &bind.name);
     tell_if(
         alloc,
         found,
-        is_input,
+        is_wrong,
         Rule::LeftOut,
         bind.place,
         &bind.name,

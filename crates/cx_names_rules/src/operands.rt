@@ -46,6 +46,14 @@ pub(crate) fn is_clock(scope: &Scope, cell: &Name, port: &Name) -> bool
     is_of_component(scope, cell) && (is_named(port, b"clk") || is_named(port, b"reset"))
 }
 
+/// Whether a port is go or done of a cell of a static component.
+pub(crate) fn is_static_end(scope: &Scope, cell: &Name, port: &Name) -> bool
+    requires { IsScope scope.now }
+    ensures { result ≡ rules.is_static_end (tree_in scope.now) (part_in scope.now) cell.now port.now }
+{
+    scope.latency(cell).is_some() && (is_named(port, b"go") || is_named(port, b"done"))
+}
+
 // Whether a hole is one of a group that is there.
 fn is_known_hole(scope: &Scope, group: &Name, hole: &Name) -> bool
     requires { IsScope scope.now }
@@ -69,14 +77,16 @@ fn is_unknown(scope: &Scope, form: &OperandForm) -> bool
     }
 }
 
-// Whether an operand is an own port that every component has, or a clock of a component's cell.
+// Whether an operand is an own port that every component has, a clock of a component's cell, or go or done of a static one.
 pub(crate) fn is_left_out(scope: &Scope, form: &OperandForm) -> bool
     requires { IsScope scope.now }
     ensures { result ≡ rules.is_left_out (tree_in scope.now) (part_in scope.now) form.now }
 {
     match form {
         OperandForm::Own(name) => is_own_name(name),
-        OperandForm::Port(cell, port) => is_clock(scope, cell, port),
+        OperandForm::Port(cell, port) => {
+            is_clock(scope, cell, port) || is_static_end(scope, cell, port)
+        }
         OperandForm::Hole(_, _) => false,
         OperandForm::Literal(_, _) => false,
     }

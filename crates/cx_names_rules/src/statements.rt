@@ -118,6 +118,12 @@ fn form(
             inputs,
             outputs,
         } => invoke(alloc, found, scope, cell, inputs, outputs, place),
+        StatementForm::StaticInvoke {
+            cell,
+            inputs,
+            outputs,
+            ..
+        } => invoke(alloc, found, scope, cell, inputs, outputs, place),
         _ => Ok(()),
     }
 }

@@ -2,7 +2,7 @@
 
 ghost use Rattle.std.specs.Prelude.{◌≡◌, ◌||◌, is_some, codes};
 ghost use Rattle.std.specs.Option.{option_copied};
-ghost use Rattle.cx_numbering.specs.Names.{is_among, same_name, cell_port_names, cell_go};
+ghost use Rattle.cx_numbering.specs.Names.{is_among, same_name, cell_port_names, cell_go, latency_of};
 ghost use Rattle.cx_numbering.specs.NameRules.{output_names, is_reg as is_reg_of};
 ghost use Rattle.cx_names_scopes.specs.Numbered.{number_in};
 ghost use Rattle.cx_names_scopes.specs.Scopes.{kind_of, IsKind, tree_in, part_in};
@@ -68,6 +68,17 @@ impl CellKind<'_> {
             CellKind::Unknown => None,
             CellKind::Primitive { name, .. } => go_name(*name),
             CellKind::Component { .. } => Some("go"),
+        }
+    }
+
+    /// The latency of a static component that a cell of this is of, in cycles.
+    pub fn latency(&self) -> Option<u64>
+        ensures { result ≡ latency_of (kind_of self.now) }
+    {
+        match self {
+            CellKind::Unknown => None,
+            CellKind::Primitive { .. } => None,
+            CellKind::Component { part, .. } => part.length,
         }
     }
 

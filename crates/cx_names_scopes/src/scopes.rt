@@ -2,7 +2,7 @@
 
 ghost use Rattle.std.specs.Prelude.{◌≡◌, ◌<◌, Some, length, slice_get, is_some};
 ghost use Rattle.cx_ast.specs.PlainTree.{plain_cell, plain_component, plain_tree};
-ghost use Rattle.cx_numbering.specs.Names.{is_among, cell_among, group_among, group_names, groups_in, port_names, cell_of, component_among, or_component};
+ghost use Rattle.cx_numbering.specs.Names.{is_among, cell_among, group_among, group_names, groups_in, port_names, cell_of, component_among, found_latency, or_component};
 ghost use Rattle.cx_numbering.specs.NameRules.{is_own as is_own_of};
 ghost use Rattle.cx_names_scopes.specs.Indexed.{IsIndex};
 ghost use Rattle.cx_names_scopes.specs.Scopes.{IsScope, kind_of, IsKind, copied_cell, word_of, tree_in, part_in};
@@ -98,6 +98,17 @@ impl<'a> Scope<'a> {
                 numbers: &cell.numbers,
             },
             None => self.component_kind(&cell.kind),
+        }
+    }
+
+    /// The latency of the component of the cell of a name, in cycles. None where there is no such cell or its component is not static.
+    pub fn latency(&self, cell: &Name) -> Option<u64>
+        requires { IsScope self.now }
+        ensures { result ≡ found_latency (tree_in self.now) (cell_among cell.now (part_in self.now).cells) }
+    {
+        match self.cell(cell) {
+            None => None,
+            Some(found) => self.kind(found).latency(),
         }
     }
 

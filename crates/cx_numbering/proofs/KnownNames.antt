@@ -1,15 +1,11 @@
 -- Worked values of names and numbers, each from the sentence above it.
-use Rattle.std.specs.Prelude.{◌≡◌, ℕ, Bool, true, false, List, [], ◌∷◌, Option, Some, None, codes, map, refl}
+use Rattle.std.specs.Prelude.{◌≡◌, ℕ, List, [], ◌∷◌, Some, None, codes, map, refl}
 use Rattle.cx_text.specs.declared.places.Place.{Place}
-use Rattle.cx_text.specs.declared.diagnostics.Diagnostic.{Diagnostic}
-use Rattle.cx_text.specs.declared.rules.Rule.TheVariants.{UnknownName, NoMain, Duplicate, UnknownPrimitive, LeftOut}
-use Rattle.cx_ast.specs.declared.operands.OperandItem.{OperandItem}
-use Rattle.cx_ast.specs.declared.operands.OperandForm.{OperandForm}
+use Rattle.cx_text.specs.declared.rules.Rule.TheVariants.{UnknownName, NoMain, UnknownPrimitive, LeftOut}
 use Rattle.cx_ast.specs.declared.operands.OperandForm.TheVariants as operands
 use Rattle.cx_ast.specs.declared.statements.BindItem.{BindItem}
 use Rattle.cx_ast.specs.PlainTree as ast
 use Rattle.cx_ast.specs.PlainStatements as statements
-use Rattle.cx_meaning.specs.declared.ports.PortRef.{PortRef}
 use Rattle.cx_meaning.specs.declared.ports.PortRef.TheVariants.{Cell, Done, Literal}
 use Rattle.cx_meaning.specs.Designs.{PlainAssign, PlainGroup, PlainDesign, PlainComponent, component_at, PlainForm, form_of}
 use Rattle.cx_meaning.specs.Designs as plain

@@ -1,8 +1,7 @@
--- THE DESIGN OF A TREE: its parts by number, and one group for each invoke. Where a name names nothing, its number is 0; a
+-- THE DESIGN OF A TREE: its parts by number, and a group for each invoke that calls or captures. Where a name names nothing, its number is 0; a
 -- tree that keeps the rules on names has none such.
-use Rattle.std.specs.Prelude.{ℕ, zero, suc, ◌+◌, ◌^◌, ◌-◌, Bool, true, false, nat_lt, List, [], ◌∷◌, ◌++◌, Option, Some, None, codes, map, flat_map, length, unwrap_or, if◌then◌else◌}
+use Rattle.std.specs.Prelude.{ℕ, suc, ◌+◌, ◌^◌, ◌-◌, Bool, true, false, ◌||◌, is_some, nat_lt, List, [], ◌∷◌, ◌++◌, Option, Some, None, codes, map, flat_map, length, unwrap_or, if◌then◌else◌}
 use Rattle.cx_text.specs.declared.places.Place.{Place}
-use Rattle.cx_prim.specs.Table.{PrimitiveRow}
 use Rattle.cx_ast.specs.declared.operands.OperandItem.{OperandItem}
 use Rattle.cx_ast.specs.declared.operands.OperandForm.{OperandForm}
 use Rattle.cx_ast.specs.declared.operands.OperandForm.TheVariants as operands
@@ -22,19 +21,26 @@ use Rattle.cx_meaning.specs.declared.ports.Comparison.TheVariants as comparing
 use Rattle.cx_meaning.specs.declared.kinds.GroupKind.{GroupKind}
 use Rattle.cx_meaning.specs.declared.kinds.GroupKind.TheVariants as kinds
 use Rattle.cx_meaning.specs.declared.kinds.PortDecl.{PortDecl}
-use Rattle.cx_meaning.specs.Designs.{PlainGuard, Always, Atom, Negation, All, Any, Compared, Within, PlainGuards, no_guards, a_guard, guards_of, PlainAssign, PlainGroup, PlainKind, OfPrimitive, OfComponent, PlainCell, PlainForm, PlainStatement, Placed, PlainStatements, no_statements, a_statement, PlainComponent, PlainDesign}
+use Rattle.cx_meaning.specs.Designs.{PlainGuard, Always, Atom, Negation, All, Any, Compared, Within, PlainGuards, no_guards, a_guard, guards_of, PlainAssign, PlainInvoke, PlainGroup, PlainKind, OfPrimitive, OfComponent, PlainCell, PlainForm, PlainStatement, Placed, PlainStatements, no_statements, a_statement, PlainComponent, PlainDesign}
 use Rattle.cx_meaning.specs.Designs as plain
-use Rattle.cx_numbering.specs.Names.{number_of, signature_ports, port_names, component_names, cell_names, groups_in, always_in, group_names, component_among, cell_among, CellOf, Neither, APrimitive, AComponent, cell_of, found_cell_ports, cell_go, is_external}
+use Rattle.cx_numbering.specs.Names.{number_of, signature_ports, port_names, component_names, cell_names, groups_in, always_in, group_names, cell_among, CellOf, Neither, APrimitive, AComponent, cell_of, found_cell_ports, found_latency, cell_go, is_external}
 
 abbrev pub number_or_0 : List ℕ → List (List ℕ) → ℕ
 number_or_0 name names = unwrap_or (number_of name names) 0
 
--- an invoke: the cell, the binds, and the statement's place
+-- an invoke: the cell, whether the word static stands there and with what length, the binds, and the statement's place
 pub record Invoke : Type 0 where
   pub cell : List ℕ
+  pub written : Bool
+  pub length : Option ℕ
   pub inputs : List BindItem
   pub outputs : List BindItem
   pub place : Place
+
+-- the numbers of the group and of the static invoke that come next
+pub record Next : Type 0 where
+  pub group : ℕ
+  pub invoke : ℕ
 
 -- PORTS. A bare name is an input of the signature, or an output; a hole is a done
 abbrev pub own_port : Option ℕ → ℕ → PortRef
@@ -154,6 +160,52 @@ module _ (tree : ast.PlainTree) (part : ast.PlainComponent) where
     place = k.place;
   }
 
+  -- an invoke is static where the word static stands there, or where the cell's component is static
+  abbrev pub invoke_latency : Invoke → Option ℕ
+  invoke_latency k = found_latency tree (cell_among k.cell part.cells)
+
+  abbrev pub is_static_invoke : Invoke → Bool
+  is_static_invoke k = k.written || is_some (invoke_latency k)
+
+  -- what it captures: r.in = c.q; r.write_en = 1'd1
+  abbrev pub static_capture : Invoke → BindItem → List PlainAssign
+  static_capture k bind =
+      record { target = port_of bind.value.form; guard = Always; source = at bind.place (cell_port k.cell bind.name); place = k.place }
+      ∷ record { target = cell_port (register_of bind) (codes "write_en"); guard = Always; source = at k.place one; place = k.place } ∷ []
+
+  abbrev pub capture_group : Invoke → PlainGroup
+  capture_group k = record { name = []; kind = kinds.Timed 1; assigns = flat_map (static_capture k) k.outputs; place = k.place }
+
+  -- NUMBERS. A static invoke has one of its own; each other invoke has a group, and so has a static one that captures
+  abbrev pub capture_count : List BindItem → ℕ
+  capture_count [] = 0
+  capture_count (bind ∷ binds) = 1
+
+  abbrev pub after_static : Bool → Next → List BindItem → Next
+  after_static true n outputs = record { group = n.group + capture_count outputs; invoke = suc n.invoke }
+  after_static false n outputs = record { group = suc n.group; invoke = n.invoke }
+
+  abbrev pub after : Next → Invoke → Next
+  after n k = after_static (is_static_invoke k) n k.outputs
+
+  abbrev pub past : Next → List Invoke → Next
+  past n [] = n
+  past n (k ∷ ks) = past (after n k) ks
+
+  abbrev pub captures_number : ℕ → List BindItem → Option ℕ
+  captures_number g [] = None
+  captures_number g (bind ∷ binds) = Some g
+
+  abbrev pub plain_invoke_of : Next → Invoke → PlainInvoke
+  plain_invoke_of n k = record {
+    cell = number_or_0 k.cell (cell_names part);
+    written = k.written;
+    length = k.length;
+    latency = invoke_latency k;
+    inputs = map (input_assign k) k.inputs;
+    captures = captures_number n.group k.outputs;
+  }
+
 -- the invokes of control in source order
 abbrev mutual
   pub invokes_in : statements.PlainForm → Place → List Invoke
@@ -167,8 +219,10 @@ abbrev mutual
   invokes_in (statements.While test comb body) place = invokes_of body
   invokes_in (statements.Repeat count body) place = invokes_of body
   invokes_in (statements.StaticRepeat length count body) place = invokes_of body
-  invokes_in (statements.Invoke cell inputs outputs) place = record { cell = cell; inputs = inputs; outputs = outputs; place = place } ∷ []
-  invokes_in (statements.StaticInvoke length cell inputs outputs) place = []
+  invokes_in (statements.Invoke cell inputs outputs) place =
+      record { cell = cell; written = false; length = None; inputs = inputs; outputs = outputs; place = place } ∷ []
+  invokes_in (statements.StaticInvoke length cell inputs outputs) place =
+      record { cell = cell; written = true; length = length; inputs = inputs; outputs = outputs; place = place } ∷ []
 
   pub invokes_else : statements.PlainElse → List Invoke
   invokes_else statements.NoElse = []
@@ -181,7 +235,7 @@ abbrev mutual
   invokes_all statements.NoStatements = []
   invokes_all (statements.StatementThen (statements.Placed attributes form place) rest) = invokes_in form place ++ invokes_all rest
 
--- STATEMENTS. n is the number of the group of the first invoke that is still to come
+-- STATEMENTS. n has the numbers that come next
 module _ (tree : ast.PlainTree) (part : ast.PlainComponent) where
   abbrev pub group_number : List ℕ → ℕ
   group_number name = number_or_0 name (group_names part)
@@ -201,43 +255,69 @@ module _ (tree : ast.PlainTree) (part : ast.PlainComponent) where
   of_block static place (a_statement s no_statements) = s
   of_block static place (a_statement s (a_statement t rest)) = Placed (seq_form static (a_statement s (a_statement t rest))) place
 
+  abbrev pub invoke_form : Bool → Next → PlainForm
+  invoke_form true n = plain.Timed n.invoke
+  invoke_form false n = plain.Enable n.group
+
   abbrev mutual
-    pub form_of : ℕ → Place → statements.PlainForm → PlainForm
+    pub form_of : Next → Place → statements.PlainForm → PlainForm
     form_of n place (statements.Enable group marks) = plain.Enable (group_number group)
     form_of n place (statements.Seq marks block) = plain.Seq (parts_of n block)
     form_of n place (statements.Par marks block) = plain.Par (parts_of n block)
     form_of n place (statements.StaticSeq length marks block) = plain.StaticSeq length (parts_of n block)
     form_of n place (statements.StaticPar length marks block) = plain.StaticPar length (parts_of n block)
     form_of n place (statements.If test comb block otherwise) =
-        plain.If (placed_of tree part test) (comb_number comb) (block_of false n block) (else_of false (n + length (invokes_of block)) place otherwise)
+        plain.If (placed_of tree part test) (comb_number comb) (block_of false n block) (else_of false (past tree part n (invokes_of block)) place otherwise)
     form_of n place (statements.StaticIf written test block otherwise) =
-        plain.StaticIf written (placed_of tree part test) (block_of true n block) (else_of true (n + length (invokes_of block)) place otherwise)
+        plain.StaticIf written (placed_of tree part test) (block_of true n block) (else_of true (past tree part n (invokes_of block)) place otherwise)
     form_of n place (statements.While test comb body) = plain.While (placed_of tree part test) (comb_number comb) (block_of false n body)
     form_of n place (statements.Repeat count body) = plain.Repeat count (block_of false n body)
     form_of n place (statements.StaticRepeat length count body) = plain.StaticRepeat length count (block_of true n body)
-    form_of n place (statements.Invoke cell inputs outputs) = plain.Enable n
-    form_of n place (statements.StaticInvoke length cell inputs outputs) = plain.Empty
+    form_of n place (statements.Invoke cell inputs outputs) =
+        invoke_form (is_static_invoke tree part (record { cell = cell; written = false; length = None; inputs = inputs; outputs = outputs; place = place })) n
+    form_of n place (statements.StaticInvoke length cell inputs outputs) = plain.Timed n.invoke
 
     -- an absent block is the empty statement, with the place of the statement that lacks it
-    pub else_of : Bool → ℕ → Place → statements.PlainElse → PlainStatement
+    pub else_of : Bool → Next → Place → statements.PlainElse → PlainStatement
     else_of static n place statements.NoElse = Placed plain.Empty place
     else_of static n place (statements.Else block) = block_of static n block
 
-    pub block_of : Bool → ℕ → statements.PlainBlock → PlainStatement
+    pub block_of : Bool → Next → statements.PlainBlock → PlainStatement
     block_of static n (statements.Braces list place) = of_block static place (all_of n list)
 
-    pub parts_of : ℕ → statements.PlainBlock → PlainStatements
+    pub parts_of : Next → statements.PlainBlock → PlainStatements
     parts_of n (statements.Braces list place) = all_of n list
 
-    pub all_of : ℕ → statements.PlainStatements → PlainStatements
+    pub all_of : Next → statements.PlainStatements → PlainStatements
     all_of n statements.NoStatements = no_statements
     all_of n (statements.StatementThen (statements.Placed attributes form place) rest) =
-        a_statement (Placed (form_of n place form) place) (all_of (n + length (invokes_in form place)) rest)
+        a_statement (Placed (form_of n place form) place) (all_of (past tree part n (invokes_in form place)) rest)
 
   -- the groups of the invokes, numbered after the others
-  abbrev pub invoke_groups : ℕ → List Invoke → List PlainGroup
+  abbrev pub captures_for : Invoke → List BindItem → List PlainGroup
+  captures_for k [] = []
+  captures_for k (bind ∷ binds) = capture_group tree part k ∷ []
+
+  abbrev pub groups_for : Bool → Next → Invoke → List PlainGroup
+  groups_for true n k = captures_for k k.outputs
+  groups_for false n k = invoke_group tree part n.group k ∷ []
+
+  abbrev pub invoke_groups : Next → List Invoke → List PlainGroup
   invoke_groups n [] = []
-  invoke_groups n (k ∷ ks) = invoke_group tree part n k ∷ invoke_groups (suc n) ks
+  invoke_groups n (k ∷ ks) = groups_for (is_static_invoke tree part k) n k ++ invoke_groups (after tree part n k) ks
+
+  -- the static invokes by their numbers
+  abbrev pub static_for : Bool → Next → Invoke → List PlainInvoke
+  static_for true n k = plain_invoke_of tree part n k ∷ []
+  static_for false n k = []
+
+  abbrev pub static_invokes : Next → List Invoke → List PlainInvoke
+  static_invokes n [] = []
+  static_invokes n (k ∷ ks) = static_for (is_static_invoke tree part k) n k ++ static_invokes (after tree part n k) ks
+
+  -- the first numbers: the groups that are written come before those of invokes
+  abbrev pub first : Next
+  first = record { group = length (group_names part); invoke = 0 }
 
   abbrev pub control_invokes : Option statements.PlainBlock → List Invoke
   control_invokes None = []
@@ -245,7 +325,7 @@ module _ (tree : ast.PlainTree) (part : ast.PlainComponent) where
 
   abbrev pub control_of : Option statements.PlainBlock → PlainStatement
   control_of None = Placed plain.Empty part.place
-  control_of (Some block) = block_of false (length (group_names part)) block
+  control_of (Some block) = block_of false first block
 
   -- CELLS
   abbrev pub kind_or : CellOf → PlainKind
@@ -262,12 +342,12 @@ module _ (tree : ast.PlainTree) (part : ast.PlainComponent) where
   abbrev pub component_of : PlainComponent
   component_of = record {
     name = part.name;
-    latency = None;
+    latency = part.length;
     inputs = map decl_of (signature_ports part.inputs);
     outputs = map decl_of (signature_ports part.outputs);
     cells = map plain_cell_of part.cells;
-    groups = map (group_of tree part) (groups_in part.wires) ++ invoke_groups (length (group_names part)) (control_invokes part.control);
-    invokes = [];
+    groups = map (group_of tree part) (groups_in part.wires) ++ invoke_groups first (control_invokes part.control);
+    invokes = static_invokes first (control_invokes part.control);
     always = map (assign_of tree part) (always_in part.wires);
     control = control_of part.control;
     place = part.place;

@@ -9,7 +9,7 @@ use Rattle.cx_prim.specs.declared.names.PrimitiveName.TheVariants as primitives
 use Rattle.cx_prim.specs.declared.ports.PortRow.{PortRow}
 use Rattle.cx_prim.specs.PortNames.{text_of}
 use Rattle.cx_prim.specs.Rows.{is_output_side}
-use Rattle.cx_prim.specs.Table.{PrimitiveRow, row_at, row_of}
+use Rattle.cx_prim.specs.Table.{row_at, row_of}
 use Rattle.cx_ast.specs.declared.components.Attribute.{Attribute}
 use Rattle.cx_ast.specs.declared.operands.OperandItem.{OperandItem}
 use Rattle.cx_ast.specs.declared.operands.OperandForm.{OperandForm}
@@ -23,7 +23,7 @@ use Rattle.cx_ast.specs.PlainGuards as guards
 use Rattle.cx_ast.specs.PlainStatements as statements
 use Rattle.cx_rules.specs.Accepted.{number_of, comes_before}
 use Rattle.cx_rules.specs.Wellformed.{is_memory, first_number}
-use Rattle.cx_numbering.specs.Names.{same_name, is_among, primitive_of, own_names, is_own_name, port_names, component_names, cell_names, groups_in, always_in, group_names, component_among, cell_among, group_among, CellOf, Neither, APrimitive, AComponent, cell_of, found_cell_ports, cell_go, is_external}
+use Rattle.cx_numbering.specs.Names.{same_name, is_among, primitive_of, is_own_name, port_names, component_names, groups_in, always_in, group_names, cell_among, group_among, CellOf, Neither, APrimitive, AComponent, cell_of, found_cell_ports, found_latency, cell_go, is_external}
 
 abbrev pub tell : Rule → Place → List ℕ → Diagnostic
 tell rule place name = record { rule = rule; place = place; name = name }
@@ -150,6 +150,10 @@ module _ (tree : ast.PlainTree) (part : ast.PlainComponent) where
   abbrev pub is_clock : List ℕ → List ℕ → Bool
   is_clock cell port = found_component (cell_among cell part.cells) && (same_name port (codes "clk") || same_name port (codes "reset"))
 
+  -- go and done of a cell of a static component are there, and left out
+  abbrev pub is_static_end : List ℕ → List ℕ → Bool
+  is_static_end cell port = is_some (found_latency tree (cell_among cell part.cells)) && (same_name port (codes "go") || same_name port (codes "done"))
+
   abbrev pub is_own : List ℕ → Bool
   is_own name = is_among name (port_names part.inputs) || is_among name (port_names part.outputs)
 
@@ -166,7 +170,7 @@ module _ (tree : ast.PlainTree) (part : ast.PlainComponent) where
   -- RULE left-out, of what any target or operand may not be
   abbrev pub is_left_out : OperandForm → Bool
   is_left_out (operands.Own name) = is_own_name name
-  is_left_out (operands.Port cell port) = is_clock cell port
+  is_left_out (operands.Port cell port) = is_clock cell port || is_static_end cell port
   is_left_out (operands.Hole group hole) = false
   is_left_out (operands.Literal width value) = false
 
@@ -270,11 +274,11 @@ module _ (tree : ast.PlainTree) (part : ast.PlainComponent) where
       ++ tell_if (is_among bind.name (output_names of) || is_go_name (cell_go of) bind.name || is_clock cell bind.name) LeftOut bind.place bind.name
       ++ source_breaks bind.value
 
-  -- an output is an output of the cell, and is bound to `in` of a std_reg
+  -- an output is an output of the cell, and no done of a static one; it is bound to `in` of a std_reg
   abbrev pub output_breaks : List ℕ → CellOf → BindItem → List Diagnostic
   output_breaks cell of bind =
       tell_if (not (is_among bind.name (cell_ports cell) || is_clock cell bind.name)) UnknownName bind.place bind.name
-      ++ tell_if (not (is_among bind.name (output_names of))) LeftOut bind.place bind.name
+      ++ tell_if (not (is_among bind.name (output_names of)) || is_static_end cell bind.name) LeftOut bind.place bind.name
       ++ unknown bind.value
       ++ tell_if (not (is_register_in bind.value.form)) LeftOut bind.value.place (path_of bind.value.form)
 
@@ -298,7 +302,8 @@ module _ (tree : ast.PlainTree) (part : ast.PlainComponent) where
   form_breaks (statements.StaticRepeat length count body) place = []
   form_breaks (statements.Invoke cell inputs outputs) place =
       duplicates [] (bind_names inputs) ++ duplicates [] (bind_names outputs) ++ invoke_on cell inputs outputs place (cell_among cell part.cells)
-  form_breaks (statements.StaticInvoke length cell inputs outputs) place = []
+  form_breaks (statements.StaticInvoke length cell inputs outputs) place =
+      duplicates [] (bind_names inputs) ++ duplicates [] (bind_names outputs) ++ invoke_on cell inputs outputs place (cell_among cell part.cells)
 
   -- CELLS. RULE unknown-primitive, and RULE bad-parameters: numbers that break the row, or numbers of a component's cell
   abbrev pub kind_breaks : ast.PlainCell → CellOf → List Diagnostic
@@ -366,9 +371,13 @@ recursive_breaks tree part cell = of_cell (cell_of tree cell)
 abbrev pub cell_breaks : ast.PlainTree → ast.PlainComponent → ast.PlainCell → List Diagnostic
 cell_breaks tree part cell = kind_breaks tree part cell (cell_of tree cell) ++ external_breaks tree part cell ++ recursive_breaks tree part cell
 
+-- a static main
+abbrev pub main_static : ast.PlainTree → ast.PlainComponent → List Diagnostic
+main_static tree part = tell_if (is_main tree part && is_some part.length) LeftOut part.place part.name
+
 abbrev pub component_breaks : ast.PlainTree → ast.PlainComponent → List Diagnostic
 component_breaks tree part =
-    primitive_named part ++ component_duplicates part
+    primitive_named part ++ main_static tree part ++ component_duplicates part
     ++ flat_map (port_breaks tree part true) part.inputs ++ flat_map (port_breaks tree part false) part.outputs
     ++ flat_map (cell_breaks tree part) part.cells
     ++ flat_map (assign_breaks tree part) (standing part)

@@ -1,9 +1,7 @@
 -- Names of a tree's parts, and the numbers that they stand for: the place among the names of their kind, the first of equal ones.
-use Rattle.std.specs.Prelude.{ℕ, zero, suc, Bool, true, false, ◌&&◌, ◌||◌, not, nat_eq, List, [], ◌∷◌, ◌++◌, Option, Some, None, codes, map, length, is_some, if◌then◌else◌}
+use Rattle.std.specs.Prelude.{ℕ, suc, Bool, true, false, ◌&&◌, ◌||◌, not, nat_eq, List, [], ◌∷◌, ◌++◌, Option, Some, None, codes, map, is_some, if◌then◌else◌}
 use Rattle.cx_prim.specs.declared.names.PrimitiveName.{PrimitiveName}
 use Rattle.cx_prim.specs.declared.names.PrimitiveName.TheVariants as primitives
-use Rattle.cx_prim.specs.declared.ports.PortRow.{PortRow}
-use Rattle.cx_prim.specs.declared.ports.PortName.{PortName}
 use Rattle.cx_prim.specs.PrimitiveNames.{name_text}
 use Rattle.cx_prim.specs.PortNames.{text_of}
 use Rattle.cx_prim.specs.Table.{PrimitiveRow, row_of}
@@ -126,6 +124,16 @@ cell_port_names (AComponent part) = codes "go" ∷ (port_names part.inputs ++ (p
 abbrev pub found_cell_ports : ast.PlainTree → Option ast.PlainCell → List (List ℕ)
 found_cell_ports tree None = []
 found_cell_ports tree (Some cell) = cell_port_names (cell_of tree cell)
+
+-- the latency of a cell's component, which a static component has
+abbrev pub latency_of : CellOf → Option ℕ
+latency_of Neither = None
+latency_of (APrimitive primitive) = None
+latency_of (AComponent part) = part.length
+
+abbrev pub found_latency : ast.PlainTree → Option ast.PlainCell → Option ℕ
+found_latency tree None = None
+found_latency tree (Some cell) = latency_of (cell_of tree cell)
 
 -- the go port of a cell, which an invoke drives
 abbrev pub go_name : PrimitiveName → Option (List ℕ)

@@ -28,6 +28,7 @@ use Rattle.cx_meaning.proofs.SightsLaws.{of_joined, in_left, in_right}
 use Rattle.cx_rules.proofs.ItemsLemmas.{tests_flat}
 use Rattle.cx_text.proofs.NumberLaws.{suc_zero, zero_suc}
 use Rattle.cx_rules.proofs.CirclesLemmas.{cells_below}
+use Rattle.cx_rules.proofs.InvokesLemmas.{drives_more, reads_more}
 
 -- an instance of an accepted design
 pub record IsSound (i : Instance) : Type 0 where
@@ -185,9 +186,9 @@ driving part (s ∷ ss) c e = go (drives part s c) refl e (driving part ss c)
 pub apart_first : (part : PlainComponent) (s : PlainStatement) (ss : List PlainStatement) → ((c : ℕ) → IsShared part (s ∷ ss) c → ⊥) → Apart part s ss
 apart_first part s ss none = record {
   one = λ c e r. let found = reading part ss c r in
-      none c (record { one = 0; other = suc found.0; differ = zero_suc found.0; first = s; second = found.1; first_stands = refl; second_stands = found.2 }, e, found.3);
+      none c (record { one = 0; other = suc found.0; differ = zero_suc found.0; first = s; second = found.1; first_stands = refl; second_stands = found.2 }, drives_more part s c e, reads_more part found.1 c found.3);
   other = λ c e r. let found = driving part ss c e in
-      none c (record { one = suc found.0; other = 0; differ = suc_zero found.0; first = found.1; second = s; first_stands = found.2; second_stands = refl }, found.3, r);
+      none c (record { one = suc found.0; other = 0; differ = suc_zero found.0; first = found.1; second = s; first_stands = found.2; second_stands = refl }, drives_more part found.1 c found.3, reads_more part s c r);
 }
 
 pub apart_rest : (part : PlainComponent) (s : PlainStatement) (ss : List PlainStatement) → ((c : ℕ) → IsShared part (s ∷ ss) c → ⊥) → (c : ℕ) → IsShared part ss c → ⊥

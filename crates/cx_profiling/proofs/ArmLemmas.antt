@@ -22,6 +22,7 @@ use Rattle.cx_rules.specs.Ports.{component_of}
 use Rattle.cx_rules.specs.RaceRule.{Arms, arms_of}
 use Rattle.cx_rules.specs.Accepted.{IsAccepted}
 use Rattle.cx_rules.specs.Wellformed.{IsDesign, IsForm, IsAssign, IsThere}
+use Rattle.cx_rules.proofs.InvokesLemmas.{drives_more, reads_more}
 use Rattle.cx_laws.proofs.RaceLemmas.{unshared, not_twice}
 use Rattle.cx_laws.proofs.VisitLemmas.{visited}
 use Rattle.cx_frames.proofs.ArmLemmas.{groups_joined}
@@ -175,7 +176,7 @@ module _ (d : PlainDesign) (design : IsDesign d) (accepted : IsAccepted d) (m k 
         by false h = refl
         by true h =
             let r = driving_arm part later c h in
-            absurd (unshared d accepted k at.within v stands c (two r.0 r.1 r.2, e, footprints.driven r.3))
+            absurd (unshared d accepted k at.within v stands c (two r.0 r.1 r.2, drives_more part arm c e, reads_more part r.1 c (footprints.driven r.3)))
 
     -- and none enables a group that the arm enables
     pub not_later : (g : ℕ) → is_comb (group_at part g).kind ≡ false → In (groups_of arm) g → In (groups_in_all later) g → ⊥

@@ -19,7 +19,6 @@ use Rattle.cx_meaning.specs.Sights.{In, PartPort, AnInput, part_port}
 use Rattle.cx_meaning.proofs.DesignsLemmas.{same_part}
 use Rattle.cx_meaning.proofs.InstancesLemmas.{instance_is, row_instance}
 use Rattle.cx_meaning.proofs.SightsLaws.{image_in}
-use Rattle.cx_rules.specs.Accepted.{IsAccepted}
 use Rattle.cx_rules.specs.Footprints.{Depends}
 use Rattle.cx_rules.specs.Items.{is_plain}
 use Rattle.cx_rules.specs.Ports.{component_of, is_primitive_enable, is_instance, is_part_port, path_of}
@@ -28,6 +27,8 @@ use Rattle.cx_rules.specs.CallShape.{is_port_of, Calls, go_port, done_port, writ
 use Rattle.cx_rules.specs.Wellformed.{IsDesign}
 use Rattle.cx_rules.proofs.FoundLemmas.{same_is}
 use Rattle.cx_rewrites.specs.Moving.{moved_assign}
+use Rattle.cx_rules.proofs.CountsLemmas.{latency_within}
+use Rattle.cx_rewrites.specs.FlatRules.{IsAccepted}
 use Rattle.cx_profiling.specs.Counters.{has_name, is_counted_kind, is_counted, counters, shown_in, first_gained}
 use Rattle.cx_profiling.specs.Instrumented.{gained, moved_number, moved_in, moved_assigns, address_width, with_counts}
 use Rattle.cx_profiling.proofs.CellPorts.{IsGiven, given_output, given_done, part_given}
@@ -208,6 +209,7 @@ module _ (d : PlainDesign) (design : IsDesign d) (accepted : IsAccepted d) (m k 
   old_calls g c kid b = record {
     child = tree_within d m b.component;
     is_component = b.first;
+    dynamic = latency_within d accepted.flat m b.component;
     driven = some_there (is_port_of c) (assigns_of i g) b.assign b.inside (ap (is_port_of c) b.target ∙ eq-eqb c c refl);
   }
 

@@ -9,6 +9,8 @@ pub mod FitLemmas
 pub mod CellLemmas
 pub mod NewAssigns
 pub mod ComponentLemmas
+pub mod RoleLemmas
+pub mod FlatKept
 pub mod DesignLemmas
 pub mod SortLemmas
 pub mod WidthsKept
@@ -23,7 +25,6 @@ pub mod WalkLemmas
 pub mod GrownLemmas
 pub mod ReadLemmas
 pub mod RestLemmas
-pub mod RoleLemmas
 pub mod CellPorts
 pub mod CounterDrives
 pub mod InsideLemmas

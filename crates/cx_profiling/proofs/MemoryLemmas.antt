@@ -11,10 +11,12 @@ use Rattle.cx_prim.specs.Table.{row_of, no_row}
 use Rattle.cx_prim.specs.MemoryRows.{memory_row}
 use Rattle.cx_meaning.specs.declared.ports.PortRef.TheVariants as ports
 use Rattle.cx_meaning.specs.Designs.{PlainComponent, PlainDesign, component_at}
-use Rattle.cx_meaning.specs.Instances.{OfRow, cell_at, cells_of, tree_within}
+use Rattle.cx_meaning.specs.Instances.{Instance, Node, OfRow, cell_at, cells_of, part_of, tree_within}
 use Rattle.cx_meaning.specs.Sights.{Look, bit_of, of_option}
 use Rattle.cx_meaning.specs.Cycles.{Next, cell_outcome}
+use Rattle.cx_meaning.proofs.DesignsLemmas.{same_part}
 use Rattle.cx_rules.specs.Ports.{component_of}
+use Rattle.cx_rules.specs.Counts as counts
 use Rattle.cx_rules.specs.Spots.{Itself}
 use Rattle.cx_rules.specs.Accepted.{KeepsStage}
 use Rattle.cx_profiling.specs.Counters.{counters, shown_in}
@@ -40,6 +42,10 @@ memory_stores look c k a j v words done less write address input =
     let word : j * 1 + 0 ≡ j = omega arith in
     rw (write, address, input, write, lt-ltb j k less, word) refl
 
+-- the groups of a component are among those that the limits count
+own_groups : (i : Instance) → length (part_of i).groups ≤ counts.counted_groups i
+own_groups (Node part cells) = omega arith
+
 module _ (d : PlainDesign) (k : ℕ) (within : k < length d.components) (names : List (List ℕ)) (is : component_at (with_counts d) k ≡ main_component d k names) (limits : KeepsStage 7 (with_counts d)) where
   abbrev part : PlainComponent
   part = component_at d k
@@ -56,8 +62,15 @@ module _ (d : PlainDesign) (k : ℕ) (within : k < length d.components) (names :
       ⊎_elim
       (λ (past : 4096 < length (component_at (with_counts d) k).groups).
       absurd (limits Limit (record { component = k; part = Itself 1 }) (component_at (with_counts d) k).place (codes "groups") refl
-      (inr (inl (record { within = subst (λ n. k < n) (sym (components-length d)) within; is = refl; exceeds = past; tells = (refl, refl) })))))
+      (inr (inl (record { within = subst (λ n. k < n) (sym (components-length d)) within; is = refl; exceeds = counted past; tells = (refl, refl) })))))
       (λ few. few) (cases_lt 4096 (length (component_at (with_counts d) k).groups))
+    where
+      counted : 4096 < length (component_at (with_counts d) k).groups → 4096 < counts.counted_groups (component_of (with_counts d) k)
+      counted past =
+          let own : length (part_of (component_of (with_counts d) k)).groups ≤ counts.counted_groups (component_of (with_counts d) k) = own_groups (component_of (with_counts d) k) in
+          let same : length (part_of (component_of (with_counts d) k)).groups ≡ length (component_at (with_counts d) k).groups =
+          ap (λ (x : PlainComponent). length x.groups) (same_part (with_counts d) (length (with_counts d).components) k) in
+          omega (arith, past, own, same)
 
   pub few_words : size ≤ 4096
   few_words =

@@ -15,15 +15,16 @@ use Rattle.cx_meaning.proofs.ControlLaws.{groups_drive_in}
 use Rattle.cx_meaning.proofs.DesignsLemmas.{same_part}
 use Rattle.cx_meaning.proofs.InstancesLemmas.{just_true}
 use Rattle.cx_meaning.proofs.SightsLaws.{image_in, in_image, in_either}
-use Rattle.cx_rules.specs.Accepted.{IsAccepted}
 use Rattle.cx_rules.specs.Footprints.{AssignNames, Reads, driven, named, tested, through}
 use Rattle.cx_rules.specs.Items.{Context, Dynamic, InStatic, below_dynamic, Visited, visit, visit_parts, visit_all, statements_in, test_in, tests_of, option_list}
 use Rattle.cx_rules.specs.Ports.{component_of}
-use Rattle.cx_rules.specs.RaceRule.{Arms, arms_of, enabled_in, IsShared, IsEnabledTwice, BreaksRace}
+use Rattle.cx_rules.specs.RaceRule.{Arms, arms_of, enabled_in, IsEnabledTwice}
 use Rattle.cx_rules.specs.Wellformed.{IsDesign, IsForm}
 use Rattle.cx_rules.proofs.ForeignLemmas.{assigns_drive_in}
+use Rattle.cx_rules.proofs.InvokesLemmas.{drives_more, reads_more}
 use Rattle.cx_laws.proofs.RaceLemmas.{unshared, not_twice}
 use Rattle.cx_laws.proofs.VisitLemmas.{visited}
+use Rattle.cx_rewrites.specs.FlatRules.{IsShared, BreaksRace, IsAccepted}
 use Rattle.cx_rewrites.specs.Moving.{moved_port, moved_form, moved_statement}
 use Rattle.cx_rewrites.proofs.ReflectLemmas.{names_back}
 use Rattle.cx_rewrites.proofs.MovedLists.{groups_of-moved, tests_of-moved, arms_of-moved, enabled_in-moved}
@@ -265,7 +266,7 @@ module _ (d : PlainDesign) (design : IsDesign d) (accepted : IsAccepted d) (m k 
     arm_ours n s at = let r = arm_visits w n s at in (r.0, λ u i. visited Dynamic part.control w u stands (inr (r.1 u i)))
 
     twice_never : (two : Arms (arms_of w.form)) (g : ℕ) → In (enabled_in two.first) g → In (enabled_in two.second) g → ⊥
-    twice_never two g a b = not_twice d accepted k within w stands g (two, a, b)
+    twice_never two g a b = not_twice d accepted.accepted k within w stands g (two, a, b)
 
     counters_never : (two : Arms (arms_of w.form)) (c : ℕ) → CounterOf two.first c → CounterOf two.second c → ⊥
     counters_never two c x y =
@@ -289,7 +290,8 @@ module _ (d : PlainDesign) (design : IsDesign d) (accepted : IsAccepted d) (m k 
             b = arm_ours arms.old.other arms.old.second arms.old.second_stands
 
             both : ((c < length part.cells) × (drives part arms.old.first c ≡ true)) ⊎ CounterOf arms.old.first c → ((c < length part.cells) × Reads part arms.old.second c) ⊎ CounterOf arms.old.second c → ⊥
-            both (inl (few, d1)) (inl (less, r1)) = unshared d accepted k within w stands c (arms.old, d1, r1)
+            both (inl (few, d1)) (inl (less, r1)) =
+                unshared d accepted.accepted k within w stands c (arms.old, drives_more part arms.old.first c d1, reads_more part arms.old.second c r1)
             both (inl (few, d1)) (inr y) = let past : length part.cells ≤ c = counter_past arms.old.second c y in omega (arith, few, past)
             both (inr x) (inl (less, r1)) = let past : length part.cells ≤ c = counter_past arms.old.first c x in omega (arith, less, past)
             both (inr x) (inr y) = counters_never arms.old c x y

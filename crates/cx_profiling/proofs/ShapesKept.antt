@@ -17,15 +17,15 @@ use Rattle.cx_meaning.specs.Active.{nothing, Owned, source_order}
 use Rattle.cx_meaning.specs.Sights.{In}
 use Rattle.cx_meaning.specs.Islands.{kind_length, group_length, form_length}
 use Rattle.cx_meaning.proofs.SightsLaws.{in_at, number_in}
-use Rattle.cx_rules.specs.Accepted.{IsAccepted}
 use Rattle.cx_rules.specs.Footprints.{AssignNames, Rests, registered_rests, Depends, at_once, by_way_of}
 use Rattle.cx_rules.specs.Items.{Visited, statements_in, ranges_of, is_plain, is_comb}
 use Rattle.cx_rules.specs.Ports.{component_of, is_primitive_enable, is_part_port, path_of}
-use Rattle.cx_rules.specs.ShapeRules.{is_hole, is_hole_of, some_target, BreaksNoDone, BreaksDoneNotState, BreaksAlwaysEnable, BreaksCombEnable, owner_length, is_bad_range, BreaksStaticGuard, GroupBreaksStaticShape, enabled_name, BreaksStaticControl, BreaksLength, BreaksStaticTest, LeadsToInput, BreaksOutputNotState}
+use Rattle.cx_rules.specs.ShapeRules.{is_hole, is_hole_of, some_target, BreaksNoDone, BreaksDoneNotState, BreaksAlwaysEnable, BreaksCombEnable, owner_length, is_bad_range, BreaksStaticGuard, GroupBreaksStaticShape, enabled_name, BreaksStaticControl, BreaksStaticTest, LeadsToInput, BreaksOutputNotState}
 use Rattle.cx_rules.specs.Spots.{AnAssign, AStatement, AGroup, Spot, AssignRule, StatementRule, GroupRule, OnAssign, OnStatement, OnGroup}
-use Rattle.cx_rules.specs.StaticControl.{is_in_static, is_static, written_length}
+use Rattle.cx_rules.specs.StaticControl.{is_in_static, is_static, is_written, is_timed, written_length}
 use Rattle.cx_rules.specs.Wellformed.{IsDesign}
 use Rattle.cx_rules.proofs.ForeignLemmas.{sorted_among}
+use Rattle.cx_rewrites.specs.FlatRules.{BreaksLength, IsAccepted}
 use Rattle.cx_rewrites.specs.Driving.{assigns_of}
 use Rattle.cx_rewrites.specs.Moving.{moved_port, moved_owned, moved_form}
 use Rattle.cx_rewrites.proofs.IslandLemmas.{form_length-moved}
@@ -38,6 +38,7 @@ use Rattle.cx_profiling.proofs.ArmLemmas.{counted_kind}
 use Rattle.cx_profiling.proofs.CellLemmas.{memory_row_of}
 use Rattle.cx_profiling.proofs.CircleLemmas.{Ends, depends_back}
 use Rattle.cx_profiling.proofs.DepthLemmas.{deep}
+use Rattle.cx_profiling.proofs.FlatKept.{with_counts_flat}
 use Rattle.cx_profiling.proofs.GainedLemmas.{components-length}
 use Rattle.cx_profiling.proofs.GrownTrees.{InTree}
 use Rattle.cx_profiling.proofs.InsideLemmas.{targets_inside, names_inside}
@@ -369,10 +370,17 @@ module _ (d : PlainDesign) (design : IsDesign d) (accepted : IsAccepted d) (m k 
       by (old_statement w stands is) = old w stands place name (subst (λ x. rule j x place name) (sym is) breaks)
       by (new_statement n) = new v place name n breaks
 
+  -- where the word static stands at static invokes: there are none
+  words_kept : (n : ℕ) → (is_written (slice_get other.invokes n) ≡ is_written (slice_get part.invokes n)) × (is_timed (slice_get other.invokes n) ≡ is_timed (slice_get part.invokes n))
+  words_kept n = (ap (λ vs. is_written (slice_get vs n)) same, ap (λ vs. is_timed (slice_get vs n)) same)
+    where
+      same : other.invokes ≡ part.invokes
+      same = (with_counts_flat d accepted.flat k (subst (λ n. k < n) (sym (components-length d)) within)).no_invoke ∙ sym (accepted.flat k within).no_invoke
+
   control_old : (w : Visited) → In (statements_in part) w → (place : Place) (name : List ℕ) → BreaksStaticControl j (moved_visited mv w) place name → ⊥
   control_old w stands place name (static, bad, told) =
       old_visited BreaksStaticControl (λ s p n on. accepted.shapes rules.StaticShape s p n refl (inr (inl on))) w stands w.place (enabled_name part w.form)
-      (static, sym (may_stand-moved mv part other (length_kept d design k within) w.context w.form) ∙ bad, (refl, refl))
+      (static, sym (may_stand-moved mv part other (length_kept d design k within) words_kept w.context w.form) ∙ bad, (refl, refl))
 
   pub control_never : (v : Visited) → In (statements_in other) v → (place : Place) (name : List ℕ) → BreaksStaticControl j v place name → ⊥
   control_never = no_visited BreaksStaticControl (λ v place name n breaks. both_ways (is_in_static v.context) n.dynamic breaks.0) control_old
@@ -383,7 +391,7 @@ module _ (d : PlainDesign) (design : IsDesign d) (accepted : IsAccepted d) (m k 
   length_old : (w : Visited) → In (statements_in part) w → (place : Place) (name : List ℕ) → BreaksLength j (moved_visited mv w) place name → ⊥
   length_old w stands place name (static, has, bad, told) =
       old_visited BreaksLength (λ s p n on. accepted.shapes rules.StaticShape s p n refl (inr (inr (inl on)))) w stands w.place []
-      (sym (is_static-moved mv w.form) ∙ static, sym (form_has_length-moved mv part other (length_kept d design k within) w.context w.form) ∙ has, one bad, (refl, refl))
+      (sym (is_static-moved mv w.form) ∙ static, sym (form_has_length-moved mv part other (length_kept d design k within) words_kept w.context w.form) ∙ has, one bad, (refl, refl))
     where
       one : ((n : ℕ) × (written_length (moved_form mv w.form) ≡ Some n) × (n ≢ form_length other (moved_form mv w.form))) ⊎ (form_length other (moved_form mv w.form) ≡ 0)
           → ((n : ℕ) × (written_length w.form ≡ Some n) × (n ≢ form_length part w.form)) ⊎ (form_length part w.form ≡ 0)

@@ -16,7 +16,6 @@ use Rattle.cx_meaning.specs.Instances.{Instance}
 use Rattle.cx_meaning.specs.Active.{Owned, source_order}
 use Rattle.cx_meaning.specs.Sights.{In}
 use Rattle.cx_meaning.proofs.SightsLaws.{in_at, number_in}
-use Rattle.cx_rules.specs.Accepted.{IsAccepted, KeepsStage}
 use Rattle.cx_rules.specs.Items.{Visited, atoms_of, sources_of, statements_in, test_in}
 use Rattle.cx_rules.specs.Ports.{component_of, keeps_literal, width_of, path_of, is_source_only, is_target_only}
 use Rattle.cx_rules.specs.Spots.{AStatement, Spot, AssignRule, StatementRule, OnAssign, OnStatement}
@@ -25,6 +24,7 @@ use Rattle.cx_rules.specs.Wellformed.{IsDesign, StandsIn}
 use Rattle.cx_rules.proofs.ForeignLemmas.{sorted_among}
 use Rattle.cx_rewrites.specs.Driving.{assigns_of}
 use Rattle.cx_rewrites.specs.Moving.{moved_port}
+use Rattle.cx_rewrites.specs.FlatRules.{KeepsStage, IsAccepted}
 use Rattle.cx_profiling.specs.Counters.{counters, Shown, shown_in, entry_count}
 use Rattle.cx_profiling.specs.Instrumented.{drive, counter_assigns, store_assigns, address_width, moved_in, with_counts, instrumented}
 use Rattle.cx_profiling.proofs.MovedParts.{test_in-moved}
@@ -250,7 +250,7 @@ module _ (d : PlainDesign) (rules : IsDesign d) (accepted : IsAccepted d) (count
   keeps_widths words.Race spot place name e b = apart 6 e (λ z. omega arith)
   keeps_widths words.Limit spot place name e b = apart 7 e (λ z. omega arith)
 
--- of any design, where 32 bits count its entries
+-- of any design without static components, where 32 bits count its entries
 pub instrumented_keeps_widths : (d : PlainDesign) → IsDesign d → IsAccepted d → entry_count d < 2 ^ 32 → KeepsStage 3 (instrumented d)
 instrumented_keeps_widths d rules accepted small = by (nat_eq (entry_count d) 0) refl
   where

@@ -11,12 +11,12 @@ use Rattle.cx_meaning.specs.Instances.{Instance}
 use Rattle.cx_meaning.specs.Active.{Owned, source_order}
 use Rattle.cx_meaning.specs.Sights.{In}
 use Rattle.cx_meaning.proofs.SightsLaws.{number_in, image_in}
-use Rattle.cx_rules.specs.Accepted.{IsAccepted}
 use Rattle.cx_rules.specs.Items.{Pair, atoms_of, sources_of}
 use Rattle.cx_rules.specs.Ports.{component_of, width_of, path_of, is_source_only, is_target_only}
 use Rattle.cx_rules.specs.Spots.{AnAssign, AssignRule, OnAssign}
 use Rattle.cx_rules.specs.WidthRules.{differ, pairs_of, first_unequal, is_wide, first_wide, IsBadLiteral, BreaksWidth, BreaksGuardWidth, BreaksLiteral, BreaksNotATarget, BreaksNotASource}
 use Rattle.cx_rules.specs.Wellformed.{IsDesign, StandsIn}
+use Rattle.cx_rewrites.specs.FlatRules.{IsAccepted}
 use Rattle.cx_rewrites.specs.Moving.{moved_port, moved_assign}
 use Rattle.cx_profiling.specs.Instrumented.{moved_in, with_counts}
 use Rattle.cx_profiling.proofs.MovedParts.{sources_of-moved, atoms_of-moved, comparisons_of-moved, moved_pair, atoms_are_operands, comparisons_are_operands}

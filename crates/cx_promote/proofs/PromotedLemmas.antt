@@ -6,6 +6,7 @@ use Rattle.cx_text.specs.declared.diagnostics.Diagnostic.{Diagnostic}
 use Rattle.cx_ast.specs.PlainTree.{PlainTree}
 use Rattle.cx_meaning.specs.Designs.{PlainDesign}
 use Rattle.cx_rules.specs.Accepted.{KeepsStage, IsFirstOf}
+use Rattle.cx_rules.specs.Flat.{IsFlat}
 use Rattle.cx_rules.specs.Sizes.{design_size}
 use Rattle.cx_rules.specs.Wellformed.{IsDesign}
 use Rattle.cx_numbering.specs.DesignOf.{design_of}
@@ -13,9 +14,10 @@ use Rattle.cx_numbering.specs.NameRules.{names_break}
 use Rattle.cx_names.specs.Targets.{HasTargets}
 use Rattle.cx_names.proofs.Whole.{is_design}
 use Rattle.cx_check.specs.Acceptance.{IsAcceptedTree}
+use Rattle.cx_check.proofs.BuiltLemmas.{built_is_flat}
 use Rattle.cx_promotion.specs.declared.rows.PromotedRow.{PromotedRow}
 use Rattle.cx_promotion.specs.Rewriting.{IsPromotedTree, made_rows, made_tree}
-use Rattle.cx_promoted_trees.proofs.AcceptedPromoted.{promoted_tree_accepted}
+use Rattle.cx_promoted_trees.proofs.AcceptedPromoted.{promoted_tree_accepted, unbuilt_made}
 use Rattle.cx_promoted_trees.proofs.NamesPromoted.{names_made}
 use Rattle.cx_promoted_trees.proofs.TargetsPromoted.{made_tree_has_targets}
 
@@ -37,6 +39,9 @@ module _ (tree made : PlainTree) (is : made ≡ made_tree tree) where
 
   pub made_is_named : names_break tree ≡ None → names_break made ≡ None
   made_is_named none = ap names_break is ∙ names_made tree none
+
+  pub made_is_flat : IsAcceptedTree tree → IsFlat (design_of made)
+  made_is_flat accepted = subst (λ t. IsFlat (design_of t)) (sym is) (built_is_flat (made_tree tree) (unbuilt_made tree accepted.built))
 
   -- by the rows of the tree that is made, since acceptance hangs on no row
   pub made_is_accepted : (d : PlainDesign) → HasTargets tree → IsAcceptedTree tree → d ≡ design_of tree → ∥ IsDesign d ∥₁ → KeepsStage 7 (design_of made) → IsAcceptedTree made

@@ -3,8 +3,8 @@ use Rattle.std.proofs.Common.{◌≡◌, ℕ, zero, suc, ◌<◌, List, [], ◌�
 use Rattle.std.specs.Prelude.{slice_get}
 use Rattle.cx_text.proofs.ListLaws.{there_below, length-map}
 use Rattle.cx_meaning.specs.Designs.{no_component, component_at}
-use Rattle.cx_numbering.specs.Names.{group_names, groups_in}
-use Rattle.cx_numbering.specs.DesignOf.{component_of, control_invokes, group_of, invoke_groups}
+use Rattle.cx_numbering.specs.Names.{groups_in}
+use Rattle.cx_numbering.specs.DesignOf.{component_of, control_invokes, first, group_of, invoke_groups}
 use Rattle.cx_design.specs.PlainDesigns.{plain_design}
 use Rattle.cx_design.specs.PlainForms as design
 use Rattle.cx_promotion.specs.Promotable.{promotable}
@@ -32,7 +32,7 @@ module _ (site : Site) (is : IsSite site) where
   -- its groups are those of the wires, and then those of invokes
   pub site_groups : Begins (group_of (tree_at site) (part_at site)) (component_at (plain_design site.design.now) site.number).groups (groups_in (part_at site).wires)
   site_groups =
-      (invoke_groups (tree_at site) (part_at site) (length (group_names (part_at site))) (control_invokes (tree_at site) (part_at site) (part_at site).control), ap (λ part. part.groups) site_component)
+      (invoke_groups (tree_at site) (part_at site) (first (tree_at site) (part_at site)) (control_invokes (tree_at site) (part_at site) (part_at site).control), ap (λ part. part.groups) site_component)
 
   pub site_lengths : (lengths : List (Option ℕ)) → lengths ≡ map (promotable (instance_at site)) (component_at (plain_design site.design.now) site.number).groups
       → Begins (length_of (tree_at site) (part_at site) (instance_at site)) lengths (groups_in (part_at site).wires)

@@ -7,6 +7,7 @@ ghost use Rattle.cx_names.specs.Targets.{HasTargets};
 ghost use Rattle.cx_numbering.specs.DesignOf.{design_of};
 ghost use Rattle.cx_numbering.specs.NameRules.{names_break};
 ghost use Rattle.cx_rules.specs.Accepted.{KeepsStage};
+ghost use Rattle.cx_rules.specs.Flat.{IsFlat};
 ghost use Rattle.cx_check.specs.Acceptance.{IsAcceptedTree};
 ghost use Rattle.cx_promotion.specs.Rewriting.{IsPromotedTree, made_rows, made_tree};
 
@@ -85,11 +86,12 @@ fn made(alloc: Global, tree: &Tree, design: &Design) -> Result<Promotion, Memory
     Ok(Promotion { tree, rows })
 }
 
-/// Whether the design of a tree that breaks no rule on names keeps the limits.
+/// Whether the design of a tree that breaks no rule on names, and has no static component, keeps the limits.
 #[tactic(auto, using(crate::proofs::PromotedLemmas::breaks_limit))]
 fn keeps_limits(alloc: Global, tree: &Tree) -> Result<bool, Memory>
     requires targets { HasTargets (plain_tree tree.now) }
     requires named { names_break (plain_tree tree.now) ≡ None }
+    requires flat { IsFlat (design_of (plain_tree tree.now)) }
     ensures keeps { IfOk result (λ keeps. keeps ≡ true → KeepsStage 7 (design_of (plain_tree tree.now))) }
     ensures breaks { IfOk result (λ keeps. keeps ≡ false → KeepsStage 7 (design_of (plain_tree tree.now)) → ⊥) }
 {

@@ -11,6 +11,8 @@ use Rattle.cx_numbering.specs.DesignOf.{design_of}
 use Rattle.cx_numbering.specs.NameRules.{Visited, statements_in}
 use Rattle.cx_names.proofs.Base.{append_none, flat_none}
 use Rattle.cx_check.specs.Acceptance.{IsAcceptedTree}
+use Rattle.cx_check.proofs.BuiltLemmas.{built_is_flat}
+use Rattle.cx_rewrites.proofs.FlatRulesLemmas.{accepted_flat}
 use Rattle.cx_check.specs.Unbuilt.{length_word, static_word, words_in, words_of_tree, first_place, first_unbuilt, earlier}
 use Rattle.cx_rewrites.specs.Places.{SameDesign}
 use Rattle.cx_promotion.specs.declared.rows.PromotedRow.{PromotedRow}
@@ -72,7 +74,8 @@ promoted_tree_accepted tree new rows design h (inl (keeps, made, told)) =
     (record {
       built = unbuilt_made tree h.built;
       named = names_made tree h.named;
-      accepted = design_is_accepted (design_of tree) (design_of (made_tree tree)) design h.accepted (design_made tree) keeps;
+      accepted =
+          design_is_accepted (design_of tree) (design_of (made_tree tree)) design (accepted_flat (design_of tree) (built_is_flat tree h.built) h.accepted) (design_made tree) keeps;
     })
 promoted_tree_accepted tree new rows design h (inr (breaks, stays, told)) = subst IsAcceptedTree (sym stays) h
 

@@ -1,10 +1,11 @@
 -- CONTROL OF THE PROMOTED TREE: its invokes stay; static control stays; runs of enables of promoted groups are static seqs.
-use Rattle.std.proofs.Common.{◌≡◌, ℕ, suc, ◌+◌, ◌-◌, nat_eq, nat_lt, Bool, true, false, ◌&&◌, List, [], ◌∷◌, ◌++◌, Option, Some, None, length, map, option_map, append_assoc, refl, sym, ap, ap₂, ◌∙◌, subst, arith}
+use Rattle.std.proofs.Common.{◌≡◌, ℕ, suc, ◌-◌, nat_eq, nat_lt, Bool, true, false, ◌&&◌, List, [], ◌∷◌, ◌++◌, Option, Some, None, map, option_map, append_assoc, refl, sym, ap, ap₂, ◌∙◌, subst}
 use Rattle.std.specs.Prelude.{if◌then◌else◌}
 use Rattle.std.proofs.lemmas.List.{append-nil}
 use Rattle.cx_text.specs.declared.places.Place.{Place}
 use Rattle.cx_ast.specs.declared.components.Attribute.{Attribute}
 use Rattle.cx_ast.specs.declared.components.Mark.{Mark}
+use Rattle.cx_ast.specs.declared.statements.BindItem.{BindItem}
 use Rattle.cx_ast.specs.PlainStatements as statements
 use Rattle.cx_ast.specs.PlainTree as ast
 use Rattle.cx_ast.specs.PlainTree.{PlainTree}
@@ -12,12 +13,11 @@ use Rattle.cx_meaning.specs.declared.ports.PlacedPort.{PlacedPort}
 use Rattle.cx_meaning.specs.Designs.{PlainStatement, PlainStatements, Placed, no_statements, a_statement}
 use Rattle.cx_meaning.specs.Designs as plain
 use Rattle.cx_meaning.specs.Instances.{Instance}
-use Rattle.cx_numbering.specs.DesignOf.{number_or_0, Invoke, placed_of, invokes_in, invokes_else, invokes_of, invokes_all, group_number, comb_number, of_block, form_of, else_of, block_of, parts_of, all_of, control_invokes, control_of}
-use Rattle.cx_numbering.specs.Names.{group_names}
+use Rattle.cx_numbering.specs.DesignOf.{number_or_0, Invoke, Next, placed_of, is_static_invoke, past, invoke_form, invokes_in, invokes_else, invokes_of, invokes_all, group_number, comb_number, of_block, form_of, else_of, block_of, parts_of, all_of, first, control_invokes, control_of}
 use Rattle.cx_rewrites.specs.Beside.{joined}
-use Rattle.cx_promotion.specs.Made.{IsRun, no_more, one_more, FormMade, empty, enable, seq, collapsed, par, if_made, while_made, repeat_made, static, StatementMade, placed, PartsMade, no_parts, a_part, a_run, ArmsMade, no_arms, an_arm}
+use Rattle.cx_promotion.specs.Made.{IsRun, no_more, one_more, FormMade, empty, enable, seq, collapsed, par, if_made, while_made, repeat_made, static, timed, StatementMade, placed, PartsMade, no_parts, a_part, a_run, ArmsMade, no_arms, an_arm}
 use Rattle.cx_promotion.specs.Rewriting.{PIECE, BELOW_CONTROL, is_run, close, cut, cut_if, promote_form, promote_else, promote_all, promote_block, made_tree}
-use Rattle.cx_promoted_trees.proofs.PartsPromoted.{twin, placed-made, group_names-made}
+use Rattle.cx_promoted_trees.proofs.PartsPromoted.{twin, placed-made, group_names-made, static-made, past-made, first-made}
 
 -- INVOKES of control stay
 invokes_first : (s : statements.PlainStatement) (ss : statements.PlainStatements) → invokes_all (statements.StatementThen s ss) ≡ invokes_all (statements.StatementThen s statements.NoStatements) ++ invokes_all ss
@@ -108,37 +108,49 @@ module _ (tree : PlainTree) (part : ast.PlainComponent) (i : Instance) where
   of_block-stays true place (a_statement s (a_statement t rest)) = refl
   of_block-stays false place (a_statement s (a_statement t rest)) = refl
 
+  -- an invoke at which the word static does not stand
+  abbrev an_invoke : List ℕ → List BindItem → List BindItem → Place → Invoke
+  an_invoke cell inputs outputs place = record { cell = cell; written = false; length = None; inputs = inputs; outputs = outputs; place = place }
+
+  invoke_form-stays : (in_static : Bool) (n : Next) → invoke_form (made_tree tree) other in_static n ≡ invoke_form tree part in_static n
+  invoke_form-stays true n = refl
+  invoke_form-stays false n = refl
+
   mutual
-    form-stays : (n : ℕ) (place : Place) (form : statements.PlainForm) → form_of (made_tree tree) other n place form ≡ form_of tree part n place form
+    form-stays : (n : Next) (place : Place) (form : statements.PlainForm) → form_of (made_tree tree) other n place form ≡ form_of tree part n place form
     form-stays n place (statements.Enable group marks) = ap plain.Enable (number-made group)
     form-stays n place (statements.Seq marks block) = ap plain.Seq (parts-stay n block)
     form-stays n place (statements.Par marks block) = ap plain.Par (parts-stay n block)
     form-stays n place (statements.StaticSeq written marks block) = ap (plain.StaticSeq written) (parts-stay n block)
     form-stays n place (statements.StaticPar written marks block) = ap (plain.StaticPar written) (parts-stay n block)
     form-stays n place (statements.If test comb block otherwise) =
-        if_is (placed-made tree part i test) (comb-made comb) (block-stays false n block) (else-stays false (n + length (invokes_of block)) place otherwise)
+        if_is (placed-made tree part i test) (comb-made comb) (block-stays false n block)
+        (ap (λ m. else_of (made_tree tree) other false m place otherwise) (past-made tree part i n (invokes_of block)) ∙ else-stays false (past tree part n (invokes_of block)) place otherwise)
     form-stays n place (statements.StaticIf written test block otherwise) =
-        static_if_is written (placed-made tree part i test) (block-stays true n block) (else-stays true (n + length (invokes_of block)) place otherwise)
+        static_if_is written (placed-made tree part i test) (block-stays true n block)
+        (ap (λ m. else_of (made_tree tree) other true m place otherwise) (past-made tree part i n (invokes_of block)) ∙ else-stays true (past tree part n (invokes_of block)) place otherwise)
     form-stays n place (statements.While test comb body) = while_is (placed-made tree part i test) (comb-made comb) (block-stays false n body)
     form-stays n place (statements.Repeat count body) = ap (plain.Repeat count) (block-stays false n body)
     form-stays n place (statements.StaticRepeat written count body) = ap (plain.StaticRepeat written count) (block-stays true n body)
-    form-stays n place (statements.Invoke cell inputs outputs) = refl
+    form-stays n place (statements.Invoke cell inputs outputs) =
+        ap (λ in_static. invoke_form (made_tree tree) other in_static n) (static-made tree part i (an_invoke cell inputs outputs place))
+        ∙ invoke_form-stays (is_static_invoke tree part (an_invoke cell inputs outputs place)) n
     form-stays n place (statements.StaticInvoke written cell inputs outputs) = refl
 
-    else-stays : (in_static : Bool) (n : ℕ) (place : Place) (otherwise : statements.PlainElse) → else_of (made_tree tree) other in_static n place otherwise ≡ else_of tree part in_static n place otherwise
+    else-stays : (in_static : Bool) (n : Next) (place : Place) (otherwise : statements.PlainElse) → else_of (made_tree tree) other in_static n place otherwise ≡ else_of tree part in_static n place otherwise
     else-stays in_static n place statements.NoElse = refl
     else-stays in_static n place (statements.Else block) = block-stays in_static n block
 
-    block-stays : (in_static : Bool) (n : ℕ) (block : statements.PlainBlock) → block_of (made_tree tree) other in_static n block ≡ block_of tree part in_static n block
+    block-stays : (in_static : Bool) (n : Next) (block : statements.PlainBlock) → block_of (made_tree tree) other in_static n block ≡ block_of tree part in_static n block
     block-stays in_static n (statements.Braces list place) = ap (of_block (made_tree tree) other in_static place) (all-stay n list) ∙ of_block-stays in_static place (all_of tree part n list)
 
-    parts-stay : (n : ℕ) (block : statements.PlainBlock) → parts_of (made_tree tree) other n block ≡ parts_of tree part n block
+    parts-stay : (n : Next) (block : statements.PlainBlock) → parts_of (made_tree tree) other n block ≡ parts_of tree part n block
     parts-stay n (statements.Braces list place) = all-stay n list
 
-    all-stay : (n : ℕ) (list : statements.PlainStatements) → all_of (made_tree tree) other n list ≡ all_of tree part n list
+    all-stay : (n : Next) (list : statements.PlainStatements) → all_of (made_tree tree) other n list ≡ all_of tree part n list
     all-stay n statements.NoStatements = refl
     all-stay n (statements.StatementThen (statements.Placed attributes form place) rest) =
-        ap₂ a_statement (ap (λ f. Placed f place) (form-stays n place form)) (all-stay (n + length (invokes_in form place)) rest)
+        ap₂ a_statement (ap (λ f. Placed f place) (form-stays n place form)) (ap (λ m. all_of (made_tree tree) other m rest) (past-made tree part i n (invokes_in form place)) ∙ all-stay (past tree part n (invokes_in form place)) rest)
 
   -- the invokes of a component's control stay
   pub control_invokes-made : (long : List ℕ → Bool) (o : Option statements.PlainBlock) → control_invokes (made_tree tree) other (option_map (promote_block long BELOW_CONTROL true) o) ≡ control_invokes tree part o
@@ -168,18 +180,14 @@ module _ (tree : PlainTree) (part : ast.PlainComponent) (i : Instance) where
     ran [] = no_statements
     ran (e ∷ es) = a_statement (enabled e) (ran es)
 
-    no_more_invokes : (n : ℕ) → n + 0 ≡ n
-    no_more_invokes n = omega arith
-
     is_ran : (es : List Enabled) → IsRun promoted (ran es)
     is_ran [] = no_more
     is_ran (e ∷ es) = one_more (are e.group e.is) (is_ran es)
 
-    ran-made : (n : ℕ) (es : List Enabled) → all_of (made_tree tree) other n (statements.statements_of (map spelled es)) ≡ ran es
+    ran-made : (n : Next) (es : List Enabled) → all_of (made_tree tree) other n (statements.statements_of (map spelled es)) ≡ ran es
     ran-made n [] = refl
     ran-made n (e ∷ es) =
-        ap₂ (λ g ss. a_statement (Placed (plain.Enable g) e.place) ss) (number-made e.group)
-        (ap (λ m. all_of (made_tree tree) other m (statements.statements_of (map spelled es))) (no_more_invokes n) ∙ ran-made n es)
+        ap₂ (λ g ss. a_statement (Placed (plain.Enable g) e.place) ss) (number-made e.group) (ran-made n es)
 
     ran-invokes : (es : List Enabled) → invokes_all (statements.statements_of (map spelled es)) ≡ []
     ran-invokes [] = refl
@@ -197,46 +205,49 @@ module _ (tree : PlainTree) (part : ast.PlainComponent) (i : Instance) where
     Parts ss tt = PartsMade promoted ss tt
 
     -- an open piece is closed
-    closed_made : (es : List Enabled) (n : ℕ) (older : PlainStatements) (later : statements.PlainStatements) → Parts older (all_of (made_tree tree) other n later)
+    closed_made : (es : List Enabled) (n : Next) (older : PlainStatements) (later : statements.PlainStatements) → Parts older (all_of (made_tree tree) other n later)
         → Parts (joined (ran es) older) (all_of (made_tree tree) other n (close long (map spelled es) later))
     closed_made [] n older later h = h
     closed_made (e ∷ []) n older later h =
-        subst (λ m. Parts (a_statement (enabled e) older) (a_statement (Placed (plain.Enable (group_number (made_tree tree) other e.group)) e.place) (all_of (made_tree tree) other m later))) (sym (no_more_invokes n))
-        (subst (λ g. Parts (a_statement (enabled e) older) (a_statement (Placed (plain.Enable g) e.place) (all_of (made_tree tree) other n later))) (sym (number-made e.group))
-        (a_part (placed enable) h))
+        subst (λ g. Parts (a_statement (enabled e) older) (a_statement (Placed (plain.Enable g) e.place) (all_of (made_tree tree) other n later))) (sym (number-made e.group))
+        (a_part (placed enable) h)
     closed_made (e ∷ f ∷ es) n older later h =
-        let same : n + length (invokes_all (statements.statements_of (map spelled (e ∷ f ∷ es)))) ≡ n = ap (λ (list : List Invoke). n + length list) (ran-invokes (e ∷ f ∷ es)) ∙ no_more_invokes n in
+        let same : past (made_tree tree) other n (invokes_all (statements.statements_of (map spelled (e ∷ f ∷ es)))) ≡ n = ap (past (made_tree tree) other n) (ran-invokes (e ∷ f ∷ es)) in
         subst (λ m. Parts (joined (ran (e ∷ f ∷ es)) older)
         (a_statement (Placed (plain.StaticSeq None (all_of (made_tree tree) other n (statements.statements_of (map spelled (e ∷ f ∷ es))))) e.place) (all_of (made_tree tree) other m later))) (sym same)
         (subst (λ ss. Parts (joined (ran (e ∷ f ∷ es)) older) (a_statement (Placed (plain.StaticSeq None ss) e.place) (all_of (made_tree tree) other n later))) (sym (ran-made n (e ∷ f ∷ es)))
         (a_run (is_ran (e ∷ f ∷ es)) h))
 
+    -- the numbers behind a statement, and behind a block
+    next_made : (n : Next) (below : ℕ) (form : statements.PlainForm) (place : Place) → past (made_tree tree) other n (invokes_in (promote_form long below form) place) ≡ past tree part n (invokes_in form place)
+    next_made n below form place = ap (past (made_tree tree) other n) (form_invokes long below form place) ∙ past-made tree part i n (invokes_in form place)
+
+    next_behind : (n : Next) (below : ℕ) (block : statements.PlainBlock) → past (made_tree tree) other n (invokes_of (promote_block long below true block)) ≡ past tree part n (invokes_of block)
+    next_behind n below block = ap (past (made_tree tree) other n) (block_invokes long below true block) ∙ past-made tree part i n (invokes_of block)
+
     -- a statement that ends a run
-    ended_made : (es : List Enabled) (n below : ℕ) (attributes : List Attribute) (form : statements.PlainForm) (place : Place) (ss cut_ss : statements.PlainStatements)
+    ended_made : (es : List Enabled) (n : Next) (below : ℕ) (attributes : List Attribute) (form : statements.PlainForm) (place : Place) (ss cut_ss : statements.PlainStatements)
         → FormMade promoted (form_of tree part n place form) (form_of (made_tree tree) other n place (promote_form long below form))
-        → Parts (all_of tree part (n + length (invokes_in form place)) ss) (all_of (made_tree tree) other (n + length (invokes_in form place)) cut_ss)
+        → Parts (all_of tree part (past tree part n (invokes_in form place)) ss) (all_of (made_tree tree) other (past tree part n (invokes_in form place)) cut_ss)
         → Parts (joined (ran es) (all_of tree part n (statements.StatementThen (statements.Placed attributes form place) ss)))
         (all_of (made_tree tree) other n (close long (map spelled es) (statements.StatementThen (statements.Placed attributes (promote_form long below form) place) cut_ss)))
     ended_made es n below attributes form place ss cut_ss one more =
         closed_made es n (all_of tree part n (statements.StatementThen (statements.Placed attributes form place) ss)) (statements.StatementThen (statements.Placed attributes (promote_form long below form) place) cut_ss)
-        (subst (λ (list : List Invoke). Parts (a_statement (Placed (form_of tree part n place form) place) (all_of tree part (n + length (invokes_in form place)) ss))
-        (a_statement (Placed (form_of (made_tree tree) other n place (promote_form long below form)) place) (all_of (made_tree tree) other (n + length list) cut_ss))) (sym (form_invokes long below form place))
+        (subst (λ m. Parts (a_statement (Placed (form_of tree part n place form) place) (all_of tree part (past tree part n (invokes_in form place)) ss))
+        (a_statement (Placed (form_of (made_tree tree) other n place (promote_form long below form)) place) (all_of (made_tree tree) other m cut_ss))) (sym (next_made n below form place))
         (a_part (placed one) more))
 
     -- an enable of a group that is promoted goes on with a run
-    abbrev Goes : ℕ → ℕ → statements.PlainStatements → Type 0
+    abbrev Goes : Next → ℕ → statements.PlainStatements → Type 0
     Goes n below ss = (es : List Enabled) (count : ℕ) → Parts (joined (ran es) (all_of tree part n ss)) (all_of (made_tree tree) other n (cut long (map spelled es) count (promote_all long below ss)))
 
-    enabled_made : (es : List Enabled) (count n below : ℕ) (attributes : List Attribute) (group : List ℕ) (marks : List Mark) (place : Place) (ss : statements.PlainStatements) (b : Bool)
+    enabled_made : (es : List Enabled) (count : ℕ) (n : Next) (below : ℕ) (attributes : List Attribute) (group : List ℕ) (marks : List Mark) (place : Place) (ss : statements.PlainStatements) (b : Bool)
         → long group ≡ b → Goes n below ss
         → Parts (joined (ran es) (all_of tree part n (statements.StatementThen (statements.Placed attributes (statements.Enable group marks) place) ss)))
         (all_of (made_tree tree) other n (if b then (if nat_eq count PIECE then close long (map spelled es) (cut long (statements.Placed attributes (statements.Enable group marks) place ∷ []) 1 (promote_all long below ss))
         else cut long (map spelled es ++ (statements.Placed attributes (statements.Enable group marks) place ∷ [])) (suc count) (promote_all long below ss))
         else close long (map spelled es) (statements.StatementThen (statements.Placed attributes (statements.Enable group marks) place) (cut long [] 0 (promote_all long below ss)))))
-    enabled_made es count n below attributes group marks place ss true is goes =
-        subst (λ m. Parts (joined (ran es) (a_statement (enabled (an_enabled attributes group marks place is)) (all_of tree part m ss)))
-        (all_of (made_tree tree) other n (if nat_eq count PIECE then close long (map spelled es) (cut long (spelled (an_enabled attributes group marks place is) ∷ []) 1 (promote_all long below ss)) else cut long (map spelled es ++ (spelled (an_enabled attributes group marks place is) ∷ [])) (suc count) (promote_all long below ss))))
-        (sym (no_more_invokes n)) (by (nat_eq count PIECE))
+    enabled_made es count n below attributes group marks place ss true is goes = by (nat_eq count PIECE)
       where
         by : (full : Bool) → Parts (joined (ran es) (a_statement (enabled (an_enabled attributes group marks place is)) (all_of tree part n ss)))
             (all_of (made_tree tree) other n (if full then close long (map spelled es) (cut long (spelled (an_enabled attributes group marks place is) ∷ []) 1 (promote_all long below ss)) else cut long (map spelled es ++ (spelled (an_enabled attributes group marks place is) ∷ [])) (suc count) (promote_all long below ss)))
@@ -248,7 +259,7 @@ module _ (tree : PlainTree) (part : ast.PlainComponent) (i : Instance) where
     enabled_made es count n below attributes group marks place ss false is goes =
         ended_made es n below attributes (statements.Enable group marks) place ss (cut long [] 0 (promote_all long below ss))
         (subst (λ g. FormMade promoted (plain.Enable (group_number tree part group)) (plain.Enable g)) (sym (number-made group)) enable)
-        (subst (λ m. Parts (all_of tree part m ss) (all_of (made_tree tree) other m (cut long [] 0 (promote_all long below ss)))) (sym (no_more_invokes n)) (goes [] 0))
+        (goes [] 0)
 
     -- A BLOCK: one statement stays alone, and several are a seq, or one static seq
     cut_one : (s : statements.PlainStatement) → cut long [] 0 (statements.StatementThen s statements.NoStatements) ≡ statements.StatementThen s statements.NoStatements
@@ -280,12 +291,12 @@ module _ (tree : PlainTree) (part : ast.PlainComponent) (i : Instance) where
     first_arm : {s t : PlainStatement} {ss tt : PlainStatements} → ArmsMade promoted (a_statement s ss) (a_statement t tt) → StatementMade promoted s t
     first_arm (an_arm one more) = one
 
-    cut_if_made : (n below : ℕ) (ss : statements.PlainStatements) (b : Bool) → Parts (all_of tree part n ss) (all_of (made_tree tree) other n (cut long [] 0 (promote_all long below ss)))
+    cut_if_made : (n : Next) (below : ℕ) (ss : statements.PlainStatements) (b : Bool) → Parts (all_of tree part n ss) (all_of (made_tree tree) other n (cut long [] 0 (promote_all long below ss)))
         → Parts (all_of tree part n ss) (all_of (made_tree tree) other n (promote_all long below ss)) → Parts (all_of tree part n ss) (all_of (made_tree tree) other n (cut_if long b (promote_all long below ss)))
     cut_if_made n below ss true one two = one
     cut_if_made n below ss false one two = two
 
-    block_is : (n below : ℕ) (place : Place) (ss : statements.PlainStatements) (b : Bool) → Parts (all_of tree part n ss) (all_of (made_tree tree) other n (cut_if long b (promote_all long below ss)))
+    block_is : (n : Next) (below : ℕ) (place : Place) (ss : statements.PlainStatements) (b : Bool) → Parts (all_of tree part n ss) (all_of (made_tree tree) other n (cut_if long b (promote_all long below ss)))
         → ArmsMade promoted (all_of tree part n ss) (all_of (made_tree tree) other n (promote_all long below ss))
         → StatementMade promoted (of_block tree part false place (all_of tree part n ss)) (of_block (made_tree tree) other false place (all_of (made_tree tree) other n (cut_if long b (promote_all long below ss))))
     block_is n below place statements.NoStatements b parts arms =
@@ -294,11 +305,15 @@ module _ (tree : PlainTree) (part : ast.PlainComponent) (i : Instance) where
         subst (λ ss. StatementMade promoted (Placed (form_of tree part n here form) here) (of_block (made_tree tree) other false place (all_of (made_tree tree) other n ss)))
         (sym (cut_one_if b (statements.Placed attributes (promote_form long below form) here))) (first_arm arms)
     block_is n below place (statements.StatementThen (statements.Placed attributes form here) (statements.StatementThen (statements.Placed more next there) ss)) b parts arms =
-        several_made place (Placed (form_of tree part n here form) here) (Placed (form_of tree part (n + length (invokes_in form here)) there next) there)
-        (all_of tree part (n + length (invokes_in form here) + length (invokes_in next there)) ss) _ parts
+        several_made place (Placed (form_of tree part n here form) here) (Placed (form_of tree part (past tree part n (invokes_in form here)) there next) there)
+        (all_of tree part (past tree part (past tree part n (invokes_in form here)) (invokes_in next there)) ss) _ parts
+
+    invoke_made : (in_static : Bool) (n : Next) → FormMade promoted (invoke_form tree part in_static n) (invoke_form (made_tree tree) other in_static n)
+    invoke_made true n = timed
+    invoke_made false n = enable
 
     mutual
-      form_made : (n below : ℕ) (place : Place) (form : statements.PlainForm) → FormMade promoted (form_of tree part n place form) (form_of (made_tree tree) other n place (promote_form long below form))
+      form_made : (n : Next) (below : ℕ) (place : Place) (form : statements.PlainForm) → FormMade promoted (form_of tree part n place form) (form_of (made_tree tree) other n place (promote_form long below form))
       form_made n below place (statements.Enable group marks) = subst (λ g. FormMade promoted (plain.Enable (group_number tree part group)) (plain.Enable g)) (sym (number-made group)) enable
       form_made n below place (statements.Seq marks block) = seq (parts_made n (below - 1) block)
       form_made n below place (statements.Par marks block) = par (arms_made n (below - 1) block)
@@ -307,16 +322,16 @@ module _ (tree : PlainTree) (part : ast.PlainComponent) (i : Instance) where
       form_made n below place (statements.StaticPar written marks block) =
           subst (λ f. FormMade promoted (form_of tree part n place (statements.StaticPar written marks block)) f) (sym (form-stays n place (statements.StaticPar written marks block))) (static refl)
       form_made n below place (statements.If test comb body otherwise) =
-          subst (λ (list : List Invoke). FormMade promoted (form_of tree part n place (statements.If test comb body otherwise))
+          subst (λ m. FormMade promoted (form_of tree part n place (statements.If test comb body otherwise))
           (plain.If (placed_of (made_tree tree) other test) (comb_number (made_tree tree) other comb) (block_of (made_tree tree) other false n (promote_block long (below - 1) true body))
-          (else_of (made_tree tree) other false (n + length list) place (promote_else long (below - 1) otherwise)))) (sym (block_invokes long (below - 1) true body))
+          (else_of (made_tree tree) other false m place (promote_else long (below - 1) otherwise)))) (sym (next_behind n (below - 1) body))
           (subst (λ p. FormMade promoted (form_of tree part n place (statements.If test comb body otherwise))
           (plain.If p (comb_number (made_tree tree) other comb) (block_of (made_tree tree) other false n (promote_block long (below - 1) true body))
-          (else_of (made_tree tree) other false (n + length (invokes_of body)) place (promote_else long (below - 1) otherwise)))) (sym (placed-made tree part i test))
+          (else_of (made_tree tree) other false (past tree part n (invokes_of body)) place (promote_else long (below - 1) otherwise)))) (sym (placed-made tree part i test))
           (subst (λ o. FormMade promoted (form_of tree part n place (statements.If test comb body otherwise))
           (plain.If (placed_of tree part test) o (block_of (made_tree tree) other false n (promote_block long (below - 1) true body))
-          (else_of (made_tree tree) other false (n + length (invokes_of body)) place (promote_else long (below - 1) otherwise)))) (sym (comb-made comb))
-          (if_made (block_made n (below - 1) body) (else_made (n + length (invokes_of body)) (below - 1) place otherwise))))
+          (else_of (made_tree tree) other false (past tree part n (invokes_of body)) place (promote_else long (below - 1) otherwise)))) (sym (comb-made comb))
+          (if_made (block_made n (below - 1) body) (else_made (past tree part n (invokes_of body)) (below - 1) place otherwise))))
       form_made n below place (statements.StaticIf written test body otherwise) =
           subst (λ f. FormMade promoted (form_of tree part n place (statements.StaticIf written test body otherwise)) f) (sym (form-stays n place (statements.StaticIf written test body otherwise))) (static refl)
       form_made n below place (statements.While test comb body) =
@@ -328,81 +343,83 @@ module _ (tree : PlainTree) (part : ast.PlainComponent) (i : Instance) where
       form_made n below place (statements.Repeat count body) = repeat_made (block_made n (below - 1) body)
       form_made n below place (statements.StaticRepeat written count body) =
           subst (λ f. FormMade promoted (form_of tree part n place (statements.StaticRepeat written count body)) f) (sym (form-stays n place (statements.StaticRepeat written count body))) (static refl)
-      form_made n below place (statements.Invoke cell inputs outputs) = enable
-      form_made n below place (statements.StaticInvoke written cell inputs outputs) = empty
+      form_made n below place (statements.Invoke cell inputs outputs) =
+          subst (λ in_static. FormMade promoted (form_of tree part n place (statements.Invoke cell inputs outputs)) (invoke_form (made_tree tree) other in_static n)) (sym (static-made tree part i (an_invoke cell inputs outputs place)))
+          (invoke_made (is_static_invoke tree part (an_invoke cell inputs outputs place)) n)
+      form_made n below place (statements.StaticInvoke written cell inputs outputs) = timed
 
-      else_made : (n below : ℕ) (place : Place) (otherwise : statements.PlainElse)
+      else_made : (n : Next) (below : ℕ) (place : Place) (otherwise : statements.PlainElse)
           → StatementMade promoted (else_of tree part false n place otherwise) (else_of (made_tree tree) other false n place (promote_else long below otherwise))
       else_made n below place statements.NoElse = placed empty
       else_made n below place (statements.Else block) = block_made n below block
 
       -- statements beside those that are promoted one by one
-      each_made : (n below : ℕ) (ss : statements.PlainStatements) → Parts (all_of tree part n ss) (all_of (made_tree tree) other n (promote_all long below ss))
+      each_made : (n : Next) (below : ℕ) (ss : statements.PlainStatements) → Parts (all_of tree part n ss) (all_of (made_tree tree) other n (promote_all long below ss))
       each_made n below statements.NoStatements = no_parts
       each_made n below (statements.StatementThen (statements.Placed attributes form place) ss) =
-          subst (λ (list : List Invoke). Parts (a_statement (Placed (form_of tree part n place form) place) (all_of tree part (n + length (invokes_in form place)) ss))
-          (a_statement (Placed (form_of (made_tree tree) other n place (promote_form long below form)) place) (all_of (made_tree tree) other (n + length list) (promote_all long below ss)))) (sym (form_invokes long below form place))
-          (a_part (placed (form_made n below place form)) (each_made (n + length (invokes_in form place)) below ss))
+          subst (λ m. Parts (a_statement (Placed (form_of tree part n place form) place) (all_of tree part (past tree part n (invokes_in form place)) ss))
+          (a_statement (Placed (form_of (made_tree tree) other n place (promote_form long below form)) place) (all_of (made_tree tree) other m (promote_all long below ss)))) (sym (next_made n below form place))
+          (a_part (placed (form_made n below place form)) (each_made (past tree part n (invokes_in form place)) below ss))
 
-      arms_all : (n below : ℕ) (ss : statements.PlainStatements) → ArmsMade promoted (all_of tree part n ss) (all_of (made_tree tree) other n (promote_all long below ss))
+      arms_all : (n : Next) (below : ℕ) (ss : statements.PlainStatements) → ArmsMade promoted (all_of tree part n ss) (all_of (made_tree tree) other n (promote_all long below ss))
       arms_all n below statements.NoStatements = no_arms
       arms_all n below (statements.StatementThen (statements.Placed attributes form place) ss) =
-          subst (λ (list : List Invoke). ArmsMade promoted (a_statement (Placed (form_of tree part n place form) place) (all_of tree part (n + length (invokes_in form place)) ss))
-          (a_statement (Placed (form_of (made_tree tree) other n place (promote_form long below form)) place) (all_of (made_tree tree) other (n + length list) (promote_all long below ss)))) (sym (form_invokes long below form place))
-          (an_arm (placed (form_made n below place form)) (arms_all (n + length (invokes_in form place)) below ss))
+          subst (λ m. ArmsMade promoted (a_statement (Placed (form_of tree part n place form) place) (all_of tree part (past tree part n (invokes_in form place)) ss))
+          (a_statement (Placed (form_of (made_tree tree) other n place (promote_form long below form)) place) (all_of (made_tree tree) other m (promote_all long below ss)))) (sym (next_made n below form place))
+          (an_arm (placed (form_made n below place form)) (arms_all (past tree part n (invokes_in form place)) below ss))
 
-      arms_made : (n below : ℕ) (block : statements.PlainBlock) → ArmsMade promoted (parts_of tree part n block) (parts_of (made_tree tree) other n (promote_block long below false block))
+      arms_made : (n : Next) (below : ℕ) (block : statements.PlainBlock) → ArmsMade promoted (parts_of tree part n block) (parts_of (made_tree tree) other n (promote_block long below false block))
       arms_made n below (statements.Braces ss place) = arms_all n below ss
 
       -- and those whose runs are cut
-      cut_made : (n below : ℕ) (ss : statements.PlainStatements) (es : List Enabled) (count : ℕ)
+      cut_made : (n : Next) (below : ℕ) (ss : statements.PlainStatements) (es : List Enabled) (count : ℕ)
           → Parts (joined (ran es) (all_of tree part n ss)) (all_of (made_tree tree) other n (cut long (map spelled es) count (promote_all long below ss)))
       cut_made n below statements.NoStatements es count = closed_made es n no_statements statements.NoStatements no_parts
       cut_made n below (statements.StatementThen (statements.Placed attributes (statements.Enable group marks) place) ss) es count =
           enabled_made es count n below attributes group marks place ss (long group) refl (cut_made n below ss)
       cut_made n below (statements.StatementThen (statements.Placed attributes (statements.Seq marks block) place) ss) es count =
           ended_made es n below attributes (statements.Seq marks block) place ss (cut long [] 0 (promote_all long below ss)) (form_made n below place (statements.Seq marks block))
-          (cut_made (n + length (invokes_in (statements.Seq marks block) place)) below ss [] 0)
+          (cut_made (past tree part n (invokes_in (statements.Seq marks block) place)) below ss [] 0)
       cut_made n below (statements.StatementThen (statements.Placed attributes (statements.Par marks block) place) ss) es count =
           ended_made es n below attributes (statements.Par marks block) place ss (cut long [] 0 (promote_all long below ss)) (form_made n below place (statements.Par marks block))
-          (cut_made (n + length (invokes_in (statements.Par marks block) place)) below ss [] 0)
+          (cut_made (past tree part n (invokes_in (statements.Par marks block) place)) below ss [] 0)
       cut_made n below (statements.StatementThen (statements.Placed attributes (statements.StaticSeq written marks block) place) ss) es count =
           ended_made es n below attributes (statements.StaticSeq written marks block) place ss (cut long [] 0 (promote_all long below ss)) (form_made n below place (statements.StaticSeq written marks block))
-          (cut_made (n + length (invokes_in (statements.StaticSeq written marks block) place)) below ss [] 0)
+          (cut_made (past tree part n (invokes_in (statements.StaticSeq written marks block) place)) below ss [] 0)
       cut_made n below (statements.StatementThen (statements.Placed attributes (statements.StaticPar written marks block) place) ss) es count =
           ended_made es n below attributes (statements.StaticPar written marks block) place ss (cut long [] 0 (promote_all long below ss)) (form_made n below place (statements.StaticPar written marks block))
-          (cut_made (n + length (invokes_in (statements.StaticPar written marks block) place)) below ss [] 0)
+          (cut_made (past tree part n (invokes_in (statements.StaticPar written marks block) place)) below ss [] 0)
       cut_made n below (statements.StatementThen (statements.Placed attributes (statements.If test comb body otherwise) place) ss) es count =
           ended_made es n below attributes (statements.If test comb body otherwise) place ss (cut long [] 0 (promote_all long below ss)) (form_made n below place (statements.If test comb body otherwise))
-          (cut_made (n + length (invokes_in (statements.If test comb body otherwise) place)) below ss [] 0)
+          (cut_made (past tree part n (invokes_in (statements.If test comb body otherwise) place)) below ss [] 0)
       cut_made n below (statements.StatementThen (statements.Placed attributes (statements.StaticIf written test body otherwise) place) ss) es count =
           ended_made es n below attributes (statements.StaticIf written test body otherwise) place ss (cut long [] 0 (promote_all long below ss)) (form_made n below place (statements.StaticIf written test body otherwise))
-          (cut_made (n + length (invokes_in (statements.StaticIf written test body otherwise) place)) below ss [] 0)
+          (cut_made (past tree part n (invokes_in (statements.StaticIf written test body otherwise) place)) below ss [] 0)
       cut_made n below (statements.StatementThen (statements.Placed attributes (statements.While test comb body) place) ss) es count =
           ended_made es n below attributes (statements.While test comb body) place ss (cut long [] 0 (promote_all long below ss)) (form_made n below place (statements.While test comb body))
-          (cut_made (n + length (invokes_in (statements.While test comb body) place)) below ss [] 0)
+          (cut_made (past tree part n (invokes_in (statements.While test comb body) place)) below ss [] 0)
       cut_made n below (statements.StatementThen (statements.Placed attributes (statements.Repeat times body) place) ss) es count =
           ended_made es n below attributes (statements.Repeat times body) place ss (cut long [] 0 (promote_all long below ss)) (form_made n below place (statements.Repeat times body))
-          (cut_made (n + length (invokes_in (statements.Repeat times body) place)) below ss [] 0)
+          (cut_made (past tree part n (invokes_in (statements.Repeat times body) place)) below ss [] 0)
       cut_made n below (statements.StatementThen (statements.Placed attributes (statements.StaticRepeat written times body) place) ss) es count =
           ended_made es n below attributes (statements.StaticRepeat written times body) place ss (cut long [] 0 (promote_all long below ss)) (form_made n below place (statements.StaticRepeat written times body))
-          (cut_made (n + length (invokes_in (statements.StaticRepeat written times body) place)) below ss [] 0)
+          (cut_made (past tree part n (invokes_in (statements.StaticRepeat written times body) place)) below ss [] 0)
       cut_made n below (statements.StatementThen (statements.Placed attributes (statements.Invoke cell inputs outputs) place) ss) es count =
           ended_made es n below attributes (statements.Invoke cell inputs outputs) place ss (cut long [] 0 (promote_all long below ss)) (form_made n below place (statements.Invoke cell inputs outputs))
-          (cut_made (n + length (invokes_in (statements.Invoke cell inputs outputs) place)) below ss [] 0)
+          (cut_made (past tree part n (invokes_in (statements.Invoke cell inputs outputs) place)) below ss [] 0)
       cut_made n below (statements.StatementThen (statements.Placed attributes (statements.StaticInvoke written cell inputs outputs) place) ss) es count =
           ended_made es n below attributes (statements.StaticInvoke written cell inputs outputs) place ss (cut long [] 0 (promote_all long below ss)) (form_made n below place (statements.StaticInvoke written cell inputs outputs))
-          (cut_made (n + length (invokes_in (statements.StaticInvoke written cell inputs outputs) place)) below ss [] 0)
+          (cut_made (past tree part n (invokes_in (statements.StaticInvoke written cell inputs outputs) place)) below ss [] 0)
 
-      parts_made : (n below : ℕ) (block : statements.PlainBlock) → Parts (parts_of tree part n block) (parts_of (made_tree tree) other n (promote_block long below true block))
+      parts_made : (n : Next) (below : ℕ) (block : statements.PlainBlock) → Parts (parts_of tree part n block) (parts_of (made_tree tree) other n (promote_block long below true block))
       parts_made n below (statements.Braces ss place) = cut_if_made n below ss (nat_lt 0 below) (cut_made n below ss [] 0) (each_made n below ss)
 
-      block_made : (n below : ℕ) (block : statements.PlainBlock) → StatementMade promoted (block_of tree part false n block) (block_of (made_tree tree) other false n (promote_block long below true block))
+      block_made : (n : Next) (below : ℕ) (block : statements.PlainBlock) → StatementMade promoted (block_of tree part false n block) (block_of (made_tree tree) other false n (promote_block long below true block))
       block_made n below (statements.Braces ss place) =
           block_is n below place ss (nat_lt 0 below) (cut_if_made n below ss (nat_lt 0 below) (cut_made n below ss [] 0) (each_made n below ss)) (arms_all n below ss)
 
     pub control_made : (o : Option statements.PlainBlock) → StatementMade promoted (control_of tree part o) (control_of (made_tree tree) other (option_map (promote_block long BELOW_CONTROL true) o))
     control_made None = placed empty
     control_made (Some block) =
-        subst (λ (names : List (List ℕ)). StatementMade promoted (block_of tree part false (length (group_names part)) block) (block_of (made_tree tree) other false (length names) (promote_block long BELOW_CONTROL true block)))
-        (sym (group_names-made tree part i)) (block_made (length (group_names part)) BELOW_CONTROL block)
+        subst (λ n. StatementMade promoted (block_of tree part false (first tree part) block) (block_of (made_tree tree) other false n (promote_block long BELOW_CONTROL true block)))
+        (sym (first-made tree part i)) (block_made (first tree part) BELOW_CONTROL block)

@@ -1,5 +1,5 @@
 -- THE DESIGN OF A PROMOTED TREE is one that promotion makes of the tree's design.
-use Rattle.std.proofs.Common.{◌≡◌, ℕ, zero, suc, ◌+◌, ◌<◌, inl, inr, true, false, List, [], ◌∷◌, ◌++◌, Option, Some, None, is_some, option_map, length, map, get_or, slice_get, codes, refl, sym, ap, ap₂, ◌∙◌, subst, arith}
+use Rattle.std.proofs.Common.{◌≡◌, ℕ, zero, suc, ◌+◌, ◌<◌, inl, inr, Bool, true, false, List, [], ◌∷◌, ◌++◌, Option, Some, None, is_some, option_map, length, map, get_or, slice_get, codes, refl, sym, ap, ap₂, ◌∙◌, subst, arith}
 use Rattle.std.proofs.lemmas.List.{length-map, append-nil}
 use Rattle.std.proofs.lemmas.Option.{slice_get-map, slice_get-get_or}
 use Rattle.std.specs.Prelude.{unwrap_or}
@@ -11,14 +11,14 @@ use Rattle.cx_meaning.specs.Designs.{PlainGroup, no_group, group_at, PlainCompon
 use Rattle.cx_meaning.specs.Instances.{Instance}
 use Rattle.cx_rules.specs.Ports as rules
 use Rattle.cx_numbering.specs.Names.{number_of, group_names, groups_in, always_in}
-use Rattle.cx_numbering.specs.DesignOf.{number_or_0, group_of, assign_of, form_of, else_of, block_of, all_of, invokes_in, invokes_of, invoke_groups, control_invokes, control_of, group_number, component_of, design_of}
+use Rattle.cx_numbering.specs.DesignOf.{number_or_0, Next, group_of, assign_of, is_static_invoke, past, invoke_form, form_of, else_of, block_of, all_of, invokes_in, invokes_of, invoke_groups, static_invokes, first, control_invokes, control_of, group_number, component_of, design_of}
 use Rattle.cx_names_scopes.specs.Scopes.{at_number}
 use Rattle.cx_names_scopes.proofs.NameLemmas.{group_at as group_by_number}
 use Rattle.cx_promotion.specs.declared.rows.PromotedRow.{PromotedRow}
 use Rattle.cx_promotion.specs.Promotable.{promotable, promoted_group}
-use Rattle.cx_promotion.specs.Made.{GroupsMade, no_groups, a_group, IsPromoted, FormMade, empty, enable, seq, par, if_made, while_made, repeat_made, static, StatementMade, placed, PartsMade, no_parts, a_part, ArmsMade, no_arms, an_arm, PartMade, DesignMade}
+use Rattle.cx_promotion.specs.Made.{GroupsMade, no_groups, a_group, IsPromoted, FormMade, empty, enable, seq, par, if_made, while_made, repeat_made, static, timed, StatementMade, placed, PartsMade, no_parts, a_part, ArmsMade, no_arms, an_arm, PartMade, DesignMade}
 use Rattle.cx_promotion.specs.Rewriting.{length_of, length_found, is_long, promote_component, components_from, made_tree, IsPromotedTree}
-use Rattle.cx_promoted_trees.proofs.PartsPromoted.{component_names-made, twin, made_group, cells-made, groups_in-made, always_in-made, group_names-made, assigns-made, long-made, groups-made, invoke_groups-made}
+use Rattle.cx_promoted_trees.proofs.PartsPromoted.{component_names-made, twin, made_group, cells-made, groups_in-made, always_in-made, assigns-made, long-made, groups-made, first-made, invoke_groups-made, static_invokes-made}
 use Rattle.cx_promoted_trees.proofs.ControlPromoted.{control_made, control_invokes-made}
 use Rattle.cx_promoted_trees.proofs.OrderPromoted.{order_made}
 
@@ -42,12 +42,18 @@ module _ (tree : PlainTree) (part : ast.PlainComponent) (i : Instance) where
 
   -- the groups of invokes stay
   abbrev invoked : List PlainGroup
-  invoked = invoke_groups tree part (length (group_names part)) (control_invokes tree part part.control)
+  invoked = invoke_groups tree part (first tree part) (control_invokes tree part part.control)
 
-  invoked-made : invoke_groups (made_tree tree) (twin tree part i) (length (group_names (twin tree part i))) (control_invokes (made_tree tree) (twin tree part i) (twin tree part i).control) ≡ invoked
+  invoked-made : invoke_groups (made_tree tree) (twin tree part i) (first (made_tree tree) (twin tree part i)) (control_invokes (made_tree tree) (twin tree part i) (twin tree part i).control) ≡ invoked
   invoked-made =
-      ap₂ (λ (names : List (List ℕ)) list. invoke_groups (made_tree tree) (twin tree part i) (length names) list) (group_names-made tree part i) (control_invokes-made tree part i (is_long tree part i) part.control)
-      ∙ invoke_groups-made tree part i (length (group_names part)) (control_invokes tree part part.control)
+      ap₂ (invoke_groups (made_tree tree) (twin tree part i)) (first-made tree part i) (control_invokes-made tree part i (is_long tree part i) part.control)
+      ∙ invoke_groups-made tree part i (first tree part) (control_invokes tree part part.control)
+
+  -- and so do static invokes
+  invokes-made : new_part.invokes ≡ old_part.invokes
+  invokes-made =
+      ap₂ (static_invokes (made_tree tree) (twin tree part i)) (first-made tree part i) (control_invokes-made tree part i (is_long tree part i) part.control)
+      ∙ static_invokes-made tree part i (first tree part) (control_invokes tree part part.control)
 
   new_groups : new_part.groups ≡ map (group_of (made_tree tree) (twin tree part i)) (map (made_group tree part i) (groups_in part.wires)) ++ invoked
   new_groups = ap₂ (λ gs rest. map (group_of (made_tree tree) (twin tree part i)) gs ++ rest) (groups_in-made tree part i part.wires) invoked-made
@@ -95,7 +101,7 @@ module _ (tree : PlainTree) (part : ast.PlainComponent) (i : Instance) where
     outputs = refl;
     cells = sym (cells-made tree part i part.cells);
     groups = groups-are-made;
-    invokes = refl;
+    invokes = sym invokes-made;
     always = always-stays;
     order = order_made i old_part new_part always-stays groups-are-made;
     control = control_made tree part i (is_long tree part i) (IsPromoted i old_part new_part) long_is_promoted part.control;
@@ -149,42 +155,47 @@ module _ (tree : PlainTree) where
 
   -- WHERE THE TREE STAYS, its design is made of itself
   module _ (part : ast.PlainComponent) (promoted : ℕ → Type 0) where
+    invoke_same : (in_static : Bool) (n : Next) → FormMade promoted (invoke_form tree part in_static n) (invoke_form tree part in_static n)
+    invoke_same true n = timed
+    invoke_same false n = enable
+
     mutual
-      form_same : (n : ℕ) (place : Place) (form : statements.PlainForm) → FormMade promoted (form_of tree part n place form) (form_of tree part n place form)
+      form_same : (n : Next) (place : Place) (form : statements.PlainForm) → FormMade promoted (form_of tree part n place form) (form_of tree part n place form)
       form_same n place (statements.Enable group marks) = enable
       form_same n place (statements.Seq marks (statements.Braces ss there)) = seq (all_same n ss)
       form_same n place (statements.Par marks (statements.Braces ss there)) = par (arms_same n ss)
       form_same n place (statements.StaticSeq written marks block) = static refl
       form_same n place (statements.StaticPar written marks block) = static refl
-      form_same n place (statements.If test comb body otherwise) = if_made (block_same n body) (else_same (n + length (invokes_of body)) place otherwise)
+      form_same n place (statements.If test comb body otherwise) = if_made (block_same n body) (else_same (past tree part n (invokes_of body)) place otherwise)
       form_same n place (statements.StaticIf written test body otherwise) = static refl
       form_same n place (statements.While test comb body) = while_made (block_same n body)
       form_same n place (statements.Repeat count body) = repeat_made (block_same n body)
       form_same n place (statements.StaticRepeat written count body) = static refl
-      form_same n place (statements.Invoke cell inputs outputs) = enable
-      form_same n place (statements.StaticInvoke written cell inputs outputs) = empty
+      form_same n place (statements.Invoke cell inputs outputs) =
+          invoke_same (is_static_invoke tree part (record { cell = cell; written = false; length = None; inputs = inputs; outputs = outputs; place = place })) n
+      form_same n place (statements.StaticInvoke written cell inputs outputs) = timed
 
-      else_same : (n : ℕ) (place : Place) (otherwise : statements.PlainElse) → StatementMade promoted (else_of tree part false n place otherwise) (else_of tree part false n place otherwise)
+      else_same : (n : Next) (place : Place) (otherwise : statements.PlainElse) → StatementMade promoted (else_of tree part false n place otherwise) (else_of tree part false n place otherwise)
       else_same n place statements.NoElse = placed empty
       else_same n place (statements.Else block) = block_same n block
 
-      block_same : (n : ℕ) (block : statements.PlainBlock) → StatementMade promoted (block_of tree part false n block) (block_of tree part false n block)
+      block_same : (n : Next) (block : statements.PlainBlock) → StatementMade promoted (block_of tree part false n block) (block_of tree part false n block)
       block_same n (statements.Braces statements.NoStatements place) = placed empty
       block_same n (statements.Braces (statements.StatementThen (statements.Placed attributes form here) statements.NoStatements) place) = placed (form_same n here form)
       block_same n (statements.Braces (statements.StatementThen (statements.Placed attributes form here) (statements.StatementThen (statements.Placed more next there) ss)) place) =
           placed (seq (all_same n (statements.StatementThen (statements.Placed attributes form here) (statements.StatementThen (statements.Placed more next there) ss))))
 
-      all_same : (n : ℕ) (ss : statements.PlainStatements) → PartsMade promoted (all_of tree part n ss) (all_of tree part n ss)
+      all_same : (n : Next) (ss : statements.PlainStatements) → PartsMade promoted (all_of tree part n ss) (all_of tree part n ss)
       all_same n statements.NoStatements = no_parts
-      all_same n (statements.StatementThen (statements.Placed attributes form place) ss) = a_part (placed (form_same n place form)) (all_same (n + length (invokes_in form place)) ss)
+      all_same n (statements.StatementThen (statements.Placed attributes form place) ss) = a_part (placed (form_same n place form)) (all_same (past tree part n (invokes_in form place)) ss)
 
-      arms_same : (n : ℕ) (ss : statements.PlainStatements) → ArmsMade promoted (all_of tree part n ss) (all_of tree part n ss)
+      arms_same : (n : Next) (ss : statements.PlainStatements) → ArmsMade promoted (all_of tree part n ss) (all_of tree part n ss)
       arms_same n statements.NoStatements = no_arms
-      arms_same n (statements.StatementThen (statements.Placed attributes form place) ss) = an_arm (placed (form_same n place form)) (arms_same (n + length (invokes_in form place)) ss)
+      arms_same n (statements.StatementThen (statements.Placed attributes form place) ss) = an_arm (placed (form_same n place form)) (arms_same (past tree part n (invokes_in form place)) ss)
 
     control_same : (o : Option statements.PlainBlock) → StatementMade promoted (control_of tree part o) (control_of tree part o)
     control_same None = placed empty
-    control_same (Some block) = block_same (length (group_names part)) block
+    control_same (Some block) = block_same (first tree part) block
 
   part_same : (i : Instance) (part : ast.PlainComponent) → PartMade i (component_of tree part) (component_of tree part)
   part_same i part = record {

@@ -1,5 +1,5 @@
 -- THE PROMOTED TREE BREAKS NO RULE ON NAMES, where the tree breaks none: fewer operands, and the same names.
-use Rattle.std.proofs.Common.{◌≡◌, ℕ, zero, suc, ◌-◌, ◌⊎◌, inl, inr, append_assoc, nat_eq, nat_lt, Bool, true, false, ◌||◌, ◌&&◌, is_none, List, [], ◌∷◌, ◌++◌, Option, Some, None, length, map, flat_map, option_map, codes, refl, sym, ap, ap₂, ◌∙◌, subst}
+use Rattle.std.proofs.Common.{◌≡◌, ℕ, zero, suc, ◌-◌, ◌⊎◌, inl, inr, append_assoc, nat_eq, nat_lt, Bool, true, false, ◌||◌, ◌&&◌, is_none, is_some, List, [], ◌∷◌, ◌++◌, Option, Some, None, length, map, flat_map, option_map, codes, refl, sym, ap, ap₂, ◌∙◌, subst}
 use Rattle.std.specs.Prelude.{if◌then◌else◌, not}
 use Rattle.std.proofs.lemmas.List.{append-nil}
 use Rattle.cx_text.specs.declared.places.Place.{Place}
@@ -24,12 +24,12 @@ use Rattle.cx_meaning.specs.Sights.{In}
 use Rattle.cx_rules.specs.Ports as design
 use Rattle.cx_numbering.specs.Names.{same_name, is_among, groups_in, always_in, cell_among, group_among, CellOf, Neither, APrimitive, AComponent, cell_of, cell_go, is_external}
 use Rattle.cx_numbering.specs.DesignOf.{kind_of, group_of, design_of}
-use Rattle.cx_numbering.specs.NameRules.{tell_if, path_of, named, duplicates, component_duplicates, guard_operands, Standing, standing, Visited, visit_parts, visit_else, visit_block, visit_all, statements_in, is_component, found_component, is_clock, is_unknown, unknown, is_left_out, is_hole, source_breaks, is_wrong_target, is_one, is_bare_done, assign_breaks, is_comb_word, is_comb_group, enable_breaks, with_breaks, output_rows, output_names, is_go_name, is_reg, found_reg, is_register_in, input_breaks, output_breaks, invoke_on, form_breaks, kind_breaks, is_narrow_memory, port_breaks, some_part, leads_back, cell_breaks, component_breaks, name_breaks, first_break, names_break}
+use Rattle.cx_numbering.specs.NameRules.{tell_if, path_of, named, duplicates, component_duplicates, guard_operands, Standing, standing, Visited, visit_parts, visit_else, visit_block, visit_all, statements_in, is_component, found_component, is_clock, is_static_end, is_unknown, unknown, is_left_out, is_hole, source_breaks, is_wrong_target, is_one, is_bare_done, assign_breaks, is_comb_word, is_comb_group, enable_breaks, with_breaks, output_rows, output_names, is_go_name, is_reg, found_reg, is_register_in, input_breaks, output_breaks, invoke_on, form_breaks, kind_breaks, is_narrow_memory, port_breaks, some_part, leads_back, cell_breaks, component_breaks, name_breaks, first_break, names_break}
 use Rattle.cx_names.proofs.Base.{in_left, in_right, in_either, in_map, map_in, in_flat, flat_in, append_none, tell_none, first_none}
 use Rattle.cx_names.proofs.Kept.{KeptPart, kept, kept_part}
 use Rattle.cx_promotion.specs.Promotable.{promotable}
 use Rattle.cx_promotion.specs.Rewriting.{PIECE, BELOW_CONTROL, place_of, is_hole_item, bare_enable, promote_assigns, promote_group, is_run, close, cut, cut_if, promote_form, promote_else, promote_all, promote_block, length_of, is_long, enables, promote_component, components_from, made_tree}
-use Rattle.cx_promoted_trees.proofs.PartsPromoted.{component_names-made, MadeKind, neither, a_primitive, a_component, cell_of-made, go_of, ports-made, twin, made_group, groups_in-made, always_in-made, name_made, group_names-made}
+use Rattle.cx_promoted_trees.proofs.PartsPromoted.{component_names-made, MadeKind, neither, a_primitive, a_component, cell_of-made, go_of, latency-made, ports-made, twin, made_group, groups_in-made, always_in-made, name_made, group_names-made}
 
 -- LISTS OF BREAKS that are empty
 pub both_none : {A : Type 0} (xs ys : List A) → xs ≡ [] → ys ≡ [] → xs ++ ys ≡ []
@@ -232,6 +232,9 @@ module _ (tree : PlainTree) where
     clock-made : (cell port : List ℕ) → is_clock (made_tree tree) other cell port ≡ is_clock tree part cell port
     clock-made cell port = ap (λ b. b && (same_name port (codes "clk") || same_name port (codes "reset"))) (found_kept (cell_among cell part.cells))
 
+    end-made : (cell port : List ℕ) → is_static_end (made_tree tree) other cell port ≡ is_static_end tree part cell port
+    end-made cell port = ap (λ latency. is_some latency && (same_name port (codes "go") || same_name port (codes "done"))) (latency-made tree (cell_among cell part.cells))
+
     reg_kept : (of new : CellOf) → MadeKind tree of new → is_reg (made_tree tree) other new ≡ is_reg tree part of
     reg_kept of new neither = refl
     reg_kept of new a_primitive = refl
@@ -250,7 +253,7 @@ module _ (tree : PlainTree) where
 
     left_out_kept : (form : OperandForm) → is_left_out (made_tree tree) other form ≡ is_left_out tree part form
     left_out_kept (operands.Own name) = refl
-    left_out_kept (operands.Port cell port) = clock-made cell port
+    left_out_kept (operands.Port cell port) = ap₂ ◌||◌ (clock-made cell port) (end-made cell port)
     left_out_kept (operands.Hole group hole) = refl
     left_out_kept (operands.Literal width value) = refl
 
@@ -465,7 +468,7 @@ module _ (tree : PlainTree) where
         let one = append_none _ _ two.0 in
         both_none _ _ (both_none _ _ (both_none _ _
         (retold _ _ _ b.place _ (ap₂ (λ names t. not (is_among b.name names || t)) (ports-made tree (cell_among cell part.cells)) (clock-made cell b.name)) one.0)
-        (retold _ _ _ b.place _ (ap (λ names. not (is_among b.name names)) (outputs_kept of new made)) one.1))
+        (retold _ _ _ b.place _ (ap₂ (λ names end. not (is_among b.name names) || end) (outputs_kept of new made) (end-made cell b.name)) one.1))
         (known_operand b.value two.1))
         (retold _ _ _ b.value.place _ (ap not (register_kept b.value.form)) three.1)
 
@@ -481,6 +484,12 @@ module _ (tree : PlainTree) where
         (list_kept (input_breaks tree part cell (cell_of tree found)) (input_breaks (made_tree tree) other cell (cell_of (made_tree tree) found)) (input_kept cell (cell_of tree found) (cell_of (made_tree tree) found) made) inputs one.1))
         (list_kept (output_breaks tree part cell (cell_of tree found)) (output_breaks (made_tree tree) other cell (cell_of (made_tree tree) found)) (output_kept cell (cell_of tree found) (cell_of (made_tree tree) found) made) outputs two.1)
 
+    bound_kept : (cell : List ℕ) (inputs outputs : List BindItem) (place : Place) → form_breaks tree part (statements.Invoke cell inputs outputs) place ≡ []
+        → form_breaks (made_tree tree) other (statements.Invoke cell inputs outputs) place ≡ []
+    bound_kept cell inputs outputs place none =
+        let two = append_none _ _ none in
+        both_none _ _ two.0 (invoke_kept cell inputs outputs place (cell_among cell part.cells) two.1)
+
     form_kept : (form : statements.PlainForm) (place : Place) → form_breaks tree part form place ≡ [] → form_breaks (made_tree tree) other form place ≡ []
     form_kept (statements.Enable group marks) place none = enable_kept group place ∙ none
     form_kept (statements.Seq marks block) place none = refl
@@ -492,10 +501,8 @@ module _ (tree : PlainTree) where
     form_kept (statements.While test comb body) place none = let two = append_none _ _ none in both_none _ _ (with_kept comb place ∙ two.0) (source_operand test two.1)
     form_kept (statements.Repeat count body) place none = refl
     form_kept (statements.StaticRepeat written count body) place none = refl
-    form_kept (statements.Invoke cell inputs outputs) place none =
-        let two = append_none _ _ none in
-        both_none _ _ two.0 (invoke_kept cell inputs outputs place (cell_among cell part.cells) two.1)
-    form_kept (statements.StaticInvoke written cell inputs outputs) place none = refl
+    form_kept (statements.Invoke cell inputs outputs) place none = bound_kept cell inputs outputs place none
+    form_kept (statements.StaticInvoke written cell inputs outputs) place none = bound_kept cell inputs outputs place none
 
     -- what a form is told of hangs on its head alone
     form_told : (below : ℕ) (form : statements.PlainForm) (place : Place) → form_breaks (made_tree tree) other (promote_form (is_long tree part i) below form) place ≡ form_breaks (made_tree tree) other form place
@@ -569,7 +576,7 @@ module _ (tree : PlainTree) where
     -- A COMPONENT
     pub component_kept_names : component_breaks (made_tree tree) other ≡ []
     component_kept_names =
-        both_none _ _ (both_none _ _ (both_none _ _ (both_none _ _ (both_none _ _ (both_none _ _ own.primitive twice_kept)
+        both_none _ _ (both_none _ _ (both_none _ _ (both_none _ _ (both_none _ _ (both_none _ _ (both_none _ _ own.primitive own.dynamic) twice_kept)
         (flat_is_none (port_breaks (made_tree tree) other true) part.inputs (λ port h. own.inputs port h)))
         (flat_is_none (port_breaks (made_tree tree) other false) part.outputs (λ port h. own.outputs port h)))
         (flat_is_none (cell_breaks (made_tree tree) other) part.cells (λ cell h. cell_kept cell (own.cells cell h))))

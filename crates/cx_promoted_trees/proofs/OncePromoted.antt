@@ -84,6 +84,7 @@ module _ (i j : Instance) (t : Twins SameSignature i j) (always : (part_of i).al
 -- COMPONENT k of a design and that of the one made of it
 module _ (old new : PlainDesign) (made : DesignMade old new) where
   record Same (a b : PlainComponent) : Type 0 where
+    latency : a.latency ≡ b.latency
     inputs : a.inputs ≡ b.inputs
     outputs : a.outputs ≡ b.outputs
     always : a.always ≡ b.always
@@ -92,11 +93,11 @@ module _ (old new : PlainDesign) (made : DesignMade old new) where
   same_parts k = by (cases_lt k (length old.components))
     where
       by : (k < length old.components) ⊎ (length old.components ≤ k) → Same (component_at old k) (component_at new k)
-      by (inl within) = let part = made.parts k within in record { inputs = part.inputs; outputs = part.outputs; always = part.always }
+      by (inl within) = let part = made.parts k within in record { latency = part.latency; inputs = part.inputs; outputs = part.outputs; always = part.always }
       by (inr past) =
           let one : component_at old k ≡ no_component = get_or_past old.components k no_component past in
           let other : component_at new k ≡ no_component = get_or_past new.components k no_component (past_new old new made k past) in
-          subst (Same (component_at old k)) (one ∙ sym other) (record { inputs = refl; outputs = refl; always = refl })
+          subst (Same (component_at old k)) (one ∙ sym other) (record { latency = refl; inputs = refl; outputs = refl; always = refl })
 
   same_within : (m k : ℕ) → Same (part_of (tree_within old m k)) (part_of (tree_within new m k))
   same_within m k = subst (λ a. Same a (part_of (tree_within new m k))) (sym (same_part old m k)) (subst (Same (component_at old k)) (sym (same_part new m k)) (same_parts k))
@@ -105,7 +106,7 @@ module _ (old new : PlainDesign) (made : DesignMade old new) where
   promotable_made k x =
       subst (λ n. promotable (tree_within new n k) x ≡ promotable (component_of old k) x) made.count
       (promotable_same (component_of old k) (tree_within new (length old.components) k)
-      (twins_within old new made SameSignature (λ m n. let r = same_within m n in record { inputs = r.inputs; outputs = r.outputs }) (length old.components) k)
+      (twins_within old new made SameSignature (λ m n. let r = same_within m n in record { latency = r.latency; inputs = r.inputs; outputs = r.outputs }) (length old.components) k)
       (same_within (length old.components) k).always x)
 
 -- A PROMOTED TREE

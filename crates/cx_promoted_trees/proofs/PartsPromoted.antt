@@ -1,6 +1,6 @@
 -- PARTS OF THE PROMOTED TREE: its cells, signatures and names stay, so each operand is the same port; groups stay, or are promoted.
-use Rattle.std.proofs.Common.{◌≡◌, ℕ, suc, inl, inr, Bool, true, false, List, [], ◌∷◌, ◌++◌, Option, Some, None, map, flat_map, codes, refl, sym, ap, ap₂, ◌∙◌}
-use Rattle.std.specs.Prelude.{if◌then◌else◌}
+use Rattle.std.proofs.Common.{◌≡◌, ℕ, suc, ◌+◌, inl, inr, Bool, true, false, List, [], ◌∷◌, ◌++◌, Option, Some, None, length, map, flat_map, codes, refl, sym, ap, ap₂, ◌∙◌}
+use Rattle.std.specs.Prelude.{◌||◌, is_some, if◌then◌else◌}
 use Rattle.cx_text.specs.declared.places.Place.{Place}
 use Rattle.cx_prim.specs.declared.names.PrimitiveName.{PrimitiveName}
 use Rattle.cx_prim.specs.Table.{PrimitiveRow}
@@ -19,13 +19,13 @@ use Rattle.cx_meaning.specs.declared.ports.PortRef.{PortRef}
 use Rattle.cx_meaning.specs.declared.ports.PortRef.TheVariants as ports
 use Rattle.cx_meaning.specs.declared.ports.PlacedPort.{PlacedPort}
 use Rattle.cx_meaning.specs.declared.kinds.GroupKind.TheVariants as kinds
-use Rattle.cx_meaning.specs.Designs.{PlainGuard, Always, Atom, Negation, All, Any, Compared, a_guard, guards_of, PlainAssign, PlainGroup, OfComponent}
+use Rattle.cx_meaning.specs.Designs.{PlainGuard, Always, Atom, Negation, All, Any, Compared, a_guard, guards_of, PlainAssign, PlainInvoke, PlainGroup, OfComponent}
 use Rattle.cx_meaning.specs.Instances.{Instance}
 use Rattle.cx_rules.specs.Ports.{is_primitive_enable}
 use Rattle.cx_rules.specs.Ports as rules
 use Rattle.cx_rules.specs.ShapeRules.{is_hole}
-use Rattle.cx_numbering.specs.Names.{same_name, number_of, is_external, cell_names, component_names, port_names, groups_in, always_in, group_names, component_among, cell_among, CellOf, Neither, APrimitive, AComponent, or_component, primitive_or, cell_of, cell_port_names, found_cell_ports, cell_go, primitive_of}
-use Rattle.cx_numbering.specs.DesignOf.{number_or_0, Invoke, own_port, cell_port, port_of, placed_of, comparison_of, guard_of, guards_in, guard_or_always, assign_of, kind_of, group_of, go_port, found_go, at, input_assign, go_guard, go_assign, register_of, capture_assigns, register_done, done_assign, invoke_group, invoke_groups, kind_or, plain_cell_of, design_of}
+use Rattle.cx_numbering.specs.Names.{same_name, number_of, is_external, cell_names, component_names, port_names, groups_in, always_in, group_names, component_among, cell_among, CellOf, Neither, APrimitive, AComponent, or_component, primitive_or, cell_of, cell_port_names, found_cell_ports, latency_of, found_latency, cell_go, primitive_of}
+use Rattle.cx_numbering.specs.DesignOf.{number_or_0, Invoke, Next, own_port, cell_port, port_of, placed_of, comparison_of, guard_of, guards_in, guard_or_always, assign_of, kind_of, group_of, go_port, found_go, at, input_assign, go_guard, go_assign, register_of, capture_assigns, register_done, done_assign, invoke_group, invoke_latency, is_static_invoke, static_capture, capture_count, after_static, after, past, captures_number, plain_invoke_of, captures_for, groups_for, invoke_groups, static_for, static_invokes, first, kind_or, plain_cell_of, design_of}
 use Rattle.cx_promotion.specs.Promotable.{promoted_assigns, promoted_group}
 use Rattle.cx_promotion.specs.Made.{GroupMade, GroupsMade, a_group}
 use Rattle.cx_promotion.specs.Rewriting.{is_hole_item, bare_enable, promote_assigns, promote_group, length_of, enables, promote_wire, promote_component, components_from, made_tree}
@@ -71,6 +71,15 @@ module _ (tree : PlainTree) where
   go_of of other neither = refl
   go_of of other a_primitive = refl
   go_of of other (a_component i) = refl
+
+  latency_made : (of other : CellOf) → MadeKind of other → latency_of other ≡ latency_of of
+  latency_made of other neither = refl
+  latency_made of other a_primitive = refl
+  latency_made of other (a_component i) = refl
+
+  pub latency-made : (o : Option ast.PlainCell) → found_latency (made_tree tree) o ≡ found_latency tree o
+  latency-made None = refl
+  latency-made (Some cell) = latency_made (cell_of tree cell) (cell_of (made_tree tree) cell) (cell_of-made cell)
 
   pub ports-made : (o : Option ast.PlainCell) → found_cell_ports (made_tree tree) o ≡ found_cell_ports tree o
   ports-made None = refl
@@ -296,6 +305,69 @@ module _ (tree : PlainTree) where
       invoke_group-made g = ap (λ list. record { name = []; kind = kinds.Plain; assigns = list; place = k.place })
           (ap₂ ◌++◌ (inputs-made k.inputs) (ap₂ ◌∷◌ go_assign-made (ap₂ ◌++◌ (captures-made k.outputs) (ap (λ a. a ∷ []) (done_assign-made g k.outputs)))))
 
-    pub invoke_groups-made : (n : ℕ) (list : List Invoke) → invoke_groups (made_tree tree) twin n list ≡ invoke_groups tree part n list
+      -- a static one captures the same
+      static_captures-made : (list : List BindItem) → flat_map (static_capture (made_tree tree) twin k) list ≡ flat_map (static_capture tree part k) list
+      static_captures-made [] = refl
+      static_captures-made (b ∷ rest) =
+          ap₂ ◌∷◌ (assign_is _ _ Always Always _ _ k.place (port-made b.value.form) refl (placed_here b.place k.cell b.name))
+          (ap₂ ◌∷◌ (assign_is _ _ Always Always _ _ k.place (register_port-made b (codes "write_en")) refl refl) (static_captures-made rest))
+
+      captures_for-made : (list : List BindItem) → captures_for (made_tree tree) twin k list ≡ captures_for tree part k list
+      captures_for-made [] = refl
+      captures_for-made (b ∷ rest) = ap (λ list. record { name = []; kind = kinds.Timed 1; assigns = list; place = k.place } ∷ []) (static_captures-made k.outputs)
+
+      groups_for-made : (static : Bool) (n : Next) → groups_for (made_tree tree) twin static n k ≡ groups_for tree part static n k
+      groups_for-made true n = captures_for-made k.outputs
+      groups_for-made false n = ap (λ g. g ∷ []) (invoke_group-made n.group)
+
+      captures_number-made : (g : ℕ) (list : List BindItem) → captures_number (made_tree tree) twin g list ≡ captures_number tree part g list
+      captures_number-made g [] = refl
+      captures_number-made g (b ∷ rest) = refl
+
+      latency_is : invoke_latency (made_tree tree) twin k ≡ invoke_latency tree part k
+      latency_is = latency-made (cell_among k.cell part.cells)
+
+      abbrev an_invoke : Option ℕ → List PlainAssign → Option ℕ → PlainInvoke
+      an_invoke latency inputs captures =
+          record { cell = number_or_0 k.cell (cell_names part); written = k.written; length = k.length; latency = latency; inputs = inputs; captures = captures }
+
+      plain_invoke-made : (n : Next) → plain_invoke_of (made_tree tree) twin n k ≡ plain_invoke_of tree part n k
+      plain_invoke-made n = ap₂ (λ f x. f x) (ap₂ an_invoke latency_is (inputs-made k.inputs)) (captures_number-made n.group k.outputs)
+
+      static_for-made : (static : Bool) (n : Next) → static_for (made_tree tree) twin static n k ≡ static_for tree part static n k
+      static_for-made true n = ap (λ v. v ∷ []) (plain_invoke-made n)
+      static_for-made false n = refl
+
+    -- NUMBERS of invokes and of their groups stay
+    pub static-made : (k : Invoke) → is_static_invoke (made_tree tree) twin k ≡ is_static_invoke tree part k
+    static-made k = ap (λ latency. k.written || is_some latency) (latency_is k)
+
+    count-made : (list : List BindItem) → capture_count (made_tree tree) twin list ≡ capture_count tree part list
+    count-made [] = refl
+    count-made (b ∷ rest) = refl
+
+    after_static-made : (static : Bool) (n : Next) (list : List BindItem) → after_static (made_tree tree) twin static n list ≡ after_static tree part static n list
+    after_static-made true n list = ap (λ (count : ℕ). record { group = n.group + count; invoke = suc n.invoke }) (count-made list)
+    after_static-made false n list = refl
+
+    after-made : (n : Next) (k : Invoke) → after (made_tree tree) twin n k ≡ after tree part n k
+    after-made n k = ap (λ static. after_static (made_tree tree) twin static n k.outputs) (static-made k) ∙ after_static-made (is_static_invoke tree part k) n k.outputs
+
+    pub past-made : (n : Next) (list : List Invoke) → past (made_tree tree) twin n list ≡ past tree part n list
+    past-made n [] = refl
+    past-made n (k ∷ rest) = ap (λ m. past (made_tree tree) twin m rest) (after-made n k) ∙ past-made (after tree part n k) rest
+
+    pub first-made : first (made_tree tree) twin ≡ first tree part
+    first-made = ap (λ (names : List (List ℕ)). record { group = length names; invoke = 0 }) group_names-made
+
+    pub invoke_groups-made : (n : Next) (list : List Invoke) → invoke_groups (made_tree tree) twin n list ≡ invoke_groups tree part n list
     invoke_groups-made n [] = refl
-    invoke_groups-made n (k ∷ rest) = ap₂ ◌∷◌ (invoke_group-made k n) (invoke_groups-made (suc n) rest)
+    invoke_groups-made n (k ∷ rest) =
+        ap₂ ◌++◌ (ap (λ static. groups_for (made_tree tree) twin static n k) (static-made k) ∙ groups_for-made k (is_static_invoke tree part k) n)
+        (ap (λ m. invoke_groups (made_tree tree) twin m rest) (after-made n k) ∙ invoke_groups-made (after tree part n k) rest)
+
+    pub static_invokes-made : (n : Next) (list : List Invoke) → static_invokes (made_tree tree) twin n list ≡ static_invokes tree part n list
+    static_invokes-made n [] = refl
+    static_invokes-made n (k ∷ rest) =
+        ap₂ ◌++◌ (ap (λ static. static_for (made_tree tree) twin static n k) (static-made k) ∙ static_for-made k (is_static_invoke tree part k) n)
+        (ap (λ m. static_invokes (made_tree tree) twin m rest) (after-made n k) ∙ static_invokes-made (after tree part n k) rest)

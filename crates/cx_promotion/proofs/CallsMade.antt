@@ -134,7 +134,7 @@ module _ (i j : Instance) (t : Twins SameSignature i j) (made : PartMade i (part
     calls_back : (c : ℕ) → Calls j (assigns_of j g) c → Calls i (assigns_of i g) c
     calls_back c calls =
         let r = old_child c calls.child calls.is_component in
-        record { child = r.child; is_component = r.at; driven = subst (λ list. some_target (is_port_of c) list ≡ true) assigns_same calls.driven }
+        record { child = r.child; is_component = r.at; dynamic = r.same.latency ∙ calls.dynamic; driven = subst (λ list. some_target (is_port_of c) list ≡ true) assigns_same calls.driven }
 
     another_back : (c : ℕ) (target : PortRef) → CallsAnother j g c target → CallsAnother i g c target
     another_back c target ((e, calls, other), is) = ((e, calls_back e calls, other), sym (part_port_same i j t target) ∙ is)

@@ -10,7 +10,7 @@ use Rattle.cx_rules.specs.ShapeRules.{is_hole}
 use Rattle.cx_rules.specs.Ports.{is_primitive_enable}
 use Rattle.cx_rewrites.specs.Beside.{joined}
 use Rattle.cx_promotion.specs.Promotable.{bare_enable, promoted_assigns}
-use Rattle.cx_promotion.specs.Made.{FormMade, empty, enable, seq, collapsed, par, if_made, while_made, repeat_made, static, StatementMade, placed, PartsMade, no_parts, a_part, a_run, ArmsMade, no_arms, an_arm, PartMade}
+use Rattle.cx_promotion.specs.Made.{FormMade, empty, enable, seq, collapsed, par, if_made, while_made, repeat_made, static, timed, StatementMade, placed, PartsMade, no_parts, a_part, a_run, ArmsMade, no_arms, an_arm, PartMade}
 use Rattle.cx_promotion.proofs.Members.{group_made}
 
 append_none : (gs : List ℕ) → gs ++ [] ≡ gs
@@ -34,6 +34,7 @@ module _ (promoted : ℕ → Type 0) where
     form_groups (while_made {comb = comb} one) = ap (with_comb comb) (made_groups one)
     form_groups (repeat_made one) = made_groups one
     form_groups (static is) = refl
+    form_groups timed = refl
 
     pub made_groups : {s t : PlainStatement} → StatementMade promoted s t → groups_of t ≡ groups_of s
     made_groups (placed form) = form_groups form

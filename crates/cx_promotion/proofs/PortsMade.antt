@@ -9,8 +9,9 @@ use Rattle.cx_rules.specs.Ports.{declared_width, part_width, cell_width, width_o
 use Rattle.cx_promotion.proofs.SeenAlike.{SameCell}
 use Rattle.cx_promotion.proofs.Twins.{Twins, beside_each, twin_cells, TwinAt, none_there, a_row_there, a_child_there, twins_at}
 
--- two instances of components with one signature
+-- two instances of components with one signature, both static in the same number of cycles or neither
 pub record SameSignature (i j : Instance) : Type 0 where
+  pub latency : (part_of i).latency ≡ (part_of j).latency
   pub inputs : (part_of i).inputs ≡ (part_of j).inputs
   pub outputs : (part_of i).outputs ≡ (part_of j).outputs
 

@@ -1,4 +1,4 @@
--- A PROMOTED DESIGN KEEPS THE RULES of stages 3 to 6, where the old one does.
+-- A PROMOTED DESIGN KEEPS THE RULES of stages 3 to 6, where the old one does and has no static components.
 use Rattle.std.proofs.Common.{◌≡◌, ℕ, zero, suc, ◌<◌, ◌≤◌, inl, inr, ◌⊎◌, List, length, refl, sym, ap, ◌∙◌, subst, arith}
 use Rattle.std.specs.Prelude.{true}
 use Rattle.std.proofs.lemmas.Bool.{cases_lt}
@@ -13,20 +13,24 @@ use Rattle.cx_meaning.specs.Active.{Owned, nothing, group, source_order}
 use Rattle.cx_meaning.specs.Sights.{In}
 use Rattle.cx_meaning.proofs.DesignsLemmas.{same_part}
 use Rattle.cx_meaning.proofs.SightsLaws.{number_in, in_at}
-use Rattle.cx_rules.specs.Accepted.{Breaks, stage_of, KeepsStage, IsAccepted}
+use Rattle.cx_rules.specs.Accepted as whole
+use Rattle.cx_rules.specs.Accepted.{stage_of}
 use Rattle.cx_rules.specs.CallShape.{BreaksCallShape, GroupBreaksCallShape}
 use Rattle.cx_rules.specs.Items.{Visited, statements_in}
 use Rattle.cx_rules.specs.Ports.{component_of}
-use Rattle.cx_rules.specs.RaceRule.{HasCycle, arms_of, IsShared, BreaksCombCycle, GroupBreaksCombCycle, BreaksRace}
-use Rattle.cx_rules.specs.ShapeRules.{BreaksNoDone, BreaksDoneNotState, BreaksAlwaysEnable, BreaksCombEnable, BreaksStaticGuard, GroupBreaksStaticShape, BreaksStaticControl, BreaksLength, BreaksStaticTest, BreaksOutputNotState}
+use Rattle.cx_rules.specs.RaceRule.{HasCycle, arms_of, BreaksCombCycle, GroupBreaksCombCycle}
+use Rattle.cx_rules.specs.ShapeRules.{BreaksNoDone, BreaksDoneNotState, BreaksAlwaysEnable, BreaksCombEnable, BreaksStaticGuard, GroupBreaksStaticShape, BreaksStaticControl, BreaksStaticTest, BreaksOutputNotState}
 use Rattle.cx_rules.specs.Spots.{AnAssign, AStatement, Spot, AssignRule, StatementRule, GroupRule, OnAssign, OnStatement, OnGroup}
 use Rattle.cx_rules.specs.StaticControl.{is_in_static, may_stand}
 use Rattle.cx_rules.specs.WidthRules.{BreaksWidth, BreaksGuardWidth, TestBreaksGuardWidth, BreaksLiteral, TestBreaksLiteral, BreaksNotATarget, BreaksNotASource, TestBreaksNotASource}
 use Rattle.cx_rules.specs.Wellformed.{IsDesign}
+use Rattle.cx_rules.proofs.InvokesLemmas.{drives_more, reads_more}
 use Rattle.cx_laws.proofs.RaceLemmas.{unshared, not_twice}
+use Rattle.cx_rewrites.specs.FlatRules.{BreaksLength, IsShared, BreaksRace, Breaks, IsAccepted}
+use Rattle.cx_rewrites.proofs.FlatRulesLemmas.{stage_flat, accepted_whole}
 use Rattle.cx_promotion.specs.Made.{IsPromoted, GroupsMade, no_groups, a_group, PartMade, DesignMade}
 use Rattle.cx_promotion.proofs.Twins.{Twins}
-use Rattle.cx_promotion.proofs.Trees.{past_new, twins_within, rows_within, part_made, keeps_statics}
+use Rattle.cx_promotion.proofs.Trees.{past_new, made_is_flat, twins_within, rows_within, part_made, keeps_statics}
 use Rattle.cx_promotion.proofs.PortsMade.{SameSignature}
 use Rattle.cx_promotion.proofs.LeadsMade.{cycle_made}
 use Rattle.cx_promotion.proofs.AssignsMade as assigns
@@ -62,27 +66,27 @@ module _ (old new : PlainDesign) (design : IsDesign old) (accepted : IsAccepted 
 
   -- the signatures are the same
   abbrev Signature : PlainComponent → PlainComponent → Type 0
-  Signature a b = (a.inputs ≡ b.inputs) × (a.outputs ≡ b.outputs)
+  Signature a b = (a.inputs ≡ b.inputs) × (a.outputs ≡ b.outputs) × (a.latency ≡ b.latency)
 
   signatures : (k : ℕ) → Signature (component_at old k) (component_at new k)
   signatures k = by (cases_lt k n)
     where
       by : (k < n) ⊎ (n ≤ k) → Signature (component_at old k) (component_at new k)
-      by (inl within) = ((made.parts k within).inputs, (made.parts k within).outputs)
+      by (inl within) = ((made.parts k within).inputs, (made.parts k within).outputs, (made.parts k within).latency)
       by (inr past) =
           let one : component_at old k ≡ no_component = get_or_past old.components k no_component past in
           let other : component_at new k ≡ no_component = get_or_past new.components k no_component (past_new old new made k past) in
-          subst (λ b. Signature (component_at old k) b) (one ∙ sym other) (refl, refl)
+          subst (λ b. Signature (component_at old k) b) (one ∙ sym other) (refl, refl, refl)
 
   top : (m k : ℕ) → SameSignature (tree_within old m k) (tree_within new m k)
-  top m k = let r = same_parts Signature m k (signatures k) in record { inputs = r.0; outputs = r.1 }
+  top m k = let r = same_parts Signature m k (signatures k) in record { latency = r.2; inputs = r.0; outputs = r.1 }
 
   t : (k : ℕ) → Twins SameSignature (i k) (j k)
   t k = twins_within old new made SameSignature top n k
 
   module _ (k : ℕ) (within : k < n) where
     made_at : PartMade (i k) (part_of (i k)) (part_of (j k))
-    made_at = part_made old new design accepted made n k within
+    made_at = part_made old new design accepted.accepted made n k within
 
     part_old : part_of (i k) ≡ component_at old k
     part_old = same_part old n k
@@ -103,7 +107,7 @@ module _ (old new : PlainDesign) (design : IsDesign old) (accepted : IsAccepted 
     -- A STATEMENT
     stands_static : (v : Visited) → In (statements_in (part_of (i k))) v → is_in_static v.context ≡ true → may_stand (part_of (i k)) v.context v.form ≡ true
     stands_static v inside stat =
-        ap (λ part. may_stand part v.context v.form) part_old ∙ keeps_statics old design accepted k within v (subst (λ part. In (statements_in part) v) part_old inside) stat
+        ap (λ part. may_stand part v.context v.form) part_old ∙ keeps_statics old design accepted.accepted k within v (subst (λ part. In (statements_in part) v) part_old inside) stat
 
     abbrev OldStatement : StatementRule → Type 0
     OldStatement rule = (v : Visited) × In (statements_in (part_of (i k))) v × (at : Place) × (called : List ℕ) × rule (i k) v at called
@@ -123,10 +127,12 @@ module _ (old new : PlainDesign) (design : IsDesign old) (accepted : IsAccepted 
     no_race : (w : Visited) → In (statements_in (component_at new k)) w → (place : Place) (name : List ℕ) → BreaksRace (j k) w place name → ⊥
     no_race w inside place name (inl (c, shared, least, tells)) =
         let r = statements.shared_back (i k) (j k) (t k) made_at lengths stands_static w c (come w inside) shared in
-        unshared old accepted k within r.0 (subst (λ part. In (statements_in part) r.0) part_old r.1) c (subst (λ part. IsShared part (arms_of r.0.form) c) part_old r.2)
+        let shared_old = subst (λ part. IsShared part (arms_of r.0.form) c) part_old r.2 in
+        unshared old accepted.accepted k within r.0 (subst (λ part. In (statements_in part) r.0) part_old r.1) c
+        (shared_old.0, drives_more (component_at old k) shared_old.0.first c shared_old.1, reads_more (component_at old k) shared_old.0.second c shared_old.2)
     no_race w inside place name (inr (none, (g, twice, least, tells))) =
         let r = statements.twice_back (i k) (j k) (t k) made_at lengths stands_static w g (come w inside) twice in
-        not_twice old accepted k within r.0 (subst (λ part. In (statements_in part) r.0) part_old r.1) g r.2
+        not_twice old accepted.accepted k within r.0 (subst (λ part. In (statements_in part) r.0) part_old r.1) g r.2
 
   within_old : (k : ℕ) → k < length new.components → k < n
   within_old k lt = subst (λ m. k < m) (sym made.count) lt
@@ -263,11 +269,12 @@ module _ (old new : PlainDesign) (design : IsDesign old) (accepted : IsAccepted 
   keeps_rule _ spot place name other b = b
 
   -- ACCEPTED, where it keeps the limits
-  pub design_is_accepted : KeepsStage 7 new → IsAccepted new
-  design_is_accepted limits = record {
-    widths = λ rule spot place name e b. keeps_rule rule spot place name (λ f. below_seven 3 (omega arith) (sym e ∙ f)) b;
-    shapes = λ rule spot place name e b. keeps_rule rule spot place name (λ f. below_seven 4 (omega arith) (sym e ∙ f)) b;
-    no_cycles = λ rule spot place name e b. keeps_rule rule spot place name (λ f. below_seven 5 (omega arith) (sym e ∙ f)) b;
-    no_races = λ rule spot place name e b. keeps_rule rule spot place name (λ f. below_seven 6 (omega arith) (sym e ∙ f)) b;
-    limits = limits;
-  }
+  pub design_is_accepted : whole.KeepsStage 7 new → whole.IsAccepted new
+  design_is_accepted limits =
+      let flat = made_is_flat old new made accepted.flat in
+      accepted_whole new flat
+      (λ rule spot place name e b. keeps_rule rule spot place name (λ f. below_seven 3 (omega arith) (sym e ∙ f)) b)
+      (λ rule spot place name e b. keeps_rule rule spot place name (λ f. below_seven 4 (omega arith) (sym e ∙ f)) b)
+      (λ rule spot place name e b. keeps_rule rule spot place name (λ f. below_seven 5 (omega arith) (sym e ∙ f)) b)
+      (λ rule spot place name e b. keeps_rule rule spot place name (λ f. below_seven 6 (omega arith) (sym e ∙ f)) b)
+      (stage_flat new flat 7 limits)

@@ -207,6 +207,7 @@ module _ (part other : PlainComponent) (cells more : Cells) (t : Twins MadeBesid
         whiles {p = p} {q = p} (tests_carry p.port with_group (h.statements (record { context = Dynamic; form = While p with_group a; place = place }) (sub _ (inl refl)))) (beside one (λ v k. sub v (inr k)))
     form_beside (made.repeat_made one) place sub = repeats (beside one (λ v k. sub v (inr k)))
     form_beside (made.static {form = form} is) place sub = static_beside form place is sub
+    form_beside made.timed place sub = outright (λ before s z n m room r. tt)
 
     beside : {s twin : PlainStatement} → StatementMade P s twin → ((v : Visited) → In (visit Dynamic s) v → In (statements_in part) v) → Beside NoLater R same_fault L uncounted M s twin
     beside (made.placed {p = p} form) sub = placed (form_beside form p sub)

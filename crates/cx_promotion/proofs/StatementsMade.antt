@@ -13,14 +13,15 @@ use Rattle.cx_meaning.proofs.SightsLaws.{of_joined, in_left, in_right}
 use Rattle.cx_rules.specs.Footprints.{Reads, driven, named, tested, through, Rests}
 use Rattle.cx_rules.specs.Items.{Context, Dynamic, InStatic, Branch, Visited, visit, statements_in, test_in, option_list, tests_of}
 use Rattle.cx_rules.specs.Ports.{path_of}
-use Rattle.cx_rules.specs.RaceRule.{arms_of, enabled_group, enabled_in, Arms, IsShared, IsEnabledTwice}
-use Rattle.cx_rules.specs.ShapeRules.{BreaksLength, BreaksStaticTest}
+use Rattle.cx_rules.specs.RaceRule.{arms_of, enabled_group, enabled_in, Arms, IsEnabledTwice}
+use Rattle.cx_rules.specs.ShapeRules.{BreaksStaticTest}
 use Rattle.cx_rules.specs.Spots.{StatementRule}
-use Rattle.cx_rules.specs.StaticControl.{is_static, is_in_static, may_stand, form_has_length, has_length, all_have_length, written_length}
+use Rattle.cx_rules.specs.StaticControl.{is_static, is_in_static, is_written, is_timed, may_stand, form_has_length, has_length, all_have_length, written_length}
 use Rattle.cx_rules.specs.WidthRules.{differ, TestBreaksGuardWidth, TestBreaksLiteral, TestBreaksNotASource}
 use Rattle.cx_rules.proofs.ItemsLemmas.{tests_flat}
 use Rattle.cx_laws.proofs.TogetherLemmas.{in_flat}
 use Rattle.cx_laws.proofs.VisitLemmas.{visited}
+use Rattle.cx_rewrites.specs.FlatRules.{BreaksLength, IsShared}
 use Rattle.cx_promotion.specs.Made.{IsPromoted, IsRun, one_more, StatementMade, PartMade}
 use Rattle.cx_promotion.proofs.Impossible.{no_true, no_some}
 use Rattle.cx_promotion.proofs.Twins.{Twins}
@@ -45,8 +46,8 @@ option_is (Some q) p (inr k) = absurd k
 none_static : (form : PlainForm) (k : Option ℕ) (test : PlacedPort) (a b : PlainStatement) → form ≡ StaticIf k test a b → is_static form ≡ false → ⊥
 none_static form k test a b e dynamic = not_both (is_static form) (ap is_static e) dynamic
 
--- HAVING A LENGTH hangs on the lengths of the groups that are enabled
-module _ (part other : PlainComponent) where
+-- HAVING A LENGTH hangs on the lengths of the groups that are enabled, and on the static invokes
+module _ (part other : PlainComponent) (invoked : part.invokes ≡ other.invokes) where
   abbrev Same : List ℕ → Type 0
   Same gs = (g : ℕ) → In gs g → group_length other g ≡ group_length part g
 
@@ -68,7 +69,7 @@ module _ (part other : PlainComponent) where
         both_same (has_length other Branch a) (has_length other Branch b) (has_length part Branch a) (has_length part Branch b)
         (has_length_same Branch a (λ g k. same g (in_left (groups_of a) (groups_of b) g k))) (has_length_same Branch b (λ g k. same g (in_right (groups_of a) (groups_of b) g k)))
     form_has_length_same context (StaticRepeat length count a) same = has_length_same InStatic a same
-    form_has_length_same context (Timed k) same = refl
+    form_has_length_same context (Timed k) same = ap (λ vs. is_timed (slice_get vs k)) (sym invoked)
 
     has_length_same : (context : Context) (s : PlainStatement) → Same (groups_of s) → has_length other context s ≡ has_length part context s
     has_length_same context (Placed form place) same = form_has_length_same context form same
@@ -138,7 +139,7 @@ module _ (i j : Instance) (t : Twins SameSignature i j) (made : PartMade i (part
   still_stands context (StaticPar length arms) e = e
   still_stands context (StaticIf length test a b) e = e
   still_stands context (StaticRepeat length count a) e = e
-  still_stands context (Timed k) e = e
+  still_stands context (Timed k) e = ap (λ vs. is_written (slice_get vs k)) (sym made.invokes) ∙ e
 
   promoted_length : (g : ℕ) (is : P g) → group_length (part_of j) g ≡ Some is.0
   promoted_length g is = ap (λ (x : PlainGroup). kind_length x.kind) is.2
@@ -181,7 +182,7 @@ module _ (i j : Instance) (t : Twins SameSignature i j) (made : PartMade i (part
         [],
         (
           is,
-          sym (form_has_length_same (part_of i) (part_of j) v.context v.form same) ∙ has,
+          sym (form_has_length_same (part_of i) (part_of j) made.invokes v.context v.form same) ∙ has,
           wrong_back v.form (form_length_same (part_of i) (part_of j) v.form same) wrong,
           (refl, refl),
         ),

@@ -17,6 +17,7 @@ use Rattle.cx_meaning.proofs.InstancesLemmas.{row_is}
 use Rattle.cx_meaning.proofs.SightsLaws.{number_in}
 use Rattle.cx_rules.specs.Accepted.{IsAccepted}
 use Rattle.cx_rules.specs.Circles.{IsAcyclic, AreAcyclic}
+use Rattle.cx_rules.specs.Flat.{IsFlat}
 use Rattle.cx_rules.specs.Items.{Range, Visited, statements_in, sources_of, ranges_of}
 use Rattle.cx_rules.specs.Ports.{component_of, is_target_only, path_of}
 use Rattle.cx_rules.specs.ShapeRules.{owner_length, is_bad_range, enabled_name}
@@ -146,6 +147,14 @@ module _ (d : PlainDesign) (design : IsDesign d) (accepted : IsAccepted d) (k : 
 -- THE PARTS of both designs, also of those that are not there
 pub past_new : (old new : PlainDesign) → DesignMade old new → (k : ℕ) → length old.components ≤ k → length new.components ≤ k
 past_new old new made k past = let e = made.count in omega (arith, past)
+
+-- without static components as the old one
+pub made_is_flat : (old new : PlainDesign) → DesignMade old new → IsFlat old → IsFlat new
+made_is_flat old new made flat k within =
+    let there : k < length old.components = let e = made.count in omega (arith, within, e) in
+    let part = made.parts k there in
+    let own = flat k there in
+    record { dynamic = sym part.latency ∙ own.dynamic; no_invoke = sym part.invokes ∙ own.no_invoke }
 
 -- trees of one depth, whose instances stand beside each other where components do
 module _ (old new : PlainDesign) (made : DesignMade old new) (Beside : Instance → Instance → Type 0) (top : (m k : ℕ) → Beside (tree_within old m k) (tree_within new m k)) where

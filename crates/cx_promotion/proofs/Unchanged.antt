@@ -9,7 +9,7 @@ use Rattle.cx_rules.specs.Ports.{component_of}
 use Rattle.cx_numbering.specs.Names.{group_among, groups_in, same_name}
 use Rattle.cx_numbering.specs.DesignOf.{design_of}
 use Rattle.cx_promotion.specs.declared.rows.PromotedRow.{PromotedRow}
-use Rattle.cx_promotion.specs.Rewriting.{PIECE, BELOW_CONTROL, is_run, close, cut, cut_if, promote_form, promote_else, promote_statement, promote_all, promote_block, length_of, length_found, is_long, enables, promote_group, promote_wire, promote_component, row_if, rows_in, components_from, rows_from, made_tree, made_rows, IsPromotedTree}
+use Rattle.cx_promotion.specs.Rewriting.{PIECE, BELOW_CONTROL, is_run, close, cut, cut_if, promote_form, promote_else, promote_all, promote_block, length_of, length_found, is_long, enables, promote_group, promote_wire, promote_component, row_if, rows_in, components_from, rows_from, made_tree, made_rows, IsPromotedTree}
 
 -- CONTROL in which no name is that of a promotable group
 module _ (long : List ℕ → Bool) (none : (name : List ℕ) → long name ≡ false) where

@@ -2,7 +2,7 @@
 use Rattle.std.proofs.Common.{◌≡◌, ℕ, zero, suc, inl, inr, false, List, [], ◌∷◌, ◌++◌, Some, None, refl, subst}
 use Rattle.std.specs.Prelude.{slice_get}
 use Rattle.cx_text.specs.declared.places.Place.{Place}
-use Rattle.cx_meaning.specs.Designs.{PlainForm, Empty, Enable, Seq, Par, If, While, Repeat, StaticSeq, PlainStatement, Placed, PlainStatements, no_statements, a_statement, list_of}
+use Rattle.cx_meaning.specs.Designs.{PlainForm, Empty, Enable, Seq, Par, If, While, Repeat, StaticSeq, Timed, PlainStatement, Placed, PlainStatements, no_statements, a_statement, list_of}
 use Rattle.cx_meaning.specs.Sights.{In}
 use Rattle.cx_meaning.proofs.SightsLaws.{of_joined, in_left, in_right}
 use Rattle.cx_rules.specs.Items.{Context, Dynamic, InStatic, Visited, visit, visit_parts, visit_all, test_in}
@@ -101,6 +101,7 @@ module _ (promoted : ℕ → Type 0) where
     form_comes (made.repeat_made {count = count} {a = a} {x = x} one) p =
         (dynamic_comes (Repeat count a) (Repeat count x) p refl refl refl (no_arms (Repeat count a) (Repeat count x) refl), λ w k. wider (λ v j. inr j) (statement_comes one w k))
     form_comes (made.static {form = form} is) p = (the_same (at Dynamic form p) (inl refl), same_parts Dynamic form p)
+    form_comes (made.timed {k = n}) p = (the_same (at Dynamic (Timed n) p) (inl refl), λ w k. absurd k)
 
     pub statement_comes : {s t : PlainStatement} → StatementMade promoted s t → CameAll (visit Dynamic s) (visit Dynamic t)
     statement_comes (made.placed {form = form} {other = twin} {p = p} {q = q} h) w k =

@@ -3,7 +3,7 @@
 use Rattle.std.specs.Prelude.{◌≡◌, ℕ, ◌<◌, ◌≤◌, ◌⊎◌, true, List, [], ◌∷◌, Option, Some, None, length}
 use Rattle.cx_text.specs.declared.places.Place.{Place}
 use Rattle.cx_meaning.specs.declared.ports.PlacedPort.{PlacedPort}
-use Rattle.cx_meaning.specs.Designs.{Always, PlainGroup, PlainForm, Empty, Enable, Seq, Par, If, While, Repeat, StaticSeq, PlainStatement, Placed, PlainStatements, no_statements, a_statement, PlainComponent, PlainDesign, component_at, group_at}
+use Rattle.cx_meaning.specs.Designs.{Always, PlainGroup, PlainForm, Empty, Enable, Seq, Par, If, While, Repeat, StaticSeq, Timed, PlainStatement, Placed, PlainStatements, no_statements, a_statement, PlainComponent, PlainDesign, component_at, group_at}
 use Rattle.cx_meaning.specs.Instances.{Instance, State}
 use Rattle.cx_meaning.specs.Active.{Owned, source_order}
 use Rattle.cx_meaning.specs.Answers.{End}
@@ -45,8 +45,9 @@ module _ (promoted : ℕ → Type 0) where
       if_made : {test : PlacedPort} {comb : Option ℕ} {a b x y : PlainStatement} → StatementMade a x → StatementMade b y → FormMade (If test comb a b) (If test comb x y)
       while_made : {test : PlacedPort} {comb : Option ℕ} {a x : PlainStatement} → StatementMade a x → FormMade (While test comb a) (While test comb x)
       repeat_made : {count : ℕ} {a x : PlainStatement} → StatementMade a x → FormMade (Repeat count a) (Repeat count x)
-      -- static control of the source stays
+      -- static control of the source stays, and so does a static invoke
       static : {form : PlainForm} → is_static form ≡ true → FormMade form form
+      timed : {k : ℕ} → FormMade (Timed k) (Timed k)
 
     pub data StatementMade : PlainStatement → PlainStatement → Type 0 where
       placed : {form other : PlainForm} {p q : Place} → FormMade form other → StatementMade (Placed form p) (Placed other q)

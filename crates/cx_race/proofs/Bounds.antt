@@ -1,5 +1,5 @@
 -- What assignments and statements of a design name is there.
-use Rattle.std.proofs.Common.{◌≡◌, ℕ, zero, suc, ◌<◌, ◌≤◌, List, [], Option, Some, None, length, map, flat_map, ◌⊎◌, inl, inr, ⊎_elim, refl, sym, ap, ◌∙◌, subst, arith}
+use Rattle.std.proofs.Common.{◌≡◌, ℕ, zero, suc, ◌<◌, ◌≤◌, List, [], ◌++◌, Option, Some, None, length, map, flat_map, ◌⊎◌, inl, inr, ⊎_elim, refl, sym, ap, ◌∙◌, subst, arith}
 use denote.Struct.Props.{props}
 use Rattle.std.proofs.Math.Logic.{∥∥₁_elim}
 use Rattle.std.proofs.lemmas.List.{get_or_past}
@@ -8,17 +8,18 @@ use Rattle.cx_graphs.specs.Graphs.{Bounded, Edges, edges_of, targets_of}
 use Rattle.cx_meaning.specs.declared.ports.PortRef.{PortRef}
 use Rattle.cx_meaning.specs.declared.ports.PortRef.TheVariants as ports
 use Rattle.cx_meaning.specs.declared.ports.PlacedPort.{PlacedPort}
-use Rattle.cx_meaning.specs.Designs.{PlainAssign, PlainGroup, PlainComponent, PlainDesign, component_at, group_at, no_group, PlainForm, Empty, Enable, Seq, Par, If, While, Repeat, StaticSeq, StaticPar, StaticIf, StaticRepeat, Timed, PlainStatement}
+use Rattle.cx_meaning.specs.Designs.{PlainAssign, PlainGroup, PlainInvoke, PlainComponent, PlainDesign, component_at, group_at, no_group, PlainForm, Empty, Enable, Seq, Par, If, While, Repeat, StaticSeq, StaticPar, StaticIf, StaticRepeat, Timed, PlainStatement}
 use Rattle.cx_meaning.specs.Instances.{Instance, part_of}
 use Rattle.cx_meaning.specs.Sights.{In}
 use Rattle.cx_meaning.specs.Control.{groups_of}
 use Rattle.cx_rules.specs.Ports.{component_of}
 use Rattle.cx_rules.specs.Items.{operands_of, Visited, Dynamic, visit, statements_in, test_in, option_list, tests_of}
 use Rattle.cx_rules.specs.RaceRule.{enabled_group, enabled_in}
-use Rattle.cx_rules.specs.Wellformed.{IsThere, StandsIn, IsAssign, IsForm, IsWith, IsDesign}
+use Rattle.cx_rules.specs.Invokes.{invoke_at, invokes_of}
+use Rattle.cx_rules.specs.Wellformed.{IsThere, StandsIn, IsAssign, IsForm, IsWith, IsBind, IsDesign}
 use Rattle.cx_design_parts.proofs.Lists.{in_either, flat_in}
 use Rattle.cx_race.specs.Forms.{forms_of, own_groups}
-use Rattle.cx_race.specs.Cells.{cell_in, port_cell, target_in, named_in, named_in_all, targets_in_group, cells_in_group, tested_by}
+use Rattle.cx_race.specs.Cells.{cell_in, port_cell, target_in, named_in, named_in_all, targets_in_group, cells_in_group, tested_by, targets_in_capture, named_in_capture, targets_in_invoke, named_in_invoke, named_in_invokes, invoked_by, met_by}
 use Rattle.cx_race.specs.Links.{AreLinks, HasLinks, Within}
 use Rattle.cx_race.specs.Footprints.{AreFootprints}
 use Rattle.cx_race.specs.declared.parts.Footprints.{Footprints}
@@ -26,7 +27,7 @@ use Rattle.cx_race.proofs.FormLemmas.{visited_forms, enabled_by_forms, groups_by
 use Rattle.cx_race.proofs.CellLemmas.{cell_is, group_list}
 use Rattle.cx_race.proofs.ArmLemmas.{from_node}
 use Rattle.cx_meaning.proofs.DesignsLemmas.{same_part}
-use Rattle.cx_meaning.proofs.SightsLaws.{image_in}
+use Rattle.cx_meaning.proofs.SightsLaws.{image_in, in_at}
 
 port_within : (i : Instance) (port : PortRef) → IsThere i port → Within (length (part_of i).cells) (cell_in port)
 port_within i port h c j = let p = cell_is port c j in let there : IsThere i (ports.Cell c p.0) = subst (IsThere i) p.1 h in there.0
@@ -40,6 +41,14 @@ named_within i owner a h c j =
     ⊎_elim
     (λ l. port_within i a.source.port (h.sources a.source (inl refl)) c l)
     (λ r. let o = flat_in port_cell (operands_of a.guard) c r in port_within i o.0.port (h.sources o.0 (inr o.1)) c o.2)
+    (in_either (cell_in a.source.port) (flat_map port_cell (operands_of a.guard)) c j)
+
+-- the cells that an input of a static invoke names are there
+bind_within : (i : Instance) (cell : ℕ) (a : PlainAssign) → IsBind i cell a → Within (length (part_of i).cells) (named_in a)
+bind_within i cell a h c j =
+    ⊎_elim
+    (λ l. port_within i a.source.port h.source c l)
+    (λ r. let none : flat_map port_cell (operands_of a.guard) ≡ [] = ap (λ g. flat_map port_cell (operands_of g)) h.no_guard in absurd (subst (λ l. In l c) none r))
     (in_either (cell_in a.source.port) (flat_map port_cell (operands_of a.guard)) c j)
 
 -- a group that has assignments is there
@@ -161,11 +170,51 @@ module _ (d : PlainDesign) (keeps : ∥ IsDesign d ∥₁) (k : ℕ) (within : k
       let v = visited_form f i in
       ∥∥₁_elim keeps (hlevel props) (λ design. in_part (port_cell p) (port_within at p.port (((design.components k within).statements v.0 v.1).test p (ap test_in v.2 ∙ e))))
 
-  pub tests_there : (s : PlainStatement) → AreForms part s → Within (length part.cells) (tested_by s)
+  tests_there : (s : PlainStatement) → AreForms part s → Within (length part.cells) (tested_by s)
   tests_there s forms c i =
       let p = flat_in port_cell (tests_of s) c i in
       let f = flat_in (λ f. option_list (test_in f)) (forms_of s) p.0 (subst (λ l. In l p.0) (tests_by_forms s) p.1) in
       test_there f.0 p.0 (forms f.0 f.1) (in_option (test_in f.0) p.0 f.2) c p.2
+
+  -- THE STATIC INVOKES
+  capture_targets : (o : Option ℕ) → Within (length part.cells) (targets_in_capture part o)
+  capture_targets None c i = absurd i
+  capture_targets (Some g) c i = targets_there g c i
+
+  capture_names : (o : Option ℕ) → Within (length part.cells) (named_in_capture part o)
+  capture_names None c i = absurd i
+  capture_names (Some g) c i =
+      let a = flat_in named_in (group_at part g).assigns c i in
+      named_there (Some g) a.0 (group_there part g a.0 a.1) c a.2
+
+  invoke_targets : (n : ℕ) (o : Option PlainInvoke) → invoke_at part n ≡ o → Within (length part.cells) (targets_in_invoke part o)
+  invoke_targets n None e c i = absurd i
+  invoke_targets n (Some v) e c (inl is) =
+      ∥∥₁_elim keeps (hlevel props) (λ design. subst (λ p. c < length p.cells) same (subst (λ m. m < length (part_of at).cells) is ((design.components k within).invokes v (in_at part.invokes n v e)).cell))
+  invoke_targets n (Some v) e c (inr i) = capture_targets v.captures c i
+
+  invoke_names : (n : ℕ) (o : Option PlainInvoke) → invoke_at part n ≡ o → Within (length part.cells) (named_in_invoke part o)
+  invoke_names n None e c i = absurd i
+  invoke_names n (Some v) e c i =
+      ⊎_elim
+      (λ l. let a = flat_in named_in v.inputs c l in
+      ∥∥₁_elim keeps (hlevel props) (λ design. in_part (named_in a.0) (bind_within at v.cell a.0 (((design.components k within).invokes v (in_at part.invokes n v e)).inputs a.0 a.1)) c a.2))
+      (λ r. capture_names v.captures c r)
+      (in_either (named_in_all v.inputs) (named_in_capture part v.captures) c i)
+
+  pub invoked_there : (s : PlainStatement) → Within (length part.cells) (invoked_by part s)
+  invoked_there s c i = let n = flat_in (λ n. targets_in_invoke part (invoke_at part n)) (invokes_of s) c i in invoke_targets n.0 (invoke_at part n.0) refl c n.2
+
+  pub met_there : (s : PlainStatement) → AreForms part s → Within (length part.cells) (met_by part s)
+  met_there s forms c i =
+      let fed = named_in_invokes part (invokes_of s) in
+      ⊎_elim
+      (λ l. tests_there s forms c l)
+      (λ r. ⊎_elim
+      (λ x. invoked_there s c x)
+      (λ y. let n = flat_in (λ n. named_in_invoke part (invoke_at part n)) (invokes_of s) c y in invoke_names n.0 (invoke_at part n.0) refl c n.2)
+      (in_either (invoked_by part s) fed c r))
+      (in_either (tested_by s) (invoked_by part s ++ fed) c i)
 
   form_there : (f : PlainForm) → In (forms_of part.control) f → (g : ℕ) → In (own_groups f) g → g < length part.groups
   form_there f i g j =

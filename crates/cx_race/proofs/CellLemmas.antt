@@ -65,10 +65,10 @@ driven_assigns (a ∷ rest) c i =
     ⊎_elim (λ l. or_left (targets_cell a.target c) (assigns_drive rest c) (driven_target a.target c l)) (λ r. or_right (targets_cell a.target c) (assigns_drive rest c) (driven_assigns rest c r)) (in_either (target_in a) (driven_in rest) c i)
 
 module _ (part : PlainComponent) where
-  abbrev of_group : ℕ → List ℕ
+  abbrev pub of_group : ℕ → List ℕ
   of_group g = driven_in (group_at part g).assigns
 
-  groups_driven : (gs : List ℕ) (c : ℕ) → groups_drive part gs c ≡ true → In (flat_map of_group gs) c
+  pub groups_driven : (gs : List ℕ) (c : ℕ) → groups_drive part gs c ≡ true → In (flat_map of_group gs) c
   groups_driven [] c h = absurd (cc)
   groups_driven (g ∷ gs) c h =
       ⊎_elim
@@ -76,7 +76,7 @@ module _ (part : PlainComponent) where
       (λ y. in_right (of_group g) (flat_map of_group gs) c (groups_driven gs c y))
       (either_true (assigns_drive (group_at part g).assigns c) (groups_drive part gs c) h)
 
-  driven_groups : (gs : List ℕ) (c : ℕ) → In (flat_map of_group gs) c → groups_drive part gs c ≡ true
+  pub driven_groups : (gs : List ℕ) (c : ℕ) → In (flat_map of_group gs) c → groups_drive part gs c ≡ true
   driven_groups [] c i = absurd i
   driven_groups (g ∷ gs) c i =
       ⊎_elim

@@ -9,6 +9,7 @@ use Rattle.cx_meaning.specs.Sights.{In}
 use Rattle.cx_meaning.specs.Control.{with_comb, groups_of, groups_in, groups_in_all}
 use Rattle.cx_rules.specs.Items.{Context, Dynamic, InStatic, Branch, below_dynamic, Visited, visit, visit_parts, visit_all, option_list, test_in, tests_of}
 use Rattle.cx_rules.specs.RaceRule.{arms_of, enabled_group, enabled_in}
+use Rattle.cx_rules.specs.Invokes.{invoke_in, invokes_of}
 use Rattle.cx_design_parts.proofs.Lists.{in_left, in_right, in_either}
 use Rattle.cx_race.specs.Forms.{forms_of, forms_below, forms_in, own_groups}
 
@@ -48,6 +49,9 @@ by_forms f s = sym (flat_map-map f form_of (visit Dynamic s)) ∙ ap (λ l. flat
 
 pub enabled_by_forms : (s : PlainStatement) → enabled_in s ≡ flat_map enabled_group (forms_of s)
 enabled_by_forms s = by_forms enabled_group s
+
+pub invokes_by_forms : (s : PlainStatement) → invokes_of s ≡ flat_map invoke_in (forms_of s)
+invokes_by_forms s = by_forms invoke_in s
 
 abbrev tests_at : PlainForm → List PlacedPort
 tests_at form = option_list (test_in form)

@@ -1,9 +1,11 @@
 pub mod FormLemmas
 pub mod CellLemmas
 mod LinkLemmas
+pub mod InvokeLemmas
 pub mod ReadLemmas
+pub mod ReadAllLemmas
 pub mod Bounds
-mod ArmLemmas
+pub mod ArmLemmas
 mod NameLemmas
 mod SharedLemmas
 mod RaceLemmas

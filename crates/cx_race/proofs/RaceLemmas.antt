@@ -6,7 +6,7 @@ use Rattle.cx_text.specs.declared.places.Place.{Place}
 use Rattle.cx_text.specs.declared.rules.Rule.{Rule}
 use Rattle.cx_text.specs.declared.rules.Rule.TheVariants as rule
 use Rattle.cx_meaning.specs.Designs.{PlainComponent, PlainDesign, component_at, PlainForm, PlainStatement}
-use Rattle.cx_meaning.specs.Instances.{part_of, tree_within}
+use Rattle.cx_meaning.specs.Instances.{part_of}
 use Rattle.cx_meaning.specs.Sights.{In}
 use Rattle.cx_rules.specs.Ports.{component_of, cell_name}
 use Rattle.cx_rules.specs.Items.{Visited, Dynamic, statements_in}
@@ -21,7 +21,7 @@ use Rattle.cx_race.specs.declared.parts.Footprints.{Footprints}
 use Rattle.cx_race.specs.Cells.{targets_in_group, cells_in_group}
 use Rattle.cx_race.specs.Footprints.{AreFootprints}
 use Rattle.cx_race.proofs.FormLemmas.{visited_forms, arms_among}
-use Rattle.cx_race.proofs.Bounds.{AreForms, groups_there, tests_there, enabled_there}
+use Rattle.cx_race.proofs.Bounds.{AreForms, groups_there, invoked_there, met_there, enabled_there}
 use Rattle.cx_race.specs.declared.races.Race.{Race}
 use Rattle.cx_race.specs.declared.races.Race.TheVariants.{Cell, Group}
 use Rattle.cx_race.specs.Races.{AreWithin, IsFirstRace, race_name}
@@ -142,7 +142,7 @@ module _ (d : PlainDesign) (k n : ℕ) (v : Visited) (within : k < length d.comp
   arms_are_forms s i f j = arms_among part.control v.form s f (subst (λ l. In l v.form) (visited_forms Dynamic part.control) (in_forms (statements_in part) n stands)) i j
 
   -- what its arms name is there
-  pub arms_within : ∥ IsDesign d ∥₁ → (f : Footprints) → AreFootprints part f → AreWithin f (arms_of v.form)
+  pub arms_within : ∥ IsDesign d ∥₁ → (f : Footprints) → AreFootprints part f → AreWithin part f (arms_of v.form)
   arms_within keeps f a =
       let cells : length part.cells ≡ length f.links.items = sym a.links.size ∙ length-map f.links.items (λ l. l.items) in
       let groups : length part.groups ≡ length f.driven.items = sym (length-map part.groups targets_in_group) ∙ ap length (sym a.driven) ∙ length-map f.driven.items (λ l. l.items) in
@@ -153,7 +153,8 @@ module _ (d : PlainDesign) (k n : ℕ) (v : Visited) (within : k < length d.comp
         driven = λ g n i. subst (λ c. n < c) cells (a.driven_within g n i);
         named = λ g n i. subst (λ c. n < c) cells (a.named_within g n i);
         groups = λ s i g j. subst (λ c. g < c) groups (groups_there d keeps k within s (arms_are_forms s i) g j);
-        tests = λ s i n j. subst (λ c. n < c) cells (tests_there d keeps k within s (arms_are_forms s i) n j);
+        invoked = λ s i n j. subst (λ c. n < c) cells (invoked_there d keeps k within s n j);
+        met = λ s i n j. subst (λ c. n < c) cells (met_there d keeps k within s (arms_are_forms s i) n j);
         enabled = λ s i g j. subst (λ c. g < c) groups (enabled_there d keeps k within s (arms_are_forms s i) g j);
       }
 

@@ -1,20 +1,21 @@
 -- Shared cells and groups that are enabled twice, by tallies.
-use Rattle.std.proofs.Common.{◌≡◌, ◌≢◌, ℕ, zero, suc, true, List, [], ◌++◌, Option, Some, None, map, flat_map, slice_get, ◌⊎◌, inl, inr, ⊎_elim, refl, sym, ap, ◌∙◌, subst, arith}
+use Rattle.std.proofs.Common.{◌≡◌, ◌≢◌, ℕ, true, List, [], ◌++◌, Option, Some, None, map, flat_map, slice_get, ⊎_elim, refl, sym, ap, ◌∙◌, subst, arith}
 use Rattle.cx_graphs.specs.Graphs as graphs
 use Rattle.cx_graphs.specs.Graphs.{Edges, targets_of, IsReached}
 use Rattle.cx_meaning.specs.Designs.{PlainComponent, PlainStatement}
 use Rattle.cx_meaning.specs.Sights.{In}
-use Rattle.cx_meaning.specs.Control.{groups_of, drives}
-use Rattle.cx_rules.specs.Footprints.{Reads, driven}
+use Rattle.cx_meaning.specs.Control.{groups_of}
+use Rattle.cx_rules.specs.Invokes.{drives_all, ReadsAll, driven}
 use Rattle.cx_rules.specs.RaceRule.{Arms, IsShared, IsEnabledTwice, enabled_in}
 use Rattle.cx_graphs.specs.declared.owners.Owners.{Owners}
 use Rattle.cx_graphs.specs.declared.owners.Owners.TheVariants.{Nobody, Only, Several}
 use Rattle.cx_graphs.specs.Owners.{Covers, Sound, owners_at, IsSeveral, IsLeast}
 use Rattle.cx_graphs.specs.Tallies.{Starts, Reaches, Tallies, starts_of}
-use Rattle.cx_race.specs.Cells.{targets_in_group, cells_in_group, driven_by, tested_by, named_by}
+use Rattle.cx_race.specs.Cells.{targets_in_group, cells_in_group, invoked_by, met_by, driven_all_by, named_all_by}
 use Rattle.cx_race.specs.Links.{AreLinks}
-use Rattle.cx_race.proofs.CellLemmas.{group_lists, in_driven, is_driven}
-use Rattle.cx_race.proofs.ReadLemmas.{reads_reached, reached_reads}
+use Rattle.cx_race.proofs.CellLemmas.{group_lists}
+use Rattle.cx_race.proofs.InvokeLemmas.{in_driven_all, is_driven_all}
+use Rattle.cx_race.proofs.ReadAllLemmas.{all_reads_reached, reached_all_reads}
 use Rattle.cx_race.specs.Races.{IsLeastOf, IsFirstRace, race_of}
 use Rattle.cx_race.proofs.ArmLemmas.{as_node, from_node, list_at, arm_at, from_nowhere}
 use Rattle.cx_text.proofs.NumberLaws.{same_or}
@@ -53,44 +54,45 @@ module _ (part : PlainComponent) (arms : List PlainStatement) (g members cells :
     (targets : members ≡ map targets_in_group part.groups) (names : cells ≡ map cells_in_group part.groups)
     (driving reading : List Owners) (driven_ones read_ones : List ℕ) where
   abbrev Driver : ℕ → ℕ → Type 0
-  Driver = Starts (starts_of members (map groups_of arms) [])
+  Driver = Starts (starts_of members (map groups_of arms) (map (invoked_by part) arms))
 
   abbrev Reader : ℕ → ℕ → Type 0
-  Reader = Reaches g (starts_of cells (map groups_of arms) (map tested_by arms))
+  Reader = Reaches g (starts_of cells (map groups_of arms) (map (met_by part) arms))
 
   -- the nodes from which arm k starts
-  driven_are : (k : ℕ) (s : PlainStatement) → slice_get arms k ≡ Some s → starts_of members (map groups_of arms) [] k ≡ driven_by part s
+  driven_are : (k : ℕ) (s : PlainStatement) → slice_get arms k ≡ Some s → starts_of members (map groups_of arms) (map (invoked_by part) arms) k ≡ driven_all_by part s
   driven_are k s e =
-      ap (λ gs. flat_map (targets_of members) gs) (list_at groups_of arms k s e)
-      ∙ ap (λ m. flat_map (targets_of m) (groups_of s)) targets
-      ∙ group_lists targets_in_group refl part (groups_of s)
+      ap (λ l. l ++ flat_map (targets_of members) (targets_of (map groups_of arms) k)) (list_at (invoked_by part) arms k s e)
+      ∙ ap (λ gs. invoked_by part s ++ flat_map (targets_of members) gs) (list_at groups_of arms k s e)
+      ∙ ap (λ m. invoked_by part s ++ flat_map (targets_of m) (groups_of s)) targets
+      ∙ ap (λ l. invoked_by part s ++ l) (group_lists targets_in_group refl part (groups_of s))
 
-  named_are : (k : ℕ) (s : PlainStatement) → slice_get arms k ≡ Some s → starts_of cells (map groups_of arms) (map tested_by arms) k ≡ named_by part s
+  named_are : (k : ℕ) (s : PlainStatement) → slice_get arms k ≡ Some s → starts_of cells (map groups_of arms) (map (met_by part) arms) k ≡ named_all_by part s
   named_are k s e =
-      ap (λ l. l ++ flat_map (targets_of cells) (targets_of (map groups_of arms) k)) (list_at tested_by arms k s e)
-      ∙ ap (λ gs. tested_by s ++ flat_map (targets_of cells) gs) (list_at groups_of arms k s e)
-      ∙ ap (λ m. tested_by s ++ flat_map (targets_of m) (groups_of s)) names
-      ∙ ap (λ l. tested_by s ++ l) (group_lists cells_in_group refl part (groups_of s))
+      ap (λ l. l ++ flat_map (targets_of cells) (targets_of (map groups_of arms) k)) (list_at (met_by part) arms k s e)
+      ∙ ap (λ gs. met_by part s ++ flat_map (targets_of cells) gs) (list_at groups_of arms k s e)
+      ∙ ap (λ m. met_by part s ++ flat_map (targets_of m) (groups_of s)) names
+      ∙ ap (λ l. met_by part s ++ l) (group_lists cells_in_group refl part (groups_of s))
 
   nowhere : (m : Edges) (f : PlainStatement → List ℕ) (k : ℕ) → ((h : PlainStatement → List ℕ) → targets_of (map h arms) k ≡ []) → starts_of m (map groups_of arms) (map f arms) k ≡ []
   nowhere m f k none = ap (λ l. l ++ flat_map (targets_of m) (targets_of (map groups_of arms) k)) (none f) ∙ ap (λ gs. flat_map (targets_of m) gs) (none groups_of)
 
-  driver : (c k : ℕ) (s : PlainStatement) → slice_get arms k ≡ Some s → drives part s c ≡ true → Driver c k
-  driver c k s e h = subst (λ l. graphs.In l c) (sym (driven_are k s e)) (as_node (driven_by part s) c (in_driven part s c h))
+  driver : (c k : ℕ) (s : PlainStatement) → slice_get arms k ≡ Some s → drives_all part s c ≡ true → Driver c k
+  driver c k s e h = subst (λ l. graphs.In l c) (sym (driven_are k s e)) (as_node (driven_all_by part s) c (in_driven_all part s c h))
 
-  reader : (c k : ℕ) (s : PlainStatement) → slice_get arms k ≡ Some s → Reads part s c → Reader c k
-  reader c k s e h = subst (λ l. IsReached g l c) (sym (named_are k s e)) (reads_reached part s g links c h)
+  reader : (c k : ℕ) (s : PlainStatement) → slice_get arms k ≡ Some s → ReadsAll part s c → Reader c k
+  reader c k s e h = subst (λ l. IsReached g l c) (sym (named_are k s e)) (all_reads_reached part s g links c h)
 
-  is_driver : (c k : ℕ) → Driver c k → (s : PlainStatement) × (slice_get arms k ≡ Some s) × (drives part s c ≡ true)
+  is_driver : (c k : ℕ) → Driver c k → (s : PlainStatement) × (slice_get arms k ≡ Some s) × (drives_all part s c ≡ true)
   is_driver c k h = ⊎_elim
-      (λ a. (a.0, a.1, is_driven part a.0 c (from_node (driven_by part a.0) c (subst (λ l. graphs.In l c) (driven_are k a.0 a.1) h))))
-      (λ none. absurd (subst (λ gs. graphs.In (flat_map (targets_of members) gs) c) (none groups_of) h))
+      (λ a. (a.0, a.1, is_driven_all part a.0 c (from_node (driven_all_by part a.0) c (subst (λ l. graphs.In l c) (driven_are k a.0 a.1) h))))
+      (λ none. absurd (subst (λ l. graphs.In l c) (nowhere members (invoked_by part) k none) h))
       (arm_at arms k)
 
-  is_reader : (c k : ℕ) → Reader c k → (s : PlainStatement) × (slice_get arms k ≡ Some s) × Reads part s c
+  is_reader : (c k : ℕ) → Reader c k → (s : PlainStatement) × (slice_get arms k ≡ Some s) × ReadsAll part s c
   is_reader c k h = ⊎_elim
-      (λ a. (a.0, a.1, reached_reads part a.0 g links c (subst (λ l. IsReached g l c) (named_are k a.0 a.1) h)))
-      (λ none. absurd (from_nowhere g c (subst (λ l. IsReached g l c) (nowhere cells tested_by k none) h)))
+      (λ a. (a.0, a.1, reached_all_reads part a.0 g links c (subst (λ l. IsReached g l c) (named_are k a.0 a.1) h)))
+      (λ none. absurd (from_nowhere g c (subst (λ l. IsReached g l c) (nowhere cells (met_by part) k none) h)))
       (arm_at arms k)
 
   shared_by : (c j k : ℕ) → j ≢ k → Driver c j → Reader c k → IsShared part arms c

@@ -1,11 +1,12 @@
 -- The cells that assignments and statements drive and name, as lists.
-use Rattle.std.specs.Prelude.{ℕ, List, [], ◌∷◌, ◌++◌, flat_map}
+use Rattle.std.specs.Prelude.{ℕ, List, [], ◌∷◌, ◌++◌, Option, Some, None, flat_map}
 use Rattle.cx_meaning.specs.declared.ports.PortRef.{PortRef}
 use Rattle.cx_meaning.specs.declared.ports.PortRef.TheVariants as ports
 use Rattle.cx_meaning.specs.declared.ports.PlacedPort.{PlacedPort}
-use Rattle.cx_meaning.specs.Designs.{PlainAssign, PlainGroup, PlainComponent, group_at, PlainStatement}
+use Rattle.cx_meaning.specs.Designs.{PlainAssign, PlainGroup, PlainInvoke, PlainComponent, group_at, PlainStatement}
 use Rattle.cx_meaning.specs.Control.{groups_of}
 use Rattle.cx_rules.specs.Items.{operands_of, tests_of}
+use Rattle.cx_rules.specs.Invokes.{invoke_at, invokes_of}
 
 -- the cell of a port, where it is one of a cell
 abbrev pub cell_in : PortRef → List ℕ
@@ -50,3 +51,43 @@ tested_by s = flat_map port_cell (tests_of s)
 -- and those that its groups drive or name
 abbrev pub named_by : PlainComponent → PlainStatement → List ℕ
 named_by part s = tested_by s ++ flat_map (λ g. cells_in_group (group_at part g)) (groups_of s)
+
+-- of the group that captures, where there is one: the cells that it drives, and those that it looks at
+abbrev pub targets_in_capture : PlainComponent → Option ℕ → List ℕ
+targets_in_capture part None = []
+targets_in_capture part (Some g) = targets_in_group (group_at part g)
+
+abbrev pub named_in_capture : PlainComponent → Option ℕ → List ℕ
+named_in_capture part None = []
+named_in_capture part (Some g) = named_in_all (group_at part g).assigns
+
+-- of a static invoke: its cell with those that are driven as it captures, and the cells that feed it and that capturing looks at
+abbrev pub targets_in_invoke : PlainComponent → Option PlainInvoke → List ℕ
+targets_in_invoke part None = []
+targets_in_invoke part (Some v) = v.cell ∷ targets_in_capture part v.captures
+
+abbrev pub named_in_invoke : PlainComponent → Option PlainInvoke → List ℕ
+named_in_invoke part None = []
+named_in_invoke part (Some v) = named_in_all v.inputs ++ named_in_capture part v.captures
+
+-- of static invokes by their numbers
+abbrev pub targets_in_invokes : PlainComponent → List ℕ → List ℕ
+targets_in_invokes part ks = flat_map (λ k. targets_in_invoke part (invoke_at part k)) ks
+
+abbrev pub named_in_invokes : PlainComponent → List ℕ → List ℕ
+named_in_invokes part ks = flat_map (λ k. named_in_invoke part (invoke_at part k)) ks
+
+-- of a statement: the cells that its static invokes drive
+abbrev pub invoked_by : PlainComponent → PlainStatement → List ℕ
+invoked_by part s = targets_in_invokes part (invokes_of s)
+
+-- those that its conditions name, and that its static invokes drive or name
+abbrev pub met_by : PlainComponent → PlainStatement → List ℕ
+met_by part s = tested_by s ++ (invoked_by part s ++ named_in_invokes part (invokes_of s))
+
+-- all cells that it drives, and all that it drives or names, with its static invokes
+abbrev pub driven_all_by : PlainComponent → PlainStatement → List ℕ
+driven_all_by part s = invoked_by part s ++ driven_by part s
+
+abbrev pub named_all_by : PlainComponent → PlainStatement → List ℕ
+named_all_by part s = met_by part s ++ flat_map (λ g. cells_in_group (group_at part g)) (groups_of s)

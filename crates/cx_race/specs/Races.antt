@@ -7,7 +7,7 @@ use Rattle.cx_meaning.specs.Designs.{PlainComponent, PlainStatement, group_at}
 use Rattle.cx_rules.specs.Ports.{cell_name}
 use Rattle.cx_rules.specs.RaceRule.{IsShared, IsEnabledTwice, enabled_in}
 use Rattle.cx_race.specs.declared.parts.Footprints.{Footprints}
-use Rattle.cx_race.specs.Cells.{tested_by}
+use Rattle.cx_race.specs.Cells.{invoked_by, met_by}
 use Rattle.cx_race.specs.Links.{Within}
 use Rattle.cx_graphs.specs.Tallies.{IsClear}
 use Rattle.cx_race.specs.declared.races.Race.{Race}
@@ -48,11 +48,12 @@ pub record AreClear (cells groups : ℕ) (tallies : Tallies) : Type 0 where
   pub groups_clear : IsClear groups tallies.groups.owners.items tallies.groups.touched.items
 
 -- the numbers name cells and groups that there are footprints of
-pub record AreWithin (f : Footprints) (arms : List PlainStatement) : Type 0 where
+pub record AreWithin (part : PlainComponent) (f : Footprints) (arms : List PlainStatement) : Type 0 where
   pub graph : IsGraph (edges_of f.links.items)
   pub same : length f.named.items ≡ length f.driven.items
   pub driven : (g : ℕ) → Bounded (length f.links.items) (targets_of (edges_of f.driven.items) g)
   pub named : (g : ℕ) → Bounded (length f.links.items) (targets_of (edges_of f.named.items) g)
   pub groups : (s : PlainStatement) → In arms s → Within (length f.driven.items) (groups_of s)
-  pub tests : (s : PlainStatement) → In arms s → Within (length f.links.items) (tested_by s)
+  pub invoked : (s : PlainStatement) → In arms s → Within (length f.links.items) (invoked_by part s)
+  pub met : (s : PlainStatement) → In arms s → Within (length f.links.items) (met_by part s)
   pub enabled : (s : PlainStatement) → In arms s → Within (length f.driven.items) (enabled_in s)

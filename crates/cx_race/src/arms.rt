@@ -1,14 +1,15 @@
-//! The arms of a statement, and the groups and conditions of each of them.
+//! The arms of a statement, and the groups, conditions and static invokes of each of them.
 
 ghost use Rattle.std.specs.Prelude.{◌≡◌, IfOk, map};
 ghost use Rattle.cx_graphs.specs.Graphs.{edges_of};
 ghost use Rattle.cx_meaning.specs.Control.{groups_of};
 ghost use Rattle.cx_rules.specs.RaceRule.{arms_of, enabled_in};
-ghost use Rattle.cx_design.specs.PlainForms.{plain_form, plain_statement};
-ghost use Rattle.cx_race.specs.Cells.{tested_by};
+ghost use Rattle.cx_design.specs.PlainForms.{plain_component, plain_form, plain_statement};
+ghost use Rattle.cx_race.specs.Cells.{invoked_by, met_by};
 
-use crate::{enabled, groups, tested};
-use cx_design::{Form, Statement};
+use crate::invokes::{invoked, met};
+use crate::{enabled, groups};
+use cx_design::{Component, Form, Statement};
 use cx_text::Memory;
 use std::alloc::Global;
 
@@ -44,13 +45,32 @@ pub fn group_lists(alloc: Global, arms: &[Statement]) -> Result<Vec<Vec<u32>>, M
     Ok(lists)
 }
 
-/// The cells of each arm's conditions.
-pub fn test_lists(alloc: Global, arms: &[Statement]) -> Result<Vec<Vec<u32>>, Memory>
-    ensures value { IfOk result (λ lists. edges_of lists.items ≡ map tested_by (map plain_statement arms.now)) }
+/// The cells that each arm's static invokes drive.
+pub fn invoked_lists(
+    alloc: Global,
+    part: &Component,
+    arms: &[Statement],
+) -> Result<Vec<Vec<u32>>, Memory>
+    ensures value { IfOk result (λ lists. edges_of lists.items ≡ map (invoked_by (plain_component part.now)) (map plain_statement arms.now)) }
 {
     let mut lists = Vec::new(alloc);
     for arm in arms {
-        lists.push(tested(alloc, arm)?)?;
+        lists.push(invoked(alloc, part, arm)?)?;
+    }
+    Ok(lists)
+}
+
+/// The cells of each arm's conditions, and those that its static invokes drive or name.
+pub fn met_lists(
+    alloc: Global,
+    part: &Component,
+    arms: &[Statement],
+) -> Result<Vec<Vec<u32>>, Memory>
+    ensures value { IfOk result (λ lists. edges_of lists.items ≡ map (met_by (plain_component part.now)) (map plain_statement arms.now)) }
+{
+    let mut lists = Vec::new(alloc);
+    for arm in arms {
+        lists.push(met(alloc, part, arm)?)?;
     }
     Ok(lists)
 }

@@ -59,7 +59,8 @@ fn named_by(alloc: Global, group: &Group) -> Result<Vec<u32>, Memory>
     Ok(cells)
 }
 
-fn add_assigns(alloc: Global, cells: &mut Vec<u32>, assigns: &[Assign]) -> Result<(), Memory>
+/// Adds the cells that assignments look at.
+pub fn add_assigns(alloc: Global, cells: &mut Vec<u32>, assigns: &[Assign]) -> Result<(), Memory>
     ensures value { IfOk result (λ _. cells.new.items ≡ cells.old.items ++ named_in_all (plain_assigns assigns.now)) }
 {
     for assign in assigns {
@@ -77,7 +78,8 @@ pub fn add_named(alloc: Global, cells: &mut Vec<u32>, assign: &Assign) -> Result
     add_ports(cells, operands.as_slice())
 }
 
-fn add_targets(cells: &mut Vec<u32>, assigns: &[Assign]) -> Result<(), Memory>
+/// Adds the cells that assignments drive.
+pub fn add_targets(cells: &mut Vec<u32>, assigns: &[Assign]) -> Result<(), Memory>
     ensures value { IfOk result (λ _. cells.new.items ≡ cells.old.items ++ driven_in (plain_assigns assigns.now)) }
 {
     for assign in assigns {

@@ -89,7 +89,7 @@ fn add_statement(
     ensures clear { OnOk result (AreClear (length footprints.now.links.items) (length footprints.now.driven.items) tallies.new) }
 {
     let part = component(design, number);
-    let race = find_race(alloc, footprints, tallies, arms(visited.form))?;
+    let race = find_race(alloc, part, footprints, tallies, arms(visited.form))?;
     let spot = Spot {
         component: number,
         part: Part::Statement(place),

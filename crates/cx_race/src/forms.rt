@@ -4,6 +4,7 @@ ghost use Rattle.std.specs.Prelude.{◌≡◌, ◌++◌, IfOk, flat_map};
 ghost use Rattle.cx_meaning.specs.Control.{groups_of};
 ghost use Rattle.cx_rules.specs.Items.{option_list, test_in, tests_of};
 ghost use Rattle.cx_rules.specs.RaceRule.{enabled_group, enabled_in};
+ghost use Rattle.cx_rules.specs.Invokes.{invoke_in, invokes_of};
 ghost use Rattle.cx_design.specs.PlainForms.{plain_form, plain_statement, plain_statements};
 ghost use Rattle.cx_race.specs.Forms.{forms_below, forms_in, forms_of, own_groups, plain_forms};
 
@@ -37,6 +38,15 @@ pub fn tests(alloc: Global, statement: &Statement) -> Result<Vec<PlacedPort>, Me
 {
     let forms = forms(alloc, statement)?;
     tests_by(alloc, forms.as_slice())
+}
+
+/// The numbers of the static invokes in a statement, in source order.
+#[tactic(auto, using(crate::proofs::FormLemmas::invokes_by_forms))]
+pub fn invokes(alloc: Global, statement: &Statement) -> Result<Vec<u32>, Memory>
+    ensures value { IfOk result (λ numbers. numbers.items ≡ invokes_of (plain_statement statement.now)) }
+{
+    let forms = forms(alloc, statement)?;
+    invokes_by(alloc, forms.as_slice())
 }
 
 fn enabled_by(alloc: Global, forms: &[&Form]) -> Result<Vec<u32>, Memory>
@@ -124,6 +134,37 @@ fn add_test(tests: &mut Vec<PlacedPort>, form: &Form) -> Result<(), Memory>
 {
     if let Some(port) = test(form) {
         tests.push(port)?;
+    }
+    Ok(())
+}
+
+fn invokes_by(alloc: Global, forms: &[&Form]) -> Result<Vec<u32>, Memory>
+    ensures value { IfOk result (λ numbers. numbers.items ≡ flat_map invoke_in (plain_forms forms.now)) }
+{
+    let mut numbers = Vec::new(alloc);
+    for form in forms {
+        add_invoke(&mut numbers, form)?;
+    }
+    Ok(numbers)
+}
+
+fn add_invoke(numbers: &mut Vec<u32>, form: &Form) -> Result<(), Memory>
+    ensures value { IfOk result (λ _. numbers.new.items ≡ numbers.old.items ++ invoke_in (plain_form form.now)) }
+{
+    match form {
+        Form::StaticInvoke(number) => numbers.push(*number)?,
+        Form::Timed(number) => numbers.push(*number)?,
+        Form::Empty
+        | Form::Enable(_)
+        | Form::Seq(_)
+        | Form::Par(_)
+        | Form::If { .. }
+        | Form::While { .. }
+        | Form::Repeat { .. }
+        | Form::StaticSeq { .. }
+        | Form::StaticPar { .. }
+        | Form::StaticIf { .. }
+        | Form::StaticRepeat { .. } => {}
     }
     Ok(())
 }

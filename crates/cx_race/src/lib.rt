@@ -6,14 +6,16 @@ mod arms;
 mod cells;
 mod checking;
 mod forms;
+mod invokes;
 mod laws;
 mod linking;
 mod parts;
 mod races;
 mod telling;
 
-pub use cells::tested;
+pub use cells::{add_assigns, tested};
 pub use checking::check;
 pub use forms::{enabled, groups};
-pub use laws::reads_by_links;
+pub use laws::{reads_all_by_links, reads_by_links};
+pub use linking::links;
 pub use parts::{Footprints, footprints_of};

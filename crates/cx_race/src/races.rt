@@ -1,18 +1,18 @@
 //! The first race between the arms of a statement.
 
 ghost use Rattle.std.specs.Prelude.{◌≡◌, IfOk, OnOk, length, map};
-ghost use Rattle.cx_meaning.specs.Designs.{PlainComponent, PlainStatement};
+ghost use Rattle.cx_meaning.specs.Designs.{PlainStatement};
 ghost use Rattle.cx_meaning.specs.Sights.{In};
 ghost use Rattle.cx_rules.specs.RaceRule.{IsEnabledTwice, IsShared, enabled_in};
-ghost use Rattle.cx_design.specs.PlainForms.{plain_statement};
+ghost use Rattle.cx_design.specs.PlainForms.{plain_component, plain_statement};
 ghost use Rattle.cx_graphs.specs.Tallies.{IsClear};
 ghost use Rattle.cx_race.specs.Footprints.{AreFootprints};
 ghost use Rattle.cx_race.specs.Links.{Within};
 ghost use Rattle.cx_race.specs.Races.{AreClear, AreWithin, IsFirstRace, IsLeastOf, race_of};
 
 use crate::Footprints;
-use crate::arms::{enabled_lists, group_lists, test_lists};
-use cx_design::Statement;
+use crate::arms::{enabled_lists, group_lists, invoked_lists, met_lists};
+use cx_design::{Component, Statement};
 use cx_graphs::Tally;
 use cx_text::Memory;
 use std::alloc::Global;
@@ -48,17 +48,19 @@ impl Tallies {
 /// The first race between arms: the least cell that one drives and another reads, else the least group that two enable.
 pub fn find_race(
     alloc: Global,
+    part: &Component,
     footprints: &Footprints,
     tallies: &mut Tallies,
     arms: &[Statement],
 ) -> Result<Option<Race>, Memory>
-    requires within { AreWithin footprints.now (map plain_statement arms.now) }
+    requires within { AreWithin (plain_component part.now) footprints.now (map plain_statement arms.now) }
     requires clear { AreClear (length footprints.now.links.items) (length footprints.now.driven.items) tallies.old }
-    ensures race { IfOk result (λ race. (part : PlainComponent) → AreFootprints part footprints.now → IsFirstRace part (map plain_statement arms.now) race) }
+    ensures race { IfOk result (λ race. AreFootprints (plain_component part.now) footprints.now → IsFirstRace (plain_component part.now) (map plain_statement arms.now) race) }
     ensures clear { OnOk result (AreClear (length footprints.now.links.items) (length footprints.now.driven.items) tallies.new) }
 {
     let cell = shared_cell(
         alloc,
+        part,
         footprints,
         &mut tallies.drivers,
         &mut tallies.readers,
@@ -72,31 +74,38 @@ pub fn find_race(
 /// The least cell that one arm drives and another reads.
 fn shared_cell(
     alloc: Global,
+    part: &Component,
     footprints: &Footprints,
     driving: &mut Tally,
     reading: &mut Tally,
     groups: &mut Tally,
     arms: &[Statement],
 ) -> Result<Option<u32>, Memory>
-    requires within { AreWithin footprints.now (map plain_statement arms.now) }
+    requires within { AreWithin (plain_component part.now) footprints.now (map plain_statement arms.now) }
     requires driving { IsClear (length footprints.now.links.items) driving.old.owners.items driving.old.touched.items }
     requires reading { IsClear (length footprints.now.links.items) reading.old.owners.items reading.old.touched.items }
     requires groups { IsClear (length footprints.now.driven.items) groups.old.owners.items groups.old.touched.items }
-    ensures least { IfOk result (λ least. (part : PlainComponent) → AreFootprints part footprints.now → IsLeastOf (IsShared part (map plain_statement arms.now)) least) }
+    ensures least { IfOk result (λ least. AreFootprints (plain_component part.now) footprints.now → IsLeastOf (IsShared (plain_component part.now) (map plain_statement arms.now)) least) }
     ensures driving { OnOk result (IsClear (length footprints.now.links.items) driving.new.owners.items driving.new.touched.items) }
     ensures reading { OnOk result (IsClear (length footprints.now.links.items) reading.new.owners.items reading.new.touched.items) }
     ensures groups { OnOk result (IsClear (length footprints.now.driven.items) groups.new.owners.items groups.new.touched.items) }
 {
     let enabled = group_lists(alloc, arms)?;
     let enabled = enabled.as_slice();
-    driving.tally_groups(groups, footprints.driven.as_slice(), enabled, &[])?;
-    let tested = test_lists(alloc, arms)?;
+    let invoked = invoked_lists(alloc, part, arms)?;
+    driving.tally_groups(
+        groups,
+        footprints.driven.as_slice(),
+        enabled,
+        invoked.as_slice(),
+    )?;
+    let met = met_lists(alloc, part, arms)?;
     reading.tally_reached(
         footprints.links.as_slice(),
         groups,
         footprints.named.as_slice(),
         enabled,
-        tested.as_slice(),
+        met.as_slice(),
     )?;
     let least = reading.least_several(driving.touched.as_slice());
     driving.clear();

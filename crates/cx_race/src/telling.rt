@@ -79,7 +79,7 @@ fn cell_of(component: &Component, number: u32) -> Option<&Cell>
 }
 
 /// The group of a number, where the component has it.
-fn group_of(component: &Component, number: u32) -> Option<&Group>
+pub fn group_of(component: &Component, number: u32) -> Option<&Group>
     ensures none { IfNone result (slice_get (plain_component component.now).groups number ≡ None) }
     ensures some { IfSome result (λ group. slice_get (plain_component component.now).groups number ≡ Some (plain_group group.now)) }
 {

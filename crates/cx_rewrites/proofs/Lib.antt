@@ -28,6 +28,7 @@ mod PlaceShapes
 mod PlaceRules
 mod PlaceCalls
 mod PlaceLimits
+pub mod FlatRulesLemmas
 pub mod PlaceAccepted
 mod LoneLemmas
 pub mod KnownRewrites

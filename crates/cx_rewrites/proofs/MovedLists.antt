@@ -1,5 +1,5 @@
 -- PARTS WHOSE PORTS ARE MOVED name the moved ports of what the parts name, in the same order; of shapes and counts they keep all.
-use Rattle.std.proofs.Common.{◌≡◌, ℕ, zero, suc, ◌+◌, Bool, true, false, ◌||◌, ◌&&◌, List, [], ◌∷◌, ◌++◌, map, Option, Some, None, option_map, refl, sym, ap, ap₂, ◌∙◌}
+use Rattle.std.proofs.Common.{◌≡◌, ℕ, zero, suc, ◌+◌, Bool, true, false, ◌||◌, ◌&&◌, List, [], ◌∷◌, ◌++◌, map, Option, Some, None, option_map, slice_get, refl, sym, ap, ap₂, ◌∙◌}
 use Rattle.std.specs.Prelude.{flat_map, is_some, get_or}
 use Rattle.std.proofs.lemmas.List.{map-append}
 use Rattle.cx_meaning.specs.declared.ports.PortRef.{PortRef}
@@ -9,7 +9,7 @@ use Rattle.cx_meaning.specs.Control.{with_comb, groups_in, groups_of, groups_in_
 use Rattle.cx_meaning.specs.Islands.{group_length}
 use Rattle.cx_rules.specs.Items.{Pair, atoms_of, atoms_in, comparisons_of, comparisons_in, operands_of, operands_in, ranges_of, ranges_in, guard_nodes, nodes_in, sources_of, Context, Dynamic, InStatic, Branch, below_dynamic, Visited, visit, visit_parts, visit_all, test_in, option_list, tests_of}
 use Rattle.cx_rules.specs.WidthRules.{pairs_of}
-use Rattle.cx_rules.specs.StaticControl.{is_static, may_stand, form_has_length, has_length, all_have_length, written_length, is_island_form, is_island, one_if, form_occurrences, occurrences, occurrences_in, island_occurrences, occurrences_of, is_dynamic}
+use Rattle.cx_rules.specs.StaticControl.{is_static, is_written, is_timed, may_stand, form_has_length, has_length, all_have_length, written_length, is_island_form, is_island, one_if, form_occurrences, occurrences, occurrences_in, island_occurrences, occurrences_of, is_dynamic}
 use Rattle.cx_rules.specs.RaceRule.{arms_of, enabled_group, enabled_in}
 use Rattle.cx_rules.specs.ShapeRules.{some_target}
 use Rattle.cx_rules.specs.LimitRule.{count_in}
@@ -276,8 +276,8 @@ module _ (move : PortRef → PortRef) where
   count_in-moved (StaticRepeat written count a) = refl
   count_in-moved (Timed k) = refl
 
-  -- where the groups have their lengths
-  module _ (part other : PlainComponent) (lengths : (g : ℕ) → group_length other g ≡ group_length part g) where
+  -- and what may stand in static control, also by where the word static stands at static invokes
+  module _ (part other : PlainComponent) (lengths : (g : ℕ) → group_length other g ≡ group_length part g) (words : (k : ℕ) → (is_written (slice_get other.invokes k) ≡ is_written (slice_get part.invokes k)) × (is_timed (slice_get other.invokes k) ≡ is_timed (slice_get part.invokes k))) where
     pub may_stand-moved : (context : Context) (form : PlainForm) → may_stand other context (moved_form move form) ≡ may_stand part context form
     may_stand-moved context Empty = refl
     may_stand-moved context (Enable g) = ap is_some (lengths g)
@@ -290,7 +290,7 @@ module _ (move : PortRef → PortRef) where
     may_stand-moved context (StaticPar written arms) = refl
     may_stand-moved context (StaticIf written test a b) = refl
     may_stand-moved context (StaticRepeat written count a) = refl
-    may_stand-moved context (Timed k) = refl
+    may_stand-moved context (Timed k) = (words k).0
 
     mutual
       pub form_has_length-moved : (context : Context) (form : PlainForm) → form_has_length other context (moved_form move form) ≡ form_has_length part context form
@@ -305,7 +305,7 @@ module _ (move : PortRef → PortRef) where
       form_has_length-moved context (StaticPar written arms) = all_have_length-moved arms
       form_has_length-moved context (StaticIf written test a b) = ap₂ ◌&&◌ (has_length-moved Branch a) (has_length-moved Branch b)
       form_has_length-moved context (StaticRepeat written count a) = has_length-moved InStatic a
-      form_has_length-moved context (Timed k) = refl
+      form_has_length-moved context (Timed k) = (words k).1
 
       has_length-moved : (context : Context) (s : PlainStatement) → has_length other context (moved_statement move s) ≡ has_length part context s
       has_length-moved context (Placed form place) = form_has_length-moved context form
@@ -314,6 +314,8 @@ module _ (move : PortRef → PortRef) where
       all_have_length-moved no_statements = refl
       all_have_length-moved (a_statement s ss) = ap₂ ◌&&◌ (has_length-moved InStatic s) (all_have_length-moved ss)
 
+  -- where the groups have their lengths
+  module _ (part other : PlainComponent) (lengths : (g : ℕ) → group_length other g ≡ group_length part g) where
     mutual
       pub form_occurrences-moved : (form : PlainForm) → form_occurrences other (moved_form move form) ≡ form_occurrences part form
       form_occurrences-moved Empty = refl

@@ -1,23 +1,27 @@
 -- ACCEPTANCE HANGS ON NO PLACE: where one of two designs that are the same apart from places breaks a rule, so does the other, at the same part.
-use Rattle.std.proofs.Common.{◌≡◌, ℕ, ◌<◌, inl, inr, List, length, refl, sym, ◌∙◌, subst}
+use Rattle.std.proofs.Common.{◌≡◌, ℕ, ◌<◌, inl, inr, List, [], ◌∷◌, map, length, refl, ap, sym, ◌∙◌, subst}
 use Rattle.cx_text.specs.declared.places.Place.{Place}
 use Rattle.cx_text.specs.declared.rules.Rule.{Rule}
 use Rattle.cx_text.specs.declared.rules.Rule.TheVariants as rules
-use Rattle.cx_meaning.specs.Designs.{PlainDesign, PlainComponent, component_at}
+use Rattle.cx_meaning.specs.Designs.{PlainInvoke, PlainDesign, PlainComponent, component_at}
 use Rattle.cx_meaning.specs.Instances.{Instance, Node, Cells, no_cells, a_primitive, an_instance, tree_within, tree_of}
 use Rattle.cx_meaning.specs.Active.{Owned, nothing, source_order}
 use Rattle.cx_rules.specs.Ports.{component_of}
 use Rattle.cx_rules.specs.Items.{Visited, statements_in}
 use Rattle.cx_rules.specs.Spots.{Spot, AssignRule, StatementRule, GroupRule, OnAssign, OnStatement, OnGroup}
 use Rattle.cx_rules.specs.WidthRules.{BreaksWidth, BreaksGuardWidth, TestBreaksGuardWidth, BreaksLiteral, TestBreaksLiteral, BreaksNotATarget, BreaksNotASource, TestBreaksNotASource}
-use Rattle.cx_rules.specs.ShapeRules.{BreaksNoDone, BreaksDoneNotState, BreaksAlwaysEnable, BreaksCombEnable, BreaksStaticGuard, GroupBreaksStaticShape, BreaksStaticControl, BreaksLength, BreaksStaticTest, BreaksOutputNotState}
+use Rattle.cx_rules.specs.ShapeRules.{BreaksNoDone, BreaksDoneNotState, BreaksAlwaysEnable, BreaksCombEnable, BreaksStaticGuard, GroupBreaksStaticShape, BreaksStaticControl, BreaksStaticTest, BreaksOutputNotState}
 use Rattle.cx_rules.specs.CallShape.{BreaksCallShape, GroupBreaksCallShape}
-use Rattle.cx_rules.specs.RaceRule.{BreaksCombCycle, GroupBreaksCombCycle, BreaksRace}
+use Rattle.cx_rules.specs.RaceRule.{BreaksCombCycle, GroupBreaksCombCycle}
 use Rattle.cx_text.specs.declared.limits.TheConstants.{CELLS, GROUPS, INSTANCES, INSTANCE_DEPTH, MEMORY_WORDS, WEIGHT}
 use Rattle.cx_rules.specs.Sizes.{weight_of, instances_below, depth_below, words_below}
-use Rattle.cx_rules.specs.LimitRule.{Limited, OnCells, OnGroups, OnInstances, OnDepth, OnWords, OnWeight, BreaksStatement, BreaksPart, BreaksTree}
-use Rattle.cx_rules.specs.Accepted.{Breaks, KeepsStage, IsAccepted}
-use Rattle.cx_rewrites.specs.Places.{unplaced_owned, unplaced_visited, SamePart, SameDesign}
+use Rattle.cx_rules.specs.LimitRule.{Limited, OnCells, OnGroups, OnInstances, OnDepth, OnWords, OnWeight, BreaksPart, BreaksTree}
+use Rattle.cx_rules.specs.Accepted as whole
+use Rattle.cx_rules.specs.Flat.{IsFlatPart, IsFlat}
+use Rattle.cx_rewrites.specs.FlatRules.{BreaksLength, BreaksRace, BreaksStatement, Breaks, KeepsStage}
+use Rattle.cx_rewrites.proofs.FlatRulesLemmas.{breaks_flat, breaks_whole, accepted_flat, accepted_whole}
+use Rattle.cx_rules.proofs.CountsLemmas.{flat_part}
+use Rattle.cx_rewrites.specs.Places.{unplaced_invoke, unplaced_owned, unplaced_visited, SamePart, SameDesign}
 use Rattle.cx_rewrites.proofs.PlaceLemmas.{SameTree, SameCells}
 use Rattle.cx_rewrites.proofs.PlaceDesigns.{tree_within-same, tree_of-same}
 use Rattle.cx_rewrites.proofs.PlaceLeads.{has_cycle-same}
@@ -37,6 +41,8 @@ same_part_back part other same = record {
   groups = sym same.groups;
   always = sym same.always;
   order = sym same.order;
+  latency = sym same.latency;
+  invokes = sym same.invokes;
   control = sym same.control;
 }
 
@@ -199,11 +205,23 @@ module _ (d e : PlainDesign) (same : SameDesign d e) where
 pub stage_there : (d e : PlainDesign) → SameDesign d e → (n : ℕ) → KeepsStage n d → KeepsStage n e
 stage_there d e same n keeps rule spot place name stage b = let r = breaks_there e d (same_design_back d e same) rule spot place name b in keeps rule spot r.0 r.1 stage r.2
 
-pub accepted_there : (d e : PlainDesign) → SameDesign d e → IsAccepted d → IsAccepted e
-accepted_there d e same accepted = record {
-  widths = stage_there d e same 3 accepted.widths;
-  shapes = stage_there d e same 4 accepted.shapes;
-  no_cycles = stage_there d e same 5 accepted.no_cycles;
-  no_races = stage_there d e same 6 accepted.no_races;
-  limits = stage_there d e same 7 accepted.limits;
-}
+-- the other design has no static component either
+pub flat_there : (d e : PlainDesign) → SameDesign d e → IsFlat d → IsFlat e
+flat_there d e same flat k within =
+    let own = flat_part d flat k in
+    record { dynamic = sym (same.parts k).latency ∙ own.dynamic; no_invoke = nothing (component_at e k).invokes (sym (same.parts k).invokes ∙ ap (map unplaced_invoke) own.no_invoke) }
+  where
+    nothing : (vs : List PlainInvoke) → map unplaced_invoke vs ≡ [] → vs ≡ []
+    nothing [] h = refl
+    nothing (v ∷ vs) h = absurd cc
+
+pub accepted_there : (d e : PlainDesign) → SameDesign d e → IsFlat d → whole.IsAccepted d → whole.IsAccepted e
+accepted_there d e same flat all =
+    let accepted = accepted_flat d flat all in
+    accepted_whole e (flat_there d e same flat) (stage_there d e same 3 accepted.widths) (stage_there d e same 4 accepted.shapes) (stage_there d e same 5 accepted.no_cycles) (stage_there d e same 6 accepted.no_races) (stage_there d e same 7 accepted.limits)
+
+pub whole_breaks_there : (d e : PlainDesign) (rule : Rule) (spot : Spot) (place : Place) (name : List ℕ) → SameDesign d e → IsFlat d → whole.Breaks d rule spot place name
+    → (at : Place) × (called : List ℕ) × whole.Breaks e rule spot at called
+whole_breaks_there d e rule spot place name same flat b =
+    let r = breaks_there d e same rule spot place name (breaks_flat d flat rule spot place name b) in
+    (r.0, r.1, breaks_whole e (flat_there d e same flat) rule spot r.0 r.1 r.2)

@@ -121,7 +121,7 @@ module _ (i j : Instance) (t : SameTree i j) where
   calls-same : (g c : ℕ) → Calls i (assigns_of i g) c → Calls j (assigns_of j g) c
   calls-same g c calls =
       let r = child_there i j t c calls.child calls.is_component in
-      record { child = r.0; is_component = r.1; driven = sym (targets-same (part_of i) (part_of j) same (is_port_of c) g) ∙ calls.driven }
+      record { child = r.0; is_component = r.1; dynamic = sym (same_parts calls.child r.0 r.2).latency ∙ calls.dynamic; driven = sym (targets-same (part_of i) (part_of j) same (is_port_of c) g) ∙ calls.driven }
 
   is_register_enable-same : (p : PortRef) → is_register_enable (part_of i) p ≡ is_register_enable (part_of j) p
   is_register_enable-same (ports.Cell r p) =
@@ -188,7 +188,7 @@ module _ (i j : Instance) (t : SameTree i j) where
           owner = sym (owner_is i j t u o w e) ∙ m.owner;
           plain = ap is_plain (sym (kind-same (part_of i) (part_of j) same m.group)) ∙ m.plain;
           cell = m.cell;
-          calls = record { child = r.0; is_component = r.1; driven = sym (targets-same (part_of i) (part_of j) same (is_port_of m.cell) m.group) ∙ m.calls.driven };
+          calls = record { child = r.0; is_component = r.1; dynamic = sym (same_parts m.calls.child r.0 r.2).latency ∙ m.calls.dynamic; driven = sym (targets-same (part_of i) (part_of j) same (is_port_of m.cell) m.group) ∙ m.calls.driven };
           breaks = subst (CallBreak j m.group m.cell r.0) (aim_is i j t u o w e) (break-same m.group m.cell m.calls.child r.0 r.2 m.breaks);
         }
 

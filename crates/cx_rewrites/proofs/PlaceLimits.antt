@@ -11,7 +11,8 @@ use Rattle.cx_meaning.specs.Islands.{form_length}
 use Rattle.cx_rules.specs.Items.{guard_nodes, Dynamic, Visited, visit, statements_in}
 use Rattle.cx_rules.specs.StaticControl.{is_island, form_occurrences, occurrences_of}
 use Rattle.cx_rules.specs.Sizes.{assigns_size, groups_size, size_of, weight_below, weight_in, instances_below, instances_in, depth_below, depth_in, shape_words, words_below, words_in}
-use Rattle.cx_rules.specs.LimitRule.{Limited, OnRepeat, OnOccurrences, OnLatency, count_in, is_too_many, statement_limit, BreaksStatement}
+use Rattle.cx_rules.specs.LimitRule.{Limited, OnRepeat, OnOccurrences, OnLatency, count_in, is_too_many}
+use Rattle.cx_rewrites.specs.FlatRules.{statement_limit, BreaksStatement}
 use Rattle.cx_rewrites.specs.Places.{unplaced_assign, unplaced_group, unplaced_cell, unplaced_visited, unplaced_form, SamePart}
 use Rattle.cx_rewrites.proofs.PlaceLemmas.{SameTree, SameCells, same_parts}
 use Rattle.cx_rewrites.proofs.PlaceStatements.{form_length-unplaced}

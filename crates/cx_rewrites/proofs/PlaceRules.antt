@@ -1,11 +1,11 @@
 -- RULES OF WIDTHS, SHAPES AND RACES: what breaks one breaks it at other places too.
-use Rattle.std.proofs.Common.{◌≡◌, ◌≢◌, ℕ, ◌⊎◌, inl, inr, Bool, ◌||◌, List, [], ◌∷◌, map, Option, Some, None, refl, sym, ap, ◌∙◌, subst}
+use Rattle.std.proofs.Common.{◌≡◌, ◌≢◌, ℕ, zero, suc, ◌⊎◌, inl, inr, Bool, ◌||◌, List, [], ◌∷◌, map, Option, Some, None, slice_get, refl, sym, ap, ◌∙◌, subst}
 use Rattle.std.specs.Prelude.{if◌then◌else◌, nat_eq, flat_map}
 use Rattle.cx_text.specs.declared.places.Place.{Place}
 use Rattle.cx_meaning.specs.declared.ports.PortRef.{PortRef}
 use Rattle.cx_meaning.specs.declared.ports.PortRef.TheVariants as ports
 use Rattle.cx_meaning.specs.declared.ports.PlacedPort.{PlacedPort}
-use Rattle.cx_meaning.specs.Designs.{PlainComponent, group_at, PlainForm, PlainStatement}
+use Rattle.cx_meaning.specs.Designs.{PlainInvoke, PlainComponent, group_at, PlainForm, PlainStatement}
 use Rattle.cx_meaning.specs.Instances.{Instance, part_of}
 use Rattle.cx_meaning.specs.Active.{Owned, nothing, group}
 use Rattle.cx_meaning.specs.Sights.{In}
@@ -14,11 +14,12 @@ use Rattle.cx_rules.specs.Ports.{width_of, is_source_only, is_target_only, is_pr
 use Rattle.cx_rules.specs.Items.{Pair, atoms_of, comparisons_of, ranges_of, sources_of, Dynamic, Visited, visit, test_in, is_plain, is_comb}
 use Rattle.cx_rules.specs.Footprints.{Rests}
 use Rattle.cx_rules.specs.WidthRules.{differ, pairs_of, first_unequal, BreaksWidth, is_wide, first_wide, BreaksGuardWidth, TestBreaksGuardWidth, IsBadLiteral, BreaksLiteral, TestBreaksLiteral, BreaksNotATarget, BreaksNotASource, TestBreaksNotASource}
-use Rattle.cx_rules.specs.ShapeRules.{is_hole, is_hole_of, some_target, BreaksNoDone, BreaksDoneNotState, BreaksAlwaysEnable, BreaksCombEnable, owner_length, is_bad_range, BreaksStaticGuard, GroupBreaksStaticShape, BreaksStaticControl, BreaksLength, BreaksStaticTest, LeadsToInput, BreaksOutputNotState}
-use Rattle.cx_rules.specs.StaticControl.{is_static, is_in_static, may_stand, form_has_length, written_length}
-use Rattle.cx_rules.specs.RaceRule.{GroupBreaksCombCycle, arms_of, enabled_group, enabled_in, Arms, IsShared, IsEnabledTwice, BreaksRace}
+use Rattle.cx_rules.specs.ShapeRules.{is_hole, is_hole_of, some_target, BreaksNoDone, BreaksDoneNotState, BreaksAlwaysEnable, BreaksCombEnable, owner_length, is_bad_range, BreaksStaticGuard, GroupBreaksStaticShape, BreaksStaticControl, BreaksStaticTest, LeadsToInput, BreaksOutputNotState}
+use Rattle.cx_rules.specs.StaticControl.{is_static, is_in_static, is_written, is_timed, may_stand, form_has_length, written_length}
+use Rattle.cx_rules.specs.RaceRule.{GroupBreaksCombCycle, arms_of, enabled_group, enabled_in, Arms, IsEnabledTwice}
 use Rattle.cx_rules.specs.Spots.{AssignRule, StatementRule, GroupRule}
-use Rattle.cx_rewrites.specs.Places.{unplaced_port, unplaced_assign, unplaced_owned, unplaced_form, unplaced, unplaced_visited, SamePart}
+use Rattle.cx_rewrites.specs.FlatRules.{BreaksLength, IsShared, BreaksRace}
+use Rattle.cx_rewrites.specs.Places.{unplaced_port, unplaced_assign, unplaced_invoke, unplaced_owned, unplaced_form, unplaced, unplaced_visited, SamePart}
 use Rattle.cx_rewrites.proofs.PlaceLemmas.{SameTree, same_parts}
 use Rattle.cx_rewrites.proofs.PlaceStatements.{kind-same, assigns-same, form_length-unplaced}
 use Rattle.cx_rewrites.proofs.PlacePorts.{width_of-same, written_width-same, is_source_only-same, is_target_only-same, is_primitive_enable-same, is_part_port-same, comparisons_of-unplaced, ranges_of-unplaced, atoms_of-unplaced, target_is, source_is, guard_is, names_same, sources_of-same, twin_in}
@@ -37,6 +38,21 @@ ByGroup rule i g = (place : Place) × (name : List ℕ) × rule i g place name
 
 pub lengths-same : (part other : PlainComponent) → SamePart part other → (g : ℕ) → group_length other g ≡ group_length part g
 lengths-same part other same g = ap kind_length (sym (kind-same part other same g))
+
+-- where the word static stands at static invokes
+abbrev Words : PlainComponent → PlainComponent → Type 0
+Words part other = (k : ℕ) → (is_written (slice_get other.invokes k) ≡ is_written (slice_get part.invokes k)) × (is_timed (slice_get other.invokes k) ≡ is_timed (slice_get part.invokes k))
+
+invoke-unplaced : {A : Type 0} (f : Option PlainInvoke → A) → ((v : PlainInvoke) → f (Some (unplaced_invoke v)) ≡ f (Some v)) → (vs : List PlainInvoke) (k : ℕ) → f (slice_get (map unplaced_invoke vs) k) ≡ f (slice_get vs k)
+invoke-unplaced f each [] k = refl
+invoke-unplaced f each (v ∷ vs) zero = each v
+invoke-unplaced f each (v ∷ vs) (suc k) = invoke-unplaced f each vs k
+
+words-same : (part other : PlainComponent) → SamePart part other → Words part other
+words-same part other same k = (both is_written (λ v. refl), both is_timed (λ v. refl))
+  where
+    both : {A : Type 0} (f : Option PlainInvoke → A) → ((v : PlainInvoke) → f (Some (unplaced_invoke v)) ≡ f (Some v)) → f (slice_get other.invokes k) ≡ f (slice_get part.invokes k)
+    both f each = sym (invoke-unplaced f each other.invokes k) ∙ ap (λ vs. f (slice_get vs k)) (sym same.invokes) ∙ invoke-unplaced f each part.invokes k
 
 pub targets-same : (part other : PlainComponent) → SamePart part other → (test : PortRef → Bool) (g : ℕ) → some_target test (group_at part g).assigns ≡ some_target test (group_at other g).assigns
 targets-same part other same test g =
@@ -203,10 +219,11 @@ module _ (i j : Instance) (t : SameTree i j) (u : SameTree j i) where
         let r = test_twin p stands in (_, _, (r.test, r.stands, sym (is_target_only-same i j t r.test.port) ∙ ap (is_target_only i) (sym r.port) ∙ is, (refl, refl)))
 
     -- what is of a form by the lengths of groups is the same
-    of_form : {A : Type 0} (f : PlainComponent → PlainForm → A) → ((part other : PlainComponent) → ((g : ℕ) → group_length other g ≡ group_length part g) → (form : PlainForm) → f other (unplaced_form form) ≡ f part form)
+    of_form : {A : Type 0} (f : PlainComponent → PlainForm → A)
+        → ((part other : PlainComponent) → ((g : ℕ) → group_length other g ≡ group_length part g) → Words part other → (form : PlainForm) → f other (unplaced_form form) ≡ f part form)
         → f (part_of i) v.form ≡ f (part_of j) x.form
     of_form f kept =
-        sym (kept (part_of i) (part_of j) (lengths-same (part_of i) (part_of j) same) v.form) ∙ ap (f (part_of j)) form_is ∙ kept (part_of j) (part_of j) (λ g. refl) x.form
+        sym (kept (part_of i) (part_of j) (lengths-same (part_of i) (part_of j) same) (words-same (part_of i) (part_of j) same) v.form) ∙ ap (f (part_of j)) form_is ∙ kept (part_of j) (part_of j) (λ g. refl) (λ k. (refl, refl)) x.form
 
     pub static_control_kept : (place : Place) (name : List ℕ) → BreaksStaticControl i v place name → ByStatement BreaksStaticControl j x
     static_control_kept place name (inside, bad, told) = (
@@ -215,7 +232,7 @@ module _ (i j : Instance) (t : SameTree i j) (u : SameTree j i) where
       (
         ap is_in_static (sym context_is) ∙ inside,
         ap (λ c. may_stand (part_of j) c x.form) (sym context_is)
-            ∙ sym (of_form (λ part form. may_stand part v.context form) (λ part other lengths form. may_stand-unplaced part other lengths v.context form)) ∙ bad,
+            ∙ sym (of_form (λ part form. may_stand part v.context form) (λ part other lengths words form. may_stand-unplaced part other lengths words v.context form)) ∙ bad,
         (refl, refl),
       ),
     )
@@ -227,14 +244,14 @@ module _ (i j : Instance) (t : SameTree i j) (u : SameTree j i) where
       (
         sym (is_static-unplaced x.form) ∙ ap is_static (sym form_is) ∙ is_static-unplaced v.form ∙ static,
         ap (λ c. form_has_length (part_of j) c x.form) (sym context_is)
-            ∙ sym (of_form (λ part form. form_has_length part v.context form) (λ part other lengths form. form_has_length-unplaced part other lengths v.context form)) ∙ has,
+            ∙ sym (of_form (λ part form. form_has_length part v.context form) (λ part other lengths words form. form_has_length-unplaced part other lengths words v.context form)) ∙ has,
         one bad,
         (refl, refl),
       ),
     )
       where
         same_length : form_length (part_of i) v.form ≡ form_length (part_of j) x.form
-        same_length = of_form form_length (λ part other lengths form. form_length-unplaced part other lengths form)
+        same_length = of_form form_length (λ part other lengths words form. form_length-unplaced part other lengths form)
 
         one : ((n : ℕ) × (written_length v.form ≡ Some n) × (n ≢ form_length (part_of i) v.form)) ⊎ (form_length (part_of i) v.form ≡ 0)
             → ((n : ℕ) × (written_length x.form ≡ Some n) × (n ≢ form_length (part_of j) x.form)) ⊎ (form_length (part_of j) x.form ≡ 0)

@@ -163,7 +163,7 @@ module _ (i j : Instance) (t : SameTree i j) (kids others : Children) (children 
 -- a tree is the same as itself
 mutual
   pub same_tree_itself : (i : Instance) → SameTree i i
-  same_tree_itself (Node part cells) = (record { name = refl; inputs = refl; outputs = refl; cells = refl; groups = refl; always = refl; order = refl; control = refl }, same_cells_themselves cells)
+  same_tree_itself (Node part cells) = (record { name = refl; latency = refl; inputs = refl; outputs = refl; cells = refl; groups = refl; always = refl; order = refl; invokes = refl; control = refl }, same_cells_themselves cells)
 
   same_cells_themselves : (cells : Cells) → SameCells cells cells
   same_cells_themselves no_cells = tt

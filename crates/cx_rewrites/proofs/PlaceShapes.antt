@@ -6,7 +6,7 @@ use Rattle.cx_meaning.specs.declared.ports.PlacedPort.{PlacedPort}
 use Rattle.cx_meaning.specs.Designs.{PlainAssign, PlainComponent, PlainForm, Empty, Enable, Seq, Par, If, While, Repeat, StaticSeq, StaticPar, StaticIf, StaticRepeat, Timed, PlainStatement, Placed, PlainStatements, no_statements, a_statement, list_of}
 use Rattle.cx_meaning.specs.Islands.{group_length}
 use Rattle.cx_rules.specs.Items.{Context, InStatic, Branch, Visited, test_in}
-use Rattle.cx_rules.specs.StaticControl.{is_static, may_stand, form_has_length, has_length, all_have_length, written_length, is_island_form, is_island, one_if, form_occurrences, occurrences, occurrences_in, island_occurrences, occurrences_of, is_dynamic}
+use Rattle.cx_rules.specs.StaticControl.{is_static, is_written, is_timed, may_stand, form_has_length, has_length, all_have_length, written_length, is_island_form, is_island, one_if, form_occurrences, occurrences, occurrences_in, island_occurrences, occurrences_of, is_dynamic}
 use Rattle.cx_rules.specs.ShapeRules.{some_target}
 use Rattle.cx_rules.specs.LimitRule.{count_in}
 use Rattle.cx_rules.specs.RaceRule.{arms_of, enabled_group}
@@ -174,20 +174,6 @@ count_in-unplaced (Timed k) = refl
 
 -- AND BY THE LENGTHS OF GROUPS
 module _ (part other : PlainComponent) (lengths : (g : ℕ) → group_length other g ≡ group_length part g) where
-  pub may_stand-unplaced : (context : Context) (form : PlainForm) → may_stand other context (unplaced_form form) ≡ may_stand part context form
-  may_stand-unplaced context Empty = refl
-  may_stand-unplaced context (Enable g) = ap is_some (lengths g)
-  may_stand-unplaced context (Seq parts) = refl
-  may_stand-unplaced context (Par arms) = refl
-  may_stand-unplaced context (If test comb a b) = refl
-  may_stand-unplaced context (While test comb a) = refl
-  may_stand-unplaced context (Repeat count a) = refl
-  may_stand-unplaced context (StaticSeq length parts) = refl
-  may_stand-unplaced context (StaticPar length arms) = refl
-  may_stand-unplaced context (StaticIf length test a b) = refl
-  may_stand-unplaced context (StaticRepeat length count a) = refl
-  may_stand-unplaced context (Timed k) = refl
-
   pub is_island_form-unplaced : (form : PlainForm) → is_island_form other (unplaced_form form) ≡ is_island_form part form
   is_island_form-unplaced Empty = refl
   is_island_form-unplaced (Enable g) = ap is_some (lengths g)
@@ -201,28 +187,6 @@ module _ (part other : PlainComponent) (lengths : (g : ℕ) → group_length oth
   is_island_form-unplaced (StaticIf length test a b) = refl
   is_island_form-unplaced (StaticRepeat length count a) = refl
   is_island_form-unplaced (Timed k) = refl
-
-  mutual
-    pub form_has_length-unplaced : (context : Context) (form : PlainForm) → form_has_length other context (unplaced_form form) ≡ form_has_length part context form
-    form_has_length-unplaced context Empty = refl
-    form_has_length-unplaced context (Enable g) = ap is_some (lengths g)
-    form_has_length-unplaced context (Seq parts) = refl
-    form_has_length-unplaced context (Par arms) = refl
-    form_has_length-unplaced context (If test comb a b) = refl
-    form_has_length-unplaced context (While test comb a) = refl
-    form_has_length-unplaced context (Repeat count a) = refl
-    form_has_length-unplaced context (StaticSeq length parts) = all_have_length-unplaced parts
-    form_has_length-unplaced context (StaticPar length arms) = all_have_length-unplaced arms
-    form_has_length-unplaced context (StaticIf length test a b) = ap (λ x. x && has_length other Branch (unplaced b)) (has_length-unplaced Branch a) ∙ ap (λ x. has_length part Branch a && x) (has_length-unplaced Branch b)
-    form_has_length-unplaced context (StaticRepeat length count a) = has_length-unplaced InStatic a
-    form_has_length-unplaced context (Timed k) = refl
-
-    has_length-unplaced : (context : Context) (s : PlainStatement) → has_length other context (unplaced s) ≡ has_length part context s
-    has_length-unplaced context (Placed form place) = form_has_length-unplaced context form
-
-    all_have_length-unplaced : (ss : PlainStatements) → all_have_length other (unplaced_statements ss) ≡ all_have_length part ss
-    all_have_length-unplaced no_statements = refl
-    all_have_length-unplaced (a_statement s ss) = ap (λ x. x && all_have_length other (unplaced_statements ss)) (has_length-unplaced InStatic s) ∙ ap (λ x. has_length part InStatic s && x) (all_have_length-unplaced ss)
 
   mutual
     pub form_occurrences-unplaced : (form : PlainForm) → form_occurrences other (unplaced_form form) ≡ form_occurrences part form
@@ -259,3 +223,41 @@ module _ (part other : PlainComponent) (lengths : (g : ℕ) → group_length oth
       one : (b : Bool) → island_occurrences other b (unplaced_form v.form) ≡ island_occurrences part b v.form
       one true = form_occurrences-unplaced v.form
       one false = refl
+
+-- WHAT MAY STAND IN STATIC CONTROL, also by where the word static stands at static invokes
+module _ (part other : PlainComponent) (lengths : (g : ℕ) → group_length other g ≡ group_length part g) (words : (k : ℕ) → (is_written (slice_get other.invokes k) ≡ is_written (slice_get part.invokes k)) × (is_timed (slice_get other.invokes k) ≡ is_timed (slice_get part.invokes k))) where
+  pub may_stand-unplaced : (context : Context) (form : PlainForm) → may_stand other context (unplaced_form form) ≡ may_stand part context form
+  may_stand-unplaced context Empty = refl
+  may_stand-unplaced context (Enable g) = ap is_some (lengths g)
+  may_stand-unplaced context (Seq parts) = refl
+  may_stand-unplaced context (Par arms) = refl
+  may_stand-unplaced context (If test comb a b) = refl
+  may_stand-unplaced context (While test comb a) = refl
+  may_stand-unplaced context (Repeat count a) = refl
+  may_stand-unplaced context (StaticSeq length parts) = refl
+  may_stand-unplaced context (StaticPar length arms) = refl
+  may_stand-unplaced context (StaticIf length test a b) = refl
+  may_stand-unplaced context (StaticRepeat length count a) = refl
+  may_stand-unplaced context (Timed k) = (words k).0
+
+  mutual
+    pub form_has_length-unplaced : (context : Context) (form : PlainForm) → form_has_length other context (unplaced_form form) ≡ form_has_length part context form
+    form_has_length-unplaced context Empty = refl
+    form_has_length-unplaced context (Enable g) = ap is_some (lengths g)
+    form_has_length-unplaced context (Seq parts) = refl
+    form_has_length-unplaced context (Par arms) = refl
+    form_has_length-unplaced context (If test comb a b) = refl
+    form_has_length-unplaced context (While test comb a) = refl
+    form_has_length-unplaced context (Repeat count a) = refl
+    form_has_length-unplaced context (StaticSeq length parts) = all_have_length-unplaced parts
+    form_has_length-unplaced context (StaticPar length arms) = all_have_length-unplaced arms
+    form_has_length-unplaced context (StaticIf length test a b) = ap (λ x. x && has_length other Branch (unplaced b)) (has_length-unplaced Branch a) ∙ ap (λ x. has_length part Branch a && x) (has_length-unplaced Branch b)
+    form_has_length-unplaced context (StaticRepeat length count a) = has_length-unplaced InStatic a
+    form_has_length-unplaced context (Timed k) = (words k).1
+
+    has_length-unplaced : (context : Context) (s : PlainStatement) → has_length other context (unplaced s) ≡ has_length part context s
+    has_length-unplaced context (Placed form place) = form_has_length-unplaced context form
+
+    all_have_length-unplaced : (ss : PlainStatements) → all_have_length other (unplaced_statements ss) ≡ all_have_length part ss
+    all_have_length-unplaced no_statements = refl
+    all_have_length-unplaced (a_statement s ss) = ap (λ x. x && all_have_length other (unplaced_statements ss)) (has_length-unplaced InStatic s) ∙ ap (λ x. has_length part InStatic s && x) (all_have_length-unplaced ss)

@@ -11,3 +11,4 @@ pub mod Renaming
 pub mod Standing
 pub mod LoneParts
 pub mod Places
+pub mod FlatRules

@@ -2,7 +2,7 @@
 -- again.
 use Rattle.std.specs.Prelude.{◌≡◌, ℕ, length, map}
 use Rattle.cx_meaning.specs.declared.ports.PlacedPort.{PlacedPort}
-use Rattle.cx_meaning.specs.Designs.{PlainGuard, Always, Atom, Negation, All, Any, Compared, Within, PlainGuards, no_guards, a_guard, PlainAssign, PlainGroup, PlainCell, PlainForm, Empty, Enable, Seq, Par, If, While, Repeat, StaticSeq, StaticPar, StaticIf, StaticRepeat, Timed, PlainStatement, Placed, PlainStatements, no_statements, a_statement, PlainComponent, PlainDesign, component_at, no_place}
+use Rattle.cx_meaning.specs.Designs.{PlainGuard, Always, Atom, Negation, All, Any, Compared, Within, PlainGuards, no_guards, a_guard, PlainAssign, PlainInvoke, PlainGroup, PlainCell, PlainForm, Empty, Enable, Seq, Par, If, While, Repeat, StaticSeq, StaticPar, StaticIf, StaticRepeat, Timed, PlainStatement, Placed, PlainStatements, no_statements, a_statement, PlainComponent, PlainDesign, component_at, no_place}
 use Rattle.cx_meaning.specs.Active.{Acting, Owned, source_order}
 use Rattle.cx_rules.specs.Items.{Visited}
 
@@ -32,6 +32,9 @@ unplaced_group g = record { name = g.name; kind = g.kind; assigns = map unplaced
 
 abbrev pub unplaced_cell : PlainCell → PlainCell
 unplaced_cell c = record { name = c.name; kind = c.kind; external = c.external; place = no_place }
+
+abbrev pub unplaced_invoke : PlainInvoke → PlainInvoke
+unplaced_invoke v = record { cell = v.cell; written = v.written; length = v.length; latency = v.latency; inputs = map unplaced_assign v.inputs; captures = v.captures }
 
 abbrev pub unplaced_owned : Owned → Owned
 unplaced_owned o = record { owner = o.owner; assign = unplaced_assign o.assign }
@@ -67,12 +70,14 @@ unplaced_visited v = record { context = v.context; form = unplaced_form v.form; 
 -- two components that are the same apart from places. Their assignments stand in the same source order
 pub record SamePart (part other : PlainComponent) : Type 0 where
   pub name : part.name ≡ other.name
+  pub latency : part.latency ≡ other.latency
   pub inputs : part.inputs ≡ other.inputs
   pub outputs : part.outputs ≡ other.outputs
   pub cells : map unplaced_cell part.cells ≡ map unplaced_cell other.cells
   pub groups : map unplaced_group part.groups ≡ map unplaced_group other.groups
   pub always : map unplaced_assign part.always ≡ map unplaced_assign other.always
   pub order : map unplaced_owned (source_order part) ≡ map unplaced_owned (source_order other)
+  pub invokes : map unplaced_invoke part.invokes ≡ map unplaced_invoke other.invokes
   pub control : unplaced part.control ≡ unplaced other.control
 
 pub record SameDesign (d e : PlainDesign) : Type 0 where

@@ -8,7 +8,7 @@ use Rattle.cx_rules.specs.Ports.{component_of, keeps_literal}
 use Rattle.cx_rules.specs.WidthRules.{first_unequal, pairs_of}
 use Rattle.cx_rules.specs.StaticControl.{form_has_length, form_occurrences}
 use Rattle.cx_rules.specs.Items.{Dynamic}
-use Rattle.cx_rules.specs.Footprints.{named}
+use Rattle.cx_rules.specs.Invokes.{named}
 use Rattle.cx_rules.specs.RaceRule.{IsShared}
 use Rattle.cx_rules.specs.LimitRule.{is_too_many}
 use Rattle.cx_rules.specs.Sizes.{design_size, weight_of, instances_below, depth_below, words_below}

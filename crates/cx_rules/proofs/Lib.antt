@@ -4,7 +4,9 @@ pub mod FrameLemmas
 pub mod CircleLemmas
 pub mod ForeignLemmas
 pub mod KnownRules
+pub mod KnownCounts
 pub mod KeyOrder
+pub mod BreakNames
 pub mod OneBreak
 pub mod CirclesLemmas
 pub mod SpotsLemmas
@@ -14,3 +16,6 @@ pub mod PortsLemmas
 pub mod ShapeRulesLemmas
 pub mod ItemsLemmas
 pub mod SizesLemmas
+pub mod InvokesLemmas
+pub mod CountsLemmas
+pub mod LimitRuleLemmas

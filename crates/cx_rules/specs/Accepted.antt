@@ -5,21 +5,25 @@ use Rattle.cx_text.specs.declared.diagnostics.Diagnostic.{Diagnostic}
 use Rattle.cx_text.specs.declared.rules.Rule.{Rule}
 use Rattle.cx_text.specs.declared.rules.Rule.TheVariants.{BadByte, OpenComment, OpenString, BadLiteral, Unexpected, TooDeep, Duplicate, UnknownName, UnknownPrimitive, BadParameters, Recursive, NoMain, LeftOut, Width, GuardWidth, Literal, NotATarget, NotASource, NoDone, DoneNotState, AlwaysEnable, CombEnable, StaticGuard, StaticShape, CallShape, OutputNotState, CombCycle, Race, Limit, TooLarge}
 use Rattle.cx_meaning.specs.Designs.{PlainDesign}
-use Rattle.cx_rules.specs.Spots.{Part, Itself, AnAssign, AStatement, AGroup, Whole, Spot, OnAssign, OnStatement, OnGroup}
+use Rattle.cx_rules.specs.Spots.{Part, Itself, ABind, AnAssign, AStatement, AGroup, Whole, Spot, OnBind, OnAssign, OnStatement, OnGroup}
 use Rattle.cx_rules.specs.WidthRules.{BreaksWidth, BreaksGuardWidth, TestBreaksGuardWidth, BreaksLiteral, TestBreaksLiteral, BreaksNotATarget, BreaksNotASource, TestBreaksNotASource}
-use Rattle.cx_rules.specs.ShapeRules.{BreaksNoDone, BreaksDoneNotState, BreaksAlwaysEnable, BreaksCombEnable, BreaksStaticGuard, GroupBreaksStaticShape, BreaksStaticControl, BreaksLength, BreaksStaticTest, BreaksOutputNotState}
+use Rattle.cx_rules.specs.ShapeRules.{BreaksNoDone, BreaksDoneNotState, BreaksAlwaysEnable, BreaksCombEnable, BreaksStaticGuard, GroupBreaksStaticShape, BreaksStaticControl, BreaksLength, BreaksStaticTest, BreaksInvokeLength, BreaksPartLength, BreaksOutputNotState, BreaksKept}
 use Rattle.cx_rules.specs.CallShape.{BreaksCallShape, GroupBreaksCallShape}
+use Rattle.cx_rules.specs.InvokeShape.{BreaksStaticCell, BreaksInvoke}
 use Rattle.cx_rules.specs.RaceRule.{BreaksCombCycle, GroupBreaksCombCycle, BreaksRace}
 use Rattle.cx_rules.specs.LimitRule.{BreaksStatement, BreaksCells, BreaksGroups, BreaksInstances, BreaksDepth, BreaksWords, BreaksWeight}
 
 -- THE TABLE: when a design breaks a rule of stages 3 to 7 at a part, with what place and what name. A design breaks none of
 -- stages 1 and 2, and too-large is a matter of compile alone
 abbrev pub Breaks : PlainDesign → Rule → Spot → Place → List ℕ → Type 0
-Breaks d Width spot place name = OnAssign BreaksWidth d spot place name
-Breaks d GuardWidth spot place name = OnAssign BreaksGuardWidth d spot place name ⊎ OnStatement TestBreaksGuardWidth d spot place name
-Breaks d Literal spot place name = OnAssign BreaksLiteral d spot place name ⊎ OnStatement TestBreaksLiteral d spot place name
-Breaks d NotATarget spot place name = OnAssign BreaksNotATarget d spot place name
-Breaks d NotASource spot place name = OnAssign BreaksNotASource d spot place name ⊎ OnStatement TestBreaksNotASource d spot place name
+Breaks d Width spot place name = OnAssign BreaksWidth d spot place name ⊎ OnBind BreaksWidth d spot place name
+Breaks d GuardWidth spot place name =
+    OnAssign BreaksGuardWidth d spot place name ⊎ OnStatement TestBreaksGuardWidth d spot place name ⊎ OnBind BreaksGuardWidth d spot place name
+Breaks d Literal spot place name =
+    OnAssign BreaksLiteral d spot place name ⊎ OnStatement TestBreaksLiteral d spot place name ⊎ OnBind BreaksLiteral d spot place name
+Breaks d NotATarget spot place name = OnAssign BreaksNotATarget d spot place name ⊎ OnBind BreaksNotATarget d spot place name
+Breaks d NotASource spot place name =
+    OnAssign BreaksNotASource d spot place name ⊎ OnStatement TestBreaksNotASource d spot place name ⊎ OnBind BreaksNotASource d spot place name
 Breaks d NoDone spot place name = OnGroup BreaksNoDone d spot place name
 Breaks d DoneNotState spot place name = OnAssign BreaksDoneNotState d spot place name
 Breaks d AlwaysEnable spot place name = OnAssign BreaksAlwaysEnable d spot place name
@@ -28,8 +32,11 @@ Breaks d StaticGuard spot place name = OnAssign BreaksStaticGuard d spot place n
 Breaks d StaticShape spot place name =
     OnGroup GroupBreaksStaticShape d spot place name ⊎ OnStatement BreaksStaticControl d spot place name
     ⊎ OnStatement BreaksLength d spot place name ⊎ OnStatement BreaksStaticTest d spot place name
-Breaks d CallShape spot place name = OnAssign BreaksCallShape d spot place name ⊎ OnGroup GroupBreaksCallShape d spot place name
-Breaks d OutputNotState spot place name = OnAssign BreaksOutputNotState d spot place name
+    ⊎ OnStatement BreaksInvokeLength d spot place name ⊎ BreaksPartLength d spot place name
+Breaks d CallShape spot place name =
+    OnAssign BreaksCallShape d spot place name ⊎ OnGroup GroupBreaksCallShape d spot place name
+    ⊎ OnAssign BreaksStaticCell d spot place name ⊎ OnStatement BreaksInvoke d spot place name
+Breaks d OutputNotState spot place name = OnAssign BreaksOutputNotState d spot place name ⊎ OnAssign BreaksKept d spot place name
 Breaks d CombCycle spot place name = BreaksCombCycle d spot place name ⊎ OnGroup GroupBreaksCombCycle d spot place name
 Breaks d Race spot place name = OnStatement BreaksRace d spot place name
 Breaks d Limit spot place name =
@@ -105,13 +112,14 @@ stage_of Limit = 7
 stage_of TooLarge = 8
 
 -- THE ORDER OF BREAKS: by place, then by the rule's number; of one rule at one place by the component, and in it what is of the
--- component by itself, then its assignments, statements and groups, then what is of all below it
+-- component by itself, then the inputs of its static invokes, its assignments, statements and groups, then what is of all below it
 abbrev pub part_key : Part → List ℕ
 part_key (Itself n) = 0 ∷ n ∷ []
-part_key (AnAssign n) = 1 ∷ n ∷ []
-part_key (AStatement n) = 2 ∷ n ∷ []
-part_key (AGroup n) = 3 ∷ n ∷ []
-part_key (Whole n) = 4 ∷ n ∷ []
+part_key (ABind n) = 1 ∷ n ∷ []
+part_key (AnAssign n) = 2 ∷ n ∷ []
+part_key (AStatement n) = 3 ∷ n ∷ []
+part_key (AGroup n) = 4 ∷ n ∷ []
+part_key (Whole n) = 5 ∷ n ∷ []
 
 abbrev pub key_of : Rule → Spot → Place → List ℕ
 key_of rule spot place = place.line ∷ place.column ∷ number_of rule ∷ spot.component ∷ part_key spot.part

@@ -15,7 +15,7 @@ use Rattle.cx_rules.specs.Footprints.{Depends}
 use Rattle.cx_rules.specs.ShapeRules.{is_hole_of, some_target}
 use Rattle.cx_rules.specs.Spots.{Tells, AssignRule, GroupRule}
 
--- cell c is a component's, and one of the assignments drives a port of it
+-- cell c is a component's that is not static, and one of the assignments drives a port of it
 abbrev pub is_port_of : ℕ → PortRef → Bool
 is_port_of c (ports.Cell d p) = nat_eq d c
 is_port_of c (ports.Input n) = false
@@ -26,6 +26,7 @@ is_port_of c (ports.Literal w v) = false
 pub record Calls (i : Instance) (assigns : List PlainAssign) (c : ℕ) : Type 0 where
   pub child : Instance
   pub is_component : cell_at (cells_of i) c ≡ OfInstance child
+  pub dynamic : (part_of child).latency ≡ None
   pub driven : some_target (is_port_of c) assigns ≡ true
 
 -- the go of a component cell is its port 0, and its done the last one, after its inputs and outputs

@@ -3,10 +3,13 @@ pub mod Items
 pub mod Footprints
 pub mod StaticControl
 pub mod Sizes
+pub mod Invokes
+pub mod Counts
 pub mod Spots
 pub mod WidthRules
 pub mod ShapeRules
 pub mod CallShape
+pub mod InvokeShape
 pub mod RaceRule
 pub mod LimitRule
 pub mod Accepted

@@ -1,12 +1,13 @@
--- Stage 7: limits. Counts are numbers without bound.
+-- Stage 7: limits. Counts are numbers without bound, with the static components written out.
 use Rattle.std.specs.Prelude.{◌≡◌, ℕ, ◌<◌, ◌&&◌, nat_lt, nat_le, if◌then◌else◌, Bool, false, List, Option, Some, None, codes, length}
 use Rattle.cx_text.specs.declared.places.Place.{Place}
 use Rattle.cx_text.specs.declared.limits.TheConstants.{CELLS, GROUPS, INSTANCES, INSTANCE_DEPTH, MEMORY_WORDS, OCCURRENCES, REPETITIONS, WEIGHT}
-use Rattle.cx_meaning.specs.Designs.{PlainComponent, PlainDesign, component_at, PlainForm, Empty, Enable, Seq, Par, If, While, Repeat, StaticSeq, StaticPar, StaticIf, StaticRepeat, Timed}
-use Rattle.cx_meaning.specs.Instances.{part_of, tree_of}
-use Rattle.cx_meaning.specs.Islands.{form_length}
-use Rattle.cx_rules.specs.StaticControl.{is_island, form_occurrences}
-use Rattle.cx_rules.specs.Sizes.{weight_of, instances_below, depth_below, words_below}
+use Rattle.cx_meaning.specs.Designs.{PlainDesign, component_at, PlainForm, Empty, Enable, Seq, Par, If, While, Repeat, StaticSeq, StaticPar, StaticIf, StaticRepeat, Timed}
+use Rattle.cx_meaning.specs.Instances.{Instance, part_of, tree_of}
+use Rattle.cx_rules.specs.Sizes.{words_below}
+use Rattle.cx_rules.specs.Invokes.{form_lasts}
+use Rattle.cx_rules.specs.Counts.{is_any_island, occurrences_at, counted_cells, counted_groups, counted_weight, counted_instances, counted_depth}
+use Rattle.cx_rules.specs.Ports.{component_of}
 use Rattle.cx_rules.specs.Items.{Visited}
 use Rattle.cx_rules.specs.Spots.{Itself, Whole, Spot, Tells, StatementRule}
 
@@ -65,19 +66,19 @@ is_too_many (Some n) = nat_le REPETITIONS n
 
 -- the first limit that a statement exceeds: on the count of a repeat, on the occurrences in an island before repetition,
 -- on an island's length
-abbrev pub statement_limit : PlainComponent → Visited → Option Limited
-statement_limit part v =
+abbrev pub statement_limit : Instance → Visited → Option Limited
+statement_limit i v =
     if is_too_many (count_in v.form) then Some OnRepeat
-    else if is_island part v && nat_lt OCCURRENCES (form_occurrences part v.form) then Some OnOccurrences
-    else if is_island part v && nat_le REPETITIONS (form_length part v.form) then Some OnLatency
+    else if is_any_island (part_of i) v && nat_lt OCCURRENCES (occurrences_at i v.form) then Some OnOccurrences
+    else if is_any_island (part_of i) v && nat_le REPETITIONS (form_lasts (part_of i) v.form) then Some OnLatency
     else None
 
 -- RULE limit, at a statement: of several limits that it exceeds the first is told
 abbrev pub BreaksStatement : StatementRule
 BreaksStatement i v place name =
-    (limited : Limited) × (statement_limit (part_of i) v ≡ Some limited) × Tells place name v.place (word_of limited)
+    (limited : Limited) × (statement_limit i v ≡ Some limited) × Tells place name v.place (word_of limited)
 
--- at a component: its cells, and its groups with those of its invokes
+-- at a component: its cells, and its groups with those of its invokes, those of its static components among them
 pub record BreaksPart (d : PlainDesign) (limited : Limited) (count limit : ℕ) (spot : Spot) (place : Place) (name : List ℕ) : Type 0 where
   pub within : spot.component < length d.components
   pub is : spot.part ≡ Itself (order_of limited)
@@ -85,12 +86,12 @@ pub record BreaksPart (d : PlainDesign) (limited : Limited) (count limit : ℕ) 
   pub tells : Tells place name (component_at d spot.component).place (word_of limited)
 
 abbrev pub BreaksCells : PlainDesign → Spot → Place → List ℕ → Type 0
-BreaksCells d spot place name = BreaksPart d OnCells (length (component_at d spot.component).cells) CELLS spot place name
+BreaksCells d spot place name = BreaksPart d OnCells (counted_cells (component_of d spot.component)) CELLS spot place name
 
 abbrev pub BreaksGroups : PlainDesign → Spot → Place → List ℕ → Type 0
-BreaksGroups d spot place name = BreaksPart d OnGroups (length (component_at d spot.component).groups) GROUPS spot place name
+BreaksGroups d spot place name = BreaksPart d OnGroups (counted_groups (component_of d spot.component)) GROUPS spot place name
 
--- at main: over the instance tree
+-- at main: over the instance tree, in which static components have no instances
 pub record BreaksTree (d : PlainDesign) (limited : Limited) (count limit : ℕ) (spot : Spot) (place : Place) (name : List ℕ) : Type 0 where
   pub at_main : spot.component ≡ d.main
   pub is : spot.part ≡ Whole (order_of limited)
@@ -98,13 +99,13 @@ pub record BreaksTree (d : PlainDesign) (limited : Limited) (count limit : ℕ) 
   pub tells : Tells place name (component_at d d.main).place (word_of limited)
 
 abbrev pub BreaksInstances : PlainDesign → Spot → Place → List ℕ → Type 0
-BreaksInstances d = BreaksTree d OnInstances (instances_below (tree_of d)) INSTANCES
+BreaksInstances d = BreaksTree d OnInstances (counted_instances (tree_of d)) INSTANCES
 
 abbrev pub BreaksDepth : PlainDesign → Spot → Place → List ℕ → Type 0
-BreaksDepth d = BreaksTree d OnDepth (depth_below (tree_of d)) INSTANCE_DEPTH
+BreaksDepth d = BreaksTree d OnDepth (counted_depth (tree_of d)) INSTANCE_DEPTH
 
 abbrev pub BreaksWords : PlainDesign → Spot → Place → List ℕ → Type 0
 BreaksWords d = BreaksTree d OnWords (words_below (tree_of d)) MEMORY_WORDS
 
 abbrev pub BreaksWeight : PlainDesign → Spot → Place → List ℕ → Type 0
-BreaksWeight d = BreaksTree d OnWeight (weight_of d) WEIGHT
+BreaksWeight d = BreaksTree d OnWeight (counted_weight (tree_of d)) WEIGHT

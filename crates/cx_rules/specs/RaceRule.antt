@@ -6,10 +6,10 @@ use Rattle.cx_meaning.specs.Designs.{PlainComponent, PlainDesign, component_at, 
 use Rattle.cx_meaning.specs.Instances.{Instance, part_of}
 use Rattle.cx_meaning.specs.Active.{Active, nothing, group}
 use Rattle.cx_meaning.specs.Sights.{In}
-use Rattle.cx_meaning.specs.Control.{drives}
 use Rattle.cx_rules.specs.Ports.{component_of, cell_name}
 use Rattle.cx_rules.specs.Items.{Dynamic, visit}
-use Rattle.cx_rules.specs.Footprints.{Depends, Reads}
+use Rattle.cx_rules.specs.Footprints.{Depends}
+use Rattle.cx_rules.specs.Invokes.{drives_all, ReadsAll}
 use Rattle.cx_rules.specs.Spots.{Itself, Spot, Tells, StatementRule, GroupRule}
 
 -- some port depends on itself under an active set
@@ -72,7 +72,7 @@ pub record Arms (arms : List PlainStatement) : Type 0 where
 
 -- a cell that one arm drives and another reads
 abbrev pub IsShared : PlainComponent → List PlainStatement → ℕ → Type 0
-IsShared part arms c = (two : Arms arms) × (drives part two.first c ≡ true) × Reads part two.second c
+IsShared part arms c = (two : Arms arms) × (drives_all part two.first c ≡ true) × ReadsAll part two.second c
 
 -- a group that two arms enable
 abbrev pub IsEnabledTwice : List PlainStatement → ℕ → Type 0

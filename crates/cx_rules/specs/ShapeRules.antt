@@ -1,18 +1,20 @@
 -- Stage 4: shapes of groups, guards, static control and outputs. Calls stand in CallShape.
-use Rattle.std.specs.Prelude.{◌≡◌, ◌≢◌, ℕ, nat_eq, nat_lt, ◌⊎◌, Bool, true, false, ◌||◌, not, List, [], ◌∷◌, Option, Some, None}
+use Rattle.std.specs.Prelude.{◌≡◌, ◌≢◌, ℕ, ◌<◌, nat_eq, nat_lt, ◌⊎◌, Bool, true, false, ◌||◌, not, List, [], ◌∷◌, Option, Some, None, length}
+use Rattle.cx_text.specs.declared.places.Place.{Place}
 use Rattle.cx_meaning.specs.declared.ports.PortRef.{PortRef}
 use Rattle.cx_meaning.specs.declared.ports.PortRef.TheVariants as ports
 use Rattle.cx_meaning.specs.declared.ports.PlacedPort.{PlacedPort}
-use Rattle.cx_meaning.specs.Designs.{PlainAssign, PlainComponent, group_at, PlainForm, Empty, Enable, Seq, Par, If, While, Repeat, StaticSeq, StaticPar, StaticIf, StaticRepeat, Timed, PlainStatement}
+use Rattle.cx_meaning.specs.Designs.{PlainAssign, PlainInvoke, PlainComponent, PlainDesign, component_at, form_of, group_at, PlainForm, Empty, Enable, Seq, Par, If, While, Repeat, StaticSeq, StaticPar, StaticIf, StaticRepeat, Timed, PlainStatement}
 use Rattle.cx_meaning.specs.Instances.{Instance, part_of}
 use Rattle.cx_meaning.specs.Active.{nothing}
 use Rattle.cx_meaning.specs.Sights.{In}
-use Rattle.cx_meaning.specs.Islands.{group_length, form_length}
+use Rattle.cx_meaning.specs.Islands.{group_length}
 use Rattle.cx_rules.specs.Ports.{is_primitive_enable, is_part_port, path_of}
-use Rattle.cx_rules.specs.Items.{Range, ranges_of, is_plain, is_comb}
+use Rattle.cx_rules.specs.Items.{Range, ranges_of, is_plain, is_comb, InStatic}
 use Rattle.cx_rules.specs.Footprints.{AssignNames, Rests, Depends}
-use Rattle.cx_rules.specs.StaticControl.{is_static, is_in_static, may_stand, form_has_length, written_length}
-use Rattle.cx_rules.specs.Spots.{Tells, AssignRule, StatementRule, GroupRule}
+use Rattle.cx_rules.specs.StaticControl.{is_static, is_in_static, may_stand, is_timed, form_has_length, has_length, written_length}
+use Rattle.cx_rules.specs.Invokes.{invoke_at, invoke_length, form_lasts, lasts}
+use Rattle.cx_rules.specs.Spots.{Itself, Spot, Tells, AssignRule, StatementRule, GroupRule}
 
 abbrev pub is_hole : PortRef → Bool
 is_hole (ports.Cell c p) = false
@@ -102,8 +104,29 @@ BreaksStaticControl i v place name =
 abbrev pub BreaksLength : StatementRule
 BreaksLength i v place name =
     (is_static v.form ≡ true) × (form_has_length (part_of i) v.context v.form ≡ true)
-    × (((n : ℕ) × (written_length v.form ≡ Some n) × (n ≢ form_length (part_of i) v.form)) ⊎ (form_length (part_of i) v.form ≡ 0))
+    × (((n : ℕ) × (written_length v.form ≡ Some n) × (n ≢ form_lasts (part_of i) v.form)) ⊎ (form_lasts (part_of i) v.form ≡ 0))
     × Tells place name v.place []
+
+-- a static invoke of a static component, at which the word static stands: its written length is not its length, or its length is 0
+abbrev pub BreaksInvokeLength : StatementRule
+BreaksInvokeLength i v place name =
+    (k : ℕ) × (w : PlainInvoke) × (v.form ≡ Timed k) × (invoke_at (part_of i) k ≡ Some w) × (is_timed (Some w) ≡ true)
+    × (((n : ℕ) × (w.length ≡ Some n) × (n ≢ invoke_length (Some w))) ⊎ (invoke_length (Some w) ≡ 0))
+    × Tells place name v.place []
+
+-- the control of a static component: not one static statement or enable of a static group; or one of another length than the component's
+abbrev pub IsWrongControl : PlainComponent → ℕ → Type 0
+IsWrongControl part latency =
+    (may_stand part InStatic (form_of part.control) ≡ false)
+    ⊎ ((has_length part InStatic part.control ≡ true) × (lasts part part.control ≢ latency))
+
+pub record BreaksPartLength (d : PlainDesign) (spot : Spot) (place : Place) (name : List ℕ) : Type 0 where
+  pub within : spot.component < length d.components
+  pub is : spot.part ≡ Itself 0
+  pub latency : ℕ
+  pub static : (component_at d spot.component).latency ≡ Some latency
+  pub control : IsWrongControl (component_at d spot.component) latency
+  pub tells : Tells place name (component_at d spot.component).place (component_at d spot.component).name
 
 -- a static if whose port does not rest on state
 abbrev pub BreaksStaticTest : StatementRule
@@ -119,4 +142,11 @@ LeadsToInput i q = (n : ℕ) × ((q ≡ ports.Input n) ⊎ Depends i nothing q (
 abbrev pub BreaksOutputNotState : AssignRule
 BreaksOutputNotState i a place name =
     (n : ℕ) × (a.assign.target ≡ ports.Output n) × ((q : PortRef) × AssignNames a.assign q × ((Rests i q → ⊥) ⊎ LeadsToInput i q))
+    × Tells place name a.assign.place (path_of i a.assign.target)
+
+-- and in a static component, whose continuous assignments make the same of its state whoever runs it: a continuous assignment names
+-- a signature input
+abbrev pub BreaksKept : AssignRule
+BreaksKept i a place name =
+    (latency : ℕ) × ((part_of i).latency ≡ Some latency) × (a.owner ≡ None) × ((n : ℕ) × AssignNames a.assign (ports.Input n))
     × Tells place name a.assign.place (path_of i a.assign.target)

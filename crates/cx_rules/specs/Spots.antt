@@ -1,16 +1,17 @@
 -- Where a rule is broken: the part, its place and its name.
-use Rattle.std.specs.Prelude.{◌≡◌, ℕ, ◌<◌, List, length, slice_get, Some}
+use Rattle.std.specs.Prelude.{◌≡◌, ℕ, ◌<◌, List, None, Some, flat_map, length, slice_get}
 use Rattle.cx_text.specs.declared.places.Place.{Place}
-use Rattle.cx_meaning.specs.Designs.{PlainDesign, component_at}
+use Rattle.cx_meaning.specs.Designs.{PlainAssign, PlainComponent, PlainDesign, component_at}
 use Rattle.cx_meaning.specs.Instances.{Instance}
 use Rattle.cx_meaning.specs.Active.{Owned, source_order}
 use Rattle.cx_rules.specs.Ports.{component_of}
 use Rattle.cx_rules.specs.Items.{Visited, statements_in}
 
--- a part of a component, by its number in the component's list of its kind: an assignment in source order, a statement in
--- pre-order, a group; or the component, by itself or with all below it, with the number of a word of the rule
+-- a part of a component, by its number in the component's list of its kind: an input that a static invoke binds, an assignment in
+-- source order, a statement in pre-order, a group; or the component, by itself or with all below it, with the number of a word of the rule
 pub data Part : Type 0 where
   Itself : (word : ℕ) → Part
+  ABind : (number : ℕ) → Part
   AnAssign : (number : ℕ) → Part
   AStatement : (number : ℕ) → Part
   AGroup : (number : ℕ) → Part
@@ -42,6 +43,19 @@ pub record OnAssign (rule : AssignRule) (d : PlainDesign) (spot : Spot) (place :
   pub assign : Owned
   pub stands : slice_get (source_order (component_at d spot.component)) number ≡ Some assign
   pub breaks : rule (component_of d spot.component) assign place name
+
+-- the inputs that the static invokes of a component bind, in the order of the invokes
+abbrev pub binds_in : PlainComponent → List PlainAssign
+binds_in part = flat_map (λ v. v.inputs) part.invokes
+
+-- a bound input of a static invoke breaks the rule
+pub record OnBind (rule : AssignRule) (d : PlainDesign) (spot : Spot) (place : Place) (name : List ℕ) : Type 0 where
+  pub within : spot.component < length d.components
+  pub number : ℕ
+  pub is : spot.part ≡ ABind number
+  pub assign : PlainAssign
+  pub stands : slice_get (binds_in (component_at d spot.component)) number ≡ Some assign
+  pub breaks : rule (component_of d spot.component) (record { owner = None; assign = assign }) place name
 
 -- a statement of the design breaks the rule
 pub record OnStatement (rule : StatementRule) (d : PlainDesign) (spot : Spot) (place : Place) (name : List ℕ) : Type 0 where

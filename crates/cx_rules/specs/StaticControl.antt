@@ -1,6 +1,6 @@
 -- Static control: what may stand in it, and counts of occurrences before repetition.
-use Rattle.std.specs.Prelude.{ℕ, ◌+◌, Bool, true, false, ◌&&◌, is_some, List, [], ◌∷◌, Option, None}
-use Rattle.cx_meaning.specs.Designs.{PlainComponent, PlainForm, Empty, Enable, Seq, Par, If, While, Repeat, StaticSeq, StaticPar, StaticIf, StaticRepeat, Timed, PlainStatement, Placed, PlainStatements, no_statements, a_statement}
+use Rattle.std.specs.Prelude.{ℕ, ◌+◌, Bool, true, false, ◌&&◌, is_some, List, [], ◌∷◌, Option, Some, None, slice_get}
+use Rattle.cx_meaning.specs.Designs.{PlainInvoke, PlainComponent, PlainForm, Empty, Enable, Seq, Par, If, While, Repeat, StaticSeq, StaticPar, StaticIf, StaticRepeat, Timed, PlainStatement, Placed, PlainStatements, no_statements, a_statement}
 use Rattle.cx_meaning.specs.Islands.{group_length}
 use Rattle.cx_rules.specs.Items.{Context, Dynamic, InStatic, Branch, Amiss, Visited}
 
@@ -32,6 +32,11 @@ is_in_static Branch = true
 is_in_static Amiss = false
 
 -- MAY STAND IN STATIC CONTROL: a static statement, the enable of a static group, and as a branch of a static if the empty one
+-- and a static invoke where the word static stands at it
+abbrev pub is_written : Option PlainInvoke → Bool
+is_written None = false
+is_written (Some v) = v.written
+
 abbrev pub may_stand : PlainComponent → Context → PlainForm → Bool
 may_stand part context Empty = is_branch context
 may_stand part context (Enable g) = is_some (group_length part g)
@@ -44,9 +49,13 @@ may_stand part context (StaticSeq length parts) = true
 may_stand part context (StaticPar length arms) = true
 may_stand part context (StaticIf length test a b) = true
 may_stand part context (StaticRepeat length count a) = true
-may_stand part context (Timed k) = false
+may_stand part context (Timed k) = is_written (slice_get part.invokes k)
 
--- HAS A LENGTH: nothing in the static statement may not stand there
+-- HAS A LENGTH: nothing in the static statement may not stand there, and no static invoke in it is of a cell of another kind
+abbrev pub is_timed : Option PlainInvoke → Bool
+is_timed None = false
+is_timed (Some v) = v.written && is_some v.latency
+
 abbrev mutual
   pub form_has_length : PlainComponent → Context → PlainForm → Bool
   form_has_length part context Empty = is_branch context
@@ -60,7 +69,7 @@ abbrev mutual
   form_has_length part context (StaticPar length arms) = all_have_length part arms
   form_has_length part context (StaticIf length test a b) = has_length part Branch a && has_length part Branch b
   form_has_length part context (StaticRepeat length count a) = has_length part InStatic a
-  form_has_length part context (Timed k) = false
+  form_has_length part context (Timed k) = is_timed (slice_get part.invokes k)
 
   pub has_length : PlainComponent → Context → PlainStatement → Bool
   has_length part context (Placed form place) = form_has_length part context form

@@ -9,13 +9,18 @@ use Rattle.cx_prim.specs.Table.{HasRow, row_of}
 use Rattle.cx_meaning.specs.declared.ports.PortRef.{PortRef}
 use Rattle.cx_meaning.specs.declared.ports.PortRef.TheVariants as ports
 use Rattle.cx_meaning.specs.declared.ports.PlacedPort.{PlacedPort}
+use Rattle.cx_meaning.specs.declared.kinds.GroupKind.TheVariants as kinds
 use Rattle.cx_meaning.specs.declared.kinds.PortDecl.{PortDecl}
-use Rattle.cx_meaning.specs.Designs.{Always, PlainAssign, PlainKind, OfPrimitive, OfComponent, PlainCell, PlainComponent, PlainDesign, component_at, group_at, PlainForm, Empty, Enable, Seq, Par, If, While, Repeat, StaticSeq, StaticPar, StaticIf, StaticRepeat, Timed}
+use Rattle.cx_meaning.specs.Designs.{Always, PlainAssign, PlainInvoke, PlainKind, OfPrimitive, OfComponent, PlainCell, PlainComponent, PlainDesign, component_at, group_at, PlainForm, Empty, Enable, Seq, Par, If, While, Repeat, StaticSeq, StaticPar, StaticIf, StaticRepeat, Timed}
 use Rattle.cx_meaning.specs.Instances.{Instance, At, Nothing, OfRow, OfInstance, part_of, cells_of, cell_at}
 use Rattle.cx_meaning.specs.Sights.{In}
+use Rattle.cx_meaning.specs.Control.{groups_of}
 use Rattle.cx_rules.specs.Ports.{component_of}
 use Rattle.cx_rules.specs.Items.{sources_of, is_comb, Visited, statements_in, test_in}
 use Rattle.cx_rules.specs.ShapeRules.{is_hole}
+use Rattle.cx_rules.specs.CallShape.{IsInput, is_register, write_en_of, one}
+use Rattle.cx_rules.specs.InvokeShape.{latency_at}
+use Rattle.cx_rules.specs.Invokes.{invokes_of}
 use Rattle.cx_rules.specs.Sizes.{design_size}
 
 -- the number names a port
@@ -75,6 +80,35 @@ pub record IsStatement (i : Instance) (v : Visited) : Type 0 where
   pub test : (p : PlacedPort) → test_in v.form ≡ Some p → IsThere i p.port
   pub no_hole : (p : PlacedPort) → test_in v.form ≡ Some p → is_hole p.port ≡ false
 
+-- an input that a static invoke of cell c binds: an input of the cell, without a guard, from a port that is there and is no hole
+pub record IsBind (i : Instance) (c : ℕ) (a : PlainAssign) : Type 0 where
+  pub port : ℕ
+  pub target : a.target ≡ ports.Cell c port
+  pub there : IsThere i a.target
+  pub input : (child : Instance) → cell_at (cells_of i) c ≡ OfInstance child → IsInput child port
+  pub no_guard : a.guard ≡ Always
+  pub source : IsThere i a.source.port
+  pub no_hole : is_hole a.source.port ≡ false
+
+-- the group that captures takes ports of the cell into registers and enables them, in one cycle, and no statement enables it
+pub data IsCapture (i : Instance) (c : ℕ) (a : PlainAssign) : Type 0 where
+  takes : (r q : ℕ) → is_register (part_of i) r ≡ true → a.target ≡ ports.Cell r 0 → a.guard ≡ Always → a.source.port ≡ ports.Cell c q → IsCapture i c a
+  enables : (r : ℕ) → is_register (part_of i) r ≡ true → a.target ≡ write_en_of r → a.guard ≡ Always → a.source.port ≡ one → IsCapture i c a
+
+pub record IsCapturing (i : Instance) (c g : ℕ) : Type 0 where
+  pub there : g < length (part_of i).groups
+  pub one_cycle : (group_at (part_of i) g).kind ≡ kinds.Timed 1
+  pub not_enabled : In (groups_of (part_of i).control) g → ⊥
+  pub assigns : (a : PlainAssign) → In (group_at (part_of i) g).assigns a → IsCapture i c a
+
+-- a static invoke names a cell and has the latency of its component; it binds inputs of the cell, each once; its group captures
+pub record IsInvoke (i : Instance) (v : PlainInvoke) : Type 0 where
+  pub cell : v.cell < length (part_of i).cells
+  pub latency : v.latency ≡ latency_at (cell_at (cells_of i) v.cell)
+  pub inputs : (a : PlainAssign) → In v.inputs a → IsBind i v.cell a
+  pub once : (m n : ℕ) (a b : PlainAssign) → slice_get v.inputs m ≡ Some a → slice_get v.inputs n ≡ Some b → a.target ≡ b.target → m ≡ n
+  pub captures : (g : ℕ) → v.captures ≡ Some g → IsCapturing i v.cell g
+
 -- a row of a memory
 abbrev pub is_memory : StateShape → Bool
 is_memory NoState = false
@@ -124,6 +158,10 @@ pub record IsComponent (d : PlainDesign) (k : ℕ) : Type 0 where
   pub cells : (cell : PlainCell) → In (component_at d k).cells cell → IsCell d k cell
   pub assigns : (owner : Option ℕ) (a : PlainAssign) → StandsIn (component_at d k) owner a → IsAssign (component_of d k) owner a
   pub statements : (v : Visited) → In (statements_in (component_at d k)) v → IsStatement (component_of d k) v
+  pub invokes : (v : PlainInvoke) → In (component_at d k).invokes v → IsInvoke (component_of d k) v
+  pub invoked : (n : ℕ) → n < length (component_at d k).invokes → In (invokes_of (component_at d k).control) n
+  pub captures_apart : (m n g : ℕ) (v w : PlainInvoke) → slice_get (component_at d k).invokes m ≡ Some v → slice_get (component_at d k).invokes n ≡ Some w
+      → v.captures ≡ Some g → w.captures ≡ Some g → m ≡ n
   pub inputs : IsSignature (component_at d k).inputs
   pub outputs : IsSignature (component_at d k).outputs
   pub port_names : AreApart (map (λ decl. decl.name) ((component_at d k).inputs ++ (component_at d k).outputs))
@@ -140,6 +178,7 @@ pub data LeadsTo (d : PlainDesign) : ℕ → ℕ → Type 0 where
 pub record IsDesign (d : PlainDesign) : Type 0 where
   pub main_there : d.main < length d.components
   pub main_named : (component_at d d.main).name ≡ codes "main"
+  pub main_dynamic : (component_at d d.main).latency ≡ None
   pub main_bare : ((component_at d d.main).inputs ≡ []) × ((component_at d d.main).outputs ≡ [])
   pub components : (k : ℕ) → k < length d.components → IsComponent d k
   pub component_names : (j k : ℕ) → j < length d.components → k < length d.components → (component_at d j).name ≡ (component_at d k).name → j ≡ k

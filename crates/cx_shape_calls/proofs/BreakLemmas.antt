@@ -1,5 +1,5 @@
 -- The list of a component's breaks has those of the rule, and no others.
-use Rattle.std.proofs.Common.{◌≡◌, ◌+◌, ◌<◌, ℕ, zero, suc, Bool, true, false, ◌&&◌, not, nat_eq, List, [], ◌∷◌, ◌++◌, Option, Some, None, length, get_or, slice_get, ◌⊎◌, inl, inr, ⊎_elim, refl, sym, ap, ◌∙◌, subst, arith, true≢false}
+use Rattle.std.proofs.Common.{◌≡◌, ◌+◌, ◌<◌, ℕ, zero, suc, Bool, true, false, ◌&&◌, ◌||◌, not, nat_eq, List, [], ◌∷◌, ◌++◌, Option, Some, None, length, get_or, slice_get, ◌⊎◌, inl, inr, ⊎_elim, refl, sym, ap, ◌∙◌, subst, arith, true≢false}
 use Rattle.cx_text.specs.declared.places.Place.{Place}
 use Rattle.cx_text.specs.declared.rules.Rule.{Rule}
 use Rattle.cx_text.specs.declared.rules.Rule.TheVariants as rules
@@ -11,7 +11,8 @@ use Rattle.cx_rules.specs.Ports.{component_of, is_part_port, path_of}
 use Rattle.cx_rules.specs.Items.{is_plain}
 use Rattle.cx_rules.specs.ShapeRules.{is_hole_of, some_target}
 use Rattle.cx_rules.specs.CallShape.{Calls, go_port, IsOutside, IsMisshapen, BreaksCallShape, GroupBreaksCallShape}
-use Rattle.cx_rules.specs.Spots.{Part, AnAssign, AGroup, Spot, OnAssign, OnGroup}
+use Rattle.cx_rules.specs.InvokeShape.{is_static_port, BreaksStaticCell}
+use Rattle.cx_rules.specs.Spots.{Part, AnAssign, AGroup, Spot, Tells, OnGroup}
 use Rattle.cx_rules.specs.Accepted.{key_of, comes_before}
 use Rattle.cx_rules.proofs.ForeignLemmas.{sorted_among, owned_among, split, groups_among}
 use Rattle.cx_design_parts.specs.Breaks.{Broken, key, first_of}
@@ -19,14 +20,14 @@ use Rattle.cx_design_parts.specs.Numbered.{numbered}
 use Rattle.cx_design_parts.specs.Answers.{AreBreaksBy}
 use Rattle.cx_design_parts.proofs.Lists.{first_append, in_left, in_right, in_either, in_numbered, numbered_in}
 use Rattle.cx_design_parts.proofs.Families.{Either, breaks_of_either, breaks_of_same}
-use Rattle.cx_shape_calls.specs.Callees.{PlainCallee, called_of}
+use Rattle.cx_callees.specs.Callees.{PlainCallee, called_of}
 use Rattle.cx_shape_calls.specs.Forms.{times, is_none, is_calling}
 use Rattle.cx_shape_calls.specs.declared.groups.GroupShape.{GroupShape}
-use Rattle.cx_shape_calls.specs.CallBreaks.{CallShapeBreaks, InComponent, Before}
-use Rattle.cx_shape_calls.specs.Decisions.{is_wrong, is_wrong_by, is_wrong_in, or_none, shape_at, lacks_by, told_if, assign_breaks_at, group_breaks_at, component_breaks, IsShapeOf, AreShapesOf}
+use Rattle.cx_shape_calls.specs.CallBreaks.{CallShapeBreaks, InComponent, ShapesIn, InvokesIn, Before}
+use Rattle.cx_shape_calls.specs.Decisions.{is_wrong, is_wrong_by, is_wrong_in, is_refused, or_none, shape_at, lacks_by, told_if, assign_breaks_at, group_breaks_at, component_breaks, IsShapeOf, AreShapesOf}
 use Rattle.cx_shape_calls.proofs.BoolLemmas.{any_in, any_has}
-use Rattle.cx_shape_calls.proofs.TargetLemmas.{callee, target_of}
-use Rattle.cx_shape_calls.proofs.CalledLemmas.{called_sound, called_all, driven_by, part_callee}
+use Rattle.cx_callees.proofs.TargetLemmas.{callee, target_of, is_dynamic}
+use Rattle.cx_callees.proofs.CalledLemmas.{called_sound, called_all, driven_by, part_callee}
 use Rattle.cx_shape_calls.proofs.WrongLemmas.{IsBroken, sound, complete}
 use Rattle.cx_text.proofs.OptionLaws.{some_is, none_some_also}
 use Rattle.cx_text.proofs.ListLaws.{front, get_end}
@@ -34,7 +35,7 @@ use Rattle.cx_meaning.proofs.SightsLaws.{in_at}
 use Rattle.cx_text.proofs.NumberLaws.{before_more}
 use Rattle.cx_meaning.proofs.DesignsLemmas.{there_below, same_part as part_is}
 use Rattle.cx_rules.proofs.KeyOrder.{before_irreflexive}
-use Rattle.cx_text.proofs.BoolLaws.{from_not, both_true}
+use Rattle.cx_text.proofs.BoolLaws.{from_not, or_left, or_right, both_true}
 use Rattle.std.proofs.lemmas.Bool.{not_from_false}
 
 abbrev one_or : {A : Type 0} → A → Option A → A
@@ -73,21 +74,37 @@ in_some [] k h = absurd h
 in_some (x ∷ ks) k h = refl
 
 calls_some : (i : Instance) (assigns : List PlainAssign) (c : ℕ) → Calls i assigns c → is_none (called_of i assigns) ≡ false
-calls_some i assigns c calls = in_some (called_of i assigns) (callee c calls.child) (called_all i assigns c calls.child calls.is_component calls.driven)
+calls_some i assigns c calls = in_some (called_of i assigns) (callee c calls.child) (called_all i assigns c calls.child calls.is_component calls.dynamic calls.driven)
 
 is_called : (i : Instance) (group : PlainGroup) (c : ℕ) → is_plain group.kind ≡ true → Calls i group.assigns c → is_calling i group ≡ true
 is_called i group c plain calls = ap (λ b. b && not (is_none (called_of i group.assigns))) plain ∙ not_from_false (is_none (called_of i group.assigns)) (calls_some i group.assigns c calls)
 
 -- TOLD
-told_in : (b : Bool) (spot : Spot) (place : Place) (name : List ℕ) (x : Broken) → In (told_if b spot place name) x → (b ≡ true) × (record { rule = rules.CallShape; spot = spot; place = place; name = name } ≡ x)
+pub told_in : (b : Bool) (spot : Spot) (place : Place) (name : List ℕ) (x : Broken) → In (told_if b spot place name) x → (b ≡ true) × (record { rule = rules.CallShape; spot = spot; place = place; name = name } ≡ x)
 told_in true spot place name x (inl e) = (refl, e)
 told_in true spot place name x (inr j) = absurd j
 told_in false spot place name x j = absurd j
 
-told_has : (b : Bool) (spot : Spot) (at place : Place) (called name : List ℕ) → b ≡ true → place ≡ at → name ≡ called → In (told_if b spot at called) (record { rule = rules.CallShape; spot = spot; place = place; name = name })
+pub told_has : (b : Bool) (spot : Spot) (at place : Place) (called name : List ℕ) → b ≡ true → place ≡ at → name ≡ called → In (told_if b spot at called) (record { rule = rules.CallShape; spot = spot; place = place; name = name })
 told_has b spot at place called name e p n =
     subst (λ t. In (told_if t spot at called) (record { rule = rules.CallShape; spot = spot; place = place; name = name })) (sym e)
     (inl (ap (λ q. record { rule = rules.CallShape; spot = spot; place = q; name = called }) (sym p) ∙ ap (λ m. record { rule = rules.CallShape; spot = spot; place = place; name = m }) (sym n)))
+
+abbrev pub told : Spot → Place → List ℕ → Broken
+told spot place name = record { rule = rules.CallShape; spot = spot; place = place; name = name }
+
+-- a break that is in a list, told at its own spot
+pub itself : (found : List Broken) (rule : Rule) (spot own : Spot) (place : Place) (name : List ℕ) → rule ≡ rules.CallShape → spot ≡ own → In found (told own place name)
+    → (b : Broken) × In found b × (comes_before (key_of rule spot place) (key b) ≡ false)
+itself found rule spot own place name e f h = (
+  told own place name,
+  h,
+  subst (λ r. comes_before (key_of r spot place) (key (told own place name)) ≡ false) (sym e)
+      (subst (λ s. comes_before (key_of rules.CallShape s place) (key (told own place name)) ≡ false) (sym f) (before_irreflexive (key_of rules.CallShape own place))),
+)
+
+pub same_spot : (k : ℕ) (spot : Spot) (part : Part) → spot.component ≡ k → spot.part ≡ part → spot ≡ record { component = k; part = part }
+same_spot k spot part e f = ap (λ c. record { component = c; part = spot.part }) e ∙ ap (λ p. record { component = k; part = p }) f
 
 module _ (d : PlainDesign) (k : ℕ) (within : k < length d.components) (shapes : List (Option GroupShape))
     (are : AreShapesOf (component_of d k) (length (component_at d k).groups) shapes) where
@@ -116,29 +133,34 @@ module _ (d : PlainDesign) (k : ℕ) (within : k < length d.components) (shapes 
   plain_calling : (group : PlainGroup) → is_calling i group ≡ true → is_plain group.kind ≡ true
   plain_calling group h = (both_true (is_plain group.kind) (not (is_none (called_of i group.assigns))) h).0
 
-  group_sound : (o : Owned) (g : ℕ) → o.owner ≡ Some g → In (group_at (part_of i) g).assigns o.assign → (s : Option GroupShape) → IsShapeOf i g (group_at (part_of i) g) s
+  group_sound : (o : Owned) (g : ℕ) → is_static_port i o.assign.target ≡ false → o.owner ≡ Some g → In (group_at (part_of i) g).assigns o.assign → (s : Option GroupShape) → IsShapeOf i g (group_at (part_of i) g) s
       → is_wrong_by i g o.assign s ≡ true → IsOutside i o ⊎ IsMisshapen i o
-  group_sound o g e there None idle h = choice (is_plain (group_at (part_of i) g).kind) refl
+  group_sound o g dynamic e there None idle h = choice (is_plain (group_at (part_of i) g).kind) refl
     where
       choice : (b : Bool) → is_plain (group_at (part_of i) g).kind ≡ b → IsOutside i o ⊎ IsMisshapen i o
       choice true plain =
           let r = part_callee i o.assign.target h in
           let t = target_of i o.assign.target r.0 r.1 in
-          let calls : Calls i (group_at (part_of i) g).assigns r.0.cell = record { child = t.child; is_component = t.stands; driven = driven_by i (group_at (part_of i) g).assigns o.assign r.0.cell t.port there t.is } in
+          let calls : Calls i (group_at (part_of i) g).assigns r.0.cell = record {
+            child = t.child;
+            is_component = t.stands;
+            dynamic = is_dynamic i o.assign.target r.0.cell t.port t.child t.is t.stands dynamic;
+            driven = driven_by i (group_at (part_of i) g).assigns o.assign r.0.cell t.port there t.is;
+          } in
           absurd (true≢false (sym (is_called i (group_at (part_of i) g) r.0.cell plain calls) ∙ idle))
       choice false other = inl (h, inr (g, e, other))
-  group_sound o g e there (Some s) is h =
+  group_sound o g dynamic e there (Some s) is h =
       let f = is.0 in
-      let b = sound i g (times s.form.driven) (times s.dependent) s.form.wrong_done o.assign there f.driven f.wrong_done is.1
+      let b = sound i g (times s.form.driven) (times s.dependent) s.form.wrong_done o.assign there f.driven f.wrong_done is.1 dynamic
       (subst (λ ks. is_wrong i g ks (times s.form.driven) (times s.dependent) s.form.wrong_done o.assign o.assign.target ≡ true) f.called h) in
       inr (record { group = g; owner = e; plain = plain_calling (group_at (part_of i) g) f.calling; cell = b.cell; calls = b.calls; breaks = b.breaks })
 
-  owned_sound : (o : Owned) → In (source_order (component_at d k)) o → is_wrong_in i shapes o.owner o.assign ≡ true → IsOutside i o ⊎ IsMisshapen i o
-  owned_sound o h w =
+  owned_sound : (o : Owned) → is_static_port i o.assign.target ≡ false → In (source_order (component_at d k)) o → is_wrong_in i shapes o.owner o.assign ≡ true → IsOutside i o ⊎ IsMisshapen i o
+  owned_sound o dynamic h w =
       ⊎_elim
       (λ none. inl (ap (λ owner. is_wrong_in i shapes owner o.assign) (sym none) ∙ w, inl none))
       (λ r. let s = shape_of r.0 r.3 in
-      group_sound o r.0 r.1 r.2 s.0 s.2 (ap (is_wrong_by i r.0 o.assign) (sym s.1) ∙ ap (λ owner. is_wrong_in i shapes owner o.assign) (sym r.1) ∙ w))
+      group_sound o r.0 dynamic r.1 r.2 s.0 s.2 (ap (is_wrong_by i r.0 o.assign) (sym s.1) ∙ ap (λ owner. is_wrong_in i shapes owner o.assign) (sym r.1) ∙ w))
       (owner_of o h)
 
   group_complete : (o : Owned) (g : ℕ) → o.owner ≡ Some g → In (group_at (part_of i) g).assigns o.assign → (s : Option GroupShape) → IsShapeOf i g (group_at (part_of i) g) s
@@ -172,6 +194,21 @@ module _ (d : PlainDesign) (k : ℕ) (within : k < length d.components) (shapes 
       bare none (inl outside) = outside.0
       bare none (inr m) = absurd (none_some_also m.group (sym none ∙ m.owner))
 
+  -- AN ASSIGNMENT breaks the rule on calls or that on static cells, as is told
+  bad_sound : (o : Owned) → In (source_order (component_at d k)) o → is_refused i shapes o ≡ true
+      → (IsOutside i o ⊎ IsMisshapen i o) ⊎ (is_static_port i o.assign.target ≡ true)
+  bad_sound o h w = choice (is_static_port i o.assign.target) refl w
+    where
+      choice : (b : Bool) → is_static_port i o.assign.target ≡ b → b || is_wrong_in i shapes o.owner o.assign ≡ true
+          → (IsOutside i o ⊎ IsMisshapen i o) ⊎ (is_static_port i o.assign.target ≡ true)
+      choice true e u = inr e
+      choice false e u = inl (owned_sound o e h u)
+
+  bad_complete : (o : Owned) → In (source_order (component_at d k)) o → (IsOutside i o ⊎ IsMisshapen i o) ⊎ (is_static_port i o.assign.target ≡ true)
+      → is_refused i shapes o ≡ true
+  bad_complete o h (inl b) = or_right (is_static_port i o.assign.target) (is_wrong_in i shapes o.owner o.assign) (owned_complete o h b)
+  bad_complete o h (inr s) = or_left (is_static_port i o.assign.target) (is_wrong_in i shapes o.owner o.assign) s
+
   -- the rule on a group
   abbrev Lacks : ℕ → Type 0
   Lacks g =
@@ -194,7 +231,7 @@ module _ (d : PlainDesign) (k : ℕ) (within : k < length d.components) (shapes 
   lacks_complete g None idle (plain, r) = absurd (true≢false (sym (is_called i (group_at (part_of i) g) r.0 plain r.1) ∙ idle))
   lacks_complete g (Some s) is (plain, r) =
       is.0.lacks
-      ∙ any_has (lack g) (called_of i (group_at (part_of i) g).assigns) (callee r.0 r.1.child) (called_all i (group_at (part_of i) g).assigns r.0 r.1.child r.1.is_component r.1.driven)
+      ∙ any_has (lack g) (called_of i (group_at (part_of i) g).assigns) (callee r.0 r.1.child) (called_all i (group_at (part_of i) g).assigns r.0 r.1.child r.1.is_component r.1.dynamic r.1.driven)
       (not_from_false (some_target (same_port (go_port r.0)) (group_at (part_of i) g).assigns && some_target (is_hole_of g) (group_at (part_of i) g).assigns) r.2)
 
   -- THE LIST
@@ -202,15 +239,16 @@ module _ (d : PlainDesign) (k : ℕ) (within : k < length d.components) (shapes 
   found = component_breaks d k shapes
 
   abbrev Holds : Broken → Type 0
-  Holds b = InComponent d k b.rule b.spot b.place b.name
+  Holds b = ShapesIn d k b.rule b.spot b.place b.name
 
   assign_holds : (m : ℕ) (o : Owned) (b : Broken) → slice_get (source_order (component_at d k)) m ≡ Some o → In (assign_breaks_at d k shapes m o) b → Holds b
   assign_holds m o b stands h =
       let spot : Spot = record { component = k; part = AnAssign m } in
-      let t = told_in (is_wrong_in i shapes o.owner o.assign) spot o.assign.place (path_of i o.assign.target) b h in
-      let on : OnAssign BreaksCallShape d spot o.assign.place (path_of i o.assign.target) =
-      record { within = within; number = m; is = refl; assign = o; stands = stands; breaks = (owned_sound o (in_at (source_order (component_at d k)) m o stands) t.0, (refl, refl)) } in
-      subst Holds t.1 ((refl, inl on), refl)
+      let t = told_in (is_refused i shapes o) spot o.assign.place (path_of i o.assign.target) b h in
+      subst Holds t.1 (⊎_elim
+      (λ call. ((refl, inl (record { within = within; number = m; is = refl; assign = o; stands = stands; breaks = (call, (refl, refl)) })), refl))
+      (λ static. ((refl, inr (inr (record { within = within; number = m; is = refl; assign = o; stands = stands; breaks = (static, (refl, refl)) }))), refl))
+      (bad_sound o (in_at (source_order (component_at d k)) m o stands) t.0))
 
   group_holds : (g : ℕ) (group : PlainGroup) (b : Broken) → slice_get (component_at d k).groups g ≡ Some group → In (group_breaks_at k shapes g group) b → Holds b
   group_holds g group b stands h =
@@ -222,7 +260,7 @@ module _ (d : PlainDesign) (k : ℕ) (within : k < length d.components) (shapes 
       let l = lacks_sound g s.0 s.2 (ap lacks_by (sym s.1) ∙ t.0) in
       let on : OnGroup GroupBreaksCallShape d spot group.place group.name =
       record { within = within; number = g; is = refl; stands = is.1; breaks = (l.0, l.1, (ap (λ x. x.place) (sym same), ap (λ x. x.name) (sym same))) } in
-      subst Holds t.1 ((refl, inr on), refl)
+      subst Holds t.1 ((refl, inr (inl on)), refl)
 
   all_hold : (b : Broken) → In found b → Holds b
   all_hold b h =
@@ -237,17 +275,20 @@ module _ (d : PlainDesign) (k : ℕ) (within : k < length d.components) (shapes 
       group_holds r.0 r.1 b r.2 (subst (λ n. In (group_breaks_at k shapes n r.1) b) e r.3))
       (in_either assigns groups b h)
 
-  abbrev told : Spot → Place → List ℕ → Broken
-  told spot place name = record { rule = rules.CallShape; spot = spot; place = place; name = name }
-
-  assign_has : (m : ℕ) (o : Owned) (place : Place) (name : List ℕ) → slice_get (source_order (component_at d k)) m ≡ Some o → BreaksCallShape i o place name → In found (told (record { component = k; part = AnAssign m }) place name)
+  assign_has : (m : ℕ) (o : Owned) (place : Place) (name : List ℕ) → slice_get (source_order (component_at d k)) m ≡ Some o → BreaksCallShape i o place name ⊎ BreaksStaticCell i o place name
+      → In found (told (record { component = k; part = AnAssign m }) place name)
   assign_has m o place name stands b =
       let spot : Spot = record { component = k; part = AnAssign m } in
       let e : m ≡ 0 + m = omega arith in
       in_left (numbered (assign_breaks_at d k shapes) 0 (source_order (component_at d k))) (numbered (group_breaks_at k shapes) 0 (component_at d k).groups) (told spot place name)
       (in_numbered (assign_breaks_at d k shapes) 0 (source_order (component_at d k)) m o (told spot place name) stands
       (subst (λ n. In (assign_breaks_at d k shapes n o) (told spot place name)) e
-      (told_has (is_wrong_in i shapes o.owner o.assign) spot o.assign.place place (path_of i o.assign.target) name (owned_complete o (in_at (source_order (component_at d k)) m o stands) b.0) b.1.0 b.1.1)))
+      (told_has (is_refused i shapes o) spot o.assign.place place (path_of i o.assign.target) name
+      (bad_complete o (in_at (source_order (component_at d k)) m o stands) (⊎_elim (λ c. inl c.0) (λ s. inr s.0) b)) (tells b).0 (tells b).1)))
+    where
+      tells : BreaksCallShape i o place name ⊎ BreaksStaticCell i o place name → Tells place name o.assign.place (path_of i o.assign.target)
+      tells (inl c) = c.1
+      tells (inr s) = s.1
 
   group_has : (g : ℕ) (place : Place) (name : List ℕ) → g < length (component_at d k).groups → GroupBreaksCallShape i g place name → In found (told (record { component = k; part = AGroup g }) place name)
   group_has g place name h (plain, r, at) =
@@ -261,33 +302,38 @@ module _ (d : PlainDesign) (k : ℕ) (within : k < length d.components) (shapes 
       (subst (λ n. In (group_breaks_at k shapes n group) (told spot place name)) e
       (told_has (lacks_by (shape_at shapes g)) spot group.place place group.name name (ap lacks_by s.1 ∙ lacks_complete g s.0 s.2 (plain, r)) (at.0 ∙ ap (λ x. x.place) same) (at.1 ∙ ap (λ x. x.name) same))))
 
-  -- a break that is in the list, told at its own spot
-  itself : (rule : Rule) (spot own : Spot) (place : Place) (name : List ℕ) → rule ≡ rules.CallShape → spot ≡ own → In found (told own place name)
-      → (b : Broken) × In found b × (comes_before (key_of rule spot place) (key b) ≡ false)
-  itself rule spot own place name e f h = (
-    told own place name,
-    h,
-    subst (λ r. comes_before (key_of r spot place) (key (told own place name)) ≡ false) (sym e)
-        (subst (λ s. comes_before (key_of rules.CallShape s place) (key (told own place name)) ≡ false) (sym f) (before_irreflexive (key_of rules.CallShape own place))),
-  )
-
-  same_spot : (spot : Spot) (part : Part) → spot.component ≡ k → spot.part ≡ part → spot ≡ record { component = k; part = part }
-  same_spot spot part e f = ap (λ c. record { component = c; part = spot.part }) e ∙ ap (λ p. record { component = k; part = p }) f
-
-  pub are_breaks : AreBreaksBy (InComponent d k) found
-  are_breaks = record {
+  pub are_shapes : AreBreaksBy (ShapesIn d k) found
+  are_shapes = record {
     by_family = all_hold;
     all_family = λ rule spot place name h. ⊎_elim
-        (λ o. itself rule spot (record { component = k; part = AnAssign o.number }) place name h.0.0 (same_spot spot (AnAssign o.number) h.1 o.is)
+        (λ o. itself found rule spot (record { component = k; part = AnAssign o.number }) place name h.0.0 (same_spot k spot (AnAssign o.number) h.1 o.is)
         (assign_has o.number o.assign place name (subst (λ c. slice_get (source_order (component_at d c)) o.number ≡ Some o.assign) h.1 o.stands)
-        (subst (λ c. BreaksCallShape (component_of d c) o.assign place name) h.1 o.breaks)))
-        (λ o. itself rule spot (record { component = k; part = AGroup o.number }) place name h.0.0 (same_spot spot (AGroup o.number) h.1 o.is)
+        (inl (subst (λ c. BreaksCallShape (component_of d c) o.assign place name) h.1 o.breaks))))
+        (λ rest. ⊎_elim
+        (λ o. itself found rule spot (record { component = k; part = AGroup o.number }) place name h.0.0 (same_spot k spot (AGroup o.number) h.1 o.is)
         (group_has o.number place name (subst (λ c. o.number < length (component_at d c).groups) h.1 o.stands)
         (subst (λ c. GroupBreaksCallShape (component_of d c) o.number place name) h.1 o.breaks)))
+        (λ o. itself found rule spot (record { component = k; part = AnAssign o.number }) place name h.0.0 (same_spot k spot (AnAssign o.number) h.1 o.is)
+        (assign_has o.number o.assign place name (subst (λ c. slice_get (source_order (component_at d c)) o.number ≡ Some o.assign) h.1 o.stands)
+        (inr (subst (λ c. BreaksStaticCell (component_of d c) o.assign place name) h.1 o.breaks))))
+        rest)
         h.0.1;
   }
 
 -- COMPONENTS
+pub both_kinds : (d : PlainDesign) (k : ℕ) (found more : List Broken) → AreBreaksBy (ShapesIn d k) found → AreBreaksBy (InvokesIn d k) more → AreBreaksBy (InComponent d k) (found ++ more)
+both_kinds d k found more a b =
+    breaks_of_same (Either (ShapesIn d k) (InvokesIn d k)) (InComponent d k) (found ++ more)
+    (λ rule spot place name h. ⊎_elim
+    (λ s. ((s.0.0, ⊎_elim (λ o. inl o) (λ r. ⊎_elim (λ g. inr (inl g)) (λ c. inr (inr (inl c))) r) s.0.1), s.1))
+    (λ v. ((v.0.0, inr (inr (inr v.0.1))), v.1))
+    h)
+    (λ rule spot place name h. ⊎_elim
+    (λ o. inl ((h.0.0, inl o), h.1))
+    (λ r. ⊎_elim (λ g. inl ((h.0.0, inr (inl g)), h.1)) (λ q. ⊎_elim (λ c. inl ((h.0.0, inr (inr c)), h.1)) (λ v. inr ((h.0.0, v), h.1)) q) r)
+    h.0.1)
+    (breaks_of_either (ShapesIn d k) (InvokesIn d k) found more a b)
+
 pub none_before : (d : PlainDesign) → AreBreaksBy (Before d 0) []
 none_before d = record { by_family = λ b h. absurd h; all_family = λ rule spot place name h. absurd (omega (arith, h.1)) }
 
@@ -301,7 +347,7 @@ one_more d n found more a b =
 pub all_before : (d : PlainDesign) (found : List Broken) → AreBreaksBy (Before d (length d.components)) found → AreBreaksBy (CallShapeBreaks d) found
 all_before d found a =
     breaks_of_same (Before d (length d.components)) (CallShapeBreaks d) found (λ rule spot place name h. h.0)
-    (λ rule spot place name h. (h, ⊎_elim (λ o. o.within) (λ o. o.within) h.1)) a
+    (λ rule spot place name h. (h, ⊎_elim (λ o. o.within) (λ r. ⊎_elim (λ g. g.within) (λ q. ⊎_elim (λ o. o.within) (λ v. v.within) q) r) h.1)) a
 
 pub first_more : (best mid next : Option Broken) (found more : List Broken) → mid ≡ first_of best found → next ≡ first_of mid more → next ≡ first_of best (found ++ more)
 first_more best mid next found more e f = f ∙ ap (λ b. first_of b more) e ∙ sym (first_append best found more)

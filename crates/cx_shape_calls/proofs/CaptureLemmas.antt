@@ -10,7 +10,7 @@ use Rattle.cx_meaning.specs.Designs.{PlainAssign, PlainCell, PlainComponent}
 use Rattle.cx_meaning.specs.Active.{same_port}
 use Rattle.cx_rules.specs.ShapeRules.{some_target}
 use Rattle.cx_rules.specs.CallShape.{write_en_of, is_reg_kind, is_register_cell, is_register, captured_from, captured}
-use Rattle.cx_shape_calls.specs.Callees.{is_cell}
+use Rattle.cx_callees.specs.Callees.{is_cell}
 use Rattle.cx_shape_calls.specs.Forms.{register_of, with_register, registers_in}
 use Rattle.cx_text.proofs.NumberLaws.{apart_numbers, true_lt, from_eq, equal}
 use Rattle.cx_text.proofs.BoolLaws.{swapped, once}

@@ -29,10 +29,10 @@ use Rattle.cx_rules.proofs.FoundLemmas.{same_is}
 use Rattle.cx_meaning.specs.Active.{same_port}
 use Rattle.cx_design_leads.proofs.DriverLemmas.{driver_of, of_owner, leads_either, leads_by_group, by_group_leads}
 use Rattle.cx_design_leads.proofs.ThereLemmas.{leads_there}
-use Rattle.cx_shape_calls.specs.Callees.{PlainCallee, callee_at, callee_of}
+use Rattle.cx_callees.specs.Callees.{PlainCallee, callee_at, callee_of}
 use Rattle.cx_shape_calls.specs.Forms.{count_of}
 use Rattle.cx_shape_calls.specs.Inputs.{IsDependent, AreDependent, AreDependentPorts, IsInputOf, is_an_input, is_input}
-use Rattle.cx_shape_calls.proofs.TargetLemmas.{target_of}
+use Rattle.cx_callees.proofs.TargetLemmas.{target_of}
 use Rattle.cx_meaning.proofs.PortsLemmas.{same_self}
 use Rattle.cx_meaning.proofs.SightsLaws.{in_left, in_right}
 use Rattle.cx_graphs.proofs.Marks.{in_left as node_before, in_right as node_behind, in_either}

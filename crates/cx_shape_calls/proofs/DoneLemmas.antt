@@ -5,7 +5,7 @@ use Rattle.std.proofs.lemmas.List.{length-take, length-map}
 use Rattle.std.proofs.lemmas.List.Filters.{length-filter_more}
 use Rattle.cx_design.specs.declared.groups.Assign.{Assign}
 use Rattle.cx_design.specs.PlainForms.{plain_assign}
-use Rattle.cx_shape_calls.specs.declared.callees.Callee.{Callee}
+use Rattle.cx_callees.specs.declared.callees.Callee.{Callee}
 use Rattle.std.specs.List.{list_all, list_any}
 use Rattle.cx_meaning.specs.declared.ports.PortRef.{PortRef}
 use Rattle.cx_meaning.specs.declared.ports.PortRef.TheVariants as ports
@@ -15,7 +15,7 @@ use Rattle.cx_rules.specs.Items.{is_plain}
 use Rattle.cx_meaning.specs.Active.{same_port}
 use Rattle.cx_rules.specs.ShapeRules.{is_hole_of, some_target}
 use Rattle.cx_rules.specs.CallShape.{go_port, register_done, wanted_dones, with_target, are_dones, is_right_done}
-use Rattle.cx_shape_calls.specs.Callees.{PlainCallee, plain_callee, done_of, called_of}
+use Rattle.cx_callees.specs.Callees.{PlainCallee, plain_callee, done_of, called_of}
 use Rattle.cx_shape_calls.specs.Forms.{count_of, is_wrong_done, lacks_go_or_done, is_none, is_calling}
 use Rattle.cx_shape_calls.proofs.CaptureLemmas.{eq_sym}
 use Rattle.cx_text.proofs.BoolLaws.{both_true}

@@ -1,9 +1,10 @@
 pub mod ConjunctionLemmas
 pub mod CaptureLemmas
 pub mod DoneLemmas
-pub mod TargetLemmas
 mod DependLemmas
 mod BoolLemmas
-mod CalledLemmas
 mod WrongLemmas
 mod BreakLemmas
+mod StatementLemmas
+mod InvokeLemmas
+mod BoundLemmas

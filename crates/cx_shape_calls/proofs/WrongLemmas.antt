@@ -9,13 +9,14 @@ use Rattle.cx_meaning.specs.Sights.{In, PartPort, Go, AnInput, AnOutput, ItsDone
 use Rattle.cx_rules.specs.Ports.{is_primitive_enable, enables_cell}
 use Rattle.cx_rules.specs.ShapeRules.{is_hole_of}
 use Rattle.cx_rules.specs.CallShape.{Calls, go_port, done_port, captured, with_target, wanted_dones, is_register_enable, is_right_go, is_right_enable, is_right_done, CallBreak, another_cell, wrong_go, input_by_output, wrong_enable, wrong_done}
-use Rattle.cx_shape_calls.specs.Callees.{PlainCallee, done_of, callee_at, callee_of, called_of}
+use Rattle.cx_rules.specs.InvokeShape.{is_static_port}
+use Rattle.cx_callees.specs.Callees.{PlainCallee, done_of, callee_at, callee_of, called_of}
 use Rattle.cx_shape_calls.specs.Forms.{is_wrong_done}
 use Rattle.cx_shape_calls.specs.Inputs.{AreDependent, IsDependent}
 use Rattle.cx_shape_calls.specs.Decisions.{port_number, cell_number, calls_other, wrong_port, wrong_bare, wrong_enable_of, wrong_for, is_wrong}
 use Rattle.cx_shape_calls.proofs.BoolLemmas.{not_same, other_than, grouped, any_in, any_has, in_filter, lone}
-use Rattle.cx_shape_calls.proofs.TargetLemmas.{callee, Target, target_of}
-use Rattle.cx_shape_calls.proofs.CalledLemmas.{callee_is, driven_by, called_sound, called_all, part_callee, part_port_is}
+use Rattle.cx_callees.proofs.TargetLemmas.{callee, Target, target_of, is_dynamic}
+use Rattle.cx_callees.proofs.CalledLemmas.{callee_is, driven_by, called_sound, called_all, part_callee, part_port_is}
 use Rattle.cx_text.proofs.NumberLaws.{from_eq, equal}
 use Rattle.cx_text.proofs.BoolLaws.{from_not, either_true, or_left, or_right, both_true}
 use Rattle.std.proofs.lemmas.Bool.{not_from_false}
@@ -100,11 +101,19 @@ module _ (i : Instance) (g : ℕ) where
         ∙ ap (λ p. nat_eq (driven (cell_number t) (port_number t)) 1 && is_right_enable p (a ∷ [])) (sym (done_same k child e)))
         ∙ sym (grouped (is_register_enable (part_of i) t) (nat_eq (driven (cell_number t) (port_number t)) 1) (is_right_enable (done_of k) (a ∷ [])))
 
-    -- WRONG, so a break
-    port_sound : (k : PlainCallee) (t : Target i a.target k) (port : PartPort) → part_port k.part (port_number a.target) ≡ port
+    abbrev calls_of : is_static_port i a.target ≡ false → (k : PlainCallee) (t : Target i a.target k) → Calls i assigns k.cell
+    calls_of other k t = record {
+      child = t.child;
+      is_component = t.stands;
+      dynamic = is_dynamic i a.target k.cell t.port t.child t.is t.stands other;
+      driven = driven_by i assigns a k.cell t.port there t.is;
+    }
+
+    -- WRONG, so a break, where the target is no port of a static cell
+    port_sound : is_static_port i a.target ≡ false → (k : PlainCallee) (t : Target i a.target k) (port : PartPort) → part_port k.part (port_number a.target) ≡ port
         → wrong_port driven dependent a k (port_number a.target) port ≡ true → IsBroken a.target
-    port_sound k t Go e h =
-        let calls : Calls i assigns k.cell = record { child = t.child; is_component = t.stands; driven = driven_by i assigns a k.cell t.port there t.is } in
+    port_sound other k t Go e h =
+        let calls : Calls i assigns k.cell = calls_of other k t in
         let first : t.port ≡ 0 = ap port_number (sym t.is) ∙ go_zero k.part (port_number a.target) e in
         let at : a.target ≡ go_port k.cell = t.is ∙ ap (λ p. ports.Cell k.cell p) first in
         record {
@@ -112,23 +121,28 @@ module _ (i : Instance) (g : ℕ) where
           calls = calls;
           breaks = subst (λ p. CallBreak i g k.cell t.child p) (sym at) (wrong_go (go_alone k t.child t.part at ∙ from_not (nat_eq (driven k.cell 0) 1 && is_right_go (done_of k) (a ∷ [])) h));
         }
-    port_sound k t (AnInput n) e h =
+    port_sound other k t (AnInput n) e h =
         let number : port_number a.target ≡ t.port = ap port_number t.is in
         let r = (dep a k.cell (port_number a.target) there (t.is ∙ ap (λ p. ports.Cell k.cell p) (sym number))).0 (from_not (nat_eq (dependent k.cell (port_number a.target)) 0) h) in
         record {
           cell = r.cell;
-          calls = record { child = r.child; is_component = r.stands; driven = driven_by i assigns a r.cell r.input there r.is };
+          calls = record {
+            child = r.child;
+            is_component = r.stands;
+            dynamic = is_dynamic i a.target r.cell r.input r.child r.is r.stands other;
+            driven = driven_by i assigns a r.cell r.input there r.is;
+          };
           breaks = subst (λ p. CallBreak i g r.cell r.child p) (sym r.is) (input_by_output r.input ((r.number, r.is_input), (r.output, r.is_output, r.depends)));
         }
-    port_sound k t (AnOutput n) e h = absurd (true≢false (sym h))
-    port_sound k t ItsDone e h = absurd (true≢false (sym h))
+    port_sound other k t (AnOutput n) e h = absurd (true≢false (sym h))
+    port_sound other k t ItsDone e h = absurd (true≢false (sym h))
 
-    other_sound : (k : PlainCallee) (t : Target i a.target k) → callee_of i a.target ≡ Some k → calls_other called k.cell ≡ true → IsBroken a.target
-    other_sound k t e h =
+    other_sound : is_static_port i a.target ≡ false → (k : PlainCallee) (t : Target i a.target k) → callee_of i a.target ≡ Some k → calls_other called k.cell ≡ true → IsBroken a.target
+    other_sound other k t e h =
         let r = any_in (λ l. not (nat_eq l.cell k.cell)) called h in
         record {
           cell = k.cell;
-          calls = record { child = t.child; is_component = t.stands; driven = driven_by i assigns a k.cell t.port there t.is };
+          calls = calls_of other k t;
           breaks = another_cell ((r.0.cell, (called_sound i assigns r.0 r.1).calls, not_same r.0.cell k.cell (from_not (nat_eq r.0.cell k.cell) r.2)), part_port_is i a.target k e);
         }
 
@@ -158,8 +172,8 @@ module _ (i : Instance) (g : ℕ) where
               (wrong_done (ap (λ p. is_right_done (wanted_dones p registers) dones) (sym (done_same r.0 s.calls.child s.part)) ∙ from_not (is_right_done (wanted_dones (done_of r.0) registers) dones) r.2));
         }
 
-    pub sound : is_wrong i g called driven dependent is_bad a a.target ≡ true → IsBroken a.target
-    sound h = choice (callee_of i a.target) refl h
+    pub sound : is_static_port i a.target ≡ false → is_wrong i g called driven dependent is_bad a a.target ≡ true → IsBroken a.target
+    sound other h = choice (callee_of i a.target) refl h
       where
         bare : (b : Bool) → is_primitive_enable i a.target ≡ b → cond b (wrong_enable_of (part_of i) called driven a a.target) (is_hole_of g a.target && is_bad) ≡ true → IsBroken a.target
         bare true e h = enable_sound e h
@@ -170,8 +184,8 @@ module _ (i : Instance) (g : ℕ) where
         choice (Some k) e h =
             let t = target_of i a.target k e in
             ⊎_elim
-            (λ o. other_sound k t e o)
-            (λ p. port_sound k t (part_port k.part (port_number a.target)) refl p)
+            (λ o. other_sound other k t e o)
+            (λ p. port_sound other k t (part_port k.part (port_number a.target)) refl p)
             (either_true (calls_other called k.cell) (wrong_port driven dependent a k (port_number a.target) (part_port k.part (port_number a.target))) h)
 
     -- A BREAK, so wrong
@@ -189,9 +203,9 @@ module _ (i : Instance) (g : ℕ) where
       where
         choice : (b : Bool) → nat_eq c cell ≡ b → calls_other called cell ≡ true
         choice true h =
-            any_has (λ k. not (nat_eq k.cell cell)) called (callee e y.child) (called_all i assigns e y.child y.is_component y.driven)
+            any_has (λ k. not (nat_eq k.cell cell)) called (callee e y.child) (called_all i assigns e y.child y.is_component y.dynamic y.driven)
             (not_from_false (nat_eq e cell) (other_than e cell (λ s. ne (s ∙ sym (from_eq c cell h)))))
-        choice false h = any_has (λ k. not (nat_eq k.cell cell)) called (callee c x.child) (called_all i assigns c x.child x.is_component x.driven) (not_from_false (nat_eq c cell) h)
+        choice false h = any_has (λ k. not (nat_eq k.cell cell)) called (callee c x.child) (called_all i assigns c x.child x.is_component x.dynamic x.driven) (not_from_false (nat_eq c cell) h)
 
     bare_of : (t : PortRef) → callee_of i t ≡ None → wrong_bare i g called driven is_bad a t ≡ true → is_wrong i g called driven dependent is_bad a t ≡ true
     bare_of t e h = ap (λ o. wrong_for i g called driven dependent is_bad a o t) e ∙ h
@@ -213,7 +227,7 @@ module _ (i : Instance) (g : ℕ) where
         bare_of t (enable_callee i t en)
         (ap (λ b. cond b (wrong_enable_of (part_of i) called driven a t) (is_hole_of g t && is_bad)) en
         ∙ any_has (λ l. not ((is_register_enable (part_of i) t && nat_eq (driven (cell_number t) (port_number t)) 1) && is_right_enable (done_of l) (a ∷ []))) called k
-        (called_all i assigns c calls.child calls.is_component calls.driven)
+        (called_all i assigns c calls.child calls.is_component calls.dynamic calls.driven)
         (not_from_false ((is_register_enable (part_of i) t && nat_eq (driven (cell_number t) (port_number t)) 1) && is_right_enable (done_of k) (a ∷ [])) (sym (enable_alone k calls.child t refl at (enable_cell i t en)) ∙ h)))
     complete c calls at (wrong_done h) =
         let k = callee c calls.child in
@@ -221,5 +235,5 @@ module _ (i : Instance) (g : ℕ) where
         let registers = captured (part_of i) assigns in
         bare_of (ports.Done g) refl
         (ap (λ b. b && is_bad) (equal g)
-        ∙ bad_is ∙ any_has (λ l. not (is_right_done (wanted_dones (done_of l) registers) dones)) called k (called_all i assigns c calls.child calls.is_component calls.driven)
+        ∙ bad_is ∙ any_has (λ l. not (is_right_done (wanted_dones (done_of l) registers) dones)) called k (called_all i assigns c calls.child calls.is_component calls.dynamic calls.driven)
         (not_from_false (is_right_done (wanted_dones (done_of k) registers) dones) h))

@@ -12,10 +12,11 @@ use Rattle.cx_meaning.specs.Sights.{PartPort, Go, AnInput, AnOutput, ItsDone, pa
 use Rattle.cx_rules.specs.Ports.{component_of, is_part_port, is_primitive_enable, path_of}
 use Rattle.cx_rules.specs.ShapeRules.{is_hole_of}
 use Rattle.cx_rules.specs.CallShape.{is_register_enable, is_right_enable, is_right_go}
+use Rattle.cx_rules.specs.InvokeShape.{is_static_port}
 use Rattle.cx_rules.specs.Spots.{AnAssign, AGroup, Spot}
 use Rattle.cx_design_parts.specs.Breaks.{Broken}
 use Rattle.cx_design_parts.specs.Numbered.{numbered}
-use Rattle.cx_shape_calls.specs.Callees.{PlainCallee, plain_callee, done_of, callee_of}
+use Rattle.cx_callees.specs.Callees.{PlainCallee, plain_callee, done_of, callee_of}
 use Rattle.cx_shape_calls.specs.Forms.{times, is_calling, IsFormOf}
 use Rattle.cx_shape_calls.specs.Inputs.{AreDependent}
 use Rattle.cx_shape_calls.specs.declared.groups.GroupShape.{GroupShape}
@@ -85,8 +86,12 @@ lacks_by (Some s) = s.form.lacks
 abbrev pub told_if : Bool → Spot → Place → List ℕ → List Broken
 told_if b spot place name = if b then record { rule = rules.CallShape; spot = spot; place = place; name = name } ∷ [] else []
 
+-- an assignment drives a port of a cell of a static component, or is wrong where it stands
+abbrev pub is_refused : Instance → List (Option GroupShape) → Owned → Bool
+is_refused i shapes a = is_static_port i a.assign.target || is_wrong_in i shapes a.owner a.assign
+
 abbrev pub assign_breaks : Instance → List (Option GroupShape) → Spot → Owned → List Broken
-assign_breaks i shapes spot a = told_if (is_wrong_in i shapes a.owner a.assign) spot a.assign.place (path_of i a.assign.target)
+assign_breaks i shapes spot a = told_if (is_refused i shapes a) spot a.assign.place (path_of i a.assign.target)
 
 abbrev pub assign_breaks_at : PlainDesign → ℕ → List (Option GroupShape) → ℕ → Owned → List Broken
 assign_breaks_at d k shapes n a = assign_breaks (component_of d k) shapes (record { component = k; part = AnAssign n }) a

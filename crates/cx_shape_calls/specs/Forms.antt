@@ -13,7 +13,7 @@ use Rattle.cx_rules.specs.Items.{is_plain}
 use Rattle.cx_rules.specs.ShapeRules.{is_hole_of, some_target}
 use Rattle.cx_rules.specs.CallShape.{go_port, is_register, captured, with_target, wanted_dones, is_right_done}
 use Rattle.cx_shape_calls.specs.declared.forms.CallForm.{CallForm}
-use Rattle.cx_shape_calls.specs.Callees.{PlainCallee, plain_callee, done_of, called_of}
+use Rattle.cx_callees.specs.Callees.{PlainCallee, plain_callee, done_of, called_of}
 
 -- a guard that is a port or a conjunction of such, in any nesting
 abbrev mutual

@@ -10,7 +10,7 @@ use Rattle.cx_meaning.specs.Sights.{In, PartPort, Go, AnInput, AnOutput, ItsDone
 use Rattle.cx_rules.specs.Footprints.{Leads, Depends}
 use Rattle.cx_design_leads.specs.Nodes.{IsNodesOf, node_count}
 use Rattle.cx_design_leads.specs.Edges.{HasEdges, IsClear, IsGroupOf}
-use Rattle.cx_shape_calls.specs.Callees.{PlainCallee, callee_of}
+use Rattle.cx_callees.specs.Callees.{PlainCallee, callee_of}
 use Rattle.cx_shape_calls.specs.declared.inputs.Paths.{Paths}
 
 -- under a group

@@ -1,5 +1,5 @@
-pub mod Callees
 pub mod Forms
 pub mod Inputs
 pub mod CallBreaks
 pub mod Decisions
+pub mod StaticInvokes

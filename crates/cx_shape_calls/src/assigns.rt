@@ -1,22 +1,27 @@
 //! Whether an assignment breaks the rule.
 
-ghost use Rattle.std.specs.Prelude.{◌≡◌, ◌<◌, ◌&&◌, ◌∷◌, [], length, map, not};
+ghost use Rattle.std.specs.Prelude.{◌≡◌, ◌<◌, ◌&&◌, ◌∷◌, [], is_some, length, map, not};
 ghost use Rattle.std.specs.List.{list_any};
 ghost use Rattle.std.specs.Option.{option_map};
 ghost use Rattle.cx_rules.specs.Ports.{component_of};
 ghost use Rattle.cx_rules.specs.ShapeRules as rules;
 ghost use Rattle.cx_rules.specs.CallShape as call;
+ghost use Rattle.cx_rules.specs.InvokeShape as invokes;
+ghost use Rattle.cx_meaning.specs.Instances.{cells_of, cell_at};
 ghost use Rattle.cx_meaning.specs.Sights.{part_port};
 ghost use Rattle.cx_design.specs.PlainForms.{plain_assign, plain_component};
 ghost use Rattle.cx_design.specs.PlainDesigns.{plain_design};
-ghost use Rattle.cx_shape_calls.specs.Callees.{plain_callee, done_of};
+ghost use Rattle.cx_callees.specs.Callees.{plain_callee, done_of};
 ghost use Rattle.cx_shape_calls.specs.Forms as forms;
 ghost use Rattle.cx_shape_calls.specs.Decisions as decisions;
 
 use crate::groups::GroupShape;
-use crate::{Callee, callee_of, is_right_enable, is_right_go, register_of, times};
+use crate::{is_right_enable, is_right_go, register_of, times};
+use cx_callees::{Callee, callee_of};
 use cx_design::{Assign, Component, Design, PortRef};
-use cx_design_parts::{PartPort, component, is_part_port, is_primitive_enable, part_port};
+use cx_design_parts::{
+    At, PartPort, component, is_part_port, is_primitive_enable, part_port, stands_at,
+};
 
 /// Whether an assignment of a group, or a continuous one, breaks the rule.
 pub fn is_wrong_in(
@@ -32,6 +37,27 @@ pub fn is_wrong_in(
     match owner {
         Some(place) => is_wrong_by(design, number, place, shape_at(shapes, place), assign),
         None => is_part_port(design, number, assign.target),
+    }
+}
+
+/// Whether a port is one of a cell of a static component.
+pub fn is_static_port(design: &Design, number: usize, port: PortRef) -> bool
+    requires within { number < length design.now.components.items }
+    ensures value { result ≡ invokes.is_static_port (component_of (plain_design design.now) number) port }
+{
+    match port {
+        PortRef::Cell(cell, _) => is_static_cell(design, number, cell),
+        PortRef::Input(_) | PortRef::Output(_) | PortRef::Done(_) | PortRef::Literal(_, _) => false,
+    }
+}
+
+fn is_static_cell(design: &Design, number: usize, cell: u32) -> bool
+    requires within { number < length design.now.components.items }
+    ensures value { result ≡ is_some (invokes.latency_at (cell_at (cells_of (component_of (plain_design design.now) number)) cell)) }
+{
+    match stands_at(design, number, cell) {
+        At::Part(part) => part.latency.is_some(),
+        At::Nothing | At::Primitive(_) => false,
     }
 }
 

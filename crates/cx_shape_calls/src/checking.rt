@@ -12,17 +12,23 @@ ghost use Rattle.cx_design_parts.specs.Answers.{AreBreaksBy};
 ghost use Rattle.cx_design_parts.specs.Breaks.{Broken, first_of, plain_spot};
 ghost use Rattle.cx_design_parts.specs.Numbered.{numbered};
 ghost use Rattle.cx_shape_calls.specs.CallBreaks.{CallShapeBreaks, InComponent};
+ghost use Rattle.cx_rules.specs.Items.{statements_in};
+ghost use Rattle.cx_shape_calls.specs.StaticInvokes.{statement_breaks_at};
 ghost use Rattle.cx_shape_calls.specs.Decisions as decisions;
 ghost use Rattle.cx_shape_calls.specs.Decisions.{assign_breaks, assign_breaks_at, group_breaks_at};
 
-use crate::assigns::{is_wrong_in, shape_at};
+use crate::assigns::{is_static_port, is_wrong_in, shape_at};
 use crate::groups::{GroupShape, shapes};
+use crate::invokes::wrong_invokes;
+use crate::statements::add_statement;
 use cx_design::{Design, Group};
-use cx_design_parts::{Break, FirstBreak, OwnedAssign, Part, Spot, component, path, source_order};
+use cx_design_parts::{
+    Break, FirstBreak, OwnedAssign, Part, Spot, component, path, source_order, statements,
+};
 use cx_text::{Memory, Name, Rule};
 use std::alloc::Global;
 
-/// Looks at all assignments and groups of a design.
+/// Looks at all assignments, groups and statements of a design.
 pub fn add_breaks(alloc: Global, first: &mut FirstBreak, design: &Design) -> Result<(), Memory>
     ensures value { IfOk result (λ _. (found : List Broken) × AreBreaksBy (CallShapeBreaks (plain_design design.now)) found × (first.new ≡ first_of first.old found)) }
 {
@@ -32,7 +38,7 @@ pub fn add_breaks(alloc: Global, first: &mut FirstBreak, design: &Design) -> Res
     Ok(())
 }
 
-/// Looks at the assignments and the groups of a component.
+/// Looks at the assignments, the groups and the statements of a component.
 fn add_component(
     alloc: Global,
     first: &mut FirstBreak,
@@ -43,8 +49,10 @@ fn add_component(
     ensures value { IfOk result (λ _. (found : List Broken) × AreBreaksBy (InComponent (plain_design design.now) number) found × (first.new ≡ first_of first.old found)) }
 {
     let shapes = shapes(alloc, design, number)?;
+    let marks = wrong_invokes(alloc, design, number)?;
     add_assigns(alloc, first, design, number, shapes.as_slice())?;
     add_groups(alloc, first, design, number, shapes.as_slice())?;
+    add_statements(alloc, first, design, number, marks.as_slice())?;
     Ok(())
 }
 
@@ -83,7 +91,9 @@ fn add_assign(
     ensures value { IfOk result (λ _. first.new ≡ first_of first.old (assign_breaks (component_of (plain_design design.now) spot.component) shapes.now (plain_spot spot) (plain_owned owned.entry))) }
 {
     let assign = owned.assign;
-    if !is_wrong_in(design, spot.component, shapes, owned.owner, assign) {
+    if !is_static_port(design, spot.component, assign.target)
+        && !is_wrong_in(design, spot.component, shapes, owned.owner, assign)
+    {
         return Ok(());
     }
     if first.is_first(Rule::CallShape, spot, assign.place) {
@@ -149,6 +159,35 @@ fn add_group(
             place: group.place,
             name,
         });
+    }
+    Ok(())
+}
+
+/// Looks at the statements of a component, of which static invokes may break the rule.
+fn add_statements(
+    alloc: Global,
+    first: &mut FirstBreak,
+    design: &Design,
+    number: usize,
+    marks: &[bool],
+) -> Result<(), Memory>
+    requires within { number < length design.now.components.items }
+    ensures value { IfOk result (λ _. let d = plain_design design.now in first.new ≡ first_of first.old (numbered (statement_breaks_at d number marks.now) 0 (statements_in (component_at d number)))) }
+{
+    let list = statements(alloc, component(design, number))?;
+    for place in 0..list.len() {
+        let spot = Spot {
+            component: number,
+            part: Part::Statement(place),
+        };
+        add_statement(
+            alloc,
+            first,
+            component(design, number),
+            marks,
+            spot,
+            list[place],
+        )?;
     }
     Ok(())
 }

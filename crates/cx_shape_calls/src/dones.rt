@@ -7,12 +7,12 @@ ghost use Rattle.cx_meaning.specs.Active.{same_port};
 ghost use Rattle.cx_rules.specs.CallShape as shape;
 ghost use Rattle.cx_rules.specs.CallShape.{wanted_dones, with_target};
 ghost use Rattle.cx_design.specs.PlainForms.{plain_assign, plain_assigns};
-ghost use Rattle.cx_shape_calls.specs.Callees.{plain_callee, done_of};
+ghost use Rattle.cx_callees.specs.Callees.{plain_callee, done_of};
 ghost use Rattle.cx_shape_calls.specs.Forms as forms;
 
-use crate::callees::Callee;
 use crate::guards::{conjuncts, is_always, is_one};
 use crate::tallies::{PortTally, tally, times};
+use cx_callees::Callee;
 use cx_design::{Assign, PortRef};
 use cx_text::Memory;
 use std::alloc::Global;

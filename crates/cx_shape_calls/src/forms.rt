@@ -6,14 +6,14 @@ ghost use Rattle.cx_rules.specs.Ports.{component_of};
 ghost use Rattle.cx_rules.specs.Items as items;
 ghost use Rattle.cx_design.specs.PlainForms.{plain_group};
 ghost use Rattle.cx_design.specs.PlainDesigns.{plain_design};
-ghost use Rattle.cx_shape_calls.specs.Callees.{plain_callee};
+ghost use Rattle.cx_callees.specs.Callees.{plain_callee};
 ghost use Rattle.cx_shape_calls.specs.Forms as forms;
 ghost use Rattle.cx_shape_calls.specs.Forms.{IsForm};
 
-use crate::callees::{Callee, called};
 use crate::captures::captured;
 use crate::dones::{dones, is_wrong_done};
 use crate::tallies::{PortTally, tally_targets, times};
+use cx_callees::{Callee, called};
 use cx_design::{Design, Group, GroupKind};
 use cx_design_parts::component;
 use cx_text::Memory;

@@ -5,10 +5,10 @@ ghost use Rattle.std.specs.Option.{option_map};
 ghost use Rattle.cx_meaning.specs.Active.{same_port};
 ghost use Rattle.cx_rules.specs.CallShape as shape;
 ghost use Rattle.cx_design.specs.PlainForms.{plain_assign, plain_guard};
-ghost use Rattle.cx_shape_calls.specs.Callees.{plain_callee, done_of};
+ghost use Rattle.cx_callees.specs.Callees.{plain_callee, done_of};
 ghost use Rattle.cx_shape_calls.specs.Forms as forms;
 
-use crate::callees::Callee;
+use cx_callees::Callee;
 use cx_design::{Assign, Guard, PlacedPort, PortRef};
 use cx_design_parts::atoms;
 use cx_text::Memory;

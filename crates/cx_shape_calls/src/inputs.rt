@@ -5,12 +5,13 @@ ghost use Rattle.cx_meaning.specs.Designs.{component_at, group_at};
 ghost use Rattle.cx_rules.specs.Ports.{component_of};
 ghost use Rattle.cx_design.specs.PlainForms.{plain_assigns, plain_component, plain_group};
 ghost use Rattle.cx_design.specs.PlainDesigns.{plain_design};
-ghost use Rattle.cx_shape_calls.specs.Callees.{PlainCallee, plain_callee};
+ghost use Rattle.cx_callees.specs.Callees.{PlainCallee, plain_callee};
 ghost use Rattle.cx_shape_calls.specs.Forms.{times};
 ghost use Rattle.cx_shape_calls.specs.Inputs as inputs;
 ghost use Rattle.cx_shape_calls.specs.Inputs.{AreDependent, AreDependentPorts, ArePathsOf, HasPaths, IsDependent, IsInputOf};
 
-use crate::{Callee, PortTally, callee_of, tally};
+use crate::{PortTally, tally};
+use cx_callees::{Callee, callee_of};
 use cx_design::{Assign, Component, Design, Group, PortRef};
 use cx_design_leads::{GroupLeads, Nodes, continuous_leads};
 use cx_design_parts::{PartPort, part_port};

@@ -1,8 +1,8 @@
 -- Lengths that stop, and measures by number.
 use Rattle.std.proofs.Common.{◌≡◌, ◌+◌, ◌-◌, ◌*◌, ◌^◌, ◌<◌, ◌≤◌, ℕ, zero, suc, min, List, [], ◌∷◌, ◌++◌, Option, length, map, get_or, ⊎_elim, sym, ap, ◌∙◌, subst, arith, append_assoc}
 use Rattle.cx_meaning.specs.Designs.{PlainComponent, PlainStatement, Placed, StaticRepeat, form_of}
-use Rattle.cx_meaning.specs.Islands.{form_length}
 use Rattle.cx_rules.specs.Items.{Context, InStatic}
+use Rattle.cx_rules.specs.Invokes.{form_lasts}
 use Rattle.cx_shape_rules.specs.declared.measures.Measure.{Measure}
 use Rattle.cx_shape_rules.specs.Measures.{measure_in}
 use Rattle.std.proofs.Math.ListN.{set}
@@ -63,5 +63,5 @@ pub repeated : (part : PlainComponent) (context : Context) (length : Option ℕ)
 repeated part context length count cycles (Placed form place) m e f =
     let inner = measure_in part InStatic form in
     let same : cycles ≡ (measure_in part context (StaticRepeat length count (Placed form place))).cycles =
-    f ∙ ap (λ x. min (count * x.cycles) (2 ^ 128 - 1)) e ∙ capped_product count (form_length part form) in
+    f ∙ ap (λ x. min (count * x.cycles) (2 ^ 128 - 1)) e ∙ capped_product count (form_lasts part form) in
     ap (λ x. record { has_length = x.has_length; cycles = cycles }) e ∙ ap (λ n. record { has_length = inner.has_length; cycles = n }) same

@@ -3,21 +3,22 @@ use Rattle.std.proofs.Common.{◌≡◌, ◌≢◌, ◌+◌, ◌-◌, ◌<◌, �
 use Rattle.cx_text.specs.declared.places.Place.{Place}
 use Rattle.cx_text.specs.declared.rules.Rule.{Rule}
 use Rattle.cx_text.specs.declared.rules.Rule.TheVariants as rules
-use Rattle.cx_meaning.specs.Designs.{PlainGroup, PlainComponent, PlainDesign, component_at, group_at}
+use Rattle.cx_meaning.specs.Designs.{PlainGroup, PlainInvoke, PlainComponent, PlainDesign, PlainForm, Empty, Enable, Seq, Par, If, While, Repeat, StaticSeq, StaticPar, StaticIf, StaticRepeat, Timed, PlainStatement, Placed, component_at, form_of, group_at}
 use Rattle.cx_meaning.specs.Instances.{Instance, part_of}
 use Rattle.cx_meaning.specs.Active.{Owned, source_order}
-use Rattle.cx_meaning.specs.Islands.{kind_length, form_length}
+use Rattle.cx_meaning.specs.Islands.{kind_length}
 use Rattle.cx_meaning.specs.Sights.{In}
 use Rattle.cx_rules.specs.Ports.{component_of, is_primitive_enable, is_part_port, path_of}
-use Rattle.cx_rules.specs.Items.{Range, ranges_of, Visited, statements_in, is_plain, is_comb}
-use Rattle.cx_rules.specs.StaticControl.{is_static, is_in_static, may_stand, form_has_length, written_length}
-use Rattle.cx_rules.specs.Spots.{AnAssign, AStatement, AGroup, Spot, Tells, OnAssign, OnStatement, OnGroup, AssignRule, StatementRule, GroupRule}
-use Rattle.cx_rules.specs.ShapeRules.{is_hole, is_hole_of, some_target, owner_length, is_bad_range, enabled_name, BreaksNoDone, BreaksAlwaysEnable, BreaksCombEnable, BreaksStaticGuard, GroupBreaksStaticShape, BreaksStaticControl, BreaksLength}
+use Rattle.cx_rules.specs.Items.{Range, ranges_of, Context, InStatic, Visited, statements_in, is_plain, is_comb}
+use Rattle.cx_rules.specs.StaticControl.{is_static, is_in_static, may_stand, is_timed, form_has_length, has_length, written_length}
+use Rattle.cx_rules.specs.Invokes.{invoke_at, invoke_length, form_lasts, lasts}
+use Rattle.cx_rules.specs.Spots.{Itself, AnAssign, AStatement, AGroup, Spot, Tells, OnAssign, OnStatement, OnGroup, AssignRule, StatementRule, GroupRule}
+use Rattle.cx_rules.specs.ShapeRules.{is_hole, is_hole_of, some_target, owner_length, is_bad_range, enabled_name, BreaksNoDone, BreaksAlwaysEnable, BreaksCombEnable, BreaksStaticGuard, GroupBreaksStaticShape, BreaksStaticControl, BreaksLength, BreaksInvokeLength, IsWrongControl, BreaksPartLength}
 use Rattle.cx_rules.specs.Accepted.{key_of}
 use Rattle.cx_design_parts.specs.Breaks.{Broken, first_of}
 use Rattle.cx_design_parts.specs.Answers.{AreBreaksBy}
 use Rattle.cx_design_parts.proofs.Lists.{first_append, in_left, in_right, in_either, in_numbered, numbered_in}
-use Rattle.cx_shape_rules.specs.ShapeBreaks.{ShapeFamily, told_if, lacks_done, is_bad_length, is_bad_static, group_breaks, is_always_enable, is_owned_by_comb, is_comb_enable, some_bad, is_bad_guard, assign_break, assign_breaks, is_amiss, is_other, is_wrong, has_wrong_length, statement_breaks, group_breaks_at, assign_breaks_at, statement_breaks_at, groups_breaks, assigns_breaks, statements_breaks, component_breaks, components_breaks, shape_breaks}
+use Rattle.cx_shape_rules.specs.ShapeBreaks.{ShapeFamily, told_if, lacks_done, is_bad_length, is_bad_static, group_breaks, is_always_enable, is_owned_by_comb, is_comb_enable, some_bad, is_bad_guard, assign_break, assign_breaks, is_amiss, is_other, is_wrong, has_wrong_length, is_wrong_invoke, has_wrong_invoke, statement_breaks, is_wrong_control, has_wrong_control, control_breaks, group_breaks_at, assign_breaks_at, statement_breaks_at, groups_breaks, assigns_breaks, statements_breaks, parts_breaks, control_breaks_at, component_breaks, components_breaks, shape_breaks}
 use Rattle.cx_shape_rules.proofs.PartLemmas.{group_there, below_there}
 use Rattle.cx_rules.proofs.KeyOrder.{before_irreflexive}
 use Rattle.cx_meaning.proofs.DesignsLemmas.{there_below, same_part}
@@ -186,9 +187,43 @@ amiss_breaks i v h =
 length_breaks : (i : Instance) (v : Visited) → has_wrong_length (part_of i) v ≡ true → BreaksLength i v v.place []
 length_breaks i v h =
     let part = part_of i in
-    let two = both_true (is_static v.form && form_has_length part v.context v.form) (is_wrong (written_length v.form) (form_length part v.form)) h in
+    let two = both_true (is_static v.form && form_has_length part v.context v.form) (is_wrong (written_length v.form) (form_lasts part v.form)) h in
     let one = both_true (is_static v.form) (form_has_length part v.context v.form) two.0 in
-    (one.0, one.1, wrong_length (written_length v.form) (form_length part v.form) two.1, (refl, refl))
+    (one.0, one.1, wrong_length (written_length v.form) (form_lasts part v.form) two.1, (refl, refl))
+
+wrong_invoke : (o : Option PlainInvoke) → is_wrong_invoke o ≡ true
+    → (w : PlainInvoke) × (o ≡ Some w) × (is_timed (Some w) ≡ true) × (((n : ℕ) × (w.length ≡ Some n) × (n ≢ invoke_length (Some w))) ⊎ (invoke_length (Some w) ≡ 0))
+wrong_invoke None h = absurd (true≢false (sym h))
+wrong_invoke (Some w) h =
+    let two = both_true (is_timed (Some w)) (is_wrong w.length (invoke_length (Some w))) h in
+    (w, refl, two.0, wrong_length w.length (invoke_length (Some w)) two.1)
+
+-- a form of which a static invoke is told is one
+timed_form : (part : PlainComponent) (form : PlainForm) → has_wrong_invoke part form ≡ true → (k : ℕ) × (form ≡ Timed k) × (is_wrong_invoke (invoke_at part k) ≡ true)
+timed_form part Empty h = absurd (true≢false (sym h))
+timed_form part (Enable g) h = absurd (true≢false (sym h))
+timed_form part (Seq parts) h = absurd (true≢false (sym h))
+timed_form part (Par arms) h = absurd (true≢false (sym h))
+timed_form part (If test group a b) h = absurd (true≢false (sym h))
+timed_form part (While test group a) h = absurd (true≢false (sym h))
+timed_form part (Repeat count a) h = absurd (true≢false (sym h))
+timed_form part (StaticSeq length parts) h = absurd (true≢false (sym h))
+timed_form part (StaticPar length arms) h = absurd (true≢false (sym h))
+timed_form part (StaticIf length test a b) h = absurd (true≢false (sym h))
+timed_form part (StaticRepeat length count a) h = absurd (true≢false (sym h))
+timed_form part (Timed k) h = (k, refl, h)
+
+invoke_breaks : (i : Instance) (v : Visited) → has_wrong_invoke (part_of i) v.form ≡ true → BreaksInvokeLength i v v.place []
+invoke_breaks i v h =
+    let found = timed_form (part_of i) v.form h in
+    let wrong = wrong_invoke (invoke_at (part_of i) found.0) found.2 in
+    (found.0, wrong.0, found.1, wrong.1, wrong.2, wrong.3, (refl, refl))
+
+breaks_invoke : (i : Instance) (v : Visited) (place : Place) (name : List ℕ) → BreaksInvokeLength i v place name → has_wrong_invoke (part_of i) v.form ≡ true
+breaks_invoke i v place name o =
+    let w = o.1 in
+    ap (has_wrong_invoke (part_of i)) o.2 ∙ ap is_wrong_invoke o.3
+    ∙ and_true (is_timed (Some w)) (is_wrong w.length (invoke_length (Some w))) o.4 (is_wrong_length w.length (invoke_length (Some w)) o.5)
 
 module _ (d : PlainDesign) (k n : ℕ) (v : Visited) (within : k < length d.components) (stands : slice_get (statements_in (component_at d k)) n ≡ Some v) where
   abbrev own : Spot
@@ -200,21 +235,87 @@ module _ (d : PlainDesign) (k n : ℕ) (v : Visited) (within : k < length d.comp
   on_statement : (r : StatementRule) (place : Place) (name : List ℕ) → r inside v place name → OnStatement r d own place name
   on_statement r place name b = record { within = within; number = n; is = refl; statement = v; stands = stands; breaks = b }
 
+  abbrev amiss : List Broken
+  amiss = told_if (is_amiss (part_of inside) v) rules.StaticShape own v.place (enabled_name (part_of inside) v.form)
+
+  abbrev lengths : List Broken
+  lengths = told_if (has_wrong_length (part_of inside) v) rules.StaticShape own v.place []
+
+  abbrev invokes : List Broken
+  invokes = told_if (has_wrong_invoke (part_of inside) v.form) rules.StaticShape own v.place []
+
+  amiss_holds : (b : Broken) → In amiss b → Holds d b
+  amiss_holds b p =
+      let found = told_in (is_amiss (part_of inside) v) rules.StaticShape own v.place (enabled_name (part_of inside) v.form) b p in
+      subst (Holds d) found.1 (inr (inr (inr (inr (inr (inl (refl, on_statement BreaksStaticControl v.place (enabled_name (part_of inside) v.form) (amiss_breaks inside v found.0))))))))
+
+  lengths_hold : (b : Broken) → In lengths b → Holds d b
+  lengths_hold b p =
+      let found = told_in (has_wrong_length (part_of inside) v) rules.StaticShape own v.place [] b p in
+      subst (Holds d) found.1 (inr (inr (inr (inr (inr (inr (inl (refl, on_statement BreaksLength v.place [] (length_breaks inside v found.0)))))))))
+
+  invokes_hold : (b : Broken) → In invokes b → Holds d b
+  invokes_hold b p =
+      let found = told_in (has_wrong_invoke (part_of inside) v.form) rules.StaticShape own v.place [] b p in
+      subst (Holds d) found.1 (inr (inr (inr (inr (inr (inr (inr (inl (refl, on_statement BreaksInvokeLength v.place [] (invoke_breaks inside v found.0))))))))))
+
   inside_holds : (b : Broken) → In (statement_breaks (part_of inside) own v) b → Holds d b
   inside_holds b h =
       ⊎_elim
-      (λ p. let found = told_in (is_amiss (part_of inside) v) rules.StaticShape own v.place (enabled_name (part_of inside) v.form) b p in
-      subst (Holds d) found.1 (inr (inr (inr (inr (inr (inl (refl, on_statement BreaksStaticControl v.place (enabled_name (part_of inside) v.form) (amiss_breaks inside v found.0)))))))))
-      (λ p. let found = told_in (has_wrong_length (part_of inside) v) rules.StaticShape own v.place [] b p in
-      subst (Holds d) found.1 (inr (inr (inr (inr (inr (inr (refl, on_statement BreaksLength v.place [] (length_breaks inside v found.0)))))))))
-      (in_either (told_if (is_amiss (part_of inside) v) rules.StaticShape own v.place (enabled_name (part_of inside) v.form)) (told_if (has_wrong_length (part_of inside) v) rules.StaticShape own v.place []) b h)
+      (λ p. ⊎_elim (amiss_holds b) (lengths_hold b) (in_either amiss lengths b p))
+      (invokes_hold b)
+      (in_either (amiss ++ lengths) invokes b h)
 
   statement_holds : (b : Broken) → In (statement_breaks (component_at d k) own v) b → Holds d b
   statement_holds b h = inside_holds b (subst (λ part. In (statement_breaks part own v) b) (sym (same_part d (length d.components) k)) h)
 
+-- COMPONENTS
+has_length_of : (part : PlainComponent) (context : Context) (s : PlainStatement) → has_length part context s ≡ form_has_length part context (form_of s)
+has_length_of part context (Placed form place) = refl
+
+lasts_of : (part : PlainComponent) (s : PlainStatement) → lasts part s ≡ form_lasts part (form_of s)
+lasts_of part (Placed form place) = refl
+
+other_than : (n m : ℕ) → is_other (Some n) m ≡ true → n ≢ m
+other_than n m h = grind (arith, tests)
+
+module _ (part : PlainComponent) where
+  abbrev body : PlainForm
+  body = form_of part.control
+
+  abbrev is_misplaced : Bool
+  is_misplaced = not (may_stand part InStatic body)
+
+  abbrev is_unlike : ℕ → Bool
+  is_unlike latency = form_has_length part InStatic body && is_other (Some latency) (form_lasts part body)
+
+  wrong_control : (o : Option ℕ) → is_wrong_control part o ≡ true → (latency : ℕ) × (o ≡ Some latency) × IsWrongControl part latency
+  wrong_control None h = absurd (true≢false (sym h))
+  wrong_control (Some latency) h = (latency, refl, ⊎_elim (λ p. inl (from_not (may_stand part InStatic body) p)) unlike (either_true is_misplaced (is_unlike latency) h))
+    where
+      unlike : is_unlike latency ≡ true → IsWrongControl part latency
+      unlike p =
+          let two = both_true (form_has_length part InStatic body) (is_other (Some latency) (form_lasts part body)) p in
+          inr (has_length_of part InStatic part.control ∙ two.0, λ e. other_than latency (form_lasts part body) two.1 (sym e ∙ lasts_of part part.control))
+
+  control_is_wrong : (latency : ℕ) → IsWrongControl part latency → is_wrong_control part (Some latency) ≡ true
+  control_is_wrong latency (inl p) = or_left is_misplaced (is_unlike latency) (ap not p)
+  control_is_wrong latency (inr p) =
+      or_right is_misplaced (is_unlike latency)
+      (and_true (form_has_length part InStatic body) (is_other (Some latency) (form_lasts part body)) (sym (has_length_of part InStatic part.control) ∙ p.0)
+      (is_other_length (Some latency) (form_lasts part body) latency refl (λ e. p.1 (lasts_of part part.control ∙ sym e))))
+
+control_holds : (d : PlainDesign) (k : ℕ) (b : Broken) → k < length d.components → In (control_breaks_at d k) b → Holds d b
+control_holds d k b within h =
+    let part = component_at d k in
+    let found = told_in (has_wrong_control part) rules.StaticShape (record { component = k; part = Itself 0 }) part.place part.name b h in
+    let wrong = wrong_control part part.latency found.0 in
+    subst (Holds d) found.1
+    (inr (inr (inr (inr (inr (inr (inr (inr (refl, record { within = within; is = refl; latency = wrong.0; static = wrong.1; control = wrong.2; tells = (refl, refl) })))))))))
+
 -- THE WHOLE DESIGN
-component_holds : (d : PlainDesign) (k : ℕ) (b : Broken) → k < length d.components → In (component_breaks d k) b → Holds d b
-component_holds d k b within h =
+parts_hold : (d : PlainDesign) (k : ℕ) (b : Broken) → k < length d.components → In (parts_breaks d k) b → Holds d b
+parts_hold d k b within h =
     ⊎_elim
     (λ p. ⊎_elim
     (λ q. let found = numbered_in (group_breaks_at k) 0 (component_at d k).groups b q in
@@ -228,6 +329,9 @@ component_holds d k b within h =
     let same : 0 + found.0 ≡ found.0 = omega arith in
     statement_holds d k found.0 found.1 within found.2 b (subst (λ n. In (statement_breaks_at d k n found.1) b) same found.3))
     (in_either (groups_breaks d k ++ assigns_breaks d k) (statements_breaks d k) b h)
+
+component_holds : (d : PlainDesign) (k : ℕ) (b : Broken) → k < length d.components → In (component_breaks d k) b → Holds d b
+component_holds d k b within h = ⊎_elim (parts_hold d k b within) (control_holds d k b within) (in_either (parts_breaks d k) (control_breaks_at d k) b h)
 
 components_hold : (d : PlainDesign) (k left : ℕ) (b : Broken) → k + left ≤ length d.components → In (components_breaks d k left) b → Holds d b
 components_hold d k zero b few h = absurd h
@@ -249,6 +353,9 @@ in_design : (d : PlainDesign) (k : ℕ) (b : Broken) → k < length d.components
 in_design d k b within h =
     let same : k ≡ 0 + k = omega arith in in_components d 0 (length d.components) k b within (subst (λ n. In (component_breaks d n) b) same h)
 
+in_parts : (d : PlainDesign) (k : ℕ) (b : Broken) → k < length d.components → In (parts_breaks d k) b → In (shape_breaks d) b
+in_parts d k b within h = in_design d k b within (in_left (parts_breaks d k) (control_breaks_at d k) b h)
+
 -- where the breaks of a part stand
 group_in : (d : PlainDesign) (spot : Spot) (place : Place) (name : List ℕ) (r : GroupRule) (o : OnGroup r d spot place name) (b : Broken)
     → In (group_breaks spot o.number (group_at (component_at d spot.component) o.number)) b → In (shape_breaks d) b
@@ -258,7 +365,7 @@ group_in d spot place name r o b has =
     let g = group_at (component_at d k) o.number in
     let same : o.number ≡ 0 + o.number = omega arith in
     let spot_is : record { component = k; part = AGroup o.number } ≡ spot = ap (λ part. record { component = k; part = part }) (sym o.is) in
-    in_design d k b o.within
+    in_parts d k b o.within
     (in_left (groups_breaks d k ++ assigns_breaks d k) (statements_breaks d k) b
     (in_left (groups_breaks d k) (assigns_breaks d k) b
     (in_numbered (group_breaks_at k) 0 groups o.number g b (there_below groups o.number o.stands)
@@ -272,7 +379,7 @@ assign_in d spot place name r o b has =
     let order = source_order (component_at d k) in
     let same : o.number ≡ 0 + o.number = omega arith in
     let spot_is : record { component = k; part = AnAssign o.number } ≡ spot = ap (λ part. record { component = k; part = part }) (sym o.is) in
-    in_design d k b o.within
+    in_parts d k b o.within
     (in_left (groups_breaks d k ++ assigns_breaks d k) (statements_breaks d k) b
     (in_right (groups_breaks d k) (assigns_breaks d k) b
     (in_numbered (assign_breaks_at d k) 0 order o.number o.assign b o.stands
@@ -286,7 +393,7 @@ statement_in d spot place name r o b has =
     let list = statements_in (component_at d k) in
     let same : o.number ≡ 0 + o.number = omega arith in
     let spot_is : record { component = k; part = AStatement o.number } ≡ spot = ap (λ part. record { component = k; part = part }) (sym o.is) in
-    in_design d k b o.within
+    in_parts d k b o.within
     (in_right (groups_breaks d k ++ assigns_breaks d k) (statements_breaks d k) b
     (in_numbered (statement_breaks_at d k) 0 list o.number o.statement b o.stands
     (subst (λ n. In (statement_breaks_at d k n o.statement) b) same
@@ -360,26 +467,49 @@ module _ (d : PlainDesign) (spot : Spot) (place : Place) (name : List ℕ) where
   abbrev length_list : Visited → List Broken
   length_list v = told_if (has_wrong_length (part_of of_spot) v) rules.StaticShape spot v.place []
 
+  abbrev invoke_list : Visited → List Broken
+  invoke_list v = told_if (has_wrong_invoke (part_of of_spot) v.form) rules.StaticShape spot v.place []
+
   control_in : OnStatement BreaksStaticControl d spot place name → In (shape_breaks d) (broken rules.StaticShape spot place name)
   control_in o =
       let v = o.statement in
       let part = part_of of_spot in
       let is : is_amiss part v ≡ true = and_true (is_in_static v.context) (not (may_stand part v.context v.form)) o.breaks.0 (ap not o.breaks.1) in
       statement_in d spot place name BreaksStaticControl o (broken rules.StaticShape spot place name)
+      (in_left (amiss_list v ++ length_list v) (invoke_list v) (broken rules.StaticShape spot place name)
       (in_left (amiss_list v) (length_list v) (broken rules.StaticShape spot place name)
-      (told_has (is_amiss part v) rules.StaticShape spot v.place (enabled_name part v.form) place name is o.breaks.2))
+      (told_has (is_amiss part v) rules.StaticShape spot v.place (enabled_name part v.form) place name is o.breaks.2)))
 
   length_in : OnStatement BreaksLength d spot place name → In (shape_breaks d) (broken rules.StaticShape spot place name)
   length_in o =
       let v = o.statement in
       let part = part_of of_spot in
       let is : has_wrong_length part v ≡ true =
-      and_true (is_static v.form && form_has_length part v.context v.form) (is_wrong (written_length v.form) (form_length part v.form))
+      and_true (is_static v.form && form_has_length part v.context v.form) (is_wrong (written_length v.form) (form_lasts part v.form))
       (and_true (is_static v.form) (form_has_length part v.context v.form) o.breaks.0 o.breaks.1)
-      (is_wrong_length (written_length v.form) (form_length part v.form) o.breaks.2) in
+      (is_wrong_length (written_length v.form) (form_lasts part v.form) o.breaks.2) in
       statement_in d spot place name BreaksLength o (broken rules.StaticShape spot place name)
+      (in_left (amiss_list v ++ length_list v) (invoke_list v) (broken rules.StaticShape spot place name)
       (in_right (amiss_list v) (length_list v) (broken rules.StaticShape spot place name)
-      (told_has (has_wrong_length part v) rules.StaticShape spot v.place [] place name is o.breaks.3))
+      (told_has (has_wrong_length part v) rules.StaticShape spot v.place [] place name is o.breaks.3)))
+
+  timed_in : OnStatement BreaksInvokeLength d spot place name → In (shape_breaks d) (broken rules.StaticShape spot place name)
+  timed_in o =
+      let v = o.statement in
+      statement_in d spot place name BreaksInvokeLength o (broken rules.StaticShape spot place name)
+      (in_right (amiss_list v ++ length_list v) (invoke_list v) (broken rules.StaticShape spot place name)
+      (told_has (has_wrong_invoke (part_of of_spot) v.form) rules.StaticShape spot v.place [] place name (breaks_invoke of_spot v place name o.breaks) o.breaks.6))
+
+  part_length_in : BreaksPartLength d spot place name → In (shape_breaks d) (broken rules.StaticShape spot place name)
+  part_length_in o =
+      let k = spot.component in
+      let part = component_at d k in
+      let b = broken rules.StaticShape spot place name in
+      let spot_is : record { component = k; part = Itself 0 } ≡ spot = ap (λ p. record { component = k; part = p }) (sym o.is) in
+      let is : has_wrong_control part ≡ true = ap (is_wrong_control part) o.static ∙ control_is_wrong part o.latency o.control in
+      in_design d k b o.within
+      (in_right (parts_breaks d k) (control_breaks_at d k) b
+      (subst (λ s. In (control_breaks s part) b) (sym spot_is) (told_has (has_wrong_control part) rules.StaticShape spot part.place part.name place name is o.tells)))
 
 under_rule : (d : PlainDesign) (rule is : Rule) (spot : Spot) (place : Place) (name : List ℕ) → rule ≡ is → In (shape_breaks d) (broken is spot place name) → In (shape_breaks d) (broken rule spot place name)
 under_rule d rule is spot place name e h = subst (λ r. In (shape_breaks d) (broken r spot place name)) (sym e) h
@@ -391,7 +521,9 @@ all_breaks d rule spot place name (inr (inr (inl o))) = under_rule d rule rules.
 all_breaks d rule spot place name (inr (inr (inr (inl o)))) = under_rule d rule rules.CombEnable spot place name o.0 (comb_in d spot place name o.1)
 all_breaks d rule spot place name (inr (inr (inr (inr (inl o))))) = under_rule d rule rules.StaticGuard spot place name o.0 (guards_in d spot place name o.1)
 all_breaks d rule spot place name (inr (inr (inr (inr (inr (inl o)))))) = under_rule d rule rules.StaticShape spot place name o.0 (control_in d spot place name o.1)
-all_breaks d rule spot place name (inr (inr (inr (inr (inr (inr o)))))) = under_rule d rule rules.StaticShape spot place name o.0 (length_in d spot place name o.1)
+all_breaks d rule spot place name (inr (inr (inr (inr (inr (inr (inl o))))))) = under_rule d rule rules.StaticShape spot place name o.0 (length_in d spot place name o.1)
+all_breaks d rule spot place name (inr (inr (inr (inr (inr (inr (inr (inl o)))))))) = under_rule d rule rules.StaticShape spot place name o.0 (timed_in d spot place name o.1)
+all_breaks d rule spot place name (inr (inr (inr (inr (inr (inr (inr (inr o)))))))) = under_rule d rule rules.StaticShape spot place name o.0 (part_length_in d spot place name o.1)
 
 -- the list is that of the rules
 pub are_breaks : (d : PlainDesign) → AreBreaksBy (ShapeFamily d) (shape_breaks d)
@@ -401,16 +533,19 @@ are_breaks d = record {
 }
 
 -- one more component is looked at
-pub next_component : (d : PlainDesign) (n count : ℕ) (best one two next rest : Option Broken) → n < count
-    → one ≡ first_of best (groups_breaks d n) → two ≡ first_of one (assigns_breaks d n) → next ≡ first_of two (statements_breaks d n)
+pub next_component : (d : PlainDesign) (n count : ℕ) (best one two three next rest : Option Broken) → n < count
+    → one ≡ first_of best (groups_breaks d n) → two ≡ first_of one (assigns_breaks d n) → three ≡ first_of two (statements_breaks d n)
+    → next ≡ first_of three (control_breaks_at d n)
     → first_of best (components_breaks d n (count - n)) ≡ rest → first_of next (components_breaks d (n + 1) (count - (n + 1))) ≡ rest
-next_component d n count best one two next rest few e f g so_far =
+next_component d n count best one two three next rest few e f g h so_far =
     let left = count - (n + 1) in
     let more = components_breaks d (suc n) left in
     let at : count - n ≡ suc left = omega (arith, few) in
-    let joined : next ≡ first_of best (component_breaks d n) =
+    let parts : three ≡ first_of best (parts_breaks d n) =
     g ∙ ap (λ b. first_of b (statements_breaks d n)) (f ∙ ap (λ b. first_of b (assigns_breaks d n)) e ∙ sym (first_append best (groups_breaks d n) (assigns_breaks d n)))
     ∙ sym (first_append best (groups_breaks d n ++ assigns_breaks d n) (statements_breaks d n)) in
+    let joined : next ≡ first_of best (component_breaks d n) =
+    h ∙ ap (λ b. first_of b (control_breaks_at d n)) parts ∙ sym (first_append best (parts_breaks d n) (control_breaks_at d n)) in
     ap (λ m. first_of next (components_breaks d m left)) (add-one n)
     ∙ ap (λ b. first_of b more) joined
     ∙ sym (first_append best (component_breaks d n) more)

@@ -3,15 +3,16 @@ use Rattle.std.specs.Prelude.{◌≡◌, ℕ, zero, suc, nat_eq, ◌⊎◌, Bool
 use Rattle.cx_text.specs.declared.places.Place.{Place}
 use Rattle.cx_text.specs.declared.rules.Rule.{Rule}
 use Rattle.cx_text.specs.declared.rules.Rule.TheVariants as rules
-use Rattle.cx_meaning.specs.Designs.{PlainGroup, PlainComponent, PlainDesign, component_at, group_at}
+use Rattle.cx_meaning.specs.Designs.{PlainGroup, PlainInvoke, PlainComponent, PlainDesign, PlainForm, Empty, Enable, Seq, Par, If, While, Repeat, StaticSeq, StaticPar, StaticIf, StaticRepeat, Timed, component_at, form_of, group_at}
 use Rattle.cx_meaning.specs.Instances.{Instance, part_of}
 use Rattle.cx_meaning.specs.Active.{Owned, source_order}
-use Rattle.cx_meaning.specs.Islands.{kind_length, form_length}
+use Rattle.cx_meaning.specs.Islands.{kind_length}
 use Rattle.cx_rules.specs.Ports.{component_of, is_primitive_enable, is_part_port, path_of}
-use Rattle.cx_rules.specs.Items.{Range, ranges_of, Visited, statements_in, is_plain, is_comb}
-use Rattle.cx_rules.specs.StaticControl.{is_static, is_in_static, may_stand, form_has_length, written_length}
-use Rattle.cx_rules.specs.Spots.{AnAssign, AStatement, AGroup, Spot, OnAssign, OnStatement, OnGroup}
-use Rattle.cx_rules.specs.ShapeRules.{is_hole, is_hole_of, some_target, owner_length, is_bad_range, enabled_name, BreaksNoDone, BreaksAlwaysEnable, BreaksCombEnable, BreaksStaticGuard, GroupBreaksStaticShape, BreaksStaticControl, BreaksLength}
+use Rattle.cx_rules.specs.Items.{Range, ranges_of, InStatic, Visited, statements_in, is_plain, is_comb}
+use Rattle.cx_rules.specs.StaticControl.{is_static, is_in_static, may_stand, is_timed, form_has_length, written_length}
+use Rattle.cx_rules.specs.Invokes.{invoke_at, invoke_length, form_lasts}
+use Rattle.cx_rules.specs.Spots.{Itself, AnAssign, AStatement, AGroup, Spot, OnAssign, OnStatement, OnGroup}
+use Rattle.cx_rules.specs.ShapeRules.{is_hole, is_hole_of, some_target, owner_length, is_bad_range, enabled_name, BreaksNoDone, BreaksAlwaysEnable, BreaksCombEnable, BreaksStaticGuard, GroupBreaksStaticShape, BreaksStaticControl, BreaksLength, BreaksInvokeLength, BreaksPartLength}
 use Rattle.cx_design_parts.specs.Breaks.{Broken}
 use Rattle.cx_design_parts.specs.Numbered.{numbered}
 
@@ -25,6 +26,8 @@ ShapeFamily d rule spot place name =
     ⊎ ((rule ≡ rules.StaticGuard) × OnAssign BreaksStaticGuard d spot place name)
     ⊎ ((rule ≡ rules.StaticShape) × OnStatement BreaksStaticControl d spot place name)
     ⊎ ((rule ≡ rules.StaticShape) × OnStatement BreaksLength d spot place name)
+    ⊎ ((rule ≡ rules.StaticShape) × OnStatement BreaksInvokeLength d spot place name)
+    ⊎ ((rule ≡ rules.StaticShape) × BreaksPartLength d spot place name)
 
 -- one break, where it is one
 abbrev pub told_if : Bool → Rule → Spot → Place → List ℕ → List Broken
@@ -85,11 +88,45 @@ abbrev pub is_wrong : Option ℕ → ℕ → Bool
 is_wrong written cycles = is_other written cycles || nat_eq cycles 0
 
 abbrev pub has_wrong_length : PlainComponent → Visited → Bool
-has_wrong_length part v = is_static v.form && form_has_length part v.context v.form && is_wrong (written_length v.form) (form_length part v.form)
+has_wrong_length part v = is_static v.form && form_has_length part v.context v.form && is_wrong (written_length v.form) (form_lasts part v.form)
+
+-- of a static invoke
+abbrev pub is_wrong_invoke : Option PlainInvoke → Bool
+is_wrong_invoke None = false
+is_wrong_invoke (Some w) = is_timed (Some w) && is_wrong w.length (invoke_length (Some w))
+
+abbrev pub has_wrong_invoke : PlainComponent → PlainForm → Bool
+has_wrong_invoke part Empty = false
+has_wrong_invoke part (Enable g) = false
+has_wrong_invoke part (Seq parts) = false
+has_wrong_invoke part (Par arms) = false
+has_wrong_invoke part (If test comb a b) = false
+has_wrong_invoke part (While test comb a) = false
+has_wrong_invoke part (Repeat count a) = false
+has_wrong_invoke part (StaticSeq length parts) = false
+has_wrong_invoke part (StaticPar length arms) = false
+has_wrong_invoke part (StaticIf length test a b) = false
+has_wrong_invoke part (StaticRepeat length count a) = false
+has_wrong_invoke part (Timed k) = is_wrong_invoke (invoke_at part k)
 
 abbrev pub statement_breaks : PlainComponent → Spot → Visited → List Broken
 statement_breaks part spot v =
-    told_if (is_amiss part v) rules.StaticShape spot v.place (enabled_name part v.form) ++ told_if (has_wrong_length part v) rules.StaticShape spot v.place []
+    told_if (is_amiss part v) rules.StaticShape spot v.place (enabled_name part v.form)
+    ++ told_if (has_wrong_length part v) rules.StaticShape spot v.place []
+    ++ told_if (has_wrong_invoke part v.form) rules.StaticShape spot v.place []
+
+-- COMPONENTS
+abbrev pub is_wrong_control : PlainComponent → Option ℕ → Bool
+is_wrong_control part None = false
+is_wrong_control part (Some latency) =
+    not (may_stand part InStatic (form_of part.control))
+    || (form_has_length part InStatic (form_of part.control) && is_other (Some latency) (form_lasts part (form_of part.control)))
+
+abbrev pub has_wrong_control : PlainComponent → Bool
+has_wrong_control part = is_wrong_control part part.latency
+
+abbrev pub control_breaks : Spot → PlainComponent → List Broken
+control_breaks spot part = told_if (has_wrong_control part) rules.StaticShape spot part.place part.name
 
 -- by the numbers of the parts of component k
 abbrev pub group_breaks_at : ℕ → ℕ → PlainGroup → List Broken
@@ -110,8 +147,14 @@ assigns_breaks d k = numbered (assign_breaks_at d k) 0 (source_order (component_
 abbrev pub statements_breaks : PlainDesign → ℕ → List Broken
 statements_breaks d k = numbered (statement_breaks_at d k) 0 (statements_in (component_at d k))
 
+abbrev pub parts_breaks : PlainDesign → ℕ → List Broken
+parts_breaks d k = groups_breaks d k ++ assigns_breaks d k ++ statements_breaks d k
+
+abbrev pub control_breaks_at : PlainDesign → ℕ → List Broken
+control_breaks_at d k = control_breaks (record { component = k; part = Itself 0 }) (component_at d k)
+
 abbrev pub component_breaks : PlainDesign → ℕ → List Broken
-component_breaks d k = groups_breaks d k ++ assigns_breaks d k ++ statements_breaks d k
+component_breaks d k = parts_breaks d k ++ control_breaks_at d k
 
 -- of the components from number k on, so many of them
 abbrev pub components_breaks : PlainDesign → ℕ → ℕ → List Broken

@@ -6,6 +6,7 @@ ghost use Rattle.cx_design_parts.specs.Breaks.{first_of};
 ghost use Rattle.cx_shape_rules.specs.ShapeBreaks.{assigns_breaks, groups_breaks, shape_breaks, statements_breaks};
 
 use crate::assigns::add_assign;
+use crate::components::add_control;
 use crate::groups::add_group;
 use crate::measures::measures;
 use crate::statements::add_statement;
@@ -23,6 +24,7 @@ pub fn add_breaks(alloc: Global, first: &mut FirstBreak, design: &Design) -> Res
         add_groups(alloc, first, design, number)?;
         add_assigns(alloc, first, design, number)?;
         add_statements(alloc, first, design, number)?;
+        add_control(alloc, first, design, number)?;
     }
     Ok(())
 }

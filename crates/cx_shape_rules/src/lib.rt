@@ -3,7 +3,9 @@
 
 mod assigns;
 mod checking;
+mod components;
 mod groups;
+mod invokes;
 pub mod laws;
 mod measures;
 mod owners;

@@ -10,6 +10,7 @@ ghost use Rattle.cx_design.specs.PlainForms.{plain_component, plain_form, plain_
 ghost use Rattle.cx_design_parts.specs.Items.{plain_context};
 ghost use Rattle.cx_shape_rules.specs.Measures.{measure_in, measure_of, totals_of};
 
+use crate::invokes::{invoke_length, invoke_of, is_timed};
 use crate::owners::group_length;
 use cx_design::{Component, Form, Statement};
 use cx_design_parts::Context;
@@ -40,6 +41,14 @@ pub fn measures(alloc: Global, part: &Component) -> Result<Vec<Measure>, Memory>
     Ok(list)
 }
 
+/// The measure of the control of a component, as it stands in static control.
+pub fn control_measure(alloc: Global, part: &Component) -> Result<Measure, Memory>
+    ensures value { IfOk result (λ measure. measure ≡ measure_in (plain_component part.now) InStatic (form_of (plain_component part.now).control)) }
+{
+    let mut list = Vec::new(alloc);
+    add_statement(&mut list, part, Context::InStatic, &part.control)
+}
+
 /// What has no length.
 fn none() -> Measure
     ensures value { result ≡ record { has_length = false; cycles = 0 } }
@@ -58,6 +67,19 @@ fn enable(part: &Component, context: Context, group: u32) -> Measure
         Some(length) => Measure {
             has_length: true,
             cycles: length as u128,
+        },
+        None => none(),
+    }
+}
+
+/// The measure of a static invoke.
+fn invoke(part: &Component, context: Context, number: u32) -> Measure
+    ensures value { result ≡ measure_in (plain_component part.now) (plain_context context) (designs.Timed number) }
+{
+    match invoke_of(part, number as usize) {
+        Some(invoke) => Measure {
+            has_length: is_timed(invoke),
+            cycles: invoke_length(invoke),
         },
         None => none(),
     }
@@ -162,7 +184,8 @@ fn add_form(
             add_statement(list, part, below(context), body)?;
             Ok(none())
         }
-        Form::StaticInvoke(_) | Form::Timed(_) => Ok(none()),
+        Form::StaticInvoke(number) => Ok(invoke(part, context, *number)),
+        Form::Timed(number) => Ok(invoke(part, context, *number)),
     }
 }
 

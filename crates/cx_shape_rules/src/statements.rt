@@ -3,6 +3,7 @@
 ghost use Rattle.std.specs.Prelude.{◌≡◌, ℕ, IfOk};
 ghost use Rattle.cx_rules.specs.ShapeRules as rules;
 ghost use Rattle.cx_rules.specs.StaticControl as control;
+ghost use Rattle.cx_rules.specs.Invokes.{invoke_at};
 ghost use Rattle.cx_design.specs.PlainForms.{plain_component, plain_form};
 ghost use Rattle.cx_design_parts.specs.Items.{plain_context, plain_visited};
 ghost use Rattle.cx_design_parts.specs.Breaks.{first_of, plain_spot};
@@ -10,6 +11,7 @@ ghost use Rattle.cx_shape_rules.specs.Measures.{capped, measure_of};
 ghost use Rattle.cx_shape_rules.specs.ShapeBreaks as breaks;
 ghost use Rattle.cx_shape_rules.specs.ShapeBreaks.{statement_breaks};
 
+use crate::invokes::{invoke_length, invoke_of, is_timed, is_written};
 use crate::measures::{Measure, is_branch};
 use crate::owners::{group_length, group_name};
 use crate::telling::add_named;
@@ -51,6 +53,16 @@ pub fn add_statement(
         spot,
         visited.place,
         b"".as_slice(),
+    )?;
+    let wrong = has_wrong_invoke(part, visited.form);
+    add_named(
+        alloc,
+        first,
+        wrong,
+        Rule::StaticShape,
+        spot,
+        visited.place,
+        b"".as_slice(),
     )
 }
 
@@ -71,7 +83,7 @@ fn is_in_static(context: Context) -> bool
 }
 
 /// Whether a form may stand in static control.
-fn may_stand(part: &Component, context: Context, form: &Form) -> bool
+pub fn may_stand(part: &Component, context: Context, form: &Form) -> bool
     ensures value { result ≡ control.may_stand (plain_component part.now) (plain_context context) (plain_form form.now) }
 {
     match form {
@@ -81,13 +93,10 @@ fn may_stand(part: &Component, context: Context, form: &Form) -> bool
         | Form::StaticPar { .. }
         | Form::StaticIf { .. }
         | Form::StaticRepeat { .. } => true,
-        Form::Seq(_)
-        | Form::Par(_)
-        | Form::If { .. }
-        | Form::While { .. }
-        | Form::Repeat { .. }
-        | Form::StaticInvoke(_)
-        | Form::Timed(_) => false,
+        Form::Seq(_) | Form::Par(_) | Form::If { .. } | Form::While { .. } | Form::Repeat { .. } =>
+            false,
+        Form::StaticInvoke(number) => is_written(part, *number as usize),
+        Form::Timed(number) => is_written(part, *number as usize),
     }
 }
 
@@ -161,6 +170,36 @@ fn written_length(form: &Form) -> Option<u64>
         | Form::Repeat { .. }
         | Form::StaticInvoke(_)
         | Form::Timed(_) => None,
+    }
+}
+
+/// Whether a static invoke that has a length is of no cycles, or of others than are written.
+fn has_wrong_invoke(part: &Component, form: &Form) -> bool
+    ensures value { result ≡ breaks.has_wrong_invoke (plain_component part.now) (plain_form form.now) }
+{
+    match form {
+        Form::StaticInvoke(number) => is_wrong_invoke(part, *number as usize),
+        Form::Timed(number) => is_wrong_invoke(part, *number as usize),
+        Form::Empty
+        | Form::Enable(_)
+        | Form::Seq(_)
+        | Form::Par(_)
+        | Form::If { .. }
+        | Form::While { .. }
+        | Form::Repeat { .. }
+        | Form::StaticSeq { .. }
+        | Form::StaticPar { .. }
+        | Form::StaticIf { .. }
+        | Form::StaticRepeat { .. } => false,
+    }
+}
+
+fn is_wrong_invoke(part: &Component, number: usize) -> bool
+    ensures value { result ≡ breaks.is_wrong_invoke (invoke_at (plain_component part.now) number) }
+{
+    match invoke_of(part, number) {
+        Some(invoke) => is_timed(invoke) && is_wrong(invoke.length, invoke_length(invoke)),
+        None => false,
     }
 }
 

@@ -1,5 +1,5 @@
 -- The list of breaks has the breaks of the rules that speak of what rests on state, and no others.
-use Rattle.std.proofs.Common.{◌≡◌, ◌+◌, ◌-◌, ◌<◌, ◌≤◌, ℕ, zero, suc, Bool, true, false, ◌&&◌, List, [], ◌∷◌, Option, Some, None, length, slice_get, ◌⊎◌, inl, inr, ⊎_elim, refl, sym, ap, ◌∙◌, subst, arith, true≢false, add-one}
+use Rattle.std.proofs.Common.{◌≡◌, ◌+◌, ◌-◌, ◌<◌, ◌≤◌, ℕ, zero, suc, Bool, true, false, ◌&&◌, not, List, [], ◌∷◌, Option, Some, None, length, slice_get, ◌⊎◌, inl, inr, ⊎_elim, refl, sym, ap, ◌∙◌, subst, arith, true≢false, add-one}
 use Rattle.std.specs.List.{list_all}
 use Rattle.cx_text.specs.declared.places.Place.{Place}
 use Rattle.cx_text.specs.declared.rules.Rule.{Rule}
@@ -13,9 +13,9 @@ use Rattle.cx_meaning.specs.Active.{Owned, source_order}
 use Rattle.cx_meaning.specs.Sights.{In}
 use Rattle.cx_rules.specs.Ports.{component_of, path_of}
 use Rattle.cx_rules.specs.Items.{sources_of, Visited, statements_in}
-use Rattle.cx_rules.specs.Footprints.{Rests}
+use Rattle.cx_rules.specs.Footprints.{AssignNames, Rests}
 use Rattle.cx_rules.specs.Spots.{AnAssign, AStatement, Spot, Tells, OnAssign, OnStatement, AssignRule, StatementRule}
-use Rattle.cx_rules.specs.ShapeRules.{BreaksDoneNotState, BreaksStaticTest, BreaksOutputNotState, LeadsToInput}
+use Rattle.cx_rules.specs.ShapeRules.{BreaksDoneNotState, BreaksStaticTest, BreaksOutputNotState, BreaksKept, LeadsToInput}
 use Rattle.cx_rules.specs.Accepted.{key_of}
 use Rattle.cx_design_parts.specs.Breaks.{Broken, first_of}
 use Rattle.cx_design_parts.specs.Numbered.{numbered}
@@ -24,7 +24,7 @@ use Rattle.cx_design_parts.proofs.Lists.{first_append, in_left, in_right, in_eit
 use Rattle.cx_shape_state.specs.Resting.{rests_at}
 use Rattle.cx_shape_state.proofs.Names.{source_in, source_named}
 use Rattle.cx_shape_state.proofs.Found.{found_rests, rests_found, inner_rests, inner_apart, leads_found}
-use Rattle.cx_shape_state.specs.StateBreaks.{StateBreaks, break_unless, all_rest, done_break, output_break, target_breaks, assign_breaks, static_test, test_breaks, assign_breaks_at, test_breaks_at, component_breaks, components_breaks, state_breaks}
+use Rattle.cx_shape_state.specs.StateBreaks.{StateBreaks, break_unless, all_rest, done_break, output_break, target_breaks, is_input, none_input, is_kept, kept_breaks, assign_breaks, static_test, test_breaks, assign_breaks_at, test_breaks_at, component_breaks, components_breaks, state_breaks}
 use Rattle.cx_rules.proofs.KeyOrder.{before_irreflexive}
 
 abbrev broken : Rule → Spot → Place → List ℕ → Broken
@@ -44,7 +44,7 @@ in_break true r spot at called place name e t = absurd (true≢false e)
 in_break false r spot at called place name e t = inl (ap (λ p. broken r spot p called) (sym t.0) ∙ ap (λ n. broken r spot place n) (sym t.1))
 
 -- a port that does not rest
-one_fails : (f : PlacedPort → Bool) (ps : List PlacedPort) → list_all f ps ≡ false → (p : PlacedPort) × In ps p × (f p ≡ false)
+pub one_fails : (f : PlacedPort → Bool) (ps : List PlacedPort) → list_all f ps ≡ false → (p : PlacedPort) × In ps p × (f p ≡ false)
 one_fails f [] e = absurd (true≢false e)
 one_fails f (p ∷ ps) e = choice (f p) refl e (one_fails f ps)
   where
@@ -53,7 +53,7 @@ one_fails f (p ∷ ps) e = choice (f p) refl e (one_fails f ps)
     choice true g h more = let rest = more h in (rest.0, inr rest.1, rest.2)
     choice false g h more = (p, inl refl, g)
 
-all_fail : (f : PlacedPort → Bool) (ps : List PlacedPort) (p : PlacedPort) → In ps p → f p ≡ false → list_all f ps ≡ false
+pub all_fail : (f : PlacedPort → Bool) (ps : List PlacedPort) (p : PlacedPort) → In ps p → f p ≡ false → list_all f ps ≡ false
 all_fail f [] p i e = absurd i
 all_fail f (q ∷ ps) p (inl g) e = ap (λ t. t && list_all f ps) (ap f g ∙ e)
 all_fail f (q ∷ ps) p (inr i) e = ap (λ t. f q && t) (all_fail f ps p i e) ∙ and_false (f q)
@@ -66,15 +66,28 @@ is_true_or_false : (t : Bool) → (t ≡ true) ⊎ (t ≡ false)
 is_true_or_false true = inl refl
 is_true_or_false false = inr refl
 
+-- a signature input among what a continuous assignment of a static component names
+input_is : (q : PortRef) → not (is_input q) ≡ false → (n : ℕ) × (q ≡ ports.Input n)
+input_is (ports.Cell c p) e = absurd (true≢false e)
+input_is (ports.Input n) e = (n, refl)
+input_is (ports.Output n) e = absurd (true≢false e)
+input_is (ports.Done g) e = absurd (true≢false e)
+input_is (ports.Literal w v) e = absurd (true≢false e)
+
+unkept : (latency owner : Option ℕ) (ps : List PlacedPort) → is_kept latency owner ps ≡ false → (n : ℕ) × (latency ≡ Some n) × (owner ≡ None) × (none_input ps ≡ false)
+unkept None owner ps e = absurd (true≢false e)
+unkept (Some n) None ps e = (n, refl, refl, e)
+unkept (Some n) (Some g) ps e = absurd (true≢false e)
+
 -- PORTS of component k
 module _ (d : PlainDesign) (k : ℕ) (q : PortRef) where
   abbrev at : Instance
   at = component_of d k
 
-  unrested : rests_at at true q ≡ false → Rests at q → ⊥
+  pub unrested : rests_at at true q ≡ false → Rests at q → ⊥
   unrested e r = true≢false (sym (rests_found d k q r) ∙ e)
 
-  never_rests : (Rests at q → ⊥) → rests_at at true q ≡ false
+  pub never_rests : (Rests at q → ⊥) → rests_at at true q ≡ false
   never_rests none = ⊎_elim (λ e. absurd (none (found_rests d k q e))) (λ e. e) (is_true_or_false (rests_at at true q))
 
   outer : rests_at at false q ≡ false → (Rests at q → ⊥) ⊎ LeadsToInput at q
@@ -105,7 +118,18 @@ module _ (d : PlainDesign) (k m : ℕ) (a : Owned) (within : k < length d.compon
       let found = break_in (all_rest i false (sources_of a.assign)) rule.OutputNotState here a.assign.place (path_of i (ports.Output n)) b h in
       let p = one_fails (λ x. rests_at i false x.port) (sources_of a.assign) found.0 in
       subst (Holds d) found.1
-      (on_assign BreaksOutputNotState a.assign.place (path_of i (ports.Output n)) (n, e, (p.0.port, source_named a.assign p.0 p.1, outer d k p.0.port p.2), (refl, ap (path_of i) (sym e))))
+      (inl (on_assign BreaksOutputNotState a.assign.place (path_of i (ports.Output n)) (n, e, (p.0.port, source_named a.assign p.0 p.1, outer d k p.0.port p.2), (refl, ap (path_of i) (sym e)))))
+
+  kept_holds : (b : Broken) → In (kept_breaks (component_of d k) here a) b → Holds d b
+  kept_holds b h =
+      let i = component_of d k in
+      let ps = sources_of a.assign in
+      let found = break_in (is_kept (part_of i).latency a.owner ps) rule.OutputNotState here a.assign.place (path_of i a.assign.target) b h in
+      let is = unkept (part_of i).latency a.owner ps found.0 in
+      let p = one_fails (λ x. not (is_input x.port)) ps is.3 in
+      let n = input_is p.0.port p.2 in
+      subst (Holds d) found.1
+      (inr (on_assign BreaksKept a.assign.place (path_of i a.assign.target) (is.0, is.1, is.2, (n.0, subst (AssignNames a.assign) n.1 (source_named a.assign p.0 p.1)), (refl, refl))))
 
   target_holds : (target : PortRef) (b : Broken) → a.assign.target ≡ target → In (target_breaks (component_of d k) here a.assign target) b → Holds d b
   target_holds (ports.Cell c p) b e h = absurd h
@@ -113,6 +137,13 @@ module _ (d : PlainDesign) (k m : ℕ) (a : Owned) (within : k < length d.compon
   target_holds (ports.Output n) b e h = output_holds n b e h
   target_holds (ports.Done g) b e h = done_holds g b e h
   target_holds (ports.Literal w v) b e h = absurd h
+
+  assign_holds : (b : Broken) → In (assign_breaks (component_of d k) here a) b → Holds d b
+  assign_holds b h =
+      ⊎_elim
+      (target_holds a.assign.target b refl)
+      (kept_holds b)
+      (in_either (target_breaks (component_of d k) here a.assign a.assign.target) (kept_breaks (component_of d k) here a) b h)
 
 -- STATEMENTS
 static_is : (form : PlainForm) (p : PlacedPort) → static_test form ≡ Some p
@@ -151,7 +182,7 @@ component_holds d k b within h =
     ⊎_elim
     (λ l. let found = numbered_in (assign_breaks_at d k) 0 (source_order (component_at d k)) b l in
     let same : 0 + found.0 ≡ found.0 = omega arith in
-    target_holds d k found.0 found.1 within found.2 found.1.assign.target b refl (subst (λ n. In (assign_breaks_at d k n found.1) b) same found.3))
+    assign_holds d k found.0 found.1 within found.2 b (subst (λ n. In (assign_breaks_at d k n found.1) b) same found.3))
     (λ r. let found = numbered_in (test_breaks_at d k) 0 (statements_in (component_at d k)) b r in
     let same : 0 + found.0 ≡ found.0 = omega arith in
     test_holds d k found.0 found.1 within found.2 (static_test found.1.form) b refl (subst (λ n. In (test_breaks_at d k n found.1) b) same found.3))
@@ -179,7 +210,7 @@ in_design d k b within h =
     let same : k ≡ 0 + k = omega arith in in_components d 0 (length d.components) k b within (subst (λ n. In (component_breaks d n) b) same h)
 
 assign_in : (d : PlainDesign) (r : Rule) (spot : Spot) (place : Place) (name : List ℕ) (rules : AssignRule) (o : OnAssign rules d spot place name)
-    → ((s : Spot) → In (assign_breaks (component_of d spot.component) s o.assign.assign) (broken r s place name)) → In (state_breaks d) (broken r spot place name)
+    → ((s : Spot) → In (assign_breaks (component_of d spot.component) s o.assign) (broken r s place name)) → In (state_breaks d) (broken r spot place name)
 assign_in d r spot place name rules o has =
     let k = spot.component in
     let order = source_order (component_at d k) in
@@ -189,7 +220,7 @@ assign_in d r spot place name rules o has =
     (in_left (numbered (assign_breaks_at d k) 0 order) (numbered (test_breaks_at d k) 0 (statements_in (component_at d k))) (broken r spot place name)
     (in_numbered (assign_breaks_at d k) 0 order o.number o.assign (broken r spot place name) o.stands
     (subst (λ n. In (assign_breaks_at d k n o.assign) (broken r spot place name)) same
-    (subst (λ s. In (assign_breaks (component_of d k) (record { component = k; part = AnAssign o.number }) o.assign.assign) (broken r s place name)) spot_is (has (record { component = k; part = AnAssign o.number }))))))
+    (subst (λ s. In (assign_breaks (component_of d k) (record { component = k; part = AnAssign o.number }) o.assign) (broken r s place name)) spot_is (has (record { component = k; part = AnAssign o.number }))))))
 
 statement_in : (d : PlainDesign) (r : Rule) (spot : Spot) (place : Place) (name : List ℕ) (rules : StatementRule) (o : OnStatement rules d spot place name) (p : PlacedPort)
     → static_test o.statement.form ≡ Some p
@@ -218,8 +249,9 @@ done_in d spot place name o =
     let fails : rests_at i true p.0.port ≡ false = ap (rests_at i true) p.2 ∙ never_rests d k q o.breaks.2.2 in
     let all : all_rest i true (sources_of a) ≡ false = all_fail (λ x. rests_at i true x.port) (sources_of a) p.0 p.1 fails in
     assign_in d rule.DoneNotState spot place name BreaksDoneNotState o (λ s.
-    subst (λ target. In (target_breaks i s a target) (broken rule.DoneNotState s place name)) (sym o.breaks.1)
-    (in_break (all_rest i true (sources_of a)) rule.DoneNotState s a.place (group_at (part_of i) g).name place name all o.breaks.3))
+    in_left (target_breaks i s a a.target) (kept_breaks i s o.assign) (broken rule.DoneNotState s place name)
+    (subst (λ target. In (target_breaks i s a target) (broken rule.DoneNotState s place name)) (sym o.breaks.1)
+    (in_break (all_rest i true (sources_of a)) rule.DoneNotState s a.place (group_at (part_of i) g).name place name all o.breaks.3)))
 
 output_in : (d : PlainDesign) (spot : Spot) (place : Place) (name : List ℕ) → OnAssign BreaksOutputNotState d spot place name → In (state_breaks d) (broken rule.OutputNotState spot place name)
 output_in d spot place name o =
@@ -232,8 +264,22 @@ output_in d spot place name o =
     let fails : rests_at i false p.0.port ≡ false = ap (rests_at i false) p.2 ∙ is_outer d k q o.breaks.2.2 in
     let all : all_rest i false (sources_of a) ≡ false = all_fail (λ x. rests_at i false x.port) (sources_of a) p.0 p.1 fails in
     assign_in d rule.OutputNotState spot place name BreaksOutputNotState o (λ s.
-    subst (λ target. In (target_breaks i s a target) (broken rule.OutputNotState s place name)) (sym o.breaks.1)
-    (in_break (all_rest i false (sources_of a)) rule.OutputNotState s a.place (path_of i (ports.Output n)) place name all (o.breaks.3.0, o.breaks.3.1 ∙ ap (path_of i) o.breaks.1)))
+    in_left (target_breaks i s a a.target) (kept_breaks i s o.assign) (broken rule.OutputNotState s place name)
+    (subst (λ target. In (target_breaks i s a target) (broken rule.OutputNotState s place name)) (sym o.breaks.1)
+    (in_break (all_rest i false (sources_of a)) rule.OutputNotState s a.place (path_of i (ports.Output n)) place name all (o.breaks.3.0, o.breaks.3.1 ∙ ap (path_of i) o.breaks.1))))
+
+kept_in : (d : PlainDesign) (spot : Spot) (place : Place) (name : List ℕ) → OnAssign BreaksKept d spot place name → In (state_breaks d) (broken rule.OutputNotState spot place name)
+kept_in d spot place name o =
+    let i = component_of d spot.component in
+    let a = o.assign.assign in
+    let ps = sources_of a in
+    let p = source_in a (ports.Input o.breaks.3.0) o.breaks.3.1 in
+    let named : none_input ps ≡ false = all_fail (λ x. not (is_input x.port)) ps p.0 p.1 (ap (λ q. not (is_input q)) p.2) in
+    let fails : is_kept (part_of i).latency o.assign.owner ps ≡ false =
+    ap (λ l. is_kept l o.assign.owner ps) o.breaks.1 ∙ ap (λ w. is_kept (Some o.breaks.0) w ps) o.breaks.2 ∙ named in
+    assign_in d rule.OutputNotState spot place name BreaksKept o (λ s.
+    in_right (target_breaks i s a a.target) (kept_breaks i s o.assign) (broken rule.OutputNotState s place name)
+    (in_break (is_kept (part_of i).latency o.assign.owner ps) rule.OutputNotState s a.place (path_of i a.target) place name fails o.breaks.4))
 
 test_in_list : (d : PlainDesign) (spot : Spot) (place : Place) (name : List ℕ) → OnStatement BreaksStaticTest d spot place name → In (state_breaks d) (broken rule.StaticShape spot place name)
 test_in_list d spot place name o =
@@ -245,7 +291,8 @@ test_in_list d spot place name o =
 
 all_breaks : (d : PlainDesign) (r : Rule) (spot : Spot) (place : Place) (name : List ℕ) → StateBreaks d r spot place name → In (state_breaks d) (broken r spot place name)
 all_breaks d rule.DoneNotState spot place name o = done_in d spot place name o
-all_breaks d rule.OutputNotState spot place name o = output_in d spot place name o
+all_breaks d rule.OutputNotState spot place name (inl o) = output_in d spot place name o
+all_breaks d rule.OutputNotState spot place name (inr o) = kept_in d spot place name o
 all_breaks d rule.StaticShape spot place name o = test_in_list d spot place name o
 all_breaks d rule.BadByte spot place name o = absurd o
 all_breaks d rule.OpenComment spot place name o = absurd o

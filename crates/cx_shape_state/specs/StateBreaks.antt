@@ -1,5 +1,5 @@
 -- The breaks of the rules that speak of what rests on state, as a list.
-use Rattle.std.specs.Prelude.{ℕ, zero, suc, Bool, true, false, List, [], ◌∷◌, ◌++◌, Option, Some, None, length, if◌then◌else◌}
+use Rattle.std.specs.Prelude.{ℕ, zero, suc, Bool, true, false, not, ◌⊎◌, List, [], ◌∷◌, ◌++◌, Option, Some, None, length, if◌then◌else◌}
 use Rattle.std.specs.List.{list_all}
 use Rattle.cx_text.specs.declared.places.Place.{Place}
 use Rattle.cx_text.specs.declared.rules.Rule.{Rule}
@@ -13,7 +13,7 @@ use Rattle.cx_meaning.specs.Active.{Owned, source_order}
 use Rattle.cx_rules.specs.Ports.{component_of, path_of}
 use Rattle.cx_rules.specs.Items.{sources_of, Visited, statements_in}
 use Rattle.cx_rules.specs.Spots.{AnAssign, AStatement, Spot, OnAssign, OnStatement}
-use Rattle.cx_rules.specs.ShapeRules.{BreaksDoneNotState, BreaksStaticTest, BreaksOutputNotState}
+use Rattle.cx_rules.specs.ShapeRules.{BreaksDoneNotState, BreaksStaticTest, BreaksOutputNotState, BreaksKept}
 use Rattle.cx_design_parts.specs.Breaks.{Broken}
 use Rattle.cx_design_parts.specs.Numbered.{numbered}
 use Rattle.cx_shape_state.specs.Resting.{rests_at}
@@ -22,7 +22,7 @@ use Rattle.cx_shape_state.specs.Resting.{rests_at}
 abbrev pub StateBreaks : PlainDesign → Rule → Spot → Place → List ℕ → Type 0
 StateBreaks d rule.DoneNotState spot place name = OnAssign BreaksDoneNotState d spot place name
 StateBreaks d rule.StaticShape spot place name = OnStatement BreaksStaticTest d spot place name
-StateBreaks d rule.OutputNotState spot place name = OnAssign BreaksOutputNotState d spot place name
+StateBreaks d rule.OutputNotState spot place name = OnAssign BreaksOutputNotState d spot place name ⊎ OnAssign BreaksKept d spot place name
 StateBreaks d _ spot place name = ⊥
 
 abbrev pub break_unless : Bool → Rule → Spot → Place → List ℕ → List Broken
@@ -46,8 +46,30 @@ target_breaks i spot a (ports.Output n) = output_break i spot a n
 target_breaks i spot a (ports.Done g) = done_break i spot a g
 target_breaks i spot a (ports.Literal w v) = []
 
-abbrev pub assign_breaks : Instance → Spot → PlainAssign → List Broken
-assign_breaks i spot a = target_breaks i spot a a.target
+-- a port that is a signature input
+abbrev pub is_input : PortRef → Bool
+is_input (ports.Cell c p) = false
+is_input (ports.Input n) = true
+is_input (ports.Output n) = false
+is_input (ports.Done g) = false
+is_input (ports.Literal w v) = false
+
+-- none of a list of ports is a signature input
+abbrev pub none_input : List PlacedPort → Bool
+none_input ps = list_all (λ p. not (is_input p.port)) ps
+
+-- by the latency of the component, the group in which an assignment stands, and what it names: a continuous assignment of a static
+-- component names no signature input
+abbrev pub is_kept : Option ℕ → Option ℕ → List PlacedPort → Bool
+is_kept None owner ps = true
+is_kept (Some latency) None ps = none_input ps
+is_kept (Some latency) (Some g) ps = true
+
+abbrev pub kept_breaks : Instance → Spot → Owned → List Broken
+kept_breaks i spot a = break_unless (is_kept (part_of i).latency a.owner (sources_of a.assign)) rule.OutputNotState spot a.assign.place (path_of i a.assign.target)
+
+abbrev pub assign_breaks : Instance → Spot → Owned → List Broken
+assign_breaks i spot a = target_breaks i spot a.assign a.assign.target ++ kept_breaks i spot a
 
 -- the port of a static if
 abbrev pub static_test : PlainForm → Option PlacedPort
@@ -70,7 +92,7 @@ test_breaks i spot place (Some p) = break_unless (rests_at i true p.port) rule.S
 
 -- by the numbers of the parts of component k
 abbrev pub assign_breaks_at : PlainDesign → ℕ → ℕ → Owned → List Broken
-assign_breaks_at d k n a = assign_breaks (component_of d k) (record { component = k; part = AnAssign n }) a.assign
+assign_breaks_at d k n a = assign_breaks (component_of d k) (record { component = k; part = AnAssign n }) a
 
 abbrev pub test_breaks_at : PlainDesign → ℕ → ℕ → Visited → List Broken
 test_breaks_at d k n v = test_breaks (component_of d k) (record { component = k; part = AStatement n }) v.place (static_test v.form)

@@ -66,7 +66,7 @@ fn add_assigns(
             component: number,
             part: Part::Assign(place),
         };
-        add_assign(alloc, first, design, resting, spot, assigns[place].assign)?;
+        add_assign(alloc, first, design, resting, spot, assigns[place])?;
     }
     Ok(())
 }

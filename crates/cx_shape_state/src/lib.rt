@@ -11,5 +11,6 @@ pub mod rule_laws;
 mod statements;
 mod waiting;
 
+pub use assigns::all_rest;
 pub use checking::add_breaks;
 pub use resting::Resting;

@@ -24,12 +24,14 @@ use Rattle.cx_names.specs.Targets.{is_literal, HasTargets}
 use Rattle.cx_names.proofs.Base.{Distinct, in_map, append_none, tell_none}
 use Rattle.cx_names.proofs.Kept.{KeptPart, kept, kept_part}
 use Rattle.cx_names.proofs.InvokeLemmas.{kept_invoke}
-use Rattle.cx_names.proofs.Statements.{invoke_of_block, visited_of}
+use Rattle.cx_names.proofs.Statements.{invoke_of_block, visited_of, same_breaks}
 use Rattle.cx_names.proofs.PartLemmas.{distinct_names}
 use Rattle.cx_names.proofs.Whole.{is_design}
 use Rattle.cx_text.proofs.BoolLaws.{not_not}
 use Rattle.cx_check.specs.Unbuilt.{static_word, static_words, length_word, words_in, first_place, first_unbuilt}
 use Rattle.cx_check.specs.Acceptance.{IsAcceptedTree}
+use Rattle.cx_check.proofs.BuiltLemmas.{built_is_flat}
+use Rattle.cx_rewrites.proofs.FlatRulesLemmas.{accepted_flat}
 use Rattle.cx_copies.specs.Naming.{named_operand_form, named_form}
 use Rattle.cx_sharing.specs.SharedDesign.{shared_part, shared_design}
 use Rattle.cx_sharing.specs.SharedTree.{shared_tree}
@@ -53,7 +55,7 @@ visits (Some block) = visit_block block
 -- what an invoke captures are registers
 captures_registers : (tree : PlainTree) (item : ast.PlainComponent) (own : KeptPart tree item) (k : Invoke) → In (control_invokes tree item item.control) k → IsInvoke tree item (distinct_cells tree item own) k
 captures_registers tree item own k i b j =
-    let kept_k = kept_invoke tree item k (own.statements (visited_of k) (stands item.control i)) in
+    let kept_k = kept_invoke tree item k (same_breaks tree item k k.written (own.statements (visited_of k) (stands item.control i))) in
     not_not _ (tell_none _ _ _ _ (append_none _ _ (kept_k.outputs b j)).1)
   where
     stands : (o : Option statements.PlainBlock) → In (control_invokes tree item o) k → In (visits o) (visited_of k)
@@ -113,7 +115,7 @@ pub shared_tree_accepted : (tree : PlainTree) → IsAcceptedTree tree → IsAcce
 shared_tree_accepted tree h = record {
   built = unbuilt-shared tree h.named ∙ h.built;
   named = names_shared tree (λ item i. distinct_cells tree item (kept_parts tree h.named item i)) h.named;
-  accepted = subst IsAccepted (sym (design-shared tree h.named)) (shared_accepted (design_of tree) h.accepted);
+  accepted = subst IsAccepted (sym (design-shared tree h.named)) (shared_accepted (design_of tree) (accepted_flat (design_of tree) (built_is_flat tree h.built) h.accepted));
 }
 
 -- TARGETS

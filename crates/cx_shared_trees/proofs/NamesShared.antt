@@ -1,5 +1,5 @@
 -- THE SHARED TREE BREAKS NO RULE ON NAMES, where the tree breaks none.
-use Rattle.std.proofs.Common.{◌≡◌, ℕ, zero, suc, ◌+◌, inl, inr, Bool, true, false, ◌||◌, ◌&&◌, is_none, List, [], ◌∷◌, ◌++◌, Option, Some, None, length, map, flat_map, option_map, slice_get, codes, refl, sym, ap, ap₂, ◌∙◌, subst, arith, true≢false}
+use Rattle.std.proofs.Common.{◌≡◌, ℕ, zero, suc, ◌+◌, inl, inr, Bool, true, false, ◌||◌, ◌&&◌, is_some, is_none, List, [], ◌∷◌, ◌++◌, Option, Some, None, length, map, flat_map, option_map, slice_get, codes, refl, sym, ap, ap₂, ◌∙◌, subst, arith, true≢false}
 use Rattle.std.specs.Prelude.{if◌then◌else◌, not}
 use Rattle.std.proofs.lemmas.Bool.{or_right}
 use Rattle.std.proofs.lemmas.List.{map-append}
@@ -25,7 +25,7 @@ use Rattle.cx_meaning.specs.Designs.{PlainComponent}
 use Rattle.cx_meaning.specs.Sights.{In}
 use Rattle.cx_numbering.specs.Names.{same_name, is_among, cell_names, groups_in, always_in, cell_among, group_among, CellOf, Neither, APrimitive, AComponent, cell_of, cell_go, is_external}
 use Rattle.cx_numbering.specs.DesignOf.{design_of}
-use Rattle.cx_numbering.specs.NameRules.{tell_if, named, duplicates, bind_names, component_duplicates, operands_of, operands_in, guard_operands, Standing, standing, Visited, visit_parts, visit_else, visit_block, visit_all, statements_in, is_component, found_component, is_clock, is_unknown, unknown, is_left_out, is_hole, source_breaks, is_wrong_target, is_one, is_bare_done, assign_breaks, is_comb_word, is_comb_group, enable_breaks, with_breaks, output_rows, output_names, is_go_name, is_reg, found_reg, is_register_in, input_breaks, output_breaks, invoke_on, form_breaks, kind_breaks, is_narrow_memory, port_breaks, component_kinds, some_part, leads_back, cell_breaks, component_breaks, name_breaks, first_break, names_break}
+use Rattle.cx_numbering.specs.NameRules.{tell_if, named, duplicates, bind_names, component_duplicates, operands_of, operands_in, guard_operands, Standing, standing, Visited, visit_parts, visit_else, visit_block, visit_all, statements_in, is_component, found_component, is_clock, is_static_end, is_unknown, unknown, is_left_out, is_hole, source_breaks, is_wrong_target, is_one, is_bare_done, assign_breaks, is_comb_word, is_comb_group, enable_breaks, with_breaks, output_rows, output_names, is_go_name, is_reg, found_reg, is_register_in, input_breaks, output_breaks, invoke_on, form_breaks, kind_breaks, is_narrow_memory, port_breaks, component_kinds, some_part, leads_back, cell_breaks, component_breaks, name_breaks, first_break, names_break}
 use Rattle.cx_names_scopes.proofs.NameLemmas.{is_among-cons}
 use Rattle.cx_names.proofs.Base.{Distinct, in_map, append_none, tell_none, first_none}
 use Rattle.cx_names.proofs.Kept.{KeptPart, kept, kept_part}
@@ -33,7 +33,7 @@ use Rattle.cx_copies.specs.Naming.{named_operand_form, named_operand, named_guar
 use Rattle.cx_sharing.specs.Giving.{stays}
 use Rattle.cx_sharing.specs.SharedTree.{left_cells, shared_components, shared_tree}
 use Rattle.cx_sharing.proofs.LimitsShared.{gone_is}
-use Rattle.cx_shared_trees.proofs.TreeDesign.{shared_item, shared_items, component_names-shared, shared_of, cell_of-shared, own_part, new_name, twin, KeptCell, the_same, of_one_kind, kept_pair, cell_ports-shared, groups-shared, always-shared, group_names-shared, kind_of_cell, primitive_is}
+use Rattle.cx_shared_trees.proofs.TreeDesign.{shared_item, shared_items, component_names-shared, shared_of, cell_of-shared, own_part, new_name, twin, KeptCell, the_same, of_one_kind, kept_pair, cell_ports-shared, groups-shared, always-shared, group_names-shared, kind_of_cell, primitive_is, latency_kept}
 
 -- LISTS OF BREAKS that are empty
 both_none : {A : Type 0} (xs ys : List A) → xs ≡ [] → ys ≡ [] → xs ++ ys ≡ []
@@ -195,6 +195,11 @@ module _ (tree : PlainTree) where
     clock-shared cell port =
         ap (λ b. b && (same_name port (codes "clk") || same_name port (codes "reset"))) (found_kept (cell_among (new cell) other.cells) (cell_among cell item.cells) (named_pair cell))
 
+    end-shared : (cell port : List ℕ) → is_static_end (shared_tree tree) other (new cell) port ≡ is_static_end tree item cell port
+    end-shared cell port =
+        ap (λ latency. is_some latency && (same_name port (codes "go") || same_name port (codes "done")))
+        (latency_kept tree item apart (cell_among (new cell) other.cells) (cell_among cell item.cells) (kept_pair tree item apart cell))
+
     reg_kept : (of : CellOf) → is_reg (shared_tree tree) other (shared_of tree of) ≡ is_reg tree item of
     reg_kept Neither = refl
     reg_kept (APrimitive p) = refl
@@ -213,7 +218,7 @@ module _ (tree : PlainTree) where
 
     left_out_kept : (form : OperandForm) → is_left_out (shared_tree tree) other (named_operand_form new form) ≡ is_left_out tree item form
     left_out_kept (operands.Own name) = refl
-    left_out_kept (operands.Port cell port) = clock-shared cell port
+    left_out_kept (operands.Port cell port) = ap₂ ◌||◌ (clock-shared cell port) (end-shared cell port)
     left_out_kept (operands.Hole group hole) = refl
     left_out_kept (operands.Literal width value) = refl
 
@@ -429,7 +434,7 @@ module _ (tree : PlainTree) where
         let one = append_none _ _ two.0 in
         both_none _ _ (both_none _ _ (both_none _ _
         (retold _ _ _ b.place _ _ (ap₂ (λ names t. not (is_among b.name names || t)) (cell_ports-shared tree item apart cell) (clock-shared cell b.name)) one.0)
-        (retold _ _ _ b.place _ _ (ap (λ names. not (is_among b.name names)) (outputs_kept of)) one.1))
+        (retold _ _ _ b.place _ _ (ap₂ (λ names end. not (is_among b.name names) || end) (outputs_kept of) (end-shared cell b.name)) one.1))
         (known_operand b.value two.1))
         (retold _ _ _ b.value.place _ _ (ap not (register_kept b.value.form)) three.1)
 
@@ -448,6 +453,14 @@ module _ (tree : PlainTree) where
         (ap (λ x. flat_map (output_breaks (shared_tree tree) other (new cell) x) (map (named_bind new) outputs)) e
         ∙ list_kept (named_bind new) (output_breaks tree item cell of) (output_breaks (shared_tree tree) other (new cell) (shared_of tree of)) (output_kept cell of) outputs outs)
 
+    bound_kept : (cell : List ℕ) (inputs outputs : List BindItem) (place : Place) → form_breaks tree item (statements.Invoke cell inputs outputs) place ≡ []
+        → form_breaks (shared_tree tree) other (named_form new (statements.Invoke cell inputs outputs)) place ≡ []
+    bound_kept cell inputs outputs place none =
+        let two = append_none _ _ none in
+        let one = append_none _ _ two.0 in
+        both_none _ _ (both_none _ _ (ap (duplicates []) (binds_kept inputs) ∙ one.0) (ap (duplicates []) (binds_kept outputs) ∙ one.1))
+        (invoke_kept cell inputs outputs place (cell_among (new cell) other.cells) (cell_among cell item.cells) (named_pair cell) two.1)
+
     form_kept : (form : statements.PlainForm) (place : Place) → form_breaks tree item form place ≡ [] → form_breaks (shared_tree tree) other (named_form new form) place ≡ []
     form_kept (statements.Enable group marks) place none = enable_kept group place ∙ none
     form_kept (statements.Seq marks block) place none = refl
@@ -459,12 +472,8 @@ module _ (tree : PlainTree) where
     form_kept (statements.While test comb body) place none = let two = append_none _ _ none in both_none _ _ (with_kept comb place ∙ two.0) (source_operand test two.1)
     form_kept (statements.Repeat count body) place none = refl
     form_kept (statements.StaticRepeat written count body) place none = refl
-    form_kept (statements.Invoke cell inputs outputs) place none =
-        let two = append_none _ _ none in
-        let one = append_none _ _ two.0 in
-        both_none _ _ (both_none _ _ (ap (duplicates []) (binds_kept inputs) ∙ one.0) (ap (duplicates []) (binds_kept outputs) ∙ one.1))
-        (invoke_kept cell inputs outputs place (cell_among (new cell) other.cells) (cell_among cell item.cells) (named_pair cell) two.1)
-    form_kept (statements.StaticInvoke written cell inputs outputs) place none = refl
+    form_kept (statements.Invoke cell inputs outputs) place none = bound_kept cell inputs outputs place none
+    form_kept (statements.StaticInvoke written cell inputs outputs) place none = bound_kept cell inputs outputs place none
 
     -- CELLS
     kind_kept : (cell : ast.PlainCell) (of : CellOf) → kind_breaks tree item cell of ≡ [] → kind_breaks (shared_tree tree) other cell (shared_of tree of) ≡ []
@@ -511,7 +520,7 @@ module _ (tree : PlainTree) where
     -- A COMPONENT
     pub component_kept_names : component_breaks (shared_tree tree) other ≡ []
     component_kept_names =
-        both_none _ _ (both_none _ _ (both_none _ _ (both_none _ _ (both_none _ _ (both_none _ _ own.primitive twice_kept)
+        both_none _ _ (both_none _ _ (both_none _ _ (both_none _ _ (both_none _ _ (both_none _ _ (both_none _ _ own.primitive own.dynamic) twice_kept)
         (flat_is_none (port_breaks (shared_tree tree) other true) item.inputs (λ port i. own.inputs port i)))
         (flat_is_none (port_breaks (shared_tree tree) other false) item.outputs (λ port i. own.outputs port i)))
         (flat_is_none (cell_breaks (shared_tree tree) other) other.cells (λ cell i. cell_kept cell (own.cells cell (cells_in (own_part tree item) 0 item.cells cell i)))))

@@ -1,6 +1,6 @@
 -- THE DESIGN OF THE SHARED TREE is the shared design, where the tree breaks no rule on names.
 use Rattle.std.proofs.Common.{◌≡◌, ℕ, zero, suc, ◌+◌, ◌<◌, inl, inr, Bool, true, false, List, [], ◌∷◌, ◌++◌, Option, Some, None, length, map, flat_map, option_map, slice_get, codes, refl, sym, ap, ap₂, ◌∙◌, subst, arith}
-use Rattle.std.specs.Prelude.{if◌then◌else◌, unwrap_or}
+use Rattle.std.specs.Prelude.{◌||◌, is_some, if◌then◌else◌, unwrap_or}
 use Rattle.std.proofs.lemmas.List.{length-map, map-append}
 use Rattle.std.proofs.lemmas.Option.{slice_get-map}
 use Rattle.cx_text.specs.declared.places.Place.{Place}
@@ -21,13 +21,13 @@ use Rattle.cx_ast.specs.PlainStatements as statements
 use Rattle.cx_meaning.specs.declared.ports.PortRef.{PortRef}
 use Rattle.cx_meaning.specs.declared.ports.PortRef.TheVariants as ports
 use Rattle.cx_meaning.specs.declared.ports.PlacedPort.{PlacedPort}
-use Rattle.cx_meaning.specs.Designs.{PlainGuard, PlainGuards, Always, Atom, Negation, All, Any, Compared, a_guard, guards_of, PlainAssign, PlainGroup, OfPrimitive, OfComponent, PlainCell, PlainStatement, PlainStatements, Placed, no_statements, a_statement, PlainComponent}
+use Rattle.cx_meaning.specs.Designs.{PlainGuard, PlainGuards, Always, Atom, Negation, All, Any, Compared, a_guard, guards_of, PlainAssign, PlainInvoke, PlainGroup, OfPrimitive, OfComponent, PlainCell, PlainStatement, PlainStatements, Placed, no_statements, a_statement, PlainComponent}
 use Rattle.cx_meaning.specs.declared.kinds.GroupKind.TheVariants as kinds
 use Rattle.cx_meaning.specs.Designs as plain
 use Rattle.cx_meaning.specs.Sights.{In}
 use Rattle.cx_rules.specs.Ports.{cell_name}
-use Rattle.cx_numbering.specs.Names.{same_name, number_of, later, is_external, cell_names, component_names, port_names, groups_in, always_in, group_names, component_among, cell_among, CellOf, Neither, APrimitive, AComponent, primitive_or, cell_of, cell_port_names, found_cell_ports, cell_go, primitive_of}
-use Rattle.cx_numbering.specs.DesignOf.{number_or_0, Invoke, own_port, cell_port, port_of, placed_of, comparison_of, guard_of, guards_in, guard_or_always, assign_of, kind_of, group_of, go_port, found_go, at, input_assign, go_guard, go_assign, register_of, capture_assigns, register_done, done_assign, invoke_group, invokes_in, invokes_else, invokes_of, invokes_all, group_number, comb_number, of_block, form_of, else_of, block_of, parts_of, all_of, invoke_groups, control_invokes, control_of, kind_or, plain_cell_of, component_of}
+use Rattle.cx_numbering.specs.Names.{same_name, number_of, later, is_external, cell_names, component_names, port_names, groups_in, always_in, group_names, component_among, cell_among, CellOf, Neither, APrimitive, AComponent, primitive_or, cell_of, cell_port_names, found_cell_ports, latency_of, found_latency, cell_go, primitive_of}
+use Rattle.cx_numbering.specs.DesignOf.{number_or_0, Invoke, own_port, cell_port, port_of, placed_of, comparison_of, guard_of, guards_in, guard_or_always, assign_of, kind_of, group_of, go_port, found_go, at, input_assign, go_guard, go_assign, register_of, capture_assigns, register_done, done_assign, invoke_group, invokes_in, invokes_else, invokes_of, invokes_all, group_number, comb_number, of_block, form_of, else_of, block_of, parts_of, all_of, invoke_groups, control_invokes, control_of, kind_or, plain_cell_of, component_of, Next, invoke_latency, is_static_invoke, static_capture, capture_count, after_static, after, past, captures_number, plain_invoke_of, invoke_form, captures_for, groups_for, static_for, static_invokes, first}
 use Rattle.cx_numbering.specs.NameRules.{is_register_in}
 use Rattle.cx_names_scopes.specs.Scopes.{at_number}
 use Rattle.cx_names_scopes.proofs.NameLemmas.{cell_at, number_within}
@@ -37,7 +37,7 @@ use Rattle.cx_rewrites.specs.Moving.{moved_port, moved_guard, moved_guards, move
 use Rattle.cx_rewrites.specs.Renaming.{renamed}
 use Rattle.cx_sharing.specs.Uses.{is_combinational, kind_in, is_candidate}
 use Rattle.cx_sharing.specs.Giving.{keeper, stays, new_cell}
-use Rattle.cx_sharing.specs.SharedDesign.{remaining, shared_part}
+use Rattle.cx_sharing.specs.SharedDesign.{remaining, shared_invoke, shared_part}
 use Rattle.cx_copies.specs.Naming.{named_operand_form, named_operand, named_guard, named_guards, named_bind, named_form, named_else, named_block, named_statements, named_assign, named_group, named_wire}
 use Rattle.cx_sharing.specs.SharedTree.{keeper_name, kept_name, left_cells, shared_component, shared_components, shared_tree}
 use Rattle.cx_sharing.proofs.KeptLemmas.{keeper_stays}
@@ -97,6 +97,14 @@ go_of : (tree : PlainTree) (of : CellOf) → cell_go (shared_of tree of) ≡ cel
 go_of tree Neither = refl
 go_of tree (APrimitive p) = refl
 go_of tree (AComponent item) = refl
+
+latency_in : (tree : PlainTree) (of : CellOf) → latency_of (shared_of tree of) ≡ latency_of of
+latency_in tree Neither = refl
+latency_in tree (APrimitive p) = refl
+latency_in tree (AComponent item) = refl
+
+latency-shared : (tree : PlainTree) (cell : ast.PlainCell) → latency_of (cell_of (shared_tree tree) cell) ≡ latency_of (cell_of tree cell)
+latency-shared tree cell = ap latency_of (cell_of-shared tree cell) ∙ latency_in tree (cell_of tree cell)
 
 pub ports-shared : (tree : PlainTree) (cell : ast.PlainCell) → cell_port_names (cell_of (shared_tree tree) cell) ≡ cell_port_names (cell_of tree cell)
 ports-shared tree cell = ap cell_port_names (cell_of-shared tree cell) ∙ port_names_of tree (cell_of tree cell)
@@ -304,6 +312,14 @@ module _ (tree : PlainTree) (item : ast.PlainComponent) where
         by (Some x) = go-shared tree x
     go_kept a b (of_one_kind {kept} {given} p c k g) = go-shared tree kept ∙ ap cell_go (k ∙ sym g)
 
+    pub latency_kept : (a b : Option ast.PlainCell) → KeptCell a b → found_latency (shared_tree tree) a ≡ found_latency tree b
+    latency_kept a b (the_same {cell = cell}) = by cell
+      where
+        by : (o : Option ast.PlainCell) → found_latency (shared_tree tree) o ≡ found_latency tree o
+        by None = refl
+        by (Some x) = latency-shared tree x
+    latency_kept a b (of_one_kind {kept} {given} p c k g) = latency-shared tree kept ∙ ap latency_of (k ∙ sym g)
+
     -- the ports of a named cell
     pub cell_ports-shared : (name : List ℕ) → found_cell_ports (shared_tree tree) (cell_among (kept_name own_part name) twin.cells) ≡ found_cell_ports tree (cell_among name item.cells)
     cell_ports-shared name = ports_kept (cell_among (kept_name own_part name) twin.cells) (cell_among name item.cells) (kept_pair name)
@@ -405,7 +421,7 @@ module _ (tree : PlainTree) (item : ast.PlainComponent) where
 
     -- INVOKES, whose cells stay
     abbrev pub shared_invoked : Invoke → Invoke
-    shared_invoked k = record { cell = new_name k.cell; inputs = map (named_bind new_name) k.inputs; outputs = map (named_bind new_name) k.outputs; place = k.place }
+    shared_invoked k = record { cell = new_name k.cell; written = k.written; length = k.length; inputs = map (named_bind new_name) k.inputs; outputs = map (named_bind new_name) k.outputs; place = k.place }
 
     -- the outputs of an invoke are bound to registers
     abbrev pub IsInvoke : Invoke → Type 0
@@ -485,11 +501,74 @@ module _ (tree : PlainTree) (item : ast.PlainComponent) where
           ∙ sym (map-append (moved_assign new_port) (flat_map (capture_assigns tree item k) k.outputs) (done_assign tree item k g k.outputs ∷ []))))
           ∙ sym (map-append (moved_assign new_port) (map (input_assign tree item k) k.inputs) (go_assign tree item k ∷ (flat_map (capture_assigns tree item k) k.outputs ++ (done_assign tree item k g k.outputs ∷ [])))))
 
-    invoke_groups-shared : (n : ℕ) (list : List Invoke) → ((k : Invoke) → In list k → IsInvoke k) → invoke_groups (shared_tree tree) twin n (map shared_invoked list) ≡ map (moved_group new_port) (invoke_groups tree item n list)
+      -- what a static invoke captures
+      static_captures-shared : (list : List BindItem) → ((b : BindItem) → In list b → In k.outputs b)
+          → flat_map (static_capture (shared_tree tree) twin (shared_invoked k)) (map (named_bind new_name) list) ≡ map (moved_assign new_port) (flat_map (static_capture tree item k) list)
+      static_captures-shared [] among = refl
+      static_captures-shared (b ∷ rest) among =
+          ap₂ ◌∷◌ (assign_is _ _ Always Always _ _ k.place (port-shared b.value.form) refl (placed_here b.place b.name))
+          (ap₂ ◌∷◌ (assign_is _ _ Always Always _ _ k.place (register_here b (among b (inl refl)) (codes "write_en")) refl refl)
+          (static_captures-shared rest (λ c i. among c (inr i))))
+
+      captures_for-shared : (list : List BindItem) → captures_for (shared_tree tree) twin (shared_invoked k) (map (named_bind new_name) list) ≡ map (moved_group new_port) (captures_for tree item k list)
+      captures_for-shared [] = refl
+      captures_for-shared (b ∷ rest) = ap (λ list. record { name = []; kind = kinds.Timed 1; assigns = list; place = k.place } ∷ []) (static_captures-shared k.outputs (λ c i. i))
+
+      groups_for-shared : (static : Bool) (n : Next) → groups_for (shared_tree tree) twin static n (shared_invoked k) ≡ map (moved_group new_port) (groups_for tree item static n k)
+      groups_for-shared true n = captures_for-shared k.outputs
+      groups_for-shared false n = ap (λ g. g ∷ []) (invoke_group-shared n.group)
+
+      captures_number-shared : (g : ℕ) (list : List BindItem) → captures_number (shared_tree tree) twin g (map (named_bind new_name) list) ≡ captures_number tree item g list
+      captures_number-shared g [] = refl
+      captures_number-shared g (b ∷ rest) = refl
+
+      latency_is : invoke_latency (shared_tree tree) twin (shared_invoked k) ≡ invoke_latency tree item k
+      latency_is = latency_kept (cell_among (new_name k.cell) twin.cells) (cell_among k.cell item.cells) (kept_pair k.cell)
+
+      abbrev an_invoke : ℕ → Option ℕ → List PlainAssign → Option ℕ → PlainInvoke
+      an_invoke cell latency inputs captures = record { cell = cell; written = k.written; length = k.length; latency = latency; inputs = inputs; captures = captures }
+
+      plain_invoke-shared : (n : Next) → plain_invoke_of (shared_tree tree) twin n (shared_invoked k) ≡ shared_invoke (new_cell own_part) (plain_invoke_of tree item n k)
+      plain_invoke-shared n =
+          ap₂ (λ f x. f x) (ap₂ (λ f x. f x) (ap₂ an_invoke (number-shared k.cell) latency_is) (inputs-shared k.inputs)) (captures_number-shared n.group k.outputs)
+
+      static_for-shared : (static : Bool) (n : Next) → static_for (shared_tree tree) twin static n (shared_invoked k) ≡ map (shared_invoke (new_cell own_part)) (static_for tree item static n k)
+      static_for-shared true n = ap (λ v. v ∷ []) (plain_invoke-shared n)
+      static_for-shared false n = refl
+
+    -- NUMBERS of invokes and of their groups
+    static-shared : (k : Invoke) → is_static_invoke (shared_tree tree) twin (shared_invoked k) ≡ is_static_invoke tree item k
+    static-shared k = ap (λ latency. k.written || is_some latency) (latency_kept (cell_among (new_name k.cell) twin.cells) (cell_among k.cell item.cells) (kept_pair k.cell))
+
+    count-shared : (list : List BindItem) → capture_count (shared_tree tree) twin (map (named_bind new_name) list) ≡ capture_count tree item list
+    count-shared [] = refl
+    count-shared (b ∷ rest) = refl
+
+    after_static-shared : (static : Bool) (n : Next) (list : List BindItem) → after_static (shared_tree tree) twin static n (map (named_bind new_name) list) ≡ after_static tree item static n list
+    after_static-shared true n list = ap (λ (count : ℕ). record { group = n.group + count; invoke = suc n.invoke }) (count-shared list)
+    after_static-shared false n list = refl
+
+    after-shared : (n : Next) (k : Invoke) → after (shared_tree tree) twin n (shared_invoked k) ≡ after tree item n k
+    after-shared n k =
+        ap (λ static. after_static (shared_tree tree) twin static n (map (named_bind new_name) k.outputs)) (static-shared k) ∙ after_static-shared (is_static_invoke tree item k) n k.outputs
+
+    past-shared : (n : Next) (list : List Invoke) → past (shared_tree tree) twin n (map shared_invoked list) ≡ past tree item n list
+    past-shared n [] = refl
+    past-shared n (k ∷ rest) = ap (λ m. past (shared_tree tree) twin m (map shared_invoked rest)) (after-shared n k) ∙ past-shared (after tree item n k) rest
+
+    invoke_groups-shared : (n : Next) (list : List Invoke) → ((k : Invoke) → In list k → IsInvoke k) → invoke_groups (shared_tree tree) twin n (map shared_invoked list) ≡ map (moved_group new_port) (invoke_groups tree item n list)
     invoke_groups-shared n [] all = refl
     invoke_groups-shared n (k ∷ rest) all =
-        ap (λ x. x ∷ invoke_groups (shared_tree tree) twin (suc n) (map shared_invoked rest)) (invoke_group-shared k (all k (inl refl)) n)
-        ∙ ap (λ x. moved_group new_port (invoke_group tree item n k) ∷ x) (invoke_groups-shared (suc n) rest (λ c i. all c (inr i)))
+        let own = ap (λ static. groups_for (shared_tree tree) twin static n (shared_invoked k)) (static-shared k) ∙ groups_for-shared k (all k (inl refl)) (is_static_invoke tree item k) n in
+        let others = ap (λ m. invoke_groups (shared_tree tree) twin m (map shared_invoked rest)) (after-shared n k) ∙ invoke_groups-shared (after tree item n k) rest (λ c i. all c (inr i)) in
+        ap₂ ◌++◌ own others ∙ sym (map-append (moved_group new_port) (groups_for tree item (is_static_invoke tree item k) n k) (invoke_groups tree item (after tree item n k) rest))
+
+    static_invokes-shared : (n : Next) (list : List Invoke) → ((k : Invoke) → In list k → IsInvoke k) → static_invokes (shared_tree tree) twin n (map shared_invoked list) ≡ map (shared_invoke (new_cell own_part)) (static_invokes tree item n list)
+    static_invokes-shared n [] all = refl
+    static_invokes-shared n (k ∷ rest) all =
+        let own = ap (λ static. static_for (shared_tree tree) twin static n (shared_invoked k)) (static-shared k) ∙ static_for-shared k (all k (inl refl)) (is_static_invoke tree item k) n in
+        let others = ap (λ m. static_invokes (shared_tree tree) twin m (map shared_invoked rest)) (after-shared n k) ∙ static_invokes-shared (after tree item n k) rest (λ c i. all c (inr i)) in
+        ap₂ ◌++◌ own others ∙ sym (map-append (shared_invoke (new_cell own_part)) (static_for tree item (is_static_invoke tree item k) n k) (static_invokes tree item (after tree item n k) rest))
 
     -- the invokes of a block are its shared invokes
     two_invoked : (xs ys us vs : List Invoke) → us ≡ map shared_invoked xs → vs ≡ map shared_invoked ys → us ++ vs ≡ map shared_invoked (xs ++ ys)
@@ -521,8 +600,15 @@ module _ (tree : PlainTree) (item : ast.PlainComponent) where
       all_invokes statements.NoStatements = refl
       all_invokes (statements.StatementThen (statements.Placed attributes form place) rest) = two_invoked (invokes_in form place) (invokes_all rest) _ _ (form_invokes form place) (all_invokes rest)
 
-    as_many : (list other : List Invoke) → other ≡ map shared_invoked list → length other ≡ length list
-    as_many list other e = ap (λ z. length z) e ∙ length-map list shared_invoked
+    block_past : (n : Next) (block : statements.PlainBlock) → past (shared_tree tree) twin n (invokes_of (named_block new_name block)) ≡ past tree item n (invokes_of block)
+    block_past n block = ap (past (shared_tree tree) twin n) (block_invokes block) ∙ past-shared n (invokes_of block)
+
+    form_past : (n : Next) (form : statements.PlainForm) (place : Place) → past (shared_tree tree) twin n (invokes_in (named_form new_name form) place) ≡ past tree item n (invokes_in form place)
+    form_past n form place = ap (past (shared_tree tree) twin n) (form_invokes form place) ∙ past-shared n (invokes_in form place)
+
+    invoke_form-shared : (static : Bool) (n : Next) → invoke_form (shared_tree tree) twin static n ≡ moved_form new_port (invoke_form tree item static n)
+    invoke_form-shared true n = refl
+    invoke_form-shared false n = refl
 
     -- CONTROL
     group_number-shared : (name : List ℕ) → group_number (shared_tree tree) twin name ≡ group_number tree item name
@@ -539,7 +625,7 @@ module _ (tree : PlainTree) (item : ast.PlainComponent) where
     of_block-shared false place (a_statement s (a_statement t rest)) = refl
 
     mutual
-      form-shared : (n : ℕ) (place : Place) (form : statements.PlainForm) → form_of (shared_tree tree) twin n place (named_form new_name form) ≡ moved_form new_port (form_of tree item n place form)
+      form-shared : (n : Next) (place : Place) (form : statements.PlainForm) → form_of (shared_tree tree) twin n place (named_form new_name form) ≡ moved_form new_port (form_of tree item n place form)
       form-shared n place (statements.Enable group marks) = ap plain.Enable (group_number-shared group)
       form-shared n place (statements.Seq marks block) = ap plain.Seq (parts-shared n block)
       form-shared n place (statements.Par marks block) = ap plain.Par (parts-shared n block)
@@ -547,67 +633,76 @@ module _ (tree : PlainTree) (item : ast.PlainComponent) where
       form-shared n place (statements.StaticPar length marks block) = ap (plain.StaticPar length) (parts-shared n block)
       form-shared n place (statements.If test comb block otherwise) =
           if_is (placed-shared test) (comb-shared comb) (block-shared false n block)
-          (ap (λ m. else_of (shared_tree tree) twin false (n + m) place (named_else new_name otherwise)) (as_many (invokes_of block) _ (block_invokes block)) ∙ else-shared false (n + length (invokes_of block)) place otherwise)
+          (ap (λ m. else_of (shared_tree tree) twin false m place (named_else new_name otherwise)) (block_past n block) ∙ else-shared false (past tree item n (invokes_of block)) place otherwise)
       form-shared n place (statements.StaticIf written test block otherwise) =
           static_if_is written (placed-shared test) (block-shared true n block)
-          (ap (λ m. else_of (shared_tree tree) twin true (n + m) place (named_else new_name otherwise)) (as_many (invokes_of block) _ (block_invokes block)) ∙ else-shared true (n + length (invokes_of block)) place otherwise)
+          (ap (λ m. else_of (shared_tree tree) twin true m place (named_else new_name otherwise)) (block_past n block) ∙ else-shared true (past tree item n (invokes_of block)) place otherwise)
       form-shared n place (statements.While test comb body) = while_is (placed-shared test) (comb-shared comb) (block-shared false n body)
       form-shared n place (statements.Repeat count body) = ap (plain.Repeat count) (block-shared false n body)
       form-shared n place (statements.StaticRepeat length count body) = ap (plain.StaticRepeat length count) (block-shared true n body)
-      form-shared n place (statements.Invoke cell inputs outputs) = refl
+      form-shared n place (statements.Invoke cell inputs outputs) =
+          let k : Invoke = record { cell = cell; written = false; length = None; inputs = inputs; outputs = outputs; place = place } in
+          ap (λ static. invoke_form (shared_tree tree) twin static n) (static-shared k) ∙ invoke_form-shared (is_static_invoke tree item k) n
       form-shared n place (statements.StaticInvoke length cell inputs outputs) = refl
 
-      else-shared : (static : Bool) (n : ℕ) (place : Place) (otherwise : statements.PlainElse) → else_of (shared_tree tree) twin static n place (named_else new_name otherwise) ≡ moved_statement new_port (else_of tree item static n place otherwise)
+      else-shared : (static : Bool) (n : Next) (place : Place) (otherwise : statements.PlainElse) → else_of (shared_tree tree) twin static n place (named_else new_name otherwise) ≡ moved_statement new_port (else_of tree item static n place otherwise)
       else-shared static n place statements.NoElse = refl
       else-shared static n place (statements.Else block) = block-shared static n block
 
-      block-shared : (static : Bool) (n : ℕ) (block : statements.PlainBlock) → block_of (shared_tree tree) twin static n (named_block new_name block) ≡ moved_statement new_port (block_of tree item static n block)
+      block-shared : (static : Bool) (n : Next) (block : statements.PlainBlock) → block_of (shared_tree tree) twin static n (named_block new_name block) ≡ moved_statement new_port (block_of tree item static n block)
       block-shared static n (statements.Braces list place) = ap (of_block (shared_tree tree) twin static place) (all-shared n list) ∙ of_block-shared static place (all_of tree item n list)
 
-      parts-shared : (n : ℕ) (block : statements.PlainBlock) → parts_of (shared_tree tree) twin n (named_block new_name block) ≡ moved_statements new_port (parts_of tree item n block)
+      parts-shared : (n : Next) (block : statements.PlainBlock) → parts_of (shared_tree tree) twin n (named_block new_name block) ≡ moved_statements new_port (parts_of tree item n block)
       parts-shared n (statements.Braces list place) = all-shared n list
 
-      all-shared : (n : ℕ) (list : statements.PlainStatements) → all_of (shared_tree tree) twin n (named_statements new_name list) ≡ moved_statements new_port (all_of tree item n list)
+      all-shared : (n : Next) (list : statements.PlainStatements) → all_of (shared_tree tree) twin n (named_statements new_name list) ≡ moved_statements new_port (all_of tree item n list)
       all-shared n statements.NoStatements = refl
       all-shared n (statements.StatementThen (statements.Placed attributes form place) rest) =
           ap₂ a_statement (ap (λ f. Placed f place) (form-shared n place form))
-          (ap (λ m. all_of (shared_tree tree) twin (n + m) (named_statements new_name rest)) (as_many (invokes_in form place) _ (form_invokes form place)) ∙ all-shared (n + length (invokes_in form place)) rest)
+          (ap (λ m. all_of (shared_tree tree) twin m (named_statements new_name rest)) (form_past n form place) ∙ all-shared (past tree item n (invokes_in form place)) rest)
 
     control_invokes-shared : (o : Option statements.PlainBlock) → control_invokes (shared_tree tree) twin (option_map (named_block new_name) o) ≡ map shared_invoked (control_invokes tree item o)
     control_invokes-shared None = refl
     control_invokes-shared (Some block) = block_invokes block
 
+    first-shared : first (shared_tree tree) twin ≡ first tree item
+    first-shared = ap (λ (names : List (List ℕ)). record { group = length names; invoke = 0 }) group_names-shared
+
     control-shared : (o : Option statements.PlainBlock) → control_of (shared_tree tree) twin (option_map (named_block new_name) o) ≡ moved_statement new_port (control_of tree item o)
     control-shared None = refl
-    control-shared (Some block) = ap (λ names. block_of (shared_tree tree) twin false (length names) (named_block new_name block)) group_names-shared ∙ block-shared false (length (group_names item)) block
+    control-shared (Some block) = ap (λ n. block_of (shared_tree tree) twin false n (named_block new_name block)) first-shared ∙ block-shared false (first tree item) block
 
     all_groups-shared : ((k : Invoke) → In (control_invokes tree item item.control) k → IsInvoke k) → (component_of (shared_tree tree) twin).groups ≡ map (moved_group new_port) own_part.groups
     all_groups-shared all =
         ap₂ ◌++◌ (ap (map (group_of (shared_tree tree) twin)) (groups-shared item.wires) ∙ list-shared (groups_in item.wires))
-        (ap₂ (λ (names : List (List ℕ)) list. invoke_groups (shared_tree tree) twin (length names) list) group_names-shared (control_invokes-shared item.control)
-        ∙ invoke_groups-shared (length (group_names item)) (control_invokes tree item item.control) all)
-        ∙ sym (map-append (moved_group new_port) (map (group_of tree item) (groups_in item.wires)) (invoke_groups tree item (length (group_names item)) (control_invokes tree item item.control)))
+        (ap₂ (invoke_groups (shared_tree tree) twin) first-shared (control_invokes-shared item.control)
+        ∙ invoke_groups-shared (first tree item) (control_invokes tree item item.control) all)
+        ∙ sym (map-append (moved_group new_port) (map (group_of tree item) (groups_in item.wires)) (invoke_groups tree item (first tree item) (control_invokes tree item item.control)))
 
     all_always-shared : (component_of (shared_tree tree) twin).always ≡ map (moved_assign new_port) own_part.always
     all_always-shared = ap (map (assign_of (shared_tree tree) twin)) (always-shared item.wires) ∙ assigns-shared (always_in item.wires)
 
-    abbrev made : List PlainCell → List PlainGroup → List PlainAssign → PlainStatement → PlainComponent
-    made cells groups always control = record {
+    all_invokes-shared : ((k : Invoke) → In (control_invokes tree item item.control) k → IsInvoke k) → (component_of (shared_tree tree) twin).invokes ≡ map (shared_invoke (new_cell own_part)) own_part.invokes
+    all_invokes-shared all =
+        ap₂ (static_invokes (shared_tree tree) twin) first-shared (control_invokes-shared item.control) ∙ static_invokes-shared (first tree item) (control_invokes tree item item.control) all
+
+    abbrev made : List PlainCell → List PlainGroup → List PlainInvoke → List PlainAssign → PlainStatement → PlainComponent
+    made cells groups invokes always control = record {
       name = item.name;
-      latency = None;
+      latency = item.length;
       inputs = own_part.inputs;
       outputs = own_part.outputs;
       cells = cells;
       groups = groups;
-      invokes = [];
+      invokes = invokes;
       always = always;
       control = control;
       place = item.place;
     }
 
-    made_is : {a b : List PlainCell} {c d : List PlainGroup} {e f : List PlainAssign} {s t : PlainStatement} → a ≡ b → c ≡ d → e ≡ f → s ≡ t → made a c e s ≡ made b d f t
-    made_is a b c d = ap₂ (λ f x. f x) (ap₂ (λ f x. f x) (ap₂ made a b) c) d
+    made_is : {a b : List PlainCell} {c d : List PlainGroup} {u v : List PlainInvoke} {e f : List PlainAssign} {s t : PlainStatement} → a ≡ b → c ≡ d → u ≡ v → e ≡ f → s ≡ t → made a c u e s ≡ made b d v f t
+    made_is a b c d e = ap₂ (λ f x. f x) (ap₂ (λ f x. f x) (ap₂ (λ f x. f x) (ap₂ made a b) c) d) e
 
     -- THE COMPONENT of the shared tree
     pub component-shared : ((k : Invoke) → In (control_invokes tree item item.control) k → IsInvoke k) → component_of (shared_tree tree) twin ≡ shared_part own_part
-    component-shared all = made_is (cells-shared 0 item.cells) (all_groups-shared all) all_always-shared (control-shared item.control)
+    component-shared all = made_is (cells-shared 0 item.cells) (all_groups-shared all) (all_invokes-shared all) all_always-shared (control-shared item.control)

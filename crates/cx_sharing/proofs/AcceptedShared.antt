@@ -6,7 +6,7 @@ use Rattle.cx_text.specs.declared.places.Place.{Place}
 use Rattle.cx_text.specs.declared.rules.Rule.{Rule}
 use Rattle.cx_text.specs.declared.rules.Rule.TheVariants as rules
 use Rattle.cx_text.specs.declared.limits.TheConstants.{CELLS, GROUPS, INSTANCES, INSTANCE_DEPTH, MEMORY_WORDS, WEIGHT}
-use Rattle.cx_meaning.specs.Designs.{PlainAssign, PlainGroup, PlainComponent, PlainDesign, component_at, group_at, no_group}
+use Rattle.cx_meaning.specs.Designs.{PlainAssign, PlainGroup, PlainComponent, PlainStatement, PlainDesign, component_at, group_at, no_group}
 use Rattle.cx_meaning.specs.Instances.{part_of, tree_of}
 use Rattle.cx_meaning.specs.Active.{Owned, owned, owned_by_groups, by_place, source_order}
 use Rattle.cx_meaning.specs.Sights.{In}
@@ -17,15 +17,21 @@ use Rattle.cx_rules.specs.Ports.{component_of, is_source_only}
 use Rattle.cx_rules.specs.Items.{Visited, statements_in}
 use Rattle.cx_rules.specs.Spots.{AnAssign, Spot, AssignRule, StatementRule, GroupRule, OnAssign, OnStatement, OnGroup}
 use Rattle.cx_rules.specs.WidthRules.{BreaksWidth, BreaksGuardWidth, TestBreaksGuardWidth, BreaksLiteral, TestBreaksLiteral, BreaksNotATarget, BreaksNotASource, TestBreaksNotASource}
-use Rattle.cx_rules.specs.ShapeRules.{BreaksNoDone, BreaksDoneNotState, BreaksAlwaysEnable, BreaksCombEnable, BreaksStaticGuard, GroupBreaksStaticShape, BreaksStaticControl, BreaksLength, BreaksStaticTest, BreaksOutputNotState}
+use Rattle.cx_rules.specs.ShapeRules.{BreaksNoDone, BreaksDoneNotState, BreaksAlwaysEnable, BreaksCombEnable, BreaksStaticGuard, GroupBreaksStaticShape, BreaksStaticControl, BreaksStaticTest, BreaksOutputNotState}
 use Rattle.cx_rules.specs.CallShape.{BreaksCallShape, GroupBreaksCallShape}
-use Rattle.cx_rules.specs.RaceRule.{arms_of, IsShared, BreaksCombCycle, GroupBreaksCombCycle, BreaksRace}
-use Rattle.cx_rules.specs.LimitRule.{Limited, OnCells, OnGroups, OnInstances, OnDepth, OnWords, OnWeight, BreaksStatement, BreaksPart, BreaksTree}
+use Rattle.cx_rules.specs.RaceRule.{arms_of, BreaksCombCycle, GroupBreaksCombCycle}
+use Rattle.cx_rules.specs.LimitRule.{Limited, OnCells, OnGroups, OnInstances, OnDepth, OnWords, OnWeight, BreaksPart, BreaksTree}
 use Rattle.cx_rules.specs.Sizes.{weight_of, instances_below, depth_below, words_below}
-use Rattle.cx_rules.specs.Accepted.{Breaks, KeepsStage, IsAccepted}
 use Rattle.cx_frames.proofs.ShareLemmas.{unshared}
 use Rattle.cx_rewrites.specs.Moving.{moved_owned}
-use Rattle.cx_sharing.specs.SharedDesign.{shared_design}
+use Rattle.cx_rules.specs.Accepted as whole
+use Rattle.cx_rules.specs.RaceRule as whole_race
+use Rattle.cx_rules.specs.Flat.{IsFlatPart, IsFlat}
+use Rattle.cx_rules.proofs.CountsLemmas.{flat_part}
+use Rattle.cx_rules.proofs.InvokesLemmas.{drives_more, reads_more}
+use Rattle.cx_rewrites.proofs.FlatRulesLemmas.{accepted_whole}
+use Rattle.cx_sharing.specs.Giving.{new_cell}
+use Rattle.cx_sharing.specs.SharedDesign.{shared_invoke, shared_design}
 use Rattle.cx_sharing.proofs.TwinLemmas.{shared_component}
 use Rattle.cx_rewrites.proofs.MovedLists.{moved_visited}
 use Rattle.cx_sharing.proofs.SharedParts.{Shares, new_port, as_many_parts, component-shares, source_order-shared, statements_in-shared}
@@ -39,6 +45,7 @@ use Rattle.cx_sharing.proofs.RulesShared.{at_map}
 use Rattle.cx_sharing.proofs.CallsShared.{call_shape_back, group_call_back}
 use Rattle.cx_sharing.proofs.SharedMain.{fewer_cells}
 use Rattle.cx_sharing.proofs.LimitsShared.{instances_kept, depth_kept, words_kept, weight_less}
+use Rattle.cx_rewrites.specs.FlatRules.{BreaksLength, IsShared, BreaksRace, BreaksStatement, Breaks, KeepsStage, IsAccepted}
 
 -- an assignment of a group stands in source order
 sorted_has : (list : List Owned) (o : Owned) → In list o → In (by_place list) o
@@ -184,7 +191,11 @@ module _ (d : PlainDesign) (accepted : IsAccepted d) where
 
   none_shared : (k : ℕ) → k < length d.components → (v : Visited) → In (statements_in (part_of (component_of d k))) v → (c : ℕ) → IsShared (part_of (component_of d k)) (arms_of v.form) c → ⊥
   none_shared k w v i c shared =
-      unshared d accepted k w v (subst (λ part. In (statements_in part) v) (same_part d (length d.components) k) i) c (subst (λ part. IsShared part (arms_of v.form) c) (same_part d (length d.components) k) shared)
+      unshared d accepted.accepted k w v (subst (λ part. In (statements_in part) v) (same_part d (length d.components) k) i) c
+      (more (component_at d k) (arms_of v.form) c (subst (λ part. IsShared part (arms_of v.form) c) (same_part d (length d.components) k) shared))
+    where
+      more : (part : PlainComponent) (arms : List PlainStatement) (c : ℕ) → IsShared part arms c → whole_race.IsShared part arms c
+      more part arms c (two, drives, reads) = (two, drives_more part two.first c drives, reads_more part two.second c reads)
 
   race_back_at : (spot : Spot) (place : Place) (name : List ℕ) → OnStatement BreaksRace (shared_design d) spot place name → Broken d rules.Race spot
   race_back_at spot place name b =
@@ -231,11 +242,11 @@ module _ (d : PlainDesign) (accepted : IsAccepted d) where
   keeps_stage : (stage : ℕ) → KeepsStage stage d → KeepsStage stage (shared_design d)
   keeps_stage stage keeps rule spot place name is b = let r = breaks_back rule spot place name b in keeps rule spot r.0 r.1 is r.2
 
-  pub shared_accepted : IsAccepted (shared_design d)
-  shared_accepted = record {
-    widths = keeps_stage 3 accepted.widths;
-    shapes = keeps_stage 4 accepted.shapes;
-    no_cycles = keeps_stage 5 accepted.no_cycles;
-    no_races = keeps_stage 6 accepted.no_races;
-    limits = keeps_stage 7 accepted.limits;
-  }
+  shared_flat : IsFlat (shared_design d)
+  shared_flat k within =
+      let own = flat_part d accepted.flat k in
+      subst IsFlatPart (sym (shared_component d k)) (record { dynamic = own.dynamic; no_invoke = ap (map (shared_invoke (new_cell (component_at d k)))) own.no_invoke })
+
+  pub shared_accepted : whole.IsAccepted (shared_design d)
+  shared_accepted =
+      accepted_whole (shared_design d) shared_flat (keeps_stage 3 accepted.widths) (keeps_stage 4 accepted.shapes) (keeps_stage 5 accepted.no_cycles) (keeps_stage 6 accepted.no_races) (keeps_stage 7 accepted.limits)

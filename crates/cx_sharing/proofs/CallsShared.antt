@@ -344,10 +344,11 @@ module _ (i j : Instance) (shares : Shares i j) where
     pub cell : ℕ
     pub number : new cell ≡ e
     pub at : PartAt i j cell twin
+    pub dynamic : (part_of twin).latency ≡ None
     pub driven : some_target (is_port_of cell) (assigns_of i g) ≡ true
 
   abbrev old_calls : (g e : ℕ) (twin : Instance) (b : CallBack g e twin) → Calls i (assigns_of i g) b.cell
-  old_calls g e twin b = record { child = b.at.child; is_component = b.at.there; driven = b.driven }
+  old_calls g e twin b = record { child = b.at.child; is_component = b.at.there; dynamic = sym (ap (λ (part : PlainComponent). part.latency) b.at.part) ∙ b.dynamic; driven = b.driven }
 
   some_back : (test : PortRef → Bool) (list : List PlainAssign) → some_target test list ≡ true → (a : PlainAssign) × In list a × (test a.target ≡ true)
   some_back test [] e = absurd (cc)
@@ -380,6 +381,7 @@ module _ (i j : Instance) (shares : Shares i j) where
         cell = t.own;
         number = t.number;
         at = at;
+        dynamic = calls.dynamic;
         driven = some_there (is_port_of t.own) (assigns_of i g) x.0 x.1 (ap (is_port_of t.own) t.is ∙ eq-eqb t.own t.own refl);
       }
 

@@ -13,7 +13,7 @@ use Rattle.cx_meaning.specs.Sights.{In}
 use Rattle.cx_meaning.proofs.InstancesLemmas.{just_same}
 use Rattle.cx_rules.specs.Items.{Visited, statements_in, tests_of}
 use Rattle.cx_rules.specs.Footprints.{AssignNames, Reads, driven, named, tested, through}
-use Rattle.cx_rules.specs.RaceRule.{Arms, arms_of, enabled_in, IsShared, IsEnabledTwice, BreaksRace}
+use Rattle.cx_rules.specs.RaceRule.{Arms, arms_of, enabled_in, IsEnabledTwice}
 use Rattle.cx_rules.proofs.ForeignLemmas.{assigns_drive_in}
 use Rattle.cx_rewrites.specs.Moving.{moved_port, moved_assign, moved_form, moved_statement}
 use Rattle.cx_rewrites.proofs.ReflectLemmas.{names_back}
@@ -28,6 +28,7 @@ use Rattle.cx_rewrites.proofs.MovedLists.{moved_visited}
 use Rattle.cx_sharing.proofs.SharedParts.{Shares, new_port, own_assigns, own_always}
 use Rattle.cx_sharing.proofs.RulesShared.{in_map, at_map, ByStatement}
 use Rattle.cx_sharing.proofs.RestsShared.{stands_for, driver_in, always_apart}
+use Rattle.cx_rewrites.specs.FlatRules.{IsShared, BreaksRace}
 
 -- WHAT A STATEMENT DRIVES AND READS it uses, but for what it reads through continuous assignments
 drives_used : (list : List PlainAssign) (c : ℕ) → assigns_drive list c ≡ true → assigns_use list c ≡ true

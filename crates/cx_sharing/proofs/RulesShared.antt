@@ -14,9 +14,9 @@ use Rattle.cx_rules.specs.Ports.{width_of, is_target_only, is_primitive_enable, 
 use Rattle.cx_rules.specs.Items.{Pair, atoms_of, sources_of, Visited, test_in, is_plain, is_comb}
 use Rattle.cx_rules.specs.Spots.{AssignRule, StatementRule, GroupRule}
 use Rattle.cx_rules.specs.WidthRules.{differ, pairs_of, first_unequal, BreaksWidth, is_wide, first_wide, BreaksGuardWidth, TestBreaksGuardWidth, IsBadLiteral, BreaksLiteral, TestBreaksLiteral, BreaksNotATarget, BreaksNotASource, TestBreaksNotASource}
-use Rattle.cx_rules.specs.ShapeRules.{is_hole, is_hole_of, some_target, BreaksNoDone, BreaksAlwaysEnable, BreaksCombEnable, owner_length, is_bad_range, BreaksStaticGuard, GroupBreaksStaticShape, BreaksStaticControl, BreaksLength}
+use Rattle.cx_rules.specs.ShapeRules.{is_hole, is_hole_of, some_target, BreaksNoDone, BreaksAlwaysEnable, BreaksCombEnable, owner_length, is_bad_range, BreaksStaticGuard, GroupBreaksStaticShape, BreaksStaticControl}
 use Rattle.cx_rules.specs.StaticControl.{written_length, is_island, form_occurrences}
-use Rattle.cx_rules.specs.LimitRule.{Limited, OnRepeat, OnOccurrences, OnLatency, is_too_many, count_in, statement_limit, BreaksStatement}
+use Rattle.cx_rules.specs.LimitRule.{Limited, OnRepeat, OnOccurrences, OnLatency, is_too_many, count_in}
 use Rattle.cx_text.specs.declared.limits.TheConstants.{OCCURRENCES, REPETITIONS}
 use Rattle.cx_rewrites.specs.Moving.{moved_port, moved_assign, moved_owned, moved_form}
 use Rattle.cx_rewrites.specs.Renaming.{renamed}
@@ -24,7 +24,8 @@ use Rattle.cx_rewrites.proofs.IslandLemmas.{form_length-moved}
 use Rattle.cx_sharing.specs.Giving.{new_cell}
 use Rattle.cx_rewrites.proofs.MovedLists as lists
 use Rattle.cx_rewrites.proofs.MovedLists.{moved_pair, moved_visited}
-use Rattle.cx_sharing.proofs.SharedParts.{Shares, new_port, width_of-shared, written_width-shared, is_source_only-shared, is_target_only-shared, is_primitive_enable-shared, is_part_port-shared, group_at-shared, group_length-shared}
+use Rattle.cx_sharing.proofs.SharedParts.{Shares, new_port, width_of-shared, written_width-shared, is_source_only-shared, is_target_only-shared, is_primitive_enable-shared, is_part_port-shared, group_at-shared, group_length-shared, words-shared}
+use Rattle.cx_rewrites.specs.FlatRules.{BreaksLength, statement_limit, BreaksStatement}
 
 -- a break of a rule, whatever is told
 abbrev pub ByAssign : AssignRule → Instance → Owned → Type 0
@@ -195,7 +196,7 @@ module _ (i j : Instance) (shares : Shares i j) where
 
     pub static_control_back : (place : Place) (name : List ℕ) → BreaksStaticControl j (moved_visited move v) place name → ByStatement BreaksStaticControl i v
     static_control_back place name (inside, bad, told) =
-        (_, _, (inside, sym (lists.may_stand-moved move (part_of i) (part_of j) (group_length-shared shares) v.context v.form) ∙ bad, (refl, refl)))
+        (_, _, (inside, sym (lists.may_stand-moved move (part_of i) (part_of j) (group_length-shared shares) (words-shared shares) v.context v.form) ∙ bad, (refl, refl)))
 
     length_is : form_length (part_of j) (moved_form move v.form) ≡ form_length (part_of i) v.form
     length_is = form_length-moved move (part_of i) (part_of j) (group_length-shared shares) v.form
@@ -204,7 +205,7 @@ module _ (i j : Instance) (shares : Shares i j) where
     length_back place name (static, has, bad, told) = (
       _,
       _,
-      (sym (lists.is_static-moved move v.form) ∙ static, sym (lists.form_has_length-moved move (part_of i) (part_of j) (group_length-shared shares) v.context v.form) ∙ has, one bad, (refl, refl)),
+      (sym (lists.is_static-moved move v.form) ∙ static, sym (lists.form_has_length-moved move (part_of i) (part_of j) (group_length-shared shares) (words-shared shares) v.context v.form) ∙ has, one bad, (refl, refl)),
     )
       where
         one : ((n : ℕ) × (written_length (moved_form move v.form) ≡ Some n) × (n ≢ form_length (part_of j) (moved_form move v.form))) ⊎ (form_length (part_of j) (moved_form move v.form) ≡ 0)

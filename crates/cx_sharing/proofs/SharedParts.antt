@@ -1,12 +1,12 @@
 -- Instances of a design beside those of the shared design: the parts are shared, and at each cell's new number stands what stands at the cell.
-use Rattle.std.proofs.Common.{◌≡◌, ℕ, zero, suc, ◌<◌, ◌≤◌, ⊎_elim, Bool, true, false, List, [], ◌∷◌, length, map, refl, sym, ap, ◌∙◌, subst, arith}
+use Rattle.std.proofs.Common.{◌≡◌, ℕ, zero, suc, ◌<◌, ◌≤◌, ⊎_elim, Bool, true, false, List, [], ◌∷◌, length, map, Option, Some, slice_get, refl, sym, ap, ◌∙◌, subst, arith}
 use Rattle.std.specs.Prelude.{not, if◌then◌else◌}
 use Rattle.std.proofs.lemmas.Bool.{cases_lt}
 use Rattle.std.proofs.lemmas.List.{length-map}
 use Rattle.cx_prim.specs.Table.{PrimitiveRow, row_of}
 use Rattle.cx_meaning.specs.declared.ports.PortRef.{PortRef}
 use Rattle.cx_meaning.specs.declared.ports.PortRef.TheVariants as ports
-use Rattle.cx_meaning.specs.Designs.{PlainKind, OfPrimitive, OfComponent, PlainCell, PlainGroup, PlainComponent, PlainDesign, component_at, group_at}
+use Rattle.cx_meaning.specs.Designs.{PlainKind, OfPrimitive, OfComponent, PlainCell, PlainInvoke, PlainGroup, PlainComponent, PlainDesign, component_at, group_at}
 use Rattle.cx_meaning.specs.Instances.{Instance, At, Nothing, OfRow, OfInstance, cell_at, cell_count, cells_of, part_of, cells_for, tree_within}
 use Rattle.cx_meaning.specs.Active.{Owned, no_later, placed_in, by_place, source_order}
 use Rattle.cx_meaning.specs.Sights.{part_port}
@@ -21,7 +21,8 @@ use Rattle.cx_rewrites.specs.Driving.{assigns_of}
 use Rattle.cx_rewrites.proofs.DriverLemmas.{assigns_of-moved}
 use Rattle.cx_sharing.specs.Uses.{kind_in}
 use Rattle.cx_sharing.specs.Giving.{keeper, stays, staying, new_cell}
-use Rattle.cx_sharing.specs.SharedDesign.{remaining, shared_part, shared_design}
+use Rattle.cx_sharing.specs.SharedDesign.{remaining, shared_invoke, shared_part, shared_design}
+use Rattle.cx_rules.specs.StaticControl.{is_written, is_timed}
 use Rattle.cx_sharing.proofs.KeptLemmas.{keeper_stays}
 use Rattle.cx_sharing.proofs.KeeperLemmas.{keeper_kind, keeper_within, keeper_past}
 use Rattle.cx_sharing.proofs.RemainingLemmas.{kind_left, length_left, staying_within, staying_past, at_kind, cell_is, none_past}
@@ -197,6 +198,18 @@ module _ {i j : Instance} (shares : Shares i j) where
   -- GROUPS
   pub group_at-shared : (g : ℕ) → group_at (part_of j) g ≡ moved_group new_port (group_at (part_of i) g)
   group_at-shared g = ap (λ (x : PlainComponent). group_at x g) shares.part ∙ moved_group_at new_port (part_of i).groups g
+
+  -- where the word static stands at static invokes
+  pub words-shared : (k : ℕ) → (is_written (slice_get (part_of j).invokes k) ≡ is_written (slice_get (part_of i).invokes k)) × (is_timed (slice_get (part_of j).invokes k) ≡ is_timed (slice_get (part_of i).invokes k))
+  words-shared k = (both is_written (λ v. refl), both is_timed (λ v. refl))
+    where
+      alike : {A : Type 0} (f : Option PlainInvoke → A) → ((v : PlainInvoke) → f (Some (shared_invoke (new_cell (part_of i)) v)) ≡ f (Some v)) → (vs : List PlainInvoke) (n : ℕ) → f (slice_get (map (shared_invoke (new_cell (part_of i))) vs) n) ≡ f (slice_get vs n)
+      alike f each [] n = refl
+      alike f each (v ∷ vs) zero = each v
+      alike f each (v ∷ vs) (suc n) = alike f each vs n
+
+      both : {A : Type 0} (f : Option PlainInvoke → A) → ((v : PlainInvoke) → f (Some (shared_invoke (new_cell (part_of i)) v)) ≡ f (Some v)) → f (slice_get (part_of j).invokes k) ≡ f (slice_get (part_of i).invokes k)
+      both f each = ap (λ (x : PlainComponent). f (slice_get x.invokes k)) shares.part ∙ alike f each (part_of i).invokes k
 
   pub group_length-shared : (g : ℕ) → group_length (part_of j) g ≡ group_length (part_of i) g
   group_length-shared g = ap (λ (x : PlainGroup). kind_length x.kind) (group_at-shared g)

@@ -13,6 +13,8 @@ use Rattle.cx_rules.specs.LimitRule.{OnInstances, order_of, word_of}
 use Rattle.cx_rules.specs.Spots.{Whole}
 use Rattle.cx_rules.specs.Ports.{component_of}
 use Rattle.cx_rules.specs.Sizes.{instances_below, instances_in}
+use Rattle.cx_rules.specs.Flat.{IsFlat}
+use Rattle.cx_rules.proofs.CountsLemmas.{counted_instances-flat}
 use Rattle.cx_design_sizes.specs.Capped.{capped}
 use Rattle.cx_design_sizes.specs.declared.tallies.LimitTally.{LimitTally}
 use Rattle.cx_design_sizes.specs.Orders.{IsChildrenFirst}
@@ -402,13 +404,13 @@ front_all [] ys (suc n) e = absurd (omega arith)
 front_all (x ∷ xs) ys zero e = absurd (omega arith)
 front_all (x ∷ xs) ys (suc n) e = ap (λ zs. x ∷ zs) (front_all xs ys n (let f : suc (length xs) ≡ suc n = e in omega arith))
 
-pub few_instances : (d : PlainDesign) → KeepsStage 7 d → instances_below (tree_of d) ≤ 4096
-few_instances d keeps = ⊎_elim (λ lt. absurd (broken lt)) (λ le. le) (cases_lt 4096 (instances_below (tree_of d)))
+pub few_instances : (d : PlainDesign) → IsFlat d → KeepsStage 7 d → instances_below (tree_of d) ≤ 4096
+few_instances d flat keeps = ⊎_elim (λ lt. absurd (broken lt)) (λ le. le) (cases_lt 4096 (instances_below (tree_of d)))
   where
     broken : 4096 < instances_below (tree_of d) → ⊥
     broken lt =
         keeps Limit (record { component = d.main; part = Whole (order_of OnInstances) }) (component_at d d.main).place (word_of OnInstances) refl
-        (inr (inr (inr (inl (record { at_main = refl; is = refl; exceeds = lt; tells = (refl, refl) })))))
+        (inr (inr (inr (inl (record { at_main = refl; is = refl; exceeds = subst (λ n. 4096 < n) (sym (counted_instances-flat d flat (length d.components) d.main)) lt; tells = (refl, refl) })))))
 
 pub main_count : (d : PlainDesign) (order : List ℕ) (tallies : List LimitTally) (none : LimitTally) → IsChildrenFirst d order → AreTallied d (length order) tallies order → d.main < length tallies → instances_below (tree_of d) ≤ 4096
     → (get_or tallies d.main none).instances ≡ instances_below (tree_of d)

@@ -3,6 +3,7 @@
 ghost use Rattle.std.specs.Prelude.{◌≡◌, ◌<◌, IfOk, length, map};
 ghost use Rattle.cx_text.specs.Loading.{plain_loaded, FitsRows};
 ghost use Rattle.cx_rules.specs.Externals.{external_rows};
+ghost use Rattle.cx_rules.specs.Flat.{IsFlat};
 ghost use Rattle.cx_meaning.specs.Instances as meaning;
 ghost use Rattle.cx_meaning.specs.Instances.{tree_of};
 ghost use Rattle.cx_design.specs.PlainDesigns.{plain_design};
@@ -32,6 +33,7 @@ impl State {
     /// The state before the first cycle: every cell at the start of its row, but the external memories with the loaded
     /// words. Every input of an instance is held as undefined.
     pub fn start(alloc: Global, design: &Checked, loaded: &Loaded) -> Result<State, Memory>
+        requires flat { IsFlat (plain_design design.now) }
         requires fits { FitsRows (external_rows (plain_design design.now)) (plain_loaded loaded.now) }
         ensures fits { IfOk result (λ state. IsStateOf (plain_design design.now) (plain_state state)) }
         ensures value { IfOk result (λ state. StandsFor (tree_of (plain_design design.now)) (plain_state state) (meaning.start (tree_of (plain_design design.now)) (words_in loaded.now.memories.items))) }

@@ -4,6 +4,7 @@ ghost use Rattle.std.specs.Prelude.{◌≡◌, ℕ, ◌+◌, ◌^◌, ◌<◌, �
 ghost use Rattle.cx_meaning.specs.Designs.{OfComponent};
 ghost use Rattle.cx_meaning.specs.Instances.{tree_of};
 ghost use Rattle.cx_rules.specs.Sizes.{instances_below};
+ghost use Rattle.cx_rules.specs.Flat.{IsFlat};
 ghost use Rattle.cx_design.specs.PlainForms.{plain_cell, plain_kind};
 ghost use Rattle.cx_design.specs.PlainDesigns.{plain_design};
 ghost use Rattle.cx_design_sizes.specs.Orders.{IsChildrenFirst};
@@ -128,8 +129,9 @@ fn table(
     Ok(InstanceTable { rows, children })
 }
 
-/// The table of the instance tree of an accepted design.
+/// The table of the instance tree of an accepted design without static components.
 pub fn instances(alloc: Global, design: &Checked) -> Result<InstanceTable, Memory>
+    requires flat { IsFlat (plain_design design.now) }
     ensures value { IfOk result (λ table. IsTable (plain_design design.now) table.rows.items table.children.items) }
 {
     let design = design.design();

@@ -60,7 +60,7 @@ module _ (d : PlainDesign) (accepted : IsAccepted d) (design : IsDesign d) (rows
     literal port e w x is bad =
         let f = number_in (statements_in (component_at d k)) v in_part in
         accepted.widths Literal (record { component = k; part = AStatement f.0 }) port.place [] refl
-        (inr (record { within = within; number = f.0; is = refl; statement = v; stands = f.1; breaks = (port, e, (w, x, is, bad), (refl, refl)) }))
+        (inr (inl (record { within = within; number = f.0; is = refl; statement = v; stands = f.1; breaks = (port, e, (w, x, is, bad), (refl, refl)) })))
 
     pub is_port : (port : PlacedPort) → test_in v.form ≡ Some port → IsThere (instance_at (tree_of d) path) port.port × IsKept port.port
     is_port port e = (there port e design, kept_literal port.port (literal port e))

@@ -7,6 +7,7 @@ use Rattle.cx_meaning.specs.Sights.{In}
 use Rattle.cx_rules.specs.Accepted.{IsAccepted}
 use Rattle.cx_rules.specs.Wellformed.{IsDesign}
 use Rattle.cx_rules.specs.Items.{Visited, Dynamic, visit, visit_all, statements_in}
+use Rattle.cx_rules.specs.Flat.{IsFlat}
 use Rattle.cx_design.specs.PlainDesigns.{plain_design}
 use Rattle.cx_state.specs.Tables.{IsNumber, IsTable}
 use Rattle.cx_state.specs.States.{PlainInstance, plain_state, IsStateOf}
@@ -21,8 +22,9 @@ design_of plan = plain_design plan.design.now
 abbrev pub rows_of : Machine → List PlainInstance
 rows_of machine = plain_state machine.sight.state
 
--- a plan of an accepted design, whose instances have numbers of 32 bits
+-- a plan of an accepted design without static components, whose instances have numbers of 32 bits
 pub record IsPlan (plan : Plan) : Type 0 where
+  pub flat : IsFlat (design_of plan)
   pub accepted : IsAccepted (design_of plan)
   pub design : IsDesign (design_of plan)
   pub table : IsTable (design_of plan) plan.table.rows.items plan.table.children.items

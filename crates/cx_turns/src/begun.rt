@@ -4,6 +4,7 @@ ghost use Rattle.std.specs.Prelude.{IfOk};
 ghost use Rattle.cx_meaning.specs.Instances.{start};
 ghost use Rattle.cx_text.specs.Loading.{plain_loaded, FitsRows};
 ghost use Rattle.cx_rules.specs.Externals.{external_rows};
+ghost use Rattle.cx_rules.specs.Flat.{IsFlat};
 ghost use Rattle.cx_design.specs.PlainDesigns.{plain_design};
 ghost use Rattle.cx_state.specs.States.{words_in};
 ghost use Rattle.cx_turns.specs.Starts.{IsReady};
@@ -28,6 +29,7 @@ pub struct Begun<'a> {
 impl<'a> Begun<'a> {
     /// A design with the words of its external memories.
     pub fn new(alloc: Global, design: &'a Checked, loaded: &Loaded) -> Result<Begun<'a>, Memory>
+        requires flat { IsFlat (plain_design design.now) }
         requires fits { FitsRows (external_rows (plain_design design.now)) (plain_loaded loaded.now) }
         ensures ready { IfOk result (λ begun. IsReady design.now (words_in loaded.now.memories.items) begun) }
     {

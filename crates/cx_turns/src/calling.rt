@@ -7,9 +7,9 @@ ghost use Rattle.cx_rules.specs.Ports.{component_of};
 ghost use Rattle.cx_design.specs.PlainForms.{plain_assigns};
 ghost use Rattle.cx_design.specs.PlainDesigns.{plain_design};
 
+use cx_callees::callee_of;
 use cx_design::{Assign, Design};
 use cx_design_parts::is_primitive_enable;
-use cx_shape_calls::callee_of;
 
 /// The first component cell of which assignments of a component drive a port.
 pub(crate) fn first_callee(design: &Design, number: usize, assigns: &[Assign]) -> Option<u32>

@@ -1,6 +1,8 @@
-//! The plan of an accepted design.
+//! The plan of an accepted design without static components.
 
 ghost use Rattle.std.specs.Prelude.{◌≡◌, IfOk};
+ghost use Rattle.cx_rules.specs.Flat.{IsFlat};
+ghost use Rattle.cx_design.specs.PlainDesigns.{plain_design};
 ghost use Rattle.cx_turns.specs.Machines.{IsPlan};
 
 use crate::plan::Plan;
@@ -13,6 +15,7 @@ use std::alloc::Global;
 impl<'a> Plan<'a> {
     /// The plan of an accepted design: its instances have their numbers, and its groups their tables.
     pub(crate) fn new(alloc: Global, design: &'a Checked) -> Result<Plan<'a>, Memory>
+        requires flat { IsFlat (plain_design design.now) }
         ensures design { IfOk result (λ plan. plan.design.now ≡ design.now) }
         ensures plan { IfOk result IsPlan }
     {

@@ -4,6 +4,7 @@ ghost use Rattle.std.specs.Prelude.{◌≡◌, ◌<◌, ◌≤◌, ◌%◌, ℕ,
 ghost use Rattle.cx_text.specs.Loading.{plain_loaded, FitsRows};
 ghost use Rattle.cx_meaning.specs.Instances.{start, tree_of};
 ghost use Rattle.cx_rules.specs.Externals.{external_rows};
+ghost use Rattle.cx_rules.specs.Flat.{IsFlat};
 ghost use Rattle.cx_design.specs.PlainDesigns.{plain_design};
 ghost use Rattle.cx_state.specs.States.{words_in, IsUnheld, StandsFor};
 ghost use Rattle.cx_turns.specs.Machines.{design_of, rows_of, IsPlan, IsAt};
@@ -106,7 +107,7 @@ fn weave_plan(
     Ok(weave_on(&mut spares, plan, machine, list, steps))
 }
 
-/// Runs a design by choices: choice j is the entry of the list at j modulo its length, and names a leaf modulo their number.
+/// Runs a design without static components by choices: choice j is the entry of the list at j modulo its length, and names a leaf modulo their number.
 /// Where the run ends the memories get their words; else they are as they were.
 pub fn weave(
     alloc: Global,
@@ -115,6 +116,7 @@ pub fn weave(
     list: &[u32],
     steps: u64,
 ) -> Result<Wove, Memory>
+    requires flat { IsFlat (plain_design design.now) }
     requires fits { FitsRows (external_rows (plain_design design.now)) (plain_loaded loaded.old) }
     requires some { 0 < length list.now }
     ensures woven { IfOk result (λ wove. TellsWoven (plain_design design.now) wove (woven (plain_design design.now) (words_in loaded.old.memories.items) (by_list list.now) steps)) }

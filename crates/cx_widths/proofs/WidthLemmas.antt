@@ -1,5 +1,5 @@
 -- The list of breaks has the breaks of the rules on widths, literals, targets and sources, and no others.
-use Rattle.std.proofs.Common.{◌≡◌, ◌+◌, ◌-◌, ◌<◌, ◌≤◌, ℕ, zero, suc, Bool, true, false, not, cond, List, [], ◌∷◌, ◌++◌, Option, Some, None, length, slice_get, flat_map, inl, inr, ⊎_elim, refl, sym, ap, ◌∙◌, subst, arith, true≢false, add-one}
+use Rattle.std.proofs.Common.{◌≡◌, ◌+◌, ◌-◌, ◌<◌, ◌≤◌, ℕ, zero, suc, Bool, true, false, not, cond, List, [], ◌∷◌, ◌++◌, Option, Some, None, length, slice_get, flat_map, ◌⊎◌, inl, inr, ⊎_elim, refl, sym, ap, ◌∙◌, subst, arith, true≢false, add-one}
 use Rattle.cx_text.specs.declared.places.Place.{Place}
 use Rattle.cx_text.specs.declared.rules.Rule.{Rule}
 use Rattle.cx_text.specs.declared.rules.Rule.TheVariants as rule
@@ -12,14 +12,13 @@ use Rattle.cx_meaning.specs.Active.{Owned, source_order}
 use Rattle.cx_meaning.specs.Sights.{In}
 use Rattle.cx_rules.specs.Ports.{component_of, keeps_literal, is_source_only, is_target_only, path_of}
 use Rattle.cx_rules.specs.Items.{operands_of, atoms_of, sources_of, Visited, statements_in, test_in}
-use Rattle.cx_rules.specs.Spots.{AnAssign, AStatement, Spot, Tells, OnAssign, OnStatement, AssignRule, StatementRule}
+use Rattle.cx_rules.specs.Spots.{ABind, AnAssign, AStatement, Spot, Tells, OnAssign, OnBind, OnStatement, AssignRule, StatementRule, binds_in}
 use Rattle.cx_rules.specs.WidthRules.{pairs_of, first_unequal, first_wide, is_wide, IsBadLiteral, BreaksWidth, BreaksGuardWidth, TestBreaksGuardWidth, BreaksLiteral, TestBreaksLiteral, BreaksNotATarget, BreaksNotASource, TestBreaksNotASource}
 use Rattle.cx_rules.specs.Accepted.{Breaks, stage_of, key_of}
 use Rattle.cx_design_parts.specs.Breaks.{Broken, first_of}
-use Rattle.cx_design_parts.specs.Numbered.{numbered}
 use Rattle.cx_design_parts.specs.Answers.{AreBreaks}
 use Rattle.cx_design_parts.proofs.Lists.{first_append, in_left, in_right, in_either, in_flat, flat_in, in_numbered, numbered_in}
-use Rattle.cx_widths.specs.WidthBreaks.{told_port, port_if, is_bad, literal_break, source_break, target_break, operand_breaks, assign_breaks, condition_breaks, test_breaks, assign_breaks_at, condition_breaks_at, component_breaks, components_breaks, width_breaks}
+use Rattle.cx_widths.specs.WidthBreaks.{told_port, port_if, is_bad, literal_break, source_break, target_break, operand_breaks, assign_breaks, condition_breaks, test_breaks, assign_breaks_at, condition_breaks_at, bind_breaks_at, assigns_breaks, conditions_breaks, binds_breaks, component_breaks, components_breaks, width_breaks}
 use Rattle.cx_text.proofs.BoolLaws.{from_not}
 use Rattle.cx_rules.proofs.KeyOrder.{before_irreflexive}
 
@@ -75,26 +74,44 @@ bad_literal (ports.Output n) h = absurd (true≢false (sym h))
 bad_literal (ports.Done g) h = absurd (true≢false (sym h))
 bad_literal (ports.Literal w v) h = (w, v, refl, from_not (keeps_literal w v) h)
 
--- ASSIGNMENTS
-module _ (d : PlainDesign) (k m : ℕ) (a : Owned) (within : k < length d.components) (stands : slice_get (source_order (component_at d k)) m ≡ Some a) where
-  abbrev here : Spot
-  here = record { component = k; part = AnAssign m }
+-- ASSIGNMENTS AND BOUND INPUTS
+-- one of them breaks the rule
+abbrev OnPart : AssignRule → PlainDesign → Spot → Place → List ℕ → Type 0
+OnPart r d spot place name = OnAssign r d spot place name ⊎ OnBind r d spot place name
 
-  abbrev at : Instance
-  at = component_of d k
+abbrev bound : PlainAssign → Owned
+bound a = record { owner = None; assign = a }
 
-  on_assign : (r : AssignRule) (place : Place) (name : List ℕ) → r at a place name → OnAssign r d here place name
-  on_assign r place name b = record { within = within; number = m; is = refl; assign = a; stands = stands; breaks = b }
+guard_width_breaks : (d : PlainDesign) (spot : Spot) (place : Place) (name : List ℕ) → OnPart BreaksGuardWidth d spot place name → Breaks d rule.GuardWidth spot place name
+guard_width_breaks d spot place name (inl o) = inl o
+guard_width_breaks d spot place name (inr o) = inr (inr o)
 
+literal_breaks : (d : PlainDesign) (spot : Spot) (place : Place) (name : List ℕ) → OnPart BreaksLiteral d spot place name → Breaks d rule.Literal spot place name
+literal_breaks d spot place name (inl o) = inl o
+literal_breaks d spot place name (inr o) = inr (inr o)
+
+source_breaks : (d : PlainDesign) (spot : Spot) (place : Place) (name : List ℕ) → OnPart BreaksNotASource d spot place name → Breaks d rule.NotASource spot place name
+source_breaks d spot place name (inl o) = inl o
+source_breaks d spot place name (inr o) = inr (inr o)
+
+on_assign : (d : PlainDesign) (k m : ℕ) (a : Owned) → k < length d.components → slice_get (source_order (component_at d k)) m ≡ Some a
+    → (r : AssignRule) (place : Place) (name : List ℕ) → r (component_of d k) a place name → OnPart r d (record { component = k; part = AnAssign m }) place name
+on_assign d k m a within stands r place name b = inl (record { within = within; number = m; is = refl; assign = a; stands = stands; breaks = b })
+
+on_bind : (d : PlainDesign) (k m : ℕ) (a : PlainAssign) → k < length d.components → slice_get (binds_in (component_at d k)) m ≡ Some a
+    → (r : AssignRule) (place : Place) (name : List ℕ) → r (component_of d k) (bound a) place name → OnPart r d (record { component = k; part = ABind m }) place name
+on_bind d k m a within stands r place name b = inr (record { within = within; number = m; is = refl; assign = a; stands = stands; breaks = b })
+
+module _ (d : PlainDesign) (here : Spot) (at : Instance) (a : Owned) (on_part : (r : AssignRule) (place : Place) (name : List ℕ) → r at a place name → OnPart r d here place name) where
   operand_holds : (p : PlacedPort) (b : Broken) → In (sources_of a.assign) p → In (operand_breaks at here p) b → Holds d b
   operand_holds p b i h =
       ⊎_elim
       (λ l. let found = literal_in here p b l in
-      subst (Holds d) found.1 (refl, inl (on_assign BreaksLiteral p.place [] (p, i, bad_literal p.port found.0, (refl, refl)))))
+      subst (Holds d) found.1 (refl, literal_breaks d here p.place [] (on_part BreaksLiteral p.place [] (p, i, bad_literal p.port found.0, (refl, refl)))))
       (λ s. let found = told_in rule.NotASource at here p.place (port_if (is_target_only at p.port) p.port) b s in
       let is = port_if_some (is_target_only at p.port) p.port found.0 found.1 in
       subst (Holds d) (ap (λ q. broken rule.NotASource here p.place (path_of at q)) is.1 ∙ found.2)
-      (refl, inl (on_assign BreaksNotASource p.place (path_of at p.port) (p, i, is.0, (refl, refl)))))
+      (refl, source_breaks d here p.place (path_of at p.port) (on_part BreaksNotASource p.place (path_of at p.port) (p, i, is.0, (refl, refl)))))
       (in_either (literal_break here p) (source_break at here p) b h)
 
   abbrev widths : List Broken
@@ -106,12 +123,12 @@ module _ (d : PlainDesign) (k m : ℕ) (a : Owned) (within : k < length d.compon
   widths_hold : (b : Broken) → In widths b → Holds d b
   widths_hold b h =
       let found = told_in rule.Width at here a.assign.place (first_unequal at (pairs_of a.assign)) b h in
-      subst (Holds d) found.2 (refl, on_assign BreaksWidth a.assign.place (path_of at found.0) (found.0, found.1, (refl, refl)))
+      subst (Holds d) found.2 (refl, on_part BreaksWidth a.assign.place (path_of at found.0) (found.0, found.1, (refl, refl)))
 
   guards_hold : (b : Broken) → In guards b → Holds d b
   guards_hold b h =
       let found = told_in rule.GuardWidth at here a.assign.place (first_wide at (atoms_of a.assign.guard)) b h in
-      subst (Holds d) found.2 (refl, inl (on_assign BreaksGuardWidth a.assign.place (path_of at found.0) (found.0, found.1, (refl, refl))))
+      subst (Holds d) found.2 (refl, guard_width_breaks d here a.assign.place (path_of at found.0) (on_part BreaksGuardWidth a.assign.place (path_of at found.0) (found.0, found.1, (refl, refl))))
 
   target_holds : (b : Broken) → In (target_break at here a.assign) b → Holds d b
   target_holds b h =
@@ -119,7 +136,7 @@ module _ (d : PlainDesign) (k m : ℕ) (a : Owned) (within : k < length d.compon
       let found = told_in rule.NotATarget at here a.assign.place (port_if (is_source_only at target) target) b h in
       let is = port_if_some (is_source_only at target) target found.0 found.1 in
       subst (Holds d) (ap (λ q. broken rule.NotATarget here a.assign.place (path_of at q)) is.1 ∙ found.2)
-      (refl, on_assign BreaksNotATarget a.assign.place (path_of at target) (is.0, (refl, refl)))
+      (refl, on_part BreaksNotATarget a.assign.place (path_of at target) (is.0, (refl, refl)))
 
   operands_hold : (b : Broken) → In (flat_map (operand_breaks at here) (operands_of a.assign.guard)) b → Holds d b
   operands_hold b h =
@@ -155,14 +172,14 @@ module _ (d : PlainDesign) (k m : ℕ) (v : Visited) (within : k < length d.comp
       (λ w. let found = told_in rule.GuardWidth inside there v.place (port_if (is_wide inside p.port) p.port) b w in
       let is = port_if_some (is_wide inside p.port) p.port found.0 found.1 in
       subst (Holds d) (ap (λ q. broken rule.GuardWidth there v.place (path_of inside q)) is.1 ∙ found.2)
-      (refl, inr (on_statement TestBreaksGuardWidth v.place (path_of inside p.port) (p, t, is.0, (refl, refl)))))
+      (refl, inr (inl (on_statement TestBreaksGuardWidth v.place (path_of inside p.port) (p, t, is.0, (refl, refl))))))
       (λ o. ⊎_elim
       (λ l. let found = literal_in there p b l in
-      subst (Holds d) found.1 (refl, inr (on_statement TestBreaksLiteral p.place [] (p, t, bad_literal p.port found.0, (refl, refl)))))
+      subst (Holds d) found.1 (refl, inr (inl (on_statement TestBreaksLiteral p.place [] (p, t, bad_literal p.port found.0, (refl, refl))))))
       (λ s. let found = told_in rule.NotASource inside there p.place (port_if (is_target_only inside p.port) p.port) b s in
       let is = port_if_some (is_target_only inside p.port) p.port found.0 found.1 in
       subst (Holds d) (ap (λ q. broken rule.NotASource there p.place (path_of inside q)) is.1 ∙ found.2)
-      (refl, inr (on_statement TestBreaksNotASource p.place (path_of inside p.port) (p, t, is.0, (refl, refl)))))
+      (refl, inr (inl (on_statement TestBreaksNotASource p.place (path_of inside p.port) (p, t, is.0, (refl, refl))))))
       (in_either (literal_break there p) (source_break inside there p) b o))
       (in_either (told_port rule.GuardWidth inside there v.place (port_if (is_wide inside p.port) p.port)) (operand_breaks inside there p) b h)
 
@@ -173,13 +190,18 @@ module _ (d : PlainDesign) (k m : ℕ) (v : Visited) (within : k < length d.comp
 component_holds : (d : PlainDesign) (k : ℕ) (b : Broken) → k < length d.components → In (component_breaks d k) b → Holds d b
 component_holds d k b within h =
     ⊎_elim
-    (λ l. let found = numbered_in (assign_breaks_at d k) 0 (source_order (component_at d k)) b l in
+    (λ p. ⊎_elim
+    (λ q. let found = numbered_in (assign_breaks_at d k) 0 (source_order (component_at d k)) b q in
     let same : 0 + found.0 ≡ found.0 = omega arith in
-    assign_holds d k found.0 found.1 within found.2 b (subst (λ n. In (assign_breaks_at d k n found.1) b) same found.3))
-    (λ r. let found = numbered_in (condition_breaks_at d k) 0 (statements_in (component_at d k)) b r in
+    assign_holds d (record { component = k; part = AnAssign found.0 }) (component_of d k) found.1 (on_assign d k found.0 found.1 within found.2) b (subst (λ n. In (assign_breaks_at d k n found.1) b) same found.3))
+    (λ q. let found = numbered_in (condition_breaks_at d k) 0 (statements_in (component_at d k)) b q in
     let same : 0 + found.0 ≡ found.0 = omega arith in
     statement_holds d k found.0 found.1 within found.2 (test_in found.1.form) b refl (subst (λ n. In (condition_breaks_at d k n found.1) b) same found.3))
-    (in_either (numbered (assign_breaks_at d k) 0 (source_order (component_at d k))) (numbered (condition_breaks_at d k) 0 (statements_in (component_at d k))) b h)
+    (in_either (assigns_breaks d k) (conditions_breaks d k) b p))
+    (λ q. let found = numbered_in (bind_breaks_at d k) 0 (binds_in (component_at d k)) b q in
+    let same : 0 + found.0 ≡ found.0 = omega arith in
+    assign_holds d (record { component = k; part = ABind found.0 }) (component_of d k) (bound found.1) (on_bind d k found.0 found.1 within found.2) b (subst (λ n. In (bind_breaks_at d k n found.1) b) same found.3))
+    (in_either (assigns_breaks d k ++ conditions_breaks d k) (binds_breaks d k) b h)
 
 components_hold : (d : PlainDesign) (k left : ℕ) (b : Broken) → k + left ≤ length d.components → In (components_breaks d k left) b → Holds d b
 components_hold d k zero b few h = absurd h
@@ -201,18 +223,40 @@ in_design : (d : PlainDesign) (k : ℕ) (b : Broken) → k < length d.components
 in_design d k b within h =
     let same : k ≡ 0 + k = omega arith in in_components d 0 (length d.components) k b within (subst (λ n. In (component_breaks d n) b) same h)
 
+-- where the breaks of a part stand
 assign_in : (d : PlainDesign) (r : Rule) (spot : Spot) (place : Place) (name : List ℕ) (rules : AssignRule) (o : OnAssign rules d spot place name)
     → ((s : Spot) → In (assign_breaks (component_of d spot.component) s o.assign.assign) (broken r s place name)) → In (width_breaks d) (broken r spot place name)
 assign_in d r spot place name rules o has =
     let k = spot.component in
     let order = source_order (component_at d k) in
     let same : o.number ≡ 0 + o.number = omega arith in
-    let spot_is : record { component = k; part = AnAssign o.number } ≡ spot = ap (λ part. record { component = k; part = part }) (sym o.is) in
+    let own : Spot = record { component = k; part = AnAssign o.number } in
+    let spot_is : own ≡ spot = ap (λ part. record { component = k; part = part }) (sym o.is) in
     in_design d k (broken r spot place name) o.within
-    (in_left (numbered (assign_breaks_at d k) 0 order) (numbered (condition_breaks_at d k) 0 (statements_in (component_at d k))) (broken r spot place name)
+    (in_left (assigns_breaks d k ++ conditions_breaks d k) (binds_breaks d k) (broken r spot place name)
+    (in_left (assigns_breaks d k) (conditions_breaks d k) (broken r spot place name)
     (in_numbered (assign_breaks_at d k) 0 order o.number o.assign (broken r spot place name) o.stands
     (subst (λ n. In (assign_breaks_at d k n o.assign) (broken r spot place name)) same
-    (subst (λ s. In (assign_breaks (component_of d k) (record { component = k; part = AnAssign o.number }) o.assign.assign) (broken r s place name)) spot_is (has (record { component = k; part = AnAssign o.number }))))))
+    (subst (λ s. In (assign_breaks (component_of d k) own o.assign.assign) (broken r s place name)) spot_is (has own))))))
+
+bind_in : (d : PlainDesign) (r : Rule) (spot : Spot) (place : Place) (name : List ℕ) (rules : AssignRule) (o : OnBind rules d spot place name)
+    → ((s : Spot) → In (assign_breaks (component_of d spot.component) s o.assign) (broken r s place name)) → In (width_breaks d) (broken r spot place name)
+bind_in d r spot place name rules o has =
+    let k = spot.component in
+    let binds = binds_in (component_at d k) in
+    let same : o.number ≡ 0 + o.number = omega arith in
+    let own : Spot = record { component = k; part = ABind o.number } in
+    let spot_is : own ≡ spot = ap (λ part. record { component = k; part = part }) (sym o.is) in
+    in_design d k (broken r spot place name) o.within
+    (in_right (assigns_breaks d k ++ conditions_breaks d k) (binds_breaks d k) (broken r spot place name)
+    (in_numbered (bind_breaks_at d k) 0 binds o.number o.assign (broken r spot place name) o.stands
+    (subst (λ n. In (bind_breaks_at d k n o.assign) (broken r spot place name)) same
+    (subst (λ s. In (assign_breaks (component_of d k) own o.assign) (broken r s place name)) spot_is (has own)))))
+
+part_in : (d : PlainDesign) (r : Rule) (spot : Spot) (place : Place) (name : List ℕ) (rules : AssignRule) → OnPart rules d spot place name
+    → ((i : Instance) (s : Spot) (a : Owned) → rules i a place name → In (assign_breaks i s a.assign) (broken r s place name)) → In (width_breaks d) (broken r spot place name)
+part_in d r spot place name rules (inl o) has = assign_in d r spot place name rules o (λ s. has (component_of d spot.component) s o.assign o.breaks)
+part_in d r spot place name rules (inr o) has = bind_in d r spot place name rules o (λ s. has (component_of d spot.component) s (bound o.assign) o.breaks)
 
 statement_in : (d : PlainDesign) (r : Rule) (spot : Spot) (place : Place) (name : List ℕ) (rules : StatementRule) (o : OnStatement rules d spot place name) (p : PlacedPort)
     → test_in o.statement.form ≡ Some p
@@ -224,11 +268,12 @@ statement_in d r spot place name rules o p t has =
     let own : Spot = record { component = k; part = AStatement o.number } in
     let spot_is : own ≡ spot = ap (λ part. record { component = k; part = part }) (sym o.is) in
     in_design d k (broken r spot place name) o.within
-    (in_right (numbered (assign_breaks_at d k) 0 (source_order (component_at d k))) (numbered (condition_breaks_at d k) 0 list) (broken r spot place name)
+    (in_left (assigns_breaks d k ++ conditions_breaks d k) (binds_breaks d k) (broken r spot place name)
+    (in_right (assigns_breaks d k) (conditions_breaks d k) (broken r spot place name)
     (in_numbered (condition_breaks_at d k) 0 list o.number o.statement (broken r spot place name) o.stands
     (subst (λ n. In (condition_breaks_at d k n o.statement) (broken r spot place name)) same
     (subst (λ s. In (test_breaks (component_of d k) own o.statement.place (test_in o.statement.form)) (broken r s place name)) spot_is
-    (subst (λ x. In (test_breaks (component_of d k) own o.statement.place x) (broken r own place name)) (sym t) (has own))))))
+    (subst (λ x. In (test_breaks (component_of d k) own o.statement.place x) (broken r own place name)) (sym t) (has own)))))))
 
 -- where the breaks of an operand stand among those of its assignment
 among_operands : (i : Instance) (s : Spot) (a : PlainAssign) (p : PlacedPort) (b : Broken) → In (sources_of a) p → In (operand_breaks i s p) b → In (assign_breaks i s a) b
@@ -258,44 +303,71 @@ source_has i s p place name h t =
 bad_has : (i : Instance) (s : Spot) (p : PlacedPort) (place : Place) (name : List ℕ) → IsBadLiteral p.port → Tells place name p.place [] → In (operand_breaks i s p) (broken rule.Literal s place name)
 bad_has i s p place name bad t = in_left (literal_break s p) (source_break i s p) (broken rule.Literal s place name) (literal_has s p place name bad t)
 
+-- what breaks a rule on assignments is among the breaks of the assignment
+module _ (i : Instance) (s : Spot) (a : Owned) (place : Place) (name : List ℕ) where
+  abbrev unequal : List Broken
+  unequal = told_port rule.Width i s a.assign.place (first_unequal i (pairs_of a.assign))
+
+  abbrev wide : List Broken
+  wide = told_port rule.GuardWidth i s a.assign.place (first_wide i (atoms_of a.assign.guard))
+
+  width_has : BreaksWidth i a place name → In (assign_breaks i s a.assign) (broken rule.Width s place name)
+  width_has o = among_front i s a.assign (broken rule.Width s place name)
+      (in_left (unequal ++ wide) (target_break i s a.assign) (broken rule.Width s place name)
+      (in_left unequal wide (broken rule.Width s place name)
+      (told_has rule.Width i s a.assign.place (first_unequal i (pairs_of a.assign)) o.0 place name o.1 o.2)))
+
+  guard_width_has : BreaksGuardWidth i a place name → In (assign_breaks i s a.assign) (broken rule.GuardWidth s place name)
+  guard_width_has o = among_front i s a.assign (broken rule.GuardWidth s place name)
+      (in_left (unequal ++ wide) (target_break i s a.assign) (broken rule.GuardWidth s place name)
+      (in_right unequal wide (broken rule.GuardWidth s place name)
+      (told_has rule.GuardWidth i s a.assign.place (first_wide i (atoms_of a.assign.guard)) o.0 place name o.1 o.2)))
+
+  literal_in_has : BreaksLiteral i a place name → In (assign_breaks i s a.assign) (broken rule.Literal s place name)
+  literal_in_has o = among_operands i s a.assign o.0 (broken rule.Literal s place name) o.1 (bad_has i s o.0 place name o.2 o.3)
+
+  target_has : BreaksNotATarget i a place name → In (assign_breaks i s a.assign) (broken rule.NotATarget s place name)
+  target_has o =
+      let target = a.assign.target in
+      among_front i s a.assign (broken rule.NotATarget s place name)
+      (in_right (unequal ++ wide) (target_break i s a.assign) (broken rule.NotATarget s place name)
+      (told_has rule.NotATarget i s a.assign.place (port_if (is_source_only i target) target) target place name (port_if_true (is_source_only i target) target o.0) o.1))
+
+  source_in_has : BreaksNotASource i a place name → In (assign_breaks i s a.assign) (broken rule.NotASource s place name)
+  source_in_has o = among_operands i s a.assign o.0 (broken rule.NotASource s place name) o.1 (source_has i s o.0 place name o.2 o.3)
+
+guard_width_in : (d : PlainDesign) (spot : Spot) (place : Place) (name : List ℕ) → OnPart BreaksGuardWidth d spot place name → In (width_breaks d) (broken rule.GuardWidth spot place name)
+guard_width_in d spot place name o = part_in d rule.GuardWidth spot place name BreaksGuardWidth o (λ i s a b. guard_width_has i s a place name b)
+
+literals_in : (d : PlainDesign) (spot : Spot) (place : Place) (name : List ℕ) → OnPart BreaksLiteral d spot place name → In (width_breaks d) (broken rule.Literal spot place name)
+literals_in d spot place name o = part_in d rule.Literal spot place name BreaksLiteral o (λ i s a b. literal_in_has i s a place name b)
+
+sources_in : (d : PlainDesign) (spot : Spot) (place : Place) (name : List ℕ) → OnPart BreaksNotASource d spot place name → In (width_breaks d) (broken rule.NotASource spot place name)
+sources_in d spot place name o = part_in d rule.NotASource spot place name BreaksNotASource o (λ i s a b. source_in_has i s a place name b)
+
 -- each break of the stage is in the list
 all_breaks : (d : PlainDesign) (r : Rule) (spot : Spot) (place : Place) (name : List ℕ) → stage_of r ≡ 3 → Breaks d r spot place name → In (width_breaks d) (broken r spot place name)
-all_breaks d rule.Width spot place name h o =
-    let i = component_of d spot.component in let a = o.assign.assign in
-    assign_in d rule.Width spot place name BreaksWidth o (λ s. among_front i s a (broken rule.Width s place name)
-    (in_left (told_port rule.Width i s a.place (first_unequal i (pairs_of a)) ++ told_port rule.GuardWidth i s a.place (first_wide i (atoms_of a.guard))) (target_break i s a) (broken rule.Width s place name)
-    (in_left (told_port rule.Width i s a.place (first_unequal i (pairs_of a))) (told_port rule.GuardWidth i s a.place (first_wide i (atoms_of a.guard))) (broken rule.Width s place name)
-    (told_has rule.Width i s a.place (first_unequal i (pairs_of a)) o.breaks.0 place name o.breaks.1 o.breaks.2))))
-all_breaks d rule.GuardWidth spot place name h (inl o) =
-    let i = component_of d spot.component in let a = o.assign.assign in
-    assign_in d rule.GuardWidth spot place name BreaksGuardWidth o (λ s. among_front i s a (broken rule.GuardWidth s place name)
-    (in_left (told_port rule.Width i s a.place (first_unequal i (pairs_of a)) ++ told_port rule.GuardWidth i s a.place (first_wide i (atoms_of a.guard))) (target_break i s a) (broken rule.GuardWidth s place name)
-    (in_right (told_port rule.Width i s a.place (first_unequal i (pairs_of a))) (told_port rule.GuardWidth i s a.place (first_wide i (atoms_of a.guard))) (broken rule.GuardWidth s place name)
-    (told_has rule.GuardWidth i s a.place (first_wide i (atoms_of a.guard)) o.breaks.0 place name o.breaks.1 o.breaks.2))))
-all_breaks d rule.GuardWidth spot place name h (inr o) =
+all_breaks d rule.Width spot place name h o = part_in d rule.Width spot place name BreaksWidth o (λ i s a b. width_has i s a place name b)
+all_breaks d rule.GuardWidth spot place name h (inl o) = guard_width_in d spot place name (inl o)
+all_breaks d rule.GuardWidth spot place name h (inr (inl o)) =
     let i = component_of d spot.component in let p = o.breaks.0 in
     statement_in d rule.GuardWidth spot place name TestBreaksGuardWidth o p o.breaks.1 (λ s.
     in_left (told_port rule.GuardWidth i s o.statement.place (port_if (is_wide i p.port) p.port)) (operand_breaks i s p) (broken rule.GuardWidth s place name)
     (told_has rule.GuardWidth i s o.statement.place (port_if (is_wide i p.port) p.port) p.port place name (port_if_true (is_wide i p.port) p.port o.breaks.2) o.breaks.3))
-all_breaks d rule.Literal spot place name h (inl o) =
-    let i = component_of d spot.component in
-    assign_in d rule.Literal spot place name BreaksLiteral o (λ s. among_operands i s o.assign.assign o.breaks.0 (broken rule.Literal s place name) o.breaks.1 (bad_has i s o.breaks.0 place name o.breaks.2 o.breaks.3))
-all_breaks d rule.Literal spot place name h (inr o) =
+all_breaks d rule.GuardWidth spot place name h (inr (inr o)) = guard_width_in d spot place name (inr o)
+all_breaks d rule.Literal spot place name h (inl o) = literals_in d spot place name (inl o)
+all_breaks d rule.Literal spot place name h (inr (inl o)) =
     let i = component_of d spot.component in let p = o.breaks.0 in
     statement_in d rule.Literal spot place name TestBreaksLiteral o p o.breaks.1 (λ s.
     in_right (told_port rule.GuardWidth i s o.statement.place (port_if (is_wide i p.port) p.port)) (operand_breaks i s p) (broken rule.Literal s place name) (bad_has i s p place name o.breaks.2 o.breaks.3))
-all_breaks d rule.NotATarget spot place name h o =
-    let i = component_of d spot.component in let a = o.assign.assign in
-    assign_in d rule.NotATarget spot place name BreaksNotATarget o (λ s. among_front i s a (broken rule.NotATarget s place name)
-    (in_right (told_port rule.Width i s a.place (first_unequal i (pairs_of a)) ++ told_port rule.GuardWidth i s a.place (first_wide i (atoms_of a.guard))) (target_break i s a) (broken rule.NotATarget s place name)
-    (told_has rule.NotATarget i s a.place (port_if (is_source_only i a.target) a.target) a.target place name (port_if_true (is_source_only i a.target) a.target o.breaks.0) o.breaks.1)))
-all_breaks d rule.NotASource spot place name h (inl o) =
-    let i = component_of d spot.component in
-    assign_in d rule.NotASource spot place name BreaksNotASource o (λ s. among_operands i s o.assign.assign o.breaks.0 (broken rule.NotASource s place name) o.breaks.1 (source_has i s o.breaks.0 place name o.breaks.2 o.breaks.3))
-all_breaks d rule.NotASource spot place name h (inr o) =
+all_breaks d rule.Literal spot place name h (inr (inr o)) = literals_in d spot place name (inr o)
+all_breaks d rule.NotATarget spot place name h o = part_in d rule.NotATarget spot place name BreaksNotATarget o (λ i s a b. target_has i s a place name b)
+all_breaks d rule.NotASource spot place name h (inl o) = sources_in d spot place name (inl o)
+all_breaks d rule.NotASource spot place name h (inr (inl o)) =
     let i = component_of d spot.component in let p = o.breaks.0 in
     statement_in d rule.NotASource spot place name TestBreaksNotASource o p o.breaks.1 (λ s.
     in_right (told_port rule.GuardWidth i s o.statement.place (port_if (is_wide i p.port) p.port)) (operand_breaks i s p) (broken rule.NotASource s place name) (source_has i s p place name o.breaks.2 o.breaks.3))
+all_breaks d rule.NotASource spot place name h (inr (inr o)) = sources_in d spot place name (inr o)
 all_breaks d rule.BadByte spot place name h o = absurd o
 all_breaks d rule.OpenComment spot place name h o = absurd o
 all_breaks d rule.OpenString spot place name h o = absurd o
@@ -331,18 +403,18 @@ are_breaks d = record {
 }
 
 -- one more component is looked at
-pub next_component : (d : PlainDesign) (n count : ℕ) (best mid next rest : Option Broken) → n < count
-    → mid ≡ first_of best (numbered (assign_breaks_at d n) 0 (source_order (component_at d n)))
-    → next ≡ first_of mid (numbered (condition_breaks_at d n) 0 (statements_in (component_at d n)))
+pub next_component : (d : PlainDesign) (n count : ℕ) (best one two next rest : Option Broken) → n < count
+    → one ≡ first_of best (assigns_breaks d n) → two ≡ first_of one (conditions_breaks d n) → next ≡ first_of two (binds_breaks d n)
     → first_of best (components_breaks d n (count - n)) ≡ rest → first_of next (components_breaks d (n + 1) (count - (n + 1))) ≡ rest
-next_component d n count best mid next rest few one two so_far =
-    let assigns = numbered (assign_breaks_at d n) 0 (source_order (component_at d n)) in
-    let conditions = numbered (condition_breaks_at d n) 0 (statements_in (component_at d n)) in
+next_component d n count best one two next rest few e f g so_far =
     let left = count - (n + 1) in
     let more = components_breaks d (suc n) left in
     let at : count - n ≡ suc left = omega (arith, few) in
+    let joined : next ≡ first_of best (component_breaks d n) =
+    g ∙ ap (λ b. first_of b (binds_breaks d n)) (f ∙ ap (λ b. first_of b (conditions_breaks d n)) e ∙ sym (first_append best (assigns_breaks d n) (conditions_breaks d n)))
+    ∙ sym (first_append best (assigns_breaks d n ++ conditions_breaks d n) (binds_breaks d n)) in
     ap (λ m. first_of next (components_breaks d m left)) (add-one n)
-    ∙ ap (λ b. first_of b more) (two ∙ ap (λ b. first_of b conditions) one ∙ sym (first_append best assigns conditions))
-    ∙ sym (first_append best (assigns ++ conditions) more)
+    ∙ ap (λ b. first_of b more) joined
+    ∙ sym (first_append best (component_breaks d n) more)
     ∙ ap (λ m. first_of best (components_breaks d n m)) (sym at)
     ∙ so_far

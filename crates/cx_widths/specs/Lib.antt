@@ -1,1 +1,2 @@
 pub mod WidthBreaks
+pub mod Binds

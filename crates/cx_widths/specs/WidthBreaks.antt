@@ -11,7 +11,7 @@ use Rattle.cx_meaning.specs.Instances.{Instance}
 use Rattle.cx_meaning.specs.Active.{Owned, source_order}
 use Rattle.cx_rules.specs.Ports.{component_of, keeps_literal, is_source_only, is_target_only, path_of}
 use Rattle.cx_rules.specs.Items.{operands_of, atoms_of, Visited, statements_in, test_in}
-use Rattle.cx_rules.specs.Spots.{AnAssign, AStatement, Spot}
+use Rattle.cx_rules.specs.Spots.{ABind, AnAssign, AStatement, Spot, binds_in}
 use Rattle.cx_rules.specs.WidthRules.{pairs_of, first_unequal, first_wide, is_wide}
 use Rattle.cx_design_parts.specs.Breaks.{Broken}
 use Rattle.cx_design_parts.specs.Numbered.{numbered}
@@ -45,7 +45,7 @@ target_break i spot a = told_port rule.NotATarget i spot a.place (port_if (is_so
 abbrev pub operand_breaks : Instance → Spot → PlacedPort → List Broken
 operand_breaks i spot p = literal_break spot p ++ source_break i spot p
 
--- of an assignment
+-- of an assignment, or of an input that a static invoke binds
 abbrev pub assign_breaks : Instance → Spot → PlainAssign → List Broken
 assign_breaks i spot a =
     told_port rule.Width i spot a.place (first_unequal i (pairs_of a))
@@ -69,8 +69,20 @@ assign_breaks_at d k n a = assign_breaks (component_of d k) (record { component 
 abbrev pub condition_breaks_at : PlainDesign → ℕ → ℕ → Visited → List Broken
 condition_breaks_at d k n v = test_breaks (component_of d k) (record { component = k; part = AStatement n }) v.place (test_in v.form)
 
+abbrev pub bind_breaks_at : PlainDesign → ℕ → ℕ → PlainAssign → List Broken
+bind_breaks_at d k n a = assign_breaks (component_of d k) (record { component = k; part = ABind n }) a
+
+abbrev pub assigns_breaks : PlainDesign → ℕ → List Broken
+assigns_breaks d k = numbered (assign_breaks_at d k) 0 (source_order (component_at d k))
+
+abbrev pub conditions_breaks : PlainDesign → ℕ → List Broken
+conditions_breaks d k = numbered (condition_breaks_at d k) 0 (statements_in (component_at d k))
+
+abbrev pub binds_breaks : PlainDesign → ℕ → List Broken
+binds_breaks d k = numbered (bind_breaks_at d k) 0 (binds_in (component_at d k))
+
 abbrev pub component_breaks : PlainDesign → ℕ → List Broken
-component_breaks d k = numbered (assign_breaks_at d k) 0 (source_order (component_at d k)) ++ numbered (condition_breaks_at d k) 0 (statements_in (component_at d k))
+component_breaks d k = assigns_breaks d k ++ conditions_breaks d k ++ binds_breaks d k
 
 -- of the components from number k on, so many of them
 abbrev pub components_breaks : PlainDesign → ℕ → ℕ → List Broken

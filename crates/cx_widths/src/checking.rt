@@ -1,18 +1,16 @@
 //! The check over a whole design.
 
-ghost use Rattle.std.specs.Prelude.{◌≡◌, ◌<◌, ◌++◌, None, IfOk, length};
+ghost use Rattle.std.specs.Prelude.{◌≡◌, ◌<◌, None, IfOk, length};
 ghost use Rattle.cx_rules.specs.Ports.{component_of};
-ghost use Rattle.cx_rules.specs.Items.{statements_in, test_in};
-ghost use Rattle.cx_meaning.specs.Active as active;
-ghost use Rattle.cx_meaning.specs.Designs.{component_at};
+ghost use Rattle.cx_rules.specs.Items.{test_in};
 ghost use Rattle.cx_design.specs.PlainForms.{plain_form};
 ghost use Rattle.cx_design.specs.PlainDesigns.{plain_design};
 ghost use Rattle.cx_design_parts.specs.Answers.{IsAnswer};
 ghost use Rattle.cx_design_parts.specs.Breaks.{first_of, plain_spot};
-ghost use Rattle.cx_design_parts.specs.Numbered.{numbered};
-ghost use Rattle.cx_widths.specs.WidthBreaks.{assign_breaks_at, condition_breaks_at, test_breaks, width_breaks};
+ghost use Rattle.cx_widths.specs.WidthBreaks.{assigns_breaks, binds_breaks, conditions_breaks, test_breaks, width_breaks};
 
 use crate::assigns::add_assign;
+use crate::binds::binds;
 use crate::conditions::add_condition;
 use cx_design::{Design, Refusal};
 use cx_design_parts::{FirstBreak, Part, Spot, Visited, component, source_order, statements, test};
@@ -39,6 +37,7 @@ fn first_break(alloc: Global, design: &Design) -> Result<FirstBreak, Memory>
     for number in 0..design.components.len() {
         add_assigns(alloc, &mut first, design, number)?;
         add_conditions(alloc, &mut first, design, number)?;
+        add_binds(alloc, &mut first, design, number)?;
     }
     Ok(first)
 }
@@ -52,7 +51,7 @@ fn add_assigns(
     number: usize,
 ) -> Result<(), Memory>
     requires within { number < length design.now.components.items }
-    ensures value { IfOk result (λ _. let d = plain_design design.now in first.new ≡ first_of first.old (numbered (assign_breaks_at d number) 0 (active.source_order (component_at d number)))) }
+    ensures value { IfOk result (λ _. first.new ≡ first_of first.old (assigns_breaks (plain_design design.now) number)) }
 {
     let assigns = source_order(alloc, component(design, number))?;
     for place in 0..assigns.len() {
@@ -74,7 +73,7 @@ fn add_conditions(
     number: usize,
 ) -> Result<(), Memory>
     requires within { number < length design.now.components.items }
-    ensures value { IfOk result (λ _. let d = plain_design design.now in first.new ≡ first_of first.old (numbered (condition_breaks_at d number) 0 (statements_in (component_at d number)))) }
+    ensures value { IfOk result (λ _. first.new ≡ first_of first.old (conditions_breaks (plain_design design.now) number)) }
 {
     let list = statements(alloc, component(design, number))?;
     for place in 0..list.len() {
@@ -102,4 +101,26 @@ fn add_visited(
         Some(condition) => add_condition(alloc, first, design, spot, visited.place, condition),
         None => Ok(()),
     }
+}
+
+/// Looks at the inputs that a component's static invokes bind.
+#[tactic(auto, using(cx_design_parts::proofs::Lists::first_append))]
+fn add_binds(
+    alloc: Global,
+    first: &mut FirstBreak,
+    design: &Design,
+    number: usize,
+) -> Result<(), Memory>
+    requires within { number < length design.now.components.items }
+    ensures value { IfOk result (λ _. first.new ≡ first_of first.old (binds_breaks (plain_design design.now) number)) }
+{
+    let list = binds(alloc, component(design, number).invokes.as_slice())?;
+    for place in 0..list.len() {
+        let spot = Spot {
+            component: number,
+            part: Part::Bind(place),
+        };
+        add_assign(alloc, first, design, spot, list[place])?;
+    }
+    Ok(())
 }

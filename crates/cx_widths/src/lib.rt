@@ -2,6 +2,7 @@
 #![tactic(auto)]
 
 mod assigns;
+mod binds;
 mod checking;
 mod conditions;
 mod telling;

@@ -57,6 +57,7 @@ module _ (net : PlainNet) (npart : PlainNetComponent) (part : PlainComponent) wh
   -- what the rules say of a statement
   pub record Fine (v : Visited) : Type 0 where
     pub form : IsForm part v.form
+    pub no_invoke : part.invokes ≡ []
     pub may : is_in_static v.context ≡ true → may_stand part v.context v.form ≡ true
     pub lasts : is_static v.form ≡ true → form_has_length part v.context v.form ≡ true → 0 < form_length part v.form
     pub test : (p : PlacedPort) → test_in v.form ≡ Some p → HasPortWidth net npart p.port 1
@@ -212,8 +213,8 @@ module _ (net : PlainNet) (npart : PlainNetComponent) (part : PlainComponent) wh
       some_same : (n m : ℕ) → Some n ≡ Some m → n ≡ m
       some_same n m e = cc
 
-  length_static : (context : Context) (form : PlainForm) → may_stand part context form ≡ true → AllFine (visit_parts context form) → form_has_length part context form ≡ true
-  length_static context form may fine = (static_form part context form may (λ v i e. (fine v i).may e)).has
+  length_static : part.invokes ≡ [] → (context : Context) (form : PlainForm) → may_stand part context form ≡ true → AllFine (visit_parts context form) → form_has_length part context form ≡ true
+  length_static none context form may fine = (static_form part none context form may (λ v i e. (fine v i).may e)).has
 
   sampled_fits : (n : ℕ) (b : Bool) (ss : List Sample) → Are (SampleFits n) ss → Are (SampleFits (suc n)) (sampled n b ss)
   sampled_fits n b ss h =
@@ -255,7 +256,7 @@ module _ (net : PlainNet) (npart : PlainNetComponent) (part : PlainComponent) wh
         keeps_on first (keeps_on second third)
     form_keeps (StaticRepeat written count y) context place x g fine fits b =
         let own = fine (record { context = context; form = StaticRepeat written count y; place = place }) (inl refl) in
-        let some : 0 < count * length_of part y = own.lasts refl (length_static context (StaticRepeat written count y) refl (λ v i. fine v (inr i))) in
+        let some : 0 < count * length_of part y = own.lasts refl (length_static own.no_invoke context (StaticRepeat written count y) refl (λ v i. fine v (inr i))) in
         let body = factor_some count (length_of part y) some in
         let one : 1 ≤ length_of part y = body.0 in
         let less : length_of part y ≤ count * length_of part y = body.1 in
@@ -353,7 +354,7 @@ module _ (net : PlainNet) (npart : PlainNetComponent) (part : PlainComponent) wh
         → IslandsHold (with_island part form l)
     static_holds form place l fine static island may holds =
         let own = fine (here form place) (inl refl) in
-        let some : 0 < form_length part form = own.lasts static (length_static Dynamic form may (λ v i. fine v (inr i))) in
+        let some : 0 < form_length part form = own.lasts static (length_static own.no_invoke Dynamic form may (λ v i. fine v (inr i))) in
         island_holds form place l fine some (own.short island) holds
 
     enable_holds : (g : ℕ) (place : Place) (o : Option ℕ) (l : Lowering) → group_length part g ≡ o → AllFine (visit Dynamic (Placed (Enable g) place)) → IslandsHold l → IslandsHold (after_enable part g o l)

@@ -1,11 +1,11 @@
 -- What the rules say of the statements and the assignments of an accepted design, in its net: tests and atoms are bits, targets and
 -- sources, and what is compared, are equally wide, and lengths, counts and ranges are numbers of 32 bits.
-use Rattle.std.proofs.Common.{◌≡◌, inl, inr, ℕ, ◌+◌, ◌<◌, ◌≤◌, Bool, true, false, ◌&&◌, ◌||◌, not, cond, if◌then◌else◌, List, [], ◌∷◌, length, Option, Some, None, slice_get, get_or, refl, ap, sym, ◌∙◌, subst, arith}
+use Rattle.std.proofs.Common.{◌≡◌, inl, inr, ℕ, ◌+◌, ◌<◌, ◌≤◌, Bool, true, false, ◌&&◌, ◌||◌, not, cond, if◌then◌else◌, List, [], ◌∷◌, length, Option, Some, None, slice_get, get_or, refl, ap, ap₂, sym, ◌∙◌, subst, arith}
 use Rattle.std.specs.Prelude.{◌^◌, nat_lt, nat_le, nat_eq, filter, option_map}
 use Rattle.std.proofs.lemmas.Bool.{ltb-true, eqb-true}
 use Rattle.std.proofs.lemmas.Bool.Decides.{nat_tests}
 use Rattle.std.proofs.lemmas.Option.{slice_get-get_or}
-use Rattle.cx_text.specs.declared.limits.TheConstants.{OCCURRENCES, REPETITIONS}
+use Rattle.cx_text.specs.declared.limits.TheConstants.{REPETITIONS}
 use Rattle.cx_text.specs.declared.rules.Rule.TheVariants as told
 use Rattle.cx_meaning.specs.declared.ports.PortRef.{PortRef}
 use Rattle.cx_meaning.specs.declared.ports.PortRef.TheVariants as ports
@@ -20,11 +20,14 @@ use Rattle.cx_meaning.specs.Sights.{In}
 use Rattle.cx_rules.specs.Flat.{IsFlat}
 use Rattle.cx_rules.specs.Accepted.{IsAccepted}
 use Rattle.cx_rules.specs.Items.{Pair, atoms_of, atoms_in, comparisons_of, comparisons_in, operands_of, operands_in, Range, ranges_of, ranges_in, sources_of, Visited, statements_in, test_in}
-use Rattle.cx_rules.specs.LimitRule.{Limited, OnRepeat, OnOccurrences, OnLatency, word_of, count_in, is_too_many, statement_limit}
+use Rattle.cx_rules.specs.LimitRule.{Limited, word_of, count_in, is_too_many, statement_limit}
+use Rattle.cx_rules.specs.Invokes.{form_lasts}
+use Rattle.cx_rules.proofs.InvokesLemmas.{form_lasts-flat}
+use Rattle.cx_rules.proofs.LimitRuleLemmas.{keeps_limits}
 use Rattle.cx_rules.specs.Ports.{keeps_literal, width_of, written_width, is_source_only, path_of}
 use Rattle.cx_rules.specs.ShapeRules.{owner_length, is_bad_range}
 use Rattle.cx_rules.specs.Spots.{AnAssign, AStatement}
-use Rattle.cx_rules.specs.StaticControl.{is_island, form_occurrences}
+use Rattle.cx_rules.specs.StaticControl.{is_island}
 use Rattle.cx_rules.specs.Wellformed.{IsDesign, IsThere, IsAssign, StandsIn, IsStatement, IsForm}
 use Rattle.cx_rules.specs.WidthRules.{differ, pairs_of, first_unequal, is_wide, first_wide, IsBadLiteral}
 use Rattle.cx_control.proofs.StaticLemmas.{all_may, static_lasts, group_lasts}
@@ -91,13 +94,6 @@ written i (ports.Literal u v) w e = literal_written u v w (keeps_literal u v) e
 
 one_wide : (i : Instance) (p : PortRef) (w : ℕ) → width_of i p ≡ Some w → is_wide i p ≡ false → w ≡ 1
 one_wide i p w e narrow = no_difference w 1 (ap (λ o. differ o (Some 1)) (sym (written i p w e)) ∙ narrow)
-
--- the limits of a statement that exceeds none
-no_limit : (many occurs long : Bool) → (if many then Some OnRepeat else if occurs then Some OnOccurrences else if long then Some OnLatency else None) ≡ None → (many ≡ false) × (long ≡ false)
-no_limit true occurs long e = absurd cc
-no_limit false true long e = absurd cc
-no_limit false false true e = absurd cc
-no_limit false false false e = (refl, refl)
 
 few_rounds : (o : Option ℕ) → is_too_many o ≡ false → (n : ℕ) → o ≡ Some n → n < 2 ^ 32
 few_rounds None e n is = absurd cc
@@ -169,7 +165,7 @@ module _ (d : PlainDesign) (rules : IsDesign d) (flat : IsFlat d) (accepted : Is
     good_test p is bad =
         let n = number_in (statements_in part) v i in
         accepted.widths told.Literal (record { component = k; part = AStatement n.0 }) p.place [] refl
-        (inr (record { within = within; number = n.0; is = refl; statement = v; stands = n.1; breaks = (p, is, bad, (refl, refl)) }))
+        (inr (inl (record { within = within; number = n.0; is = refl; statement = v; stands = n.1; breaks = (p, is, bad, (refl, refl)) })))
 
     narrow_test : (p : PlacedPort) → test_in v.form ≡ Some p → is_wide (whole d rules k here) p.port ≡ false
     narrow_test p is = by (is_wide (whole d rules k here) p.port) refl
@@ -179,7 +175,7 @@ module _ (d : PlainDesign) (rules : IsDesign d) (flat : IsFlat d) (accepted : Is
         by true e =
             let n = number_in (statements_in part) v i in
             absurd (accepted.widths told.GuardWidth (record { component = k; part = AStatement n.0 }) v.place (path_of (whole d rules k here) p.port) refl
-            (inr (record { within = within; number = n.0; is = refl; statement = v; stands = n.1; breaks = (p, is, e, (refl, refl)) })))
+            (inr (inl (record { within = within; number = n.0; is = refl; statement = v; stands = n.1; breaks = (p, is, e, (refl, refl)) }))))
 
     test_fits : (p : PlacedPort) → test_in v.form ≡ Some p → HasPortWidth (net d rules k here) (npart d rules k here) p.port 1
     test_fits p is =
@@ -187,27 +183,31 @@ module _ (d : PlainDesign) (rules : IsDesign d) (flat : IsFlat d) (accepted : Is
         let one = one_wide (whole d rules k here) p.port w.0 w.1 (narrow_test p is) in
         subst (λ x. HasPortWidth (net d rules k here) (npart d rules k here) p.port x) one (port_wide d rules k here p.port w.0 (is_statement.test p is) (is_statement.no_hole p is) w.1)
 
-    no_statement_limit : statement_limit (part_of (whole d rules k here)) v ≡ None
-    no_statement_limit = by (statement_limit (part_of (whole d rules k here)) v) refl
+    no_statement_limit : statement_limit (whole d rules k here) v ≡ None
+    no_statement_limit = by (statement_limit (whole d rules k here) v) refl
       where
-        by : (o : Option Limited) → statement_limit (part_of (whole d rules k here)) v ≡ o → o ≡ None
+        by : (o : Option Limited) → statement_limit (whole d rules k here) v ≡ o → o ≡ None
         by None e = refl
         by (Some limited) e =
             let n = number_in (statements_in part) v i in
             absurd (accepted.limits told.Limit (record { component = k; part = AStatement n.0 }) v.place (word_of limited) refl
             (inr (inr (inl (record { within = within; number = n.0; is = refl; statement = v; stands = n.1; breaks = (limited, e, (refl, refl)) })))))
 
+    length_is : form_lasts (part_of (whole d rules k here)) v.form ≡ form_length part v.form
+    length_is = ap (λ x. form_lasts x v.form) (part_is d rules k here) ∙ form_lasts-flat part (flat k within).no_invoke v.form
+
     limits_kept : (is_too_many (count_in v.form) ≡ false) × ((is_island part v && nat_le REPETITIONS (form_length part v.form)) ≡ false)
     limits_kept =
-        let none = subst (λ x. statement_limit x v ≡ None) (part_is d rules k here) no_statement_limit in
-        no_limit (is_too_many (count_in v.form)) (is_island part v && nat_lt OCCURRENCES (form_occurrences part v.form)) (is_island part v && nat_le REPETITIONS (form_length part v.form)) none
+        let kept = keeps_limits (whole d rules k here) v no_statement_limit in
+        (kept.0, sym (ap₂ (λ x n. is_island x v && nat_le REPETITIONS n) (part_is d rules k here) length_is) ∙ kept.1)
 
     -- WHAT THE RULES SAY of a statement
     pub statement_fine : Fine (net d rules k here) (npart d rules k here) part v
     statement_fine = record {
       form = subst (λ x. IsForm x v.form) (part_is d rules k here) is_statement.form;
+      no_invoke = (flat k within).no_invoke;
       may = λ static. all_may d accepted k within v i static;
-      lasts = λ static has. static_lasts d accepted k within v i static has;
+      lasts = λ static has. static_lasts d accepted k within flat v i static has;
       test = test_fits;
       short = λ island. few_cycles (is_island part v) (form_length part v.form) limits_kept.1 island;
       rounds = λ n is. few_rounds (count_in v.form) limits_kept.0 n is;
@@ -238,7 +238,7 @@ module _ (d : PlainDesign) (rules : IsDesign d) (flat : IsFlat d) (accepted : Is
         by (Some port) e =
             let n = number_in (source_order part) o i in
             absurd (accepted.widths told.Width (record { component = k; part = AnAssign n.0 }) o.assign.place (path_of (whole d rules k here) port) refl
-            (record { within = within; number = n.0; is = refl; assign = o; stands = n.1; breaks = (port, e, (refl, refl)) }))
+            (inl (record { within = within; number = n.0; is = refl; assign = o; stands = n.1; breaks = (port, e, (refl, refl)) })))
 
     none_too_wide : first_wide (whole d rules k here) (atoms_of o.assign.guard) ≡ None
     none_too_wide = by (first_wide (whole d rules k here) (atoms_of o.assign.guard)) refl
@@ -293,7 +293,7 @@ module _ (d : PlainDesign) (rules : IsDesign d) (flat : IsFlat d) (accepted : Is
     no_input n is =
         let at = number_in (source_order part) o i in
         accepted.widths told.NotATarget (record { component = k; part = AnAssign at.0 }) o.assign.place (path_of (whole d rules k here) o.assign.target) refl
-        (record { within = within; number = at.0; is = refl; assign = o; stands = at.1; breaks = (ap (is_source_only (whole d rules k here)) is, (refl, refl)) })
+        (inl (record { within = within; number = at.0; is = refl; assign = o; stands = at.1; breaks = (ap (is_source_only (whole d rules k here)) is, (refl, refl)) }))
 
     target_proper : (p : PortRef) → o.assign.target ≡ p → IsProper (target_of p)
     target_proper (ports.Cell c p) is = tt

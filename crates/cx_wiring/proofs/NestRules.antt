@@ -124,7 +124,7 @@ module _ (d : PlainDesign) (accepted : IsAccepted d) (k : ℕ) (within : k < len
       by true e =
           let n = number_in (statements_in part) v i in
           absurd (accepted.widths told.NotASource (record { component = k; part = AStatement n.0 }) p.place (path_of (component_of d k) p.port) refl
-          (inr (record { within = within; number = n.0; is = refl; statement = v; stands = n.1; breaks = (p, is, e, (refl, refl)) })))
+          (inr (inl (record { within = within; number = n.0; is = refl; statement = v; stands = n.1; breaks = (p, is, e, (refl, refl)) }))))
 
   source_read : (o : Owned) → In (source_order part) o → (p : PlacedPort) → In (sources_of o.assign) p → IsRead p.port
   source_read o i p j = is_read p.port (by (is_target_only (component_of d k) p.port) refl)

@@ -18,6 +18,7 @@ use Rattle.cx_rules.specs.Items.{statements_in}
 use Rattle.cx_rules.specs.LimitRule.{OnWeight, OnWords, word_of, order_of}
 use Rattle.cx_rules.specs.Sizes.{size_of, weight_below, weight_in, weight_of, shape_words, words_below as design_words, words_in as design_words_in}
 use Rattle.cx_rules.specs.Spots.{Whole}
+use Rattle.cx_rules.proofs.CountsLemmas.{counted_weight-flat}
 use Rattle.cx_rules.specs.Wellformed.{IsKind, IsDesign}
 use Rattle.cx_net.specs.NetLimits.{row_nets, signature_size, nets_below, nets_in, instances_below, instances_in, words_below, words_in}
 use Rattle.cx_net.specs.Nets.{PlainNetComponent}
@@ -236,14 +237,14 @@ module _ (d : PlainDesign) (rules : IsDesign d) (made : PlainComponent → Plain
       tree_nets own (length d.components) d.main rules.main_there in
       omega arith
 
-  module _ (accepted : IsAccepted d) where
+  module _ (flat : IsFlat d) (accepted : IsAccepted d) where
     weight_few : weight_of d ≤ 65536
     weight_few = let h : weight_of d ≤ WEIGHT = ⊎_elim (λ more. absurd (over more)) (λ h. h) (cases_lt WEIGHT (weight_of d)) in omega arith
       where
         over : WEIGHT < weight_of d → ⊥
         over more =
             accepted.limits told.Limit (record { component = d.main; part = Whole (order_of OnWeight) }) (component_at d d.main).place (word_of OnWeight) refl
-            (inr (inr (inr (inr (inr (inr (record { at_main = refl; is = refl; exceeds = more; tells = (refl, refl) })))))))
+            (inr (inr (inr (inr (inr (inr (record { at_main = refl; is = refl; exceeds = subst (λ n. WEIGHT < n) (sym (counted_weight-flat d flat (length d.components) d.main)) more; tells = (refl, refl) })))))))
 
     memory_few : design_words (tree_of d) ≤ 4194304
     memory_few = let h : design_words (tree_of d) ≤ MEMORY_WORDS = ⊎_elim (λ more. absurd (over more)) (λ h. h) (cases_lt MEMORY_WORDS (design_words (tree_of d))) in omega arith
@@ -293,10 +294,10 @@ module _ (d : PlainDesign) (rules : IsDesign d) (parts : (k : ℕ) → k < lengt
   pub net_nets : IsFlat d → IsAccepted d → nets_below (net_tree (net_of (lowered_of d))) ≤ 4194304
   net_nets flat accepted =
       subst (λ tree. nets_below tree ≤ 4194304) (sym (net_tree-net_of d rules numbers))
-      (whole_nets d rules (wired_in d) numbers accepted (own_few flat (wired_in d) (λ k. refl) (λ k. (omega arith)) (λ k. refl)))
+      (whole_nets d rules (wired_in d) numbers flat accepted (own_few flat (wired_in d) (λ k. refl) (λ k. (omega arith)) (λ k. refl)))
 
-  pub net_instances : IsAccepted d → instances_below (net_tree (net_of (lowered_of d))) ≤ 131072
-  net_instances accepted = subst (λ tree. instances_below tree ≤ 131072) (sym (net_tree-net_of d rules numbers)) (whole_instances d rules (wired_in d) numbers accepted parts)
+  pub net_instances : IsFlat d → IsAccepted d → instances_below (net_tree (net_of (lowered_of d))) ≤ 131072
+  net_instances flat accepted = subst (λ tree. instances_below tree ≤ 131072) (sym (net_tree-net_of d rules numbers)) (whole_instances d rules (wired_in d) numbers flat accepted parts)
 
-  pub net_words : IsAccepted d → words_below (net_tree (net_of (lowered_of d))) ≤ 4194304
-  net_words accepted = subst (λ tree. words_below tree ≤ 4194304) (sym (net_tree-net_of d rules numbers)) (whole_words d rules (wired_in d) numbers accepted)
+  pub net_words : IsFlat d → IsAccepted d → words_below (net_tree (net_of (lowered_of d))) ≤ 4194304
+  net_words flat accepted = subst (λ tree. words_below tree ≤ 4194304) (sym (net_tree-net_of d rules numbers)) (whole_words d rules (wired_in d) numbers flat accepted)

@@ -258,6 +258,6 @@ module _ (d : PlainDesign) (rules : IsDesign d) (flat : IsFlat d) (accepted : Is
     externals_apart = subst (λ (x : PlainNetComponent). (c e : ℕ) (cell other : PlainCell) → slice_get x.cells c ≡ Some cell → cell.external ≡ true → slice_get x.cells e ≡ Some other → other.external ≡ true → cell.name ≡ other.name → c ≡ e)
         (sym (placed d rules d.main main_here)) memories_apart;
     nets = net_nets d rules can.parts no_numbers flat accepted;
-    instances = net_instances d rules can.parts no_numbers accepted;
-    words = net_words d rules can.parts no_numbers accepted;
+    instances = net_instances d rules can.parts no_numbers flat accepted;
+    words = net_words d rules can.parts no_numbers flat accepted;
   }

@@ -1,6 +1,6 @@
 -- What an accepted design gives the cells of each node: rows are lawful, nothing continuous enables a primitive or drives a component
 -- cell. So in a cycle in which no group goes each primitive makes its idle step and no child has go.
-use Rattle.std.proofs.Common.{◌≡◌, ℕ, ◌+◌, ◌<◌, ◌^◌, ◌&&◌, nat_lt, nat_le, if◌then◌else◌, inl, inr, ⊎_elim, true, false, [], ◌∷◌, length, Option, Some, None, refl, sym, ap, ◌∙◌, subst, arith}
+use Rattle.std.proofs.Common.{◌≡◌, ℕ, ◌+◌, ◌<◌, ◌^◌, inl, inr, ⊎_elim, true, false, [], ◌∷◌, length, Option, Some, None, refl, sym, ap, ◌∙◌, subst, arith}
 use Rattle.cx_bits.specs.BitVector.{BitVector}
 use Rattle.cx_prim.specs.declared.ports.Side.TheVariants as sides
 use Rattle.cx_prim.specs.Rows.{Row, IsLawful}
@@ -13,13 +13,12 @@ use Rattle.cx_meaning.specs.Instances.{Instance, Cells, At, OfRow, OfInstance, p
 use Rattle.cx_meaning.specs.Active.{Owned, source_order}
 use Rattle.cx_meaning.specs.Sights.{In}
 use Rattle.cx_meaning.specs.Control.{group_drives}
-use Rattle.cx_meaning.specs.Islands.{form_length}
 use Rattle.cx_rules.specs.Items.{Visited, statements_in, is_plain}
-use Rattle.cx_rules.specs.StaticControl.{is_island, form_occurrences}
-use Rattle.cx_rules.specs.LimitRule.{Limited, OnRepeat, OnOccurrences, OnLatency, word_of, count_in, is_too_many}
+use Rattle.cx_rules.specs.LimitRule.{OnRepeat, word_of, count_in, is_too_many}
+use Rattle.cx_rules.proofs.LimitRuleLemmas.{over_repeat}
 use Rattle.cx_rules.specs.Spots.{AStatement}
 use Rattle.cx_text.specs.declared.rules.Rule.TheVariants.{Limit}
-use Rattle.cx_text.specs.declared.limits.TheConstants.{OCCURRENCES, REPETITIONS}
+use Rattle.cx_text.specs.declared.limits.TheConstants.{REPETITIONS}
 use Rattle.std.proofs.lemmas.Bool.{cases_lt, le-leb}
 use Rattle.cx_rules.specs.Flat.{IsFlat}
 use Rattle.cx_rules.specs.Accepted.{IsAccepted}
@@ -66,12 +65,6 @@ cell_rules d design flat accepted path = record {
   rounds = instance_part d design accepted (λ part. (v : Visited) → In (statements_in part) v → (n : ℕ) → count_in v.form ≡ Some n → n < 2 ^ 32) (λ k within v i n e. few k within v i n e) (λ v i n e. no_rounds v i n e) path;
 }
   where
-    other_limit : ℕ → Visited → Option Limited
-    other_limit k v =
-        if is_island (part_of (component_of d k)) v && nat_lt OCCURRENCES (form_occurrences (part_of (component_of d k)) v.form) then Some OnOccurrences
-        else if is_island (part_of (component_of d k)) v && nat_le REPETITIONS (form_length (part_of (component_of d k)) v.form) then Some OnLatency
-        else None
-
     outside : StandsFor d (instance_at (tree_of d) path) → (o : Owned) (c p : ℕ) (child : Instance) → In (source_order (part_of (instance_at (tree_of d) path))) o → o.owner ≡ None → o.assign.target ≡ ports.Cell c p
         → cell_at (cells_of (instance_at (tree_of d) path)) c ≡ OfInstance child → ⊥
     outside (of_component k l beside) o c p child i owner target at =
@@ -103,7 +96,7 @@ cell_rules d design flat accepted path = record {
           is = refl;
           statement = v;
           stands = m.1;
-          breaks = (OnRepeat, ap (λ b. if b then Some OnRepeat else other_limit k v) over, (refl, refl));
+          breaks = (OnRepeat, over_repeat (component_of d k) v over, (refl, refl));
         }))))))
         (cases_lt n (2 ^ 32))
 

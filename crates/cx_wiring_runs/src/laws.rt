@@ -22,10 +22,10 @@ pub fn design_is_realised()
     loaded_start_is_settled();
 }
 
-/// What `lower` makes of the control of an accepted design's instance keeps what runs: the parts of dynamic control stand as they stood, and in
+/// What `lower` makes of the control of an instance of an accepted design without static components keeps what runs: the parts of dynamic control stand as they stood, and in
 /// place of each island stands one whose lists run as it, cycle by cycle.
 pub fn lowering_keeps_what_runs()
-    ensures { (d : PlainDesign) (path : Path) → IsAccepted d → KeepsWhatRuns (instance_at (tree_of d) path) (lowered_component (part_of (instance_at (tree_of d) path))) }
+    ensures { (d : PlainDesign) (path : Path) → IsFlat d → IsAccepted d → KeepsWhatRuns (instance_at (tree_of d) path) (lowered_component (part_of (instance_at (tree_of d) path))) }
 {
     accepted_has_no_empty_if();
     instances_keep_rules();

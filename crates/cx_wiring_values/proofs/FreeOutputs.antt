@@ -24,7 +24,7 @@ module _ (d : PlainDesign) (accepted : IsAccepted d) where
   component_free k within o i n q target names leads =
       let at = number_in (source_order (component_at d k)) o i in
       accepted.shapes rules.OutputNotState (record { component = k; part = AnAssign at.0 }) o.assign.place (path_of (component_of d k) o.assign.target) refl
-      (record { within = within; number = at.0; is = refl; assign = o; stands = at.1; breaks = (n, target, (q, names, inr leads), (refl, refl)) })
+      (inl (record { within = within; number = at.0; is = refl; assign = o; stands = at.1; breaks = (n, target, (q, names, inr leads), (refl, refl)) }))
 
   free_of : {i : Instance} → StandsFor d i → OutputsFree i
   free_of {i} (of_component k within beside) o n q at target names m leads =

@@ -206,7 +206,7 @@ module _ (d : PlainDesign) (design : IsDesign d) (flat : IsFlat d) (accepted : I
         by false e = refl
         by true e =
             absurd (accepted.widths rules.NotATarget (record { component = k; part = AnAssign number.0 }) o.assign.place (path_of (component_of d k) o.assign.target) refl
-            (record { within = within; number = number.0; is = refl; assign = o; stands = number.1; breaks = (e, (refl, refl)) }))
+            (inl (record { within = within; number = number.0; is = refl; assign = o; stands = number.1; breaks = (e, (refl, refl)) })))
 
     no_input : (n : ℕ) → o.assign.target ≡ ports.Input n → ⊥
     no_input n e = let no = sym no_source ∙ ap (is_source_only (component_of d k)) e in absurd cc
@@ -271,7 +271,7 @@ module _ (d : PlainDesign) (design : IsDesign d) (flat : IsFlat d) (accepted : I
       there = ((design.components k within).statements v i).test p e;
       no_hole = ((design.components k within).statements v i).no_hole p e;
       literal = λ bad. accepted.widths rules.Literal (record { component = k; part = AStatement place.0 }) p.place [] refl
-          (inr (record { within = within; number = place.0; is = refl; statement = v; stands = place.1; breaks = (p, e, bad, (refl, refl)) }));
+          (inr (inl (record { within = within; number = place.0; is = refl; statement = v; stands = place.1; breaks = (p, e, bad, (refl, refl)) })));
     }
 
     test_narrow : written_width (component_of d k) p.port ≡ Some 1
@@ -281,7 +281,7 @@ module _ (d : PlainDesign) (design : IsDesign d) (flat : IsFlat d) (accepted : I
         by false f = refl
         by true f =
             absurd (accepted.widths rules.GuardWidth (record { component = k; part = AStatement place.0 }) v.place (path_of (component_of d k) p.port) refl
-            (inr (record { within = within; number = place.0; is = refl; statement = v; stands = place.1; breaks = (p, e, f, (refl, refl)) })))
+            (inr (inl (record { within = within; number = place.0; is = refl; statement = v; stands = place.1; breaks = (p, e, f, (refl, refl)) }))))
 
   -- AN INSTANCE of it
   module _ (m n : ℕ) (count : length d.components ≡ suc n) where

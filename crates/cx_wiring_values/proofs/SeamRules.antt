@@ -88,7 +88,7 @@ rests_alike part cells more alike (done_rests {c} {p} child at port) = let k = c
 rests_alike part cells more alike (combinational_rests {c} {p} row at side none each) =
     combinational_rests row (row_alike (alike c) row at) side none (λ m a q w i t n. rests_alike part cells more alike (each m a q w i t n))
 
-module _ (d : PlainDesign) (accepted : IsAccepted d) (k : ℕ) (within : k < length d.components) where
+module _ (d : PlainDesign) (flat : IsFlat d) (accepted : IsAccepted d) (k : ℕ) (within : k < length d.components) where
   module _ (o : Owned) (i : In (source_order (component_at d k)) o) where
     done_rest : (g : ℕ) (q : PortRef) → o.assign.target ≡ ports.Done g → AssignNames o.assign q → (Rests (component_of d k) q → ⊥) → ⊥
     done_rest g q target names none =
@@ -100,7 +100,7 @@ module _ (d : PlainDesign) (accepted : IsAccepted d) (k : ℕ) (within : k < len
     output_rest m q target names none =
         let n = number_in (source_order (component_at d k)) o i in
         accepted.shapes rules.OutputNotState (record { component = k; part = AnAssign n.0 }) o.assign.place (path_of (component_of d k) o.assign.target) refl
-        (record { within = within; number = n.0; is = refl; assign = o; stands = n.1; breaks = (m, target, (q, names, inl none), (refl, refl)) })
+        (inl (record { within = within; number = n.0; is = refl; assign = o; stands = n.1; breaks = (m, target, (q, names, inl none), (refl, refl)) }))
 
     comb_rests : (g c p : ℕ) (row : Row) → o.owner ≡ Some g → is_comb (group_at (part_of (component_of d k)) g).kind ≡ true → o.assign.target ≡ ports.Cell c p → cell_at (cells_of (component_of d k)) c ≡ OfRow row → side_of row p ≡ sides.Enable → ⊥
     comb_rests g c p row owner comb target at side =
@@ -117,13 +117,13 @@ module _ (d : PlainDesign) (accepted : IsAccepted d) (k : ℕ) (within : k < len
   test_rest v written test a b i form none =
       let n = number_in (statements_in (component_at d k)) v i in
       accepted.shapes rules.StaticShape (record { component = k; part = AStatement n.0 }) v.place [] refl
-      (inr (inr (inr (record { within = within; number = n.0; is = refl; statement = v; stands = n.1; breaks = (written, test, a, b, form, none, (refl, refl)) }))))
+      (inr (inr (inr (inl (record { within = within; number = n.0; is = refl; statement = v; stands = n.1; breaks = (written, test, a, b, form, none, (refl, refl)) })))))
 
   static_groups : (form : PlainForm) (place : Place) → In (statements_in (component_at d k)) (record { context = Dynamic; form = form; place = place }) → is_static form ≡ true → (g : ℕ) → In (groups_in form) g
       → is_some (group_length (component_at d k) g) ≡ true
   static_groups form place i static =
       IsStatic.static
-      (static_form (component_at d k) Dynamic form (static_may (component_at d k) form static)
+      (static_form (component_at d k) (flat k within).no_invoke Dynamic form (static_may (component_at d k) form static)
       (λ w j. all_may d accepted k within w (visited Dynamic (component_at d k).control (record { context = Dynamic; form = form; place = place }) w i (inr j))))
 
   module _ (m n : ℕ) (count : length d.components ≡ suc n) where
@@ -166,5 +166,5 @@ pub seam_rules : (d : PlainDesign) → IsDesign d → IsFlat d → IsAccepted d 
 seam_rules d design flat accepted path = record { node = node_rules d design flat accepted path; kept = kept_instance d design accepted path; keeps = instance_ports d design path; rests = by (instance_whole d design path) }
   where
     by : {i : Instance} → IsWhole d i → RestRules i
-    by (of_component m k within) = let n = some_components k (length d.components) within in tree_rests d accepted k within m n.0 n.1
+    by (of_component m k within) = let n = some_components k (length d.components) within in tree_rests d flat accepted k within m n.0 n.1
     by of_nothing = record { dones = λ o g q i. absurd i; outputs = λ o n q i. absurd i; tests = λ v written test a b i form none. no_static v i written test a b form; statics = λ form place i static. absurd (bare_form form place i static); combs = λ o g c p row i. absurd i }

@@ -1,10 +1,10 @@
 -- What an accepted design gives the timers of a node: its statement is not lowered yet, its cells are all there, each timer counts some
 -- cycles and no more than 32 bits number, and no assignment drives one.
-use Rattle.std.proofs.Common.{◌≡◌, inl, inr, ⊎_elim, ℕ, ◌*◌, ◌<◌, ◌^◌, ◌&&◌, nat_le, Bool, true, false, List, [], ◌∷◌, ◌++◌, length, Some, None, is_some, refl, sym, ap, ◌∙◌, subst, arith}
-use Rattle.std.specs.Prelude.{if◌then◌else◌, nat_lt, nat_eq}
-use Rattle.std.proofs.lemmas.Bool.{cases_lt, le-leb, or_right, eq-eqb}
+use Rattle.std.proofs.Common.{◌≡◌, inl, inr, ⊎_elim, ℕ, ◌*◌, ◌<◌, ◌≤◌, ◌^◌, ◌&&◌, Bool, true, false, List, [], ◌∷◌, ◌++◌, length, Some, None, is_some, refl, sym, ap, ◌∙◌, subst, arith}
+use Rattle.std.specs.Prelude.{nat_eq}
+use Rattle.std.proofs.lemmas.Bool.{cases_lt, or_right, eq-eqb}
 use Rattle.cx_text.specs.declared.places.Place.{Place}
-use Rattle.cx_text.specs.declared.limits.TheConstants.{OCCURRENCES, REPETITIONS}
+use Rattle.cx_text.specs.declared.limits.TheConstants.{REPETITIONS}
 use Rattle.cx_text.specs.declared.rules.Rule.TheVariants.{StaticShape, Limit}
 use Rattle.cx_meaning.specs.declared.ports.PortRef.{PortRef}
 use Rattle.cx_meaning.specs.declared.ports.PortRef.TheVariants as ports
@@ -16,8 +16,10 @@ use Rattle.cx_meaning.specs.Sights.{In}
 use Rattle.cx_meaning.specs.Islands.{or_zero, group_length, form_length}
 use Rattle.cx_rules.specs.Ports.{component_of}
 use Rattle.cx_rules.specs.Items.{Context, Dynamic, InStatic, Branch, Visited, visit, visit_parts, visit_all, statements_in}
-use Rattle.cx_rules.specs.StaticControl.{form_occurrences, is_static, is_in_static, may_stand, form_has_length, has_length, all_have_length, is_island}
-use Rattle.cx_rules.specs.LimitRule.{Limited, OnRepeat, OnOccurrences, OnLatency, word_of, count_in, is_too_many}
+use Rattle.cx_rules.specs.StaticControl.{is_static, is_in_static, may_stand, form_has_length, has_length, all_have_length, is_island}
+use Rattle.cx_rules.specs.LimitRule.{word_of}
+use Rattle.cx_rules.proofs.CountsLemmas.{lasts_within}
+use Rattle.cx_rules.proofs.LimitRuleLemmas.{over_latency}
 use Rattle.cx_rules.specs.ShapeRules.{is_hole, some_target, enabled_name}
 use Rattle.cx_rules.specs.Spots.{AStatement, AGroup}
 use Rattle.cx_rules.specs.Flat.{IsFlat}
@@ -91,23 +93,23 @@ module _ (part : PlainComponent) where
 
   -- where all may stand in static control there is a length
   mutual
-    long_form : (context : Context) (form : PlainForm) → may_stand part context form ≡ true → AllWell (visit_parts context form) → form_has_length part context form ≡ true
-    long_form context Empty m w = m
-    long_form context (Enable g) m w = m
-    long_form context (Seq parts) m w = m
-    long_form context (Par arms) m w = m
-    long_form context (If test comb a b) m w = m
-    long_form context (While test comb a) m w = m
-    long_form context (Repeat count a) m w = m
-    long_form context (StaticSeq written parts) m w = long_all parts w
-    long_form context (StaticPar written arms) m w = long_all arms w
-    long_form context (StaticIf written test a b) m w =
+    long_form : (context : Context) (form : PlainForm) → ((k : ℕ) → form ≡ Timed k → ⊥) → may_stand part context form ≡ true → AllWell (visit_parts context form) → form_has_length part context form ≡ true
+    long_form context Empty untimed m w = m
+    long_form context (Enable g) untimed m w = m
+    long_form context (Seq parts) untimed m w = m
+    long_form context (Par arms) untimed m w = m
+    long_form context (If test comb a b) untimed m w = m
+    long_form context (While test comb a) untimed m w = m
+    long_form context (Repeat count a) untimed m w = m
+    long_form context (StaticSeq written parts) untimed m w = long_all parts w
+    long_form context (StaticPar written arms) untimed m w = long_all arms w
+    long_form context (StaticIf written test a b) untimed m w =
         both_true (has_length part Branch a) (has_length part Branch b) (long Branch a refl (first_well (visit Branch a) (visit Branch b) w)) (long Branch b refl (rest_well (visit Branch a) (visit Branch b) w))
-    long_form context (StaticRepeat written count a) m w = long InStatic a refl w
-    long_form context (Timed k) m w = m
+    long_form context (StaticRepeat written count a) untimed m w = long InStatic a refl w
+    long_form context (Timed k) untimed m w = absurd (untimed k refl)
 
     long : (context : Context) (s : PlainStatement) → is_in_static context ≡ true → AllWell (visit context s) → has_length part context s ≡ true
-    long context (Placed form place) e w = long_form context form ((w (record { context = context; form = form; place = place }) (inl refl)).stands e) (λ v i. w v (inr i))
+    long context (Placed form place) e w = long_form context form ((w (record { context = context; form = form; place = place }) (inl refl)).untimed) ((w (record { context = context; form = form; place = place }) (inl refl)).stands e) (λ v i. w v (inr i))
 
     long_all : (ss : PlainStatements) → AllWell (visit_all InStatic ss) → all_have_length part ss ≡ true
     long_all no_statements w = refl
@@ -132,7 +134,7 @@ module _ (part : PlainComponent) where
     form_runs context (StaticIf written test a b) place w =
         (statement_runs Branch a (λ v i. w v (inr (in_left (visit Branch a) (visit Branch b) v i))), statement_runs Branch b (λ v i. w v (inr (in_right (visit Branch a) (visit Branch b) v i))))
     form_runs context (StaticRepeat written count a) place w = (
-      (w (record { context = context; form = StaticRepeat written count a; place = place }) (inl refl)).lasts refl (long_form context (StaticRepeat written count a) refl (λ v i. w v (inr i))),
+      (w (record { context = context; form = StaticRepeat written count a; place = place }) (inl refl)).lasts refl (long_form context (StaticRepeat written count a) (λ k e. absurd cc) refl (λ v i. w v (inr i))),
       statement_runs InStatic a (λ v i. w v (inr i)),
     )
     form_runs context (Timed k) place w = tt
@@ -157,7 +159,7 @@ module _ (part : PlainComponent) where
     form_lasts context (StaticSeq written parts) place w = all_last parts (λ v i. w v (inr i))
     form_lasts context (StaticPar written arms) place w = all_last arms (λ v i. w v (inr i))
     form_lasts context (StaticIf written test a b) place w = (
-      (w (record { context = context; form = StaticIf written test a b; place = place }) (inl refl)).lasts refl (long_form context (StaticIf written test a b) refl (λ v i. w v (inr i))),
+      (w (record { context = context; form = StaticIf written test a b; place = place }) (inl refl)).lasts refl (long_form context (StaticIf written test a b) (λ k e. absurd cc) refl (λ v i. w v (inr i))),
       statement_lasts Branch a (λ v i. w v (inr (in_left (visit Branch a) (visit Branch b) v i))),
       statement_lasts Branch b (λ v i. w v (inr (in_right (visit Branch a) (visit Branch b) v i))),
     )
@@ -176,7 +178,7 @@ module _ (part : PlainComponent) where
       → RunsWell part (2 ^ 32) form
   static_makes form place static stands island w =
       let own = w (record { context = Dynamic; form = form; place = place }) (inl refl) in
-      record { some = own.lasts static (long_form Dynamic form stands (λ v i. w v (inr i))); few = own.limited island; repeats = form_runs Dynamic form place w }
+      record { some = own.lasts static (long_form Dynamic form own.untimed stands (λ v i. w v (inr i))); few = own.limited island; repeats = form_runs Dynamic form place w }
 
   mutual
     form_makes : (form : PlainForm) (place : Place) → AllWell (visit Dynamic (Placed form place)) → FormMakes part (RunsWell part (2 ^ 32)) form
@@ -224,12 +226,6 @@ timer_rules_by part cells well count there = record {
   ifs = λ v i. form_lasts part v.context v.form v.place (λ w j. well w (visited Dynamic part.control v w i j));
 }
 
--- the first limit of three, of which the last is exceeded
-first_limit : (a b c : Bool) → c ≡ true → (limited : Limited) × ((if a then Some OnRepeat else (if b then Some OnOccurrences else (if c then Some OnLatency else None))) ≡ Some limited)
-first_limit true b c e = (OnRepeat, refl)
-first_limit false true c e = (OnOccurrences, refl)
-first_limit false false c e = (OnLatency, ap (λ x. if x then Some OnLatency else None) e)
-
 -- OF AN ACCEPTED DESIGN
 module _ (d : PlainDesign) (design : IsDesign d) (flat : IsFlat d) (accepted : IsAccepted d) (k : ℕ) (within : k < length d.components) where
   may : (v : Visited) → In (statements_in (component_at d k)) v → is_in_static v.context ≡ true → may_stand (part_of (component_of d k)) v.context v.form ≡ true
@@ -247,7 +243,8 @@ module _ (d : PlainDesign) (design : IsDesign d) (flat : IsFlat d) (accepted : I
       ⊎_elim
       (λ l. l)
       (λ l. let n = number_in (statements_in (component_at d k)) v i in
-      let none : form_length (part_of (component_of d k)) v.form ≡ 0 = omega arith in
+      let bare : form_length (part_of (component_of d k)) v.form ≡ 0 = omega arith in
+      let none = lasts_within d flat (length d.components) k v.form ∙ bare in
       absurd (accepted.shapes StaticShape (record { component = k; part = AStatement n.0 }) v.place [] refl
       (inr (inr (inl (record { within = within; number = n.0; is = refl; statement = v; stands = n.1; breaks = (static, long_so, inr none, (refl, refl)) }))))))
       (cases_lt 0 (form_length (part_of (component_of d k)) v.form))
@@ -258,9 +255,7 @@ module _ (d : PlainDesign) (design : IsDesign d) (flat : IsFlat d) (accepted : I
       ⊎_elim
       (λ l. l)
       (λ l. let n = number_in (statements_in (component_at d k)) v i in
-      let over = first_limit (is_too_many (count_in v.form)) (is_island (part_of (component_of d k)) v && nat_lt OCCURRENCES (form_occurrences (part_of (component_of d k)) v.form))
-      (is_island (part_of (component_of d k)) v && nat_le REPETITIONS (form_length (part_of (component_of d k)) v.form))
-      (both_true (part_of (component_of d k)) (is_island (part_of (component_of d k)) v) _ island (le-leb REPETITIONS (form_length (part_of (component_of d k)) v.form) l)) in
+      let over = over_latency (component_of d k) v island (subst (λ n. REPETITIONS ≤ n) (sym (lasts_within d flat (length d.components) k v.form)) l) in
       absurd (accepted.limits Limit (record { component = k; part = AStatement n.0 }) v.place (word_of over.0) refl
       (inr (inr (inl (record { within = within; number = n.0; is = refl; statement = v; stands = n.1; breaks = (over.0, over.1, (refl, refl)) }))))))
       (cases_lt (form_length (part_of (component_of d k)) v.form) (2 ^ 32))

@@ -1,7 +1,6 @@
 -- CONTROL, CELLS AND COMPONENTS of the design of a tree without places.
-use Rattle.std.proofs.Common.{◌≡◌, ℕ, ◌+◌, Bool, true, false, List, [], ◌∷◌, ◌++◌, Option, Some, None, map, option_map, length, refl, sym, ap, ◌∙◌}
+use Rattle.std.proofs.Common.{◌≡◌, ℕ, Bool, true, false, List, [], ◌∷◌, ◌++◌, Option, Some, None, map, option_map, length, refl, sym, ap, ◌∙◌}
 use Rattle.std.proofs.lemmas.List.{map-append}
-use Rattle.cx_text.proofs.ListLaws.{length-map}
 use Rattle.cx_text.specs.declared.places.Place.{Place}
 use Rattle.cx_text.specs.Places.{start}
 use Rattle.cx_ast.specs.PlainTree as ast
@@ -10,10 +9,10 @@ use Rattle.cx_print.specs.Places.{bare_form, bare_else, bare_block, bare_stateme
 use Rattle.cx_meaning.specs.Designs.{PlainKind, OfComponent, PlainCell, PlainForm, PlainStatement, Placed, PlainStatements, no_statements, a_statement, PlainGroup, PlainComponent}
 use Rattle.cx_meaning.specs.Designs as plain
 use Rattle.cx_numbering.specs.Names.{signature_ports, groups_in, always_in, group_names, CellOf, Neither, APrimitive, AComponent, cell_of}
-use Rattle.cx_numbering.specs.DesignOf.{number_or_0, assign_of, group_of, invokes_in, invokes_else, invokes_of, invokes_all, group_number, comb_number, of_block, form_of, else_of, block_of, parts_of, all_of, invoke_groups, control_invokes, control_of, kind_or, plain_cell_of, decl_of, component_of}
-use Rattle.cx_rewrites.specs.Places.{unplaced_assign, unplaced_group, unplaced_cell, unplaced_form, unplaced, unplaced_statements}
+use Rattle.cx_numbering.specs.DesignOf.{number_or_0, assign_of, group_of, Invoke, Next, is_static_invoke, past, invokes_in, invokes_else, invokes_of, invokes_all, group_number, comb_number, of_block, invoke_form, form_of, else_of, block_of, parts_of, all_of, invoke_groups, static_invokes, first, control_invokes, control_of, kind_or, plain_cell_of, decl_of, component_of}
+use Rattle.cx_rewrites.specs.Places.{unplaced_assign, unplaced_group, unplaced_invoke, unplaced_cell, unplaced_form, unplaced, unplaced_statements}
 use Rattle.cx_written.proofs.BareNames.{both_ways, signature_ports-bare, component_names-bare, groups_in-bare, always_in-bare, group_names-bare, bare_of, cell_of-bare}
-use Rattle.cx_written.proofs.BareParts.{bare_invoke, placed_of-bare, assigns-bare, group_of-bare, invoke_groups-bare}
+use Rattle.cx_written.proofs.BareParts.{bare_invoke, placed_of-bare, assigns-bare, group_of-bare, is_static-bare, past-bare, invoke_groups-bare, static_invokes-bare}
 
 -- INVOKES in control
 mutual
@@ -48,12 +47,6 @@ mutual
       ap (λ ks. ks ++ invokes_all (bare_statements rest)) (invokes_in-bare form place) ∙ ap (λ ks. map bare_invoke (invokes_in form place) ++ ks) (invokes_all-bare rest)
       ∙ sym (map-append bare_invoke (invokes_in form place) (invokes_all rest))
 
-block_count : (b : statements.PlainBlock) → length (invokes_of b) ≡ length (invokes_of (bare_block b))
-block_count b = sym (ap length (invokes_of-bare b) ∙ length-map bare_invoke (invokes_of b))
-
-form_count : (f : statements.PlainForm) (place : Place) → length (invokes_in f place) ≡ length (invokes_in (bare_form f) start)
-form_count f place = sym (ap length (invokes_in-bare f place) ∙ length-map bare_invoke (invokes_in f place))
-
 module _ (tree : ast.PlainTree) (part : ast.PlainComponent) where
   group_number-bare : (name : List ℕ) → group_number tree part name ≡ group_number (without_places tree) (bare_component part) name
   group_number-bare name = ap (number_or_0 name) (sym (group_names-bare part))
@@ -69,57 +62,69 @@ module _ (tree : ast.PlainTree) (part : ast.PlainComponent) where
   of_block-bare true place (a_statement s (a_statement t rest)) = refl
   of_block-bare false place (a_statement s (a_statement t rest)) = refl
 
-  behind : (static : Bool) (n : ℕ) (block : statements.PlainBlock) (otherwise : statements.PlainElse)
-      → else_of (without_places tree) (bare_component part) static (n + length (invokes_of block)) start (bare_else otherwise)
-      ≡ else_of (without_places tree) (bare_component part) static (n + length (invokes_of (bare_block block))) start (bare_else otherwise)
-  behind static n block otherwise = ap (λ k. else_of (without_places tree) (bare_component part) static (n + k) start (bare_else otherwise)) (block_count block)
+  block_past : (n : Next) (block : statements.PlainBlock) → past tree part n (invokes_of block) ≡ past (without_places tree) (bare_component part) n (invokes_of (bare_block block))
+  block_past n block = past-bare tree part n (invokes_of block) ∙ ap (past (without_places tree) (bare_component part) n) (sym (invokes_of-bare block))
+
+  form_past : (n : Next) (f : statements.PlainForm) (place : Place) → past tree part n (invokes_in f place) ≡ past (without_places tree) (bare_component part) n (invokes_in (bare_form f) start)
+  form_past n f place = past-bare tree part n (invokes_in f place) ∙ ap (past (without_places tree) (bare_component part) n) (sym (invokes_in-bare f place))
+
+  behind : (static : Bool) (n : Next) (block : statements.PlainBlock) (otherwise : statements.PlainElse)
+      → else_of (without_places tree) (bare_component part) static (past tree part n (invokes_of block)) start (bare_else otherwise)
+      ≡ else_of (without_places tree) (bare_component part) static (past (without_places tree) (bare_component part) n (invokes_of (bare_block block))) start (bare_else otherwise)
+  behind static n block otherwise = ap (λ m. else_of (without_places tree) (bare_component part) static m start (bare_else otherwise)) (block_past n block)
+
+  invoke_form-bare : (static : Bool) (n : Next) → unplaced_form (invoke_form tree part static n) ≡ invoke_form (without_places tree) (bare_component part) static n
+  invoke_form-bare true n = refl
+  invoke_form-bare false n = refl
 
   mutual
-    form_of-bare : (n : ℕ) (place : Place) (f : statements.PlainForm) → unplaced_form (form_of tree part n place f) ≡ form_of (without_places tree) (bare_component part) n start (bare_form f)
+    form_of-bare : (n : Next) (place : Place) (f : statements.PlainForm) → unplaced_form (form_of tree part n place f) ≡ form_of (without_places tree) (bare_component part) n start (bare_form f)
     form_of-bare n place (statements.Enable group marks) = ap plain.Enable (group_number-bare group)
     form_of-bare n place (statements.Seq marks block) = ap plain.Seq (parts_of-bare n block)
     form_of-bare n place (statements.Par marks block) = ap plain.Par (parts_of-bare n block)
     form_of-bare n place (statements.StaticSeq written marks block) = ap (plain.StaticSeq written) (parts_of-bare n block)
     form_of-bare n place (statements.StaticPar written marks block) = ap (plain.StaticPar written) (parts_of-bare n block)
     form_of-bare n place (statements.If test comb block otherwise) =
-        cc (placed_of-bare tree part test, comb_number-bare comb, block_of-bare false n block, else_of-bare false (n + length (invokes_of block)) place otherwise, behind false n block otherwise)
+        cc (placed_of-bare tree part test, comb_number-bare comb, block_of-bare false n block, else_of-bare false (past tree part n (invokes_of block)) place otherwise, behind false n block otherwise)
     form_of-bare n place (statements.StaticIf written test block otherwise) =
-        cc (placed_of-bare tree part test, block_of-bare true n block, else_of-bare true (n + length (invokes_of block)) place otherwise, behind true n block otherwise)
+        cc (placed_of-bare tree part test, block_of-bare true n block, else_of-bare true (past tree part n (invokes_of block)) place otherwise, behind true n block otherwise)
     form_of-bare n place (statements.While test comb body) = cc (placed_of-bare tree part test, comb_number-bare comb, block_of-bare false n body)
     form_of-bare n place (statements.Repeat count body) = ap (plain.Repeat count) (block_of-bare false n body)
     form_of-bare n place (statements.StaticRepeat written count body) = ap (plain.StaticRepeat written count) (block_of-bare true n body)
-    form_of-bare n place (statements.Invoke cell inputs outputs) = refl
+    form_of-bare n place (statements.Invoke cell inputs outputs) =
+        let k : Invoke = record { cell = cell; written = false; length = None; inputs = inputs; outputs = outputs; place = place } in
+        invoke_form-bare (is_static_invoke tree part k) n ∙ ap (λ static. invoke_form (without_places tree) (bare_component part) static n) (is_static-bare tree part k)
     form_of-bare n place (statements.StaticInvoke written cell inputs outputs) = refl
 
-    else_of-bare : (static : Bool) (n : ℕ) (place : Place) (e : statements.PlainElse) → unplaced (else_of tree part static n place e) ≡ else_of (without_places tree) (bare_component part) static n start (bare_else e)
+    else_of-bare : (static : Bool) (n : Next) (place : Place) (e : statements.PlainElse) → unplaced (else_of tree part static n place e) ≡ else_of (without_places tree) (bare_component part) static n start (bare_else e)
     else_of-bare static n place statements.NoElse = refl
     else_of-bare static n place (statements.Else block) = block_of-bare static n block
 
-    block_of-bare : (static : Bool) (n : ℕ) (b : statements.PlainBlock) → unplaced (block_of tree part static n b) ≡ block_of (without_places tree) (bare_component part) static n (bare_block b)
+    block_of-bare : (static : Bool) (n : Next) (b : statements.PlainBlock) → unplaced (block_of tree part static n b) ≡ block_of (without_places tree) (bare_component part) static n (bare_block b)
     block_of-bare static n (statements.Braces list place) =
         of_block-bare static place (all_of tree part n list) ∙ ap (of_block (without_places tree) (bare_component part) static start) (all_of-bare n list)
 
-    parts_of-bare : (n : ℕ) (b : statements.PlainBlock) → unplaced_statements (parts_of tree part n b) ≡ parts_of (without_places tree) (bare_component part) n (bare_block b)
+    parts_of-bare : (n : Next) (b : statements.PlainBlock) → unplaced_statements (parts_of tree part n b) ≡ parts_of (without_places tree) (bare_component part) n (bare_block b)
     parts_of-bare n (statements.Braces list place) = all_of-bare n list
 
-    all_of-bare : (n : ℕ) (list : statements.PlainStatements) → unplaced_statements (all_of tree part n list) ≡ all_of (without_places tree) (bare_component part) n (bare_statements list)
+    all_of-bare : (n : Next) (list : statements.PlainStatements) → unplaced_statements (all_of tree part n list) ≡ all_of (without_places tree) (bare_component part) n (bare_statements list)
     all_of-bare n statements.NoStatements = refl
     all_of-bare n (statements.StatementThen (statements.Placed attributes form place) rest) =
-        ap (λ f. a_statement (Placed f start) (unplaced_statements (all_of tree part (n + length (invokes_in form place)) rest))) (form_of-bare n place form)
+        ap (λ f. a_statement (Placed f start) (unplaced_statements (all_of tree part (past tree part n (invokes_in form place)) rest))) (form_of-bare n place form)
         ∙ ap (a_statement (Placed (form_of (without_places tree) (bare_component part) n start (bare_form form)) start))
-        (all_of-bare (n + length (invokes_in form place)) rest ∙ ap (λ k. all_of (without_places tree) (bare_component part) (n + k) (bare_statements rest)) (form_count form place))
+        (all_of-bare (past tree part n (invokes_in form place)) rest ∙ ap (λ m. all_of (without_places tree) (bare_component part) m (bare_statements rest)) (form_past n form place))
 
   pub control_invokes-bare : (c : Option statements.PlainBlock) → control_invokes (without_places tree) (bare_component part) (option_map bare_block c) ≡ map bare_invoke (control_invokes tree part c)
   control_invokes-bare None = refl
   control_invokes-bare (Some block) = invokes_of-bare block
 
-  group_count : length (group_names part) ≡ length (group_names (bare_component part))
-  group_count = ap length (sym (group_names-bare part))
+  first-bare : first tree part ≡ first (without_places tree) (bare_component part)
+  first-bare = ap (λ (names : List (List ℕ)). record { group = length names; invoke = 0 }) (sym (group_names-bare part))
 
   control_of-bare : (c : Option statements.PlainBlock) → unplaced (control_of tree part c) ≡ control_of (without_places tree) (bare_component part) (option_map bare_block c)
   control_of-bare None = refl
   control_of-bare (Some block) =
-      block_of-bare false (length (group_names part)) block ∙ ap (λ n. block_of (without_places tree) (bare_component part) false n (bare_block block)) group_count
+      block_of-bare false (first tree part) block ∙ ap (λ n. block_of (without_places tree) (bare_component part) false n (bare_block block)) first-bare
 
   -- CELLS
   kind_or-bare : (x : CellOf) → kind_or tree part x ≡ kind_or (without_places tree) (bare_component part) (bare_of x)
@@ -157,19 +162,25 @@ module _ (tree : ast.PlainTree) (part : ast.PlainComponent) where
       ∙ ap (map (group_of (without_places tree) (bare_component part))) (sym (groups_in-bare part.wires))
 
   abbrev pub invoked : List PlainGroup
-  invoked = invoke_groups tree part (length (group_names part)) (control_invokes tree part part.control)
+  invoked = invoke_groups tree part (first tree part) (control_invokes tree part part.control)
 
-  pub invoked-bare : map unplaced_group invoked ≡ invoke_groups (without_places tree) (bare_component part) (length (group_names (bare_component part))) (control_invokes (without_places tree) (bare_component part) (bare_component part).control)
+  pub invoked-bare : map unplaced_group invoked ≡ invoke_groups (without_places tree) (bare_component part) (first (without_places tree) (bare_component part)) (control_invokes (without_places tree) (bare_component part) (bare_component part).control)
   invoked-bare =
-      invoke_groups-bare tree part (length (group_names part)) (control_invokes tree part part.control)
-      ∙ ap (λ n. invoke_groups (without_places tree) (bare_component part) n (map bare_invoke (control_invokes tree part part.control))) group_count
-      ∙ ap (invoke_groups (without_places tree) (bare_component part) (length (group_names (bare_component part)))) (sym (control_invokes-bare part.control))
+      invoke_groups-bare tree part (first tree part) (control_invokes tree part part.control)
+      ∙ ap (λ n. invoke_groups (without_places tree) (bare_component part) n (map bare_invoke (control_invokes tree part part.control))) first-bare
+      ∙ ap (invoke_groups (without_places tree) (bare_component part) (first (without_places tree) (bare_component part))) (sym (control_invokes-bare part.control))
 
   pub groups-bare : map unplaced_group (component_of tree part).groups ≡ (component_of (without_places tree) (bare_component part)).groups
   groups-bare =
       map-append unplaced_group (map (group_of tree part) (groups_in part.wires)) invoked
       ∙ ap (λ gs. gs ++ map unplaced_group invoked) written_groups-bare
       ∙ ap (λ gs. map (group_of (without_places tree) (bare_component part)) (groups_in (bare_component part).wires) ++ gs) invoked-bare
+
+  pub invokes-bare : map unplaced_invoke (component_of tree part).invokes ≡ (component_of (without_places tree) (bare_component part)).invokes
+  invokes-bare =
+      static_invokes-bare tree part (first tree part) (control_invokes tree part part.control)
+      ∙ ap (λ n. static_invokes (without_places tree) (bare_component part) n (map bare_invoke (control_invokes tree part part.control))) first-bare
+      ∙ ap (static_invokes (without_places tree) (bare_component part) (first (without_places tree) (bare_component part))) (sym (control_invokes-bare part.control))
 
   pub always-bare : map unplaced_assign (component_of tree part).always ≡ (component_of (without_places tree) (bare_component part)).always
   always-bare = assigns-bare tree part (always_in part.wires) ∙ ap (map (assign_of (without_places tree) (bare_component part))) (sym (always_in-bare part.wires))

@@ -4,7 +4,7 @@ use Rattle.std.proofs.lemmas.List.{map-append}
 use Rattle.cx_prim.specs.declared.names.PrimitiveName.{PrimitiveName}
 use Rattle.cx_ast.specs.PlainTree as ast
 use Rattle.cx_print.specs.Places.{bare_port, bare_cell, bare_assign, bare_group, bare_wire, bare_component, without_places}
-use Rattle.cx_numbering.specs.Names.{same_name, primitive_of, is_own_name, if_not_own, signature_ports, port_names, component_names, cell_names, groups_in, always_in, group_names, component_among, cell_among, group_among, CellOf, Neither, APrimitive, AComponent, primitive_or, cell_of, cell_port_names, found_cell_ports, cell_go}
+use Rattle.cx_numbering.specs.Names.{same_name, primitive_of, is_own_name, if_not_own, signature_ports, port_names, component_names, cell_names, groups_in, always_in, group_names, component_among, cell_among, group_among, CellOf, Neither, APrimitive, AComponent, primitive_or, cell_of, cell_port_names, found_cell_ports, latency_of, found_latency, cell_go}
 
 -- LISTS: two ways round a square
 pub both_ways : {A B C D : Type 0} (f : A → B) (k : B → D) (h : A → C) (g : C → D) → ((x : A) → k (f x) ≡ g (h x)) → (xs : List A) → map k (map f xs) ≡ map g (map h xs)
@@ -103,3 +103,15 @@ pub cell_go-bare : (x : CellOf) → cell_go (bare_of x) ≡ cell_go x
 cell_go-bare Neither = refl
 cell_go-bare (APrimitive primitive) = refl
 cell_go-bare (AComponent part) = refl
+
+latency_of-bare : (x : CellOf) → latency_of (bare_of x) ≡ latency_of x
+latency_of-bare Neither = refl
+latency_of-bare (APrimitive primitive) = refl
+latency_of-bare (AComponent part) = refl
+
+pub found_latency-bare : (tree : ast.PlainTree) (name : List ℕ) (cells : List ast.PlainCell) → found_latency (without_places tree) (cell_among name (map bare_cell cells)) ≡ found_latency tree (cell_among name cells)
+found_latency-bare tree name cells = ap (found_latency (without_places tree)) (cell_among-bare name cells) ∙ by (cell_among name cells)
+  where
+    by : (cell : Option ast.PlainCell) → found_latency (without_places tree) (option_map bare_cell cell) ≡ found_latency tree cell
+    by None = refl
+    by (Some cell) = ap latency_of (cell_of-bare tree cell) ∙ latency_of-bare (cell_of tree cell)

@@ -1,5 +1,5 @@
 -- PORTS, GUARDS, ASSIGNMENTS AND GROUPS of the design of a tree without places: those of the tree's design, all at one place.
-use Rattle.std.proofs.Common.{◌≡◌, ℕ, suc, List, [], ◌∷◌, ◌++◌, Option, Some, None, codes, map, flat_map, option_map, refl, sym, ap, ◌∙◌}
+use Rattle.std.proofs.Common.{◌≡◌, ℕ, suc, ◌+◌, Bool, true, false, ◌||◌, is_some, List, [], ◌∷◌, ◌++◌, Option, Some, None, codes, map, flat_map, option_map, refl, sym, ap, ap₂, ◌∙◌}
 use Rattle.std.proofs.lemmas.List.{map-append}
 use Rattle.cx_text.specs.declared.places.Place.{Place}
 use Rattle.cx_text.specs.Places.{start}
@@ -18,13 +18,13 @@ use Rattle.cx_meaning.specs.declared.ports.PortRef.{PortRef}
 use Rattle.cx_meaning.specs.declared.ports.PortRef.TheVariants as ports
 use Rattle.cx_meaning.specs.Designs.{PlainGuard, Atom, Negation, All, Any, a_guard, guards_of}
 use Rattle.cx_numbering.specs.Names.{number_of, port_names, cell_names, cell_among, cell_of, found_cell_ports, cell_go}
-use Rattle.cx_numbering.specs.DesignOf.{number_or_0, Invoke, own_port, cell_port, port_of, placed_of, comparison_of, guard_of, guards_in, guard_or_always, assign_of, kind_of, group_of, go_port, found_go, at, input_assign, go_guard, go_assign, register_of, capture_assigns, register_done, done_assign, invoke_group, invoke_groups}
-use Rattle.cx_rewrites.specs.Places.{unplaced_port, unplaced_guard, unplaced_guards, unplaced_assign, unplaced_group}
-use Rattle.cx_written.proofs.BareNames.{both_ways, each_way, port_names-bare, cell_names-bare, cell_among-bare, group_names-bare, found_cell_ports-bare, cell_of-bare, cell_go-bare}
+use Rattle.cx_numbering.specs.DesignOf.{number_or_0, Invoke, Next, own_port, cell_port, port_of, placed_of, comparison_of, guard_of, guards_in, guard_or_always, assign_of, kind_of, group_of, go_port, found_go, at, input_assign, go_guard, go_assign, register_of, capture_assigns, register_done, done_assign, invoke_group, is_static_invoke, static_capture, capture_group, capture_count, after_static, after, past, captures_number, plain_invoke_of, captures_for, groups_for, invoke_groups, static_for, static_invokes}
+use Rattle.cx_rewrites.specs.Places.{unplaced_port, unplaced_guard, unplaced_guards, unplaced_assign, unplaced_group, unplaced_invoke}
+use Rattle.cx_written.proofs.BareNames.{both_ways, each_way, port_names-bare, cell_names-bare, cell_among-bare, group_names-bare, found_cell_ports-bare, found_latency-bare, cell_of-bare, cell_go-bare}
 
 -- an invoke without places
 abbrev pub bare_invoke : Invoke → Invoke
-bare_invoke k = record { cell = k.cell; inputs = map bare_bind k.inputs; outputs = map bare_bind k.outputs; place = start }
+bare_invoke k = record { cell = k.cell; written = k.written; length = k.length; inputs = map bare_bind k.inputs; outputs = map bare_bind k.outputs; place = start }
 
 unplaced_guards-guards_of : (gs : List PlainGuard) → unplaced_guards (guards_of gs) ≡ guards_of (map unplaced_guard gs)
 unplaced_guards-guards_of [] = refl
@@ -169,6 +169,66 @@ module _ (tree : ast.PlainTree) (part : ast.PlainComponent) where
       ∙ cc (first, go_assign-bare k, last) in
       cc all
 
-  pub invoke_groups-bare : (n : ℕ) (ks : List Invoke) → map unplaced_group (invoke_groups tree part n ks) ≡ invoke_groups (without_places tree) (bare_component part) n (map bare_invoke ks)
+  -- STATIC INVOKES
+  pub is_static-bare : (k : Invoke) → is_static_invoke tree part k ≡ is_static_invoke (without_places tree) (bare_component part) (bare_invoke k)
+  is_static-bare k = ap (λ latency. k.written || is_some latency) (sym (found_latency-bare tree k.cell part.cells))
+
+  static_capture-bare : (k : Invoke) (b : BindItem) → map unplaced_assign (static_capture tree part k b) ≡ static_capture (without_places tree) (bare_component part) (bare_invoke k) (bare_bind b)
+  static_capture-bare k b = cc (port_of-bare b.value.form, cell_port-bare k.cell b.name, register_port-bare b (codes "write_en"))
+
+  capture_group-bare : (k : Invoke) → unplaced_group (capture_group tree part k) ≡ capture_group (without_places tree) (bare_component part) (bare_invoke k)
+  capture_group-bare k =
+      let captures = each_way (static_capture tree part k) unplaced_assign bare_bind (static_capture (without_places tree) (bare_component part) (bare_invoke k)) (static_capture-bare k) k.outputs in
+      cc captures
+
+  captures_number-bare : (g : ℕ) (binds : List BindItem) → captures_number tree part g binds ≡ captures_number (without_places tree) (bare_component part) g (map bare_bind binds)
+  captures_number-bare g [] = refl
+  captures_number-bare g (b ∷ binds) = refl
+
+  plain_invoke_of-bare : (n : Next) (k : Invoke) → unplaced_invoke (plain_invoke_of tree part n k) ≡ plain_invoke_of (without_places tree) (bare_component part) n (bare_invoke k)
+  plain_invoke_of-bare n k =
+      let inputs = both_ways (input_assign tree part k) unplaced_assign bare_bind (input_assign (without_places tree) (bare_component part) (bare_invoke k)) (input_assign-bare k) k.inputs in
+      cc (ap (number_or_0 k.cell) (sym (cell_names-bare part)), sym (found_latency-bare tree k.cell part.cells), inputs, captures_number-bare n.group k.outputs)
+
+  -- NUMBERS
+  capture_count-bare : (binds : List BindItem) → capture_count tree part binds ≡ capture_count (without_places tree) (bare_component part) (map bare_bind binds)
+  capture_count-bare [] = refl
+  capture_count-bare (b ∷ binds) = refl
+
+  after_static-bare : (static : Bool) (n : Next) (binds : List BindItem) → after_static tree part static n binds ≡ after_static (without_places tree) (bare_component part) static n (map bare_bind binds)
+  after_static-bare true n binds = ap (λ (count : ℕ). record { group = n.group + count; invoke = suc n.invoke }) (capture_count-bare binds)
+  after_static-bare false n binds = refl
+
+  pub after-bare : (n : Next) (k : Invoke) → after tree part n k ≡ after (without_places tree) (bare_component part) n (bare_invoke k)
+  after-bare n k = ap (λ static. after_static tree part static n k.outputs) (is_static-bare k) ∙ after_static-bare (is_static_invoke (without_places tree) (bare_component part) (bare_invoke k)) n k.outputs
+
+  pub past-bare : (n : Next) (ks : List Invoke) → past tree part n ks ≡ past (without_places tree) (bare_component part) n (map bare_invoke ks)
+  past-bare n [] = refl
+  past-bare n (k ∷ ks) = ap (λ m. past tree part m ks) (after-bare n k) ∙ past-bare (after (without_places tree) (bare_component part) n (bare_invoke k)) ks
+
+  -- ALL OF THEM
+  captures_for-bare : (k : Invoke) (binds : List BindItem) → map unplaced_group (captures_for tree part k binds) ≡ captures_for (without_places tree) (bare_component part) (bare_invoke k) (map bare_bind binds)
+  captures_for-bare k [] = refl
+  captures_for-bare k (b ∷ binds) = ap (λ g. g ∷ []) (capture_group-bare k)
+
+  groups_for-bare : (static : Bool) (n : Next) (k : Invoke) → map unplaced_group (groups_for tree part static n k) ≡ groups_for (without_places tree) (bare_component part) static n (bare_invoke k)
+  groups_for-bare true n k = captures_for-bare k k.outputs
+  groups_for-bare false n k = ap (λ g. g ∷ []) (invoke_group-bare n.group k)
+
+  pub invoke_groups-bare : (n : Next) (ks : List Invoke) → map unplaced_group (invoke_groups tree part n ks) ≡ invoke_groups (without_places tree) (bare_component part) n (map bare_invoke ks)
   invoke_groups-bare n [] = refl
-  invoke_groups-bare n (k ∷ ks) = cc (invoke_group-bare n k, invoke_groups-bare (suc n) ks)
+  invoke_groups-bare n (k ∷ ks) =
+      let own = groups_for-bare (is_static_invoke tree part k) n k ∙ ap (λ static. groups_for (without_places tree) (bare_component part) static n (bare_invoke k)) (is_static-bare k) in
+      let later = invoke_groups-bare (after tree part n k) ks ∙ ap (λ m. invoke_groups (without_places tree) (bare_component part) m (map bare_invoke ks)) (after-bare n k) in
+      map-append unplaced_group (groups_for tree part (is_static_invoke tree part k) n k) (invoke_groups tree part (after tree part n k) ks) ∙ ap₂ (λ gs more. gs ++ more) own later
+
+  static_for-bare : (static : Bool) (n : Next) (k : Invoke) → map unplaced_invoke (static_for tree part static n k) ≡ static_for (without_places tree) (bare_component part) static n (bare_invoke k)
+  static_for-bare true n k = ap (λ v. v ∷ []) (plain_invoke_of-bare n k)
+  static_for-bare false n k = refl
+
+  pub static_invokes-bare : (n : Next) (ks : List Invoke) → map unplaced_invoke (static_invokes tree part n ks) ≡ static_invokes (without_places tree) (bare_component part) n (map bare_invoke ks)
+  static_invokes-bare n [] = refl
+  static_invokes-bare n (k ∷ ks) =
+      let own = static_for-bare (is_static_invoke tree part k) n k ∙ ap (λ static. static_for (without_places tree) (bare_component part) static n (bare_invoke k)) (is_static-bare k) in
+      let later = static_invokes-bare (after tree part n k) ks ∙ ap (λ m. static_invokes (without_places tree) (bare_component part) m (map bare_invoke ks)) (after-bare n k) in
+      map-append unplaced_invoke (static_for tree part (is_static_invoke tree part k) n k) (static_invokes tree part (after tree part n k) ks) ∙ ap₂ (λ vs more. vs ++ more) own later

@@ -1,5 +1,5 @@
 -- THE RULES ON NAMES of assignments, statements and cells hang on no place.
-use Rattle.std.proofs.Common.{◌≡◌, ℕ, Bool, true, false, ◌&&◌, ◌||◌, not, nat_le, List, [], ◌∷◌, ◌++◌, Option, Some, None, is_none, codes, map, flat_map, option_map, refl, sym, ap, ◌∙◌, if◌then◌else◌}
+use Rattle.std.proofs.Common.{◌≡◌, ℕ, Bool, true, false, ◌&&◌, ◌||◌, not, nat_le, List, [], ◌∷◌, ◌++◌, Option, Some, None, is_some, is_none, codes, map, flat_map, option_map, refl, sym, ap, ap₂, ◌∙◌, if◌then◌else◌}
 use Rattle.cx_text.specs.declared.places.Place.{Place}
 use Rattle.cx_text.specs.Places.{start}
 use Rattle.cx_text.specs.declared.diagnostics.Diagnostic.{Diagnostic}
@@ -20,8 +20,8 @@ use Rattle.cx_ast.specs.PlainGuards as guards
 use Rattle.cx_ast.specs.PlainStatements as statements
 use Rattle.cx_print.specs.Places.{bare_operand, bare_bind, bare_guard, bare_form, bare_port, bare_cell, bare_assign, bare_group, bare_component, without_places}
 use Rattle.cx_numbering.specs.Names.{same_name, is_among, is_own_name, port_names, groups_in, group_names, cell_among, group_among, CellOf, Neither, APrimitive, AComponent, cell_of, cell_go, is_external}
-use Rattle.cx_numbering.specs.NameRules.{tell_if, path_of, named, duplicates, bind_names, guard_operands, Standing, cell_ports, is_component, found_component, is_clock, is_own, is_unknown, unknown, is_left_out, is_hole, source_breaks, is_group, is_wrong_target, is_one, is_bare_done, assign_breaks, is_comb_word, is_comb_group, enable_breaks, with_breaks, output_rows, output_names, is_go_name, found_reg, is_reg, is_register_in, input_breaks, output_breaks, invoke_on, form_breaks, kind_breaks, is_narrow_memory, external_breaks, is_on_side, is_wrong_port, has_other_attribute, port_breaks}
-use Rattle.cx_written.proofs.BareNames.{each_way, port_names-bare, cell_among-bare, groups_in-bare, group_names-bare, group_among-bare, bare_of, cell_of-bare, found_cell_ports-bare, cell_go-bare}
+use Rattle.cx_numbering.specs.NameRules.{tell_if, path_of, named, duplicates, bind_names, guard_operands, Standing, cell_ports, is_component, found_component, is_clock, is_static_end, is_own, is_unknown, unknown, is_left_out, is_hole, source_breaks, is_group, is_wrong_target, is_one, is_bare_done, assign_breaks, is_comb_word, is_comb_group, enable_breaks, with_breaks, output_rows, output_names, is_go_name, found_reg, is_reg, is_register_in, input_breaks, output_breaks, invoke_on, form_breaks, kind_breaks, is_narrow_memory, external_breaks, is_on_side, is_wrong_port, has_other_attribute, port_breaks}
+use Rattle.cx_written.proofs.BareNames.{each_way, port_names-bare, cell_among-bare, groups_in-bare, group_names-bare, group_among-bare, bare_of, cell_of-bare, found_cell_ports-bare, found_latency-bare, cell_go-bare}
 use Rattle.cx_written.proofs.BareItems.{bare_break, told, joined, bare_standing, repeats, guard_operands-bare}
 
 module _ (tree : ast.PlainTree) (part : ast.PlainComponent) where
@@ -38,6 +38,9 @@ module _ (tree : ast.PlainTree) (part : ast.PlainComponent) where
       by : (c : Option ast.PlainCell) → found_component tree part c ≡ found_component (without_places tree) (bare_component part) (option_map bare_cell c)
       by None = refl
       by (Some c) = is_component-bare (cell_of tree c) ∙ ap (is_component (without_places tree) (bare_component part)) (sym (cell_of-bare tree c))
+
+  is_static_end-bare : (cell port : List ℕ) → is_static_end tree part cell port ≡ is_static_end (without_places tree) (bare_component part) cell port
+  is_static_end-bare cell port = ap (λ latency. is_some latency && (same_name port (codes "go") || same_name port (codes "done"))) (sym (found_latency-bare tree cell part.cells))
 
   is_own-bare : (name : List ℕ) → is_own tree part name ≡ is_own (without_places tree) (bare_component part) name
   is_own-bare name =
@@ -64,7 +67,7 @@ module _ (tree : ast.PlainTree) (part : ast.PlainComponent) where
 
   is_left_out-bare : (o : OperandForm) → is_left_out tree part o ≡ is_left_out (without_places tree) (bare_component part) o
   is_left_out-bare (operands.Own name) = refl
-  is_left_out-bare (operands.Port cell port) = is_clock-bare cell port
+  is_left_out-bare (operands.Port cell port) = ap₂ (λ a b. a || b) (is_clock-bare cell port) (is_static_end-bare cell port)
   is_left_out-bare (operands.Hole group hole) = refl
   is_left_out-bare (operands.Literal width value) = refl
 
@@ -201,13 +204,13 @@ module _ (tree : ast.PlainTree) (part : ast.PlainComponent) where
   output_breaks-bare : (cell : List ℕ) (x : CellOf) (b : BindItem) → map bare_break (output_breaks tree part cell x b) ≡ output_breaks (without_places tree) (bare_component part) cell (bare_of x) (bare_bind b)
   output_breaks-bare cell x b =
       let missing : List Diagnostic = tell_if (not (is_among b.name (cell_ports tree part cell) || is_clock tree part cell b.name)) UnknownName b.place b.name in
-      let wrong : List Diagnostic = tell_if (not (is_among b.name (output_names tree part x))) LeftOut b.place b.name in
+      let wrong : List Diagnostic = tell_if (not (is_among b.name (output_names tree part x)) || is_static_end tree part cell b.name) LeftOut b.place b.name in
       let last : List Diagnostic = tell_if (not (is_register_in tree part b.value.form)) LeftOut b.value.place (path_of b.value.form) in
       joined (missing ++ wrong ++ unknown tree part b.value) last _ _
       (joined (missing ++ wrong) (unknown tree part b.value) _ _
       (joined missing wrong _ _
       (told (not (is_among b.name (cell_ports tree part cell) || is_clock tree part cell b.name)) _ UnknownName b.place b.name (is_unknown_port-bare cell b.name))
-      (told (not (is_among b.name (output_names tree part x))) _ LeftOut b.place b.name (ap (λ names. not (is_among b.name names)) (output_names-bare x))))
+      (told (not (is_among b.name (output_names tree part x)) || is_static_end tree part cell b.name) _ LeftOut b.place b.name (ap₂ (λ names end. not (is_among b.name names) || end) (output_names-bare x) (is_static_end-bare cell b.name))))
       (unknown-bare b.value))
       (told (not (is_register_in tree part b.value.form)) _ LeftOut b.value.place (path_of b.value.form) (ap not (is_register_in-bare b.value.form)))
 
@@ -237,6 +240,16 @@ module _ (tree : ast.PlainTree) (part : ast.PlainComponent) where
           ++ flat_map (input_breaks (without_places tree) (bare_component part) cell x) (map bare_bind inputs)
           ++ flat_map (output_breaks (without_places tree) (bare_component part) cell x) (map bare_bind outputs)) (sym (cell_of-bare tree c))
 
+  bound_breaks-bare : (cell : List ℕ) (inputs outputs : List BindItem) (place : Place)
+      → map bare_break (duplicates [] (bind_names inputs) ++ duplicates [] (bind_names outputs) ++ invoke_on tree part cell inputs outputs place (cell_among cell part.cells))
+      ≡ duplicates [] (bind_names (map bare_bind inputs)) ++ duplicates [] (bind_names (map bare_bind outputs))
+      ++ invoke_on (without_places tree) (bare_component part) cell (map bare_bind inputs) (map bare_bind outputs) start (cell_among cell (bare_component part).cells)
+  bound_breaks-bare cell inputs outputs place =
+      joined (duplicates [] (bind_names inputs) ++ duplicates [] (bind_names outputs)) (invoke_on tree part cell inputs outputs place (cell_among cell part.cells)) _ _
+      (joined (duplicates [] (bind_names inputs)) (duplicates [] (bind_names outputs)) _ _
+      (repeats bare_bind (λ b. named b.name b.place) (λ b. refl) inputs) (repeats bare_bind (λ b. named b.name b.place) (λ b. refl) outputs))
+      (invoke_on-bare cell inputs outputs place)
+
   pub form_breaks-bare : (f : statements.PlainForm) (place : Place) → map bare_break (form_breaks tree part f place) ≡ form_breaks (without_places tree) (bare_component part) (bare_form f) start
   form_breaks-bare (statements.Enable group marks) place = enable_breaks-bare group place
   form_breaks-bare (statements.Seq marks block) place = refl
@@ -250,12 +263,8 @@ module _ (tree : ast.PlainTree) (part : ast.PlainComponent) where
       joined (with_breaks tree part comb place) (source_breaks tree part test) _ _ (with_breaks-bare comb place) (source_breaks-bare test)
   form_breaks-bare (statements.Repeat count body) place = refl
   form_breaks-bare (statements.StaticRepeat written count body) place = refl
-  form_breaks-bare (statements.Invoke cell inputs outputs) place =
-      joined (duplicates [] (bind_names inputs) ++ duplicates [] (bind_names outputs)) (invoke_on tree part cell inputs outputs place (cell_among cell part.cells)) _ _
-      (joined (duplicates [] (bind_names inputs)) (duplicates [] (bind_names outputs)) _ _
-      (repeats bare_bind (λ b. named b.name b.place) (λ b. refl) inputs) (repeats bare_bind (λ b. named b.name b.place) (λ b. refl) outputs))
-      (invoke_on-bare cell inputs outputs place)
-  form_breaks-bare (statements.StaticInvoke written cell inputs outputs) place = refl
+  form_breaks-bare (statements.Invoke cell inputs outputs) place = bound_breaks-bare cell inputs outputs place
+  form_breaks-bare (statements.StaticInvoke written cell inputs outputs) place = bound_breaks-bare cell inputs outputs place
 
   -- CELLS and ports
   pub kind_breaks-bare : (cell : ast.PlainCell) (x : CellOf) → map bare_break (kind_breaks tree part cell x) ≡ kind_breaks (without_places tree) (bare_component part) (bare_cell cell) (bare_of x)

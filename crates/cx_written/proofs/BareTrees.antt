@@ -8,7 +8,7 @@ use Rattle.cx_text.specs.declared.rules.Rule.TheVariants.{Duplicate, LeftOut, Re
 use Rattle.cx_ast.specs.PlainTree as ast
 use Rattle.cx_print.specs.Places.{bare_import, bare_port, bare_cell, bare_group, bare_wire, bare_component, without_places}
 use Rattle.cx_numbering.specs.Names.{same_name, is_among, component_names, groups_in, CellOf, Neither, APrimitive, AComponent, cell_of}
-use Rattle.cx_numbering.specs.NameRules.{tell_if, named, duplicates, component_duplicates, primitive_named, main_breaks, standing, statements_in, assign_breaks, form_breaks, kind_breaks, external_breaks, port_breaks, component_kinds, some_part, leads_back, recursive_breaks, cell_breaks, component_breaks, import_breaks, name_breaks}
+use Rattle.cx_numbering.specs.NameRules.{tell_if, named, duplicates, component_duplicates, primitive_named, main_breaks, standing, statements_in, assign_breaks, form_breaks, kind_breaks, external_breaks, port_breaks, component_kinds, some_part, leads_back, recursive_breaks, cell_breaks, main_static, component_breaks, import_breaks, name_breaks}
 use Rattle.cx_written.proofs.BareNames.{each_way, component_names-bare, groups_in-bare, bare_of, cell_of-bare}
 use Rattle.cx_written.proofs.BareItems.{bare_break, told, joined, bare_standing, bare_visited, repeats, standing-bare, statements_in-bare}
 use Rattle.cx_written.proofs.BareRules.{assign_breaks-bare, form_breaks-bare, kind_breaks-bare, external_breaks-bare, port_breaks-bare}
@@ -83,8 +83,8 @@ module _ (tree : ast.PlainTree) where
 
   component_breaks-bare : (part : ast.PlainComponent) → map bare_break (component_breaks tree part) ≡ component_breaks (without_places tree) (bare_component part)
   component_breaks-bare part =
-      let one = told _ _ Duplicate part.place part.name refl in
-      let two = joined (primitive_named part) (component_duplicates part) _ _ one (component_duplicates-bare part) in
+      let one = joined (primitive_named part) (main_static tree part) _ _ (told _ _ Duplicate part.place part.name refl) (told _ _ LeftOut part.place part.name refl) in
+      let two = joined (primitive_named part ++ main_static tree part) (component_duplicates part) _ _ one (component_duplicates-bare part) in
       let inputs : map bare_break (flat_map (port_breaks tree part true) part.inputs) ≡ flat_map (port_breaks (without_places tree) (bare_component part) true) (map bare_port part.inputs) =
       each_way (port_breaks tree part true) bare_break bare_port (port_breaks (without_places tree) (bare_component part) true) (port_breaks-bare tree part true) part.inputs in
       let outputs : map bare_break (flat_map (port_breaks tree part false) part.outputs) ≡ flat_map (port_breaks (without_places tree) (bare_component part) false) (map bare_port part.outputs) =

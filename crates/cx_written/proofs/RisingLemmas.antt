@@ -247,9 +247,12 @@ module _ (spelled : (n : Nest) → Spelling (Nested n)) where
     has_two : Has (pair block otherwise) of_two
     has_two = has_both (λ x y. (x, y)) block otherwise of_block of_else of_two two_blocks has_block has_otherwise
 
-    -- of a form, wherever it stands, and of one that waits for its length
+    -- of a form whose word stands before it, and of one that waits for its length
     abbrev Everywhere : Between PlainForm
-    Everywhere p f q = (place : Place) → Steps p (invoked (invokes_in f place)) q
+    Everywhere p f q = (o place : Place) → NoLater o place → Before place p → Steps o (invoked (invokes_in f place)) q
+
+    from_word : (p o place : Place) (xs : List Place) (q : Place) → NoLater o place → Before place p → Steps p xs q → Steps o xs q
+    from_word p o place xs q i b s = steps_earlier o p xs q (then_later o place p i (before_no_later place p b)) s
 
     abbrev EveryLength : Between (Option ℕ → PlainForm)
     EveryLength p f q = (length : Option ℕ) → Everywhere p (f length) q
@@ -258,13 +261,13 @@ module _ (spelled : (n : Nest) → Spelling (Nested n)) where
     unfolding if_rest
     has_if =
         gives_pair spelled if_of operand (pair comb (pair block otherwise)) Passes (StepsOf (λ r. of_two r.1)) Everywhere (leads operand)
-        (has_second (λ x y. (x, y)) comb (pair block otherwise) of_two (λ r. of_two r.1) (λ x y. refl) has_two) (λ p m q o r h s place. steps_earlier p m (of_two r.1) q h s)
+        (has_second (λ x y. (x, y)) comb (pair block otherwise) of_two (λ r. of_two r.1) (λ x y. refl) has_two) (λ p m q test r h s o place i b. from_word p o place (of_two r.1) q i b (steps_earlier p m (of_two r.1) q h s))
 
     has_while : Gives spelled while_rest Everywhere
     unfolding while_rest
     has_while =
         gives_pair spelled while_of operand (pair comb block) Passes (StepsOf (λ r. of_block r.1)) Everywhere (leads operand)
-        (has_second (λ x y. (x, y)) comb block of_block (λ r. of_block r.1) (λ x y. refl) has_block) (λ p m q o r h s place. steps_earlier p m (of_block r.1) q h s)
+        (has_second (λ x y. (x, y)) comb block of_block (λ r. of_block r.1) (λ x y. refl) has_block) (λ p m q test r h s o place i b. from_word p o place (of_block r.1) q i b (steps_earlier p m (of_block r.1) q h s))
 
     has_repeat_rest : Has repeat_rest (λ r. of_block r.1)
     unfolding repeat_rest
@@ -273,18 +276,18 @@ module _ (spelled : (n : Nest) → Spelling (Nested n)) where
     lengths_behind : (terminal : Terminal) (g : Grammar (Option ℕ → PlainForm)) → Gives spelled g EveryLength → Gives spelled (behind terminal g) EveryLength
     lengths_behind terminal g h =
         gives_pair spelled (λ _ x. x) (sign terminal) g Passes EveryLength EveryLength (leads (sign terminal)) h
-        (λ p m q x f k s length place. steps_earlier p m (invoked (invokes_in (f length) place)) q k (s length place))
+        (λ p m q x f k s length o place i b. s length o place i (then_before place p m b k))
 
     lengths_mapped : {A : Type 0} (f : A → Option ℕ → PlainForm) (g : Grammar A) (places : A → List Place) → ((x : A) (length : Option ℕ) (place : Place) → places x ≡ invoked (invokes_in (f x length) place))
         → Has g places → Gives spelled (mapped f g) EveryLength
     lengths_mapped f g places e h =
         gives_pair spelled (λ x _. f x) g (Empty tt) (StepsOf places) Passes EveryLength h (leads (Empty tt))
-        (λ p m q x y s k length place. subst (λ ps. Steps p ps q) (e x length place) (steps_later p (places x) m q s k))
+        (λ p m q x y s k length o place i b. subst (λ ps. Steps o ps q) (e x length place) (from_word p o place (places x) q i b (steps_later p (places x) m q s k)))
 
     has_static_if : Gives spelled static_if_rest EveryLength
     unfolding static_if_rest
     has_static_if =
-        gives_pair spelled static_if_of operand (pair block otherwise) Passes (StepsOf of_two) EveryLength (leads operand) has_two (λ p m q o r h s length place. steps_earlier p m (of_two r) q h s)
+        gives_pair spelled static_if_of operand (pair block otherwise) Passes (StepsOf of_two) EveryLength (leads operand) has_two (λ p m q test r h s length o place i b. from_word p o place (of_two r) q i b (steps_earlier p m (of_two r) q h s))
 
     has_static_rest : Gives spelled static_rest EveryLength
     unfolding static_rest
@@ -301,17 +304,18 @@ module _ (spelled : (n : Nest) → Spelling (Nested n)) where
         (gives_choice spelled repeated called EveryLength
         (lengths_behind t.Repeat (mapped static_repeat_of repeat_rest) (lengths_mapped static_repeat_of repeat_rest (λ r. of_block r.1) (λ x length place. refl) has_repeat_rest))
         (lengths_behind t.Invoke (mapped static_invoke_of invoke_rest)
-        (gives_pair spelled (λ x _. static_invoke_of x) invoke_rest (Empty tt) Passes Passes EveryLength (leads invoke_rest) (leads (Empty tt)) (λ p m q x y h k length place. then_later p m q h k))))))
+        (gives_pair spelled (λ x _. static_invoke_of x) invoke_rest (Empty tt) Passes Passes EveryLength (leads invoke_rest) (leads (Empty tt)) (λ p m q x y h k length o place i b. (i, (p, b, then_later p m q h k))))))))
 
     has_static : Gives spelled static_form Everywhere
     unfolding static_form
     has_static =
         gives_pair spelled (λ l f. f l) optional_length static_rest Passes EveryLength Everywhere (leads optional_length) has_static_rest
-        (λ p m q l f h s place. steps_earlier p m (invoked (invokes_in (f l) place)) q h (s l place))
+        (λ p m q l f h s o place i b. s l o place i (then_before place p m b h))
 
     behind_word : (terminal : Terminal) (g : Grammar PlainForm) → Gives spelled g Everywhere → Has (Pair form_of (sign terminal) g) of_form
     behind_word terminal g h =
-        gives_pair spelled form_of (sign terminal) g Passes Everywhere (StepsOf of_form) (leads (sign terminal)) h (λ p m q x f k s. steps_earlier p m (invoked (invokes_in f x)) q k (s x))
+        gives_pair spelled form_of (sign terminal) g (λ p x q. NoLater p x × Before x q) Everywhere (StepsOf of_form)
+        (gives_one spelled (terminal ∷ []) (λ token. token.place) _ (λ token p q h k. (h, k))) h (λ p m q x f k s. s p x k.0 k.1)
 
     has_enable : Has enable of_form
     unfolding enable

@@ -15,11 +15,12 @@ use Rattle.cx_numbering.specs.Names.{component_names}
 use Rattle.cx_numbering.specs.DesignOf.{number_or_0, component_of, design_of}
 use Rattle.cx_numbering.specs.NameRules.{Visited, statements_in, name_breaks, names_break, first_break, earlier, key_of}
 use Rattle.cx_rewrites.specs.Places.{SamePart, SameDesign}
-use Rattle.cx_check.specs.Unbuilt.{length_word, static_word, static_words, words_in, words_of_tree, is_before, first_place, first_unbuilt}
+use Rattle.cx_check.specs.Unbuilt.{length_word, static_word, static_words, words_in, words_of_tree, first_place, first_unbuilt}
 use Rattle.cx_check.specs.Acceptance.{IsAcceptedTree}
+use Rattle.cx_check.proofs.BuiltLemmas.{no_places}
 use Rattle.cx_written.specs.Ordered.{places_in, Rise, IsInOrder}
 use Rattle.cx_written.proofs.BareNames.{each_way, component_names-bare}
-use Rattle.cx_written.proofs.BareControl.{inputs-bare, outputs-bare, cells-bare, groups-bare, always-bare, control-bare}
+use Rattle.cx_written.proofs.BareControl.{inputs-bare, outputs-bare, cells-bare, groups-bare, invokes-bare, always-bare, control-bare}
 use Rattle.cx_written.proofs.BareItems.{bare_break, bare_visited, statements_in-bare}
 use Rattle.cx_written.proofs.BareTrees.{name_breaks-bare}
 use Rattle.cx_written.proofs.WrittenOrder.{bare_order, order-bare}
@@ -34,17 +35,19 @@ same_part old new part other e f h k =
     ap (λ t. bare_order t (bare_component part)) e ∙ ap (bare_order (without_places new)) f in
     record {
       name = ap (λ (c : ast.PlainComponent). c.name) f;
+      latency = ap (λ (c : ast.PlainComponent). c.length) f;
       inputs = inputs-bare old part ∙ ap (λ (c : plain.PlainComponent). c.inputs) between ∙ sym (inputs-bare new other);
       outputs = outputs-bare old part ∙ ap (λ (c : plain.PlainComponent). c.outputs) between ∙ sym (outputs-bare new other);
       cells = cells-bare old part ∙ ap (λ (c : plain.PlainComponent). c.cells) between ∙ sym (cells-bare new other);
       groups = groups-bare old part ∙ ap (λ (c : plain.PlainComponent). c.groups) between ∙ sym (groups-bare new other);
       always = always-bare old part ∙ ap (λ (c : plain.PlainComponent). c.always) between ∙ sym (always-bare new other);
       order = order-bare old part h ∙ order ∙ sym (order-bare new other k);
+      invokes = invokes-bare old part ∙ ap (λ (c : plain.PlainComponent). c.invokes) between ∙ sym (invokes-bare new other);
       control = control-bare old part ∙ ap (λ (c : plain.PlainComponent). c.control) between ∙ sym (control-bare new other);
     }
 
 no_parts : SamePart no_component no_component
-no_parts = record { name = refl; inputs = refl; outputs = refl; cells = refl; groups = refl; always = refl; order = refl; control = refl }
+no_parts = record { name = refl; latency = refl; inputs = refl; outputs = refl; cells = refl; groups = refl; always = refl; order = refl; invokes = refl; control = refl }
 
 same_parts : (old new : ast.PlainTree) → without_places old ≡ without_places new → (parts others : List ast.PlainComponent) → map bare_component parts ≡ map bare_component others
     → AllByRecursion (λ part. Rise (places_in part)) parts → AllByRecursion (λ part. Rise (places_in part)) others → (k : ℕ)
@@ -118,17 +121,9 @@ words_in-bare part =
 words_of_tree-bare : (tree : ast.PlainTree) → map at_start (words_of_tree tree) ≡ words_of_tree (without_places tree)
 words_of_tree-bare tree = each_way words_in at_start bare_component words_in words_in-bare tree.components
 
-found_before : (ws : List Place) (p : Place) → first_place (Some p) ws ≡ None → ⊥
-found_before [] p e = cc
-found_before (w ∷ ws) p e = found_before ws (if is_before w p then w else p) e
-
-no_word : (ws : List Place) → first_place None ws ≡ None → ws ≡ []
-no_word [] e = refl
-no_word (w ∷ ws) e = absurd (found_before ws w e)
-
 same_words : (old new : ast.PlainTree) → without_places old ≡ without_places new → first_unbuilt old ≡ None → first_unbuilt new ≡ None
 same_words old new e h =
-    let none : map at_start (words_of_tree new) ≡ [] = words_of_tree-bare new ∙ ap words_of_tree (sym e) ∙ sym (words_of_tree-bare old) ∙ ap (map at_start) (no_word (words_of_tree old) h) in
+    let none : map at_start (words_of_tree new) ≡ [] = words_of_tree-bare new ∙ ap words_of_tree (sym e) ∙ sym (words_of_tree-bare old) ∙ ap (map at_start) (no_places (words_of_tree old) h) in
     ap (first_place None) (none_mapped at_start (words_of_tree new) none)
 
 -- ACCEPTED where the other is, and its design with it

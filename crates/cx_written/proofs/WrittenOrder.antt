@@ -1,5 +1,5 @@
 -- Where the places of a tree rise, the source order of a component's assignments is the order in which they are written.
-use Rattle.std.proofs.Common.{◌≡◌, ℕ, suc, true, false, List, [], ◌∷◌, ◌++◌, map, flat_map, Option, Some, None, length, refl, sym, ap, ◌∙◌, subst, append_assoc, arith}
+use Rattle.std.proofs.Common.{◌≡◌, ℕ, suc, Bool, true, false, List, [], ◌∷◌, ◌++◌, map, flat_map, Option, Some, None, length, refl, sym, ap, ◌∙◌, subst, append_assoc, arith}
 use Rattle.std.specs.List.{AllByRecursion}
 use Rattle.std.proofs.lemmas.List.{map-append}
 use Rattle.std.proofs.lemmas.Bool.Decides.{nat_tests}
@@ -8,8 +8,8 @@ use Rattle.cx_ast.specs.PlainTree as ast
 use Rattle.cx_ast.specs.declared.statements.BindItem.{BindItem}
 use Rattle.cx_meaning.specs.Designs.{PlainAssign, PlainGroup}
 use Rattle.cx_meaning.specs.Active.{Owned, no_later, owned, owned_by_groups, by_place, source_order}
-use Rattle.cx_numbering.specs.Names.{groups_in, always_in, group_names}
-use Rattle.cx_numbering.specs.DesignOf.{Invoke, assign_of, group_of, input_assign, capture_assigns, done_assign, invoke_group, invoke_groups, control_invokes, component_of}
+use Rattle.cx_numbering.specs.Names.{groups_in, always_in}
+use Rattle.cx_numbering.specs.DesignOf.{Invoke, Next, assign_of, group_of, input_assign, capture_assigns, done_assign, invoke_group, is_static_invoke, static_capture, capture_group, after, captures_for, groups_for, invoke_groups, first, control_invokes, component_of}
 use Rattle.cx_print.specs.Places.{bare_assign, bare_wire, bare_component, without_places}
 use Rattle.cx_rewrites.specs.Places.{unplaced_assign, unplaced_group, unplaced_owned}
 use Rattle.cx_written.specs.Ordered.{wire_places, invoke_places, places_in, Rise}
@@ -105,18 +105,50 @@ module _ (tree : ast.PlainTree) (part : ast.PlainComponent) where
       done (b ∷ []) = h
       done (b ∷ c ∷ binds) = h
 
-  invoked_at : (P : Place → Type 0) (ks : List Invoke) → AllByRecursion P (map (λ k. k.place) ks) → (m n : ℕ) → OwnedAt P (owned_by_groups m (invoke_groups tree part n ks))
-  invoked_at P [] h m n = tt
-  invoked_at P (k ∷ ks) h m n =
-      joined (λ (o : Owned). P o.assign.place) (owned (Some m) (invoke_group tree part n k).assigns) (owned_by_groups (suc m) (invoke_groups tree part (suc n) ks))
-      (owned_at P (Some m) (invoke_group tree part n k).assigns (invoke_at P n k h.0)) (invoked_at P ks h.1 (suc m) (suc n))
+  capture_at : (P : Place → Type 0) (k : Invoke) → P k.place → AssignsAt P (capture_group tree part k).assigns
+  capture_at P k h = captures k.outputs
+    where
+      captures : (binds : List BindItem) → AssignsAt P (flat_map (static_capture tree part k) binds)
+      captures [] = tt
+      captures (b ∷ binds) = (h, (h, captures binds))
 
-  invoked_sorted : (ks : List Invoke) → Rise (map (λ k. k.place) ks) → (m n : ℕ) → Sorted (owned_by_groups m (invoke_groups tree part n ks))
+  -- of one invoke, before those of the others: no group, the one that captures, or the one that calls
+  captured_at : (P : Place → Type 0) (k : Invoke) (binds : List BindItem) (m : ℕ) → P k.place → (more : List PlainGroup) → ((n : ℕ) → OwnedAt P (owned_by_groups n more)) → OwnedAt P (owned_by_groups m (captures_for tree part k binds ++ more))
+  captured_at P k [] m h more later = later m
+  captured_at P k (b ∷ binds) m h more later =
+      joined (λ (o : Owned). P o.assign.place) (owned (Some m) (capture_group tree part k).assigns) (owned_by_groups (suc m) more) (owned_at P (Some m) (capture_group tree part k).assigns (capture_at P k h)) (later (suc m))
+
+  one_at : (P : Place → Type 0) (static : Bool) (n : Next) (k : Invoke) (m : ℕ) → P k.place → (more : List PlainGroup) → ((j : ℕ) → OwnedAt P (owned_by_groups j more)) → OwnedAt P (owned_by_groups m (groups_for tree part static n k ++ more))
+  one_at P true n k m h more later = captured_at P k k.outputs m h more later
+  one_at P false n k m h more later =
+      joined (λ (o : Owned). P o.assign.place) (owned (Some m) (invoke_group tree part n.group k).assigns) (owned_by_groups (suc m) more)
+      (owned_at P (Some m) (invoke_group tree part n.group k).assigns (invoke_at P n.group k h)) (later (suc m))
+
+  invoked_at : (P : Place → Type 0) (ks : List Invoke) → AllByRecursion P (map (λ k. k.place) ks) → (m : ℕ) (n : Next) → OwnedAt P (owned_by_groups m (invoke_groups tree part n ks))
+  invoked_at P [] h m n = tt
+  invoked_at P (k ∷ ks) h m n = one_at P (is_static_invoke tree part k) n k m h.0 (invoke_groups tree part (after tree part n k) ks) (λ j. invoked_at P ks h.1 j (after tree part n k))
+
+  behind_group : (k : Invoke) (m : ℕ) (assigns : List PlainAssign) (more : List Owned) → AssignsAt (λ q. k.place ≡ q) assigns → Sorted more → OwnedAt (After k.place) more → Sorted (owned (Some m) assigns ++ more)
+  behind_group k m assigns more here sorted later =
+      let own = owned_at (λ q. k.place ≡ q) (Some m) assigns here in
+      sorted_join (owned (Some m) assigns) more (at_one_place k.place _ own) sorted (place_first k.place _ _ own later)
+
+  captured_sorted : (k : Invoke) (binds : List BindItem) (m : ℕ) (more : List PlainGroup) → ((j : ℕ) → Sorted (owned_by_groups j more)) → ((j : ℕ) → OwnedAt (After k.place) (owned_by_groups j more))
+      → Sorted (owned_by_groups m (captures_for tree part k binds ++ more))
+  captured_sorted k [] m more sorted later = sorted m
+  captured_sorted k (b ∷ binds) m more sorted later =
+      behind_group k m (capture_group tree part k).assigns (owned_by_groups (suc m) more) (capture_at (λ q. k.place ≡ q) k refl) (sorted (suc m)) (later (suc m))
+
+  one_sorted : (static : Bool) (n : Next) (k : Invoke) (m : ℕ) (more : List PlainGroup) → ((j : ℕ) → Sorted (owned_by_groups j more)) → ((j : ℕ) → OwnedAt (After k.place) (owned_by_groups j more))
+      → Sorted (owned_by_groups m (groups_for tree part static n k ++ more))
+  one_sorted true n k m more sorted later = captured_sorted k k.outputs m more sorted later
+  one_sorted false n k m more sorted later =
+      behind_group k m (invoke_group tree part n.group k).assigns (owned_by_groups (suc m) more) (invoke_at (λ q. k.place ≡ q) n.group k refl) (sorted (suc m)) (later (suc m))
+
+  invoked_sorted : (ks : List Invoke) → Rise (map (λ k. k.place) ks) → (m : ℕ) (n : Next) → Sorted (owned_by_groups m (invoke_groups tree part n ks))
   invoked_sorted [] h m n = tt
   invoked_sorted (k ∷ ks) h m n =
-      let own = owned_at (λ q. k.place ≡ q) (Some m) (invoke_group tree part n k).assigns (invoke_at (λ q. k.place ≡ q) n k refl) in
-      sorted_join (owned (Some m) (invoke_group tree part n k).assigns) (owned_by_groups (suc m) (invoke_groups tree part (suc n) ks)) (at_one_place k.place _ own) (invoked_sorted ks h.1 (suc m) (suc n))
-      (place_first k.place _ _ own (invoked_at (After k.place) ks h.0 (suc m) (suc n)))
+      one_sorted (is_static_invoke tree part k) n k m (invoke_groups tree part (after tree part n k) ks) (λ j. invoked_sorted ks h.1 j (after tree part n k)) (λ j. invoked_at (After k.place) ks h.0 j (after tree part n k))
 
   -- WIRES
   abbrev in_place : List ast.PlainAssign → List PlainAssign
@@ -201,7 +233,7 @@ module _ (tree : ast.PlainTree) (part : ast.PlainComponent) where
       let ks = control_invokes tree part part.control in
       let places : List Place = map (λ k. k.place) ks in
       let rises : Rise (flat_map wire_places part.wires ++ places) = subst (λ ps. Rise (flat_map wire_places part.wires ++ ps)) (sym (invoked_places part.control)) h in
-      sorted_by_place (invoked tree part) places (λ P k m. invoked_at P ks k m (length (group_names part))) (λ m. invoked_sorted ks (rise_second (flat_map wire_places part.wires) places rises) m (length (group_names part)))
+      sorted_by_place (invoked tree part) places (λ P k m. invoked_at P ks k m (first tree part)) (λ m. invoked_sorted ks (rise_second (flat_map wire_places part.wires) places rises) m (first tree part))
       part.wires rises 0
 
 -- WITHOUT PLACES

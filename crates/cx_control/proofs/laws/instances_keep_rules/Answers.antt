@@ -15,10 +15,10 @@ returns-clause-rules c = λ d path design flat accepted.
     flat
 
 pub returns-clause-islands : goal.returns-clause-islands
-returns-clause-islands c = λ d path accepted.
+returns-clause-islands c = λ d path flat accepted.
     islands_keep (instance_at (tree_of d) path)
     (λ form h t kept are. c.samples_give_the_cycle.ensures.active (part_of (instance_at (tree_of d) path)) form h t kept are)
     (λ form h t kept are. c.samples_give_the_cycle.ensures.begun (part_of (instance_at (tree_of d) path)) form h t kept are)
     (λ form h t inside. c.timers_give_the_active_groups.ensures (part_of (instance_at (tree_of d) path)) form h t inside)
     (λ form h t none inside. c.timers_give_the_begun_ports.ensures (part_of (instance_at (tree_of d) path)) form h t none inside)
-    (λ v i. c.accepted_has_no_empty_if.ensures d path v accepted i)
+    (λ v i. c.accepted_has_no_empty_if.ensures d path v flat accepted i)

@@ -5,7 +5,7 @@ use Rattle.cx_eval.proofs.CycleLemmas.{can_step, faults, fits_after, goes_on}
 use Rattle.cx_eval.proofs.cycling.cycle_in.Goals as goal
 
 pub told-requires : goal.told-requires
-told-requires c = record { few = number_few (design_of c.args.tables.now) c.args.instance c.requires.tables.accepted c.requires.instance }
+told-requires c = record { few = number_few (design_of c.args.tables.now) c.args.instance c.requires.tables.flat c.requires.tables.accepted c.requires.instance }
 
 pub returns-in-Some-clause-value : goal.returns-in-Some-clause-value
 returns-in-Some-clause-value c =

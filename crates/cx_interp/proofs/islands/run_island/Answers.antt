@@ -32,7 +32,7 @@ returns-clause-done c =
     (ap (λ (p : PlainComponent). form_length p (plain_form c.args.form.now)) (sym (c.instance_part-part.ensures path number)))
     (c.requires.island path number)
     (c.islands_run_by_samples.ensures (instance_at (tree_of (design_of c.args.plan.now)) path) held (plain_form c.args.form.now) (samples_in c.args.machine.now) s c.args.budget
-    (c.accepted_has_no_empty_if.ensures (design_of c.args.plan.now) path (there (plain_form c.args.form.now) c.requires.form.0) c.requires.plan.accepted
+    (c.accepted_has_no_empty_if.ensures (design_of c.args.plan.now) path (there (plain_form c.args.form.now) c.requires.form.0) c.requires.plan.flat c.requires.plan.accepted
     (stands_there (design_of c.args.plan.now) c.args.instance (plain_form c.args.form.now) c.requires.form path number))))
     (done_rested (design_of c.args.plan.now) c.args.instance (rows_of c.args.machine.now) (rows_of c.take_cycles-answer.new.machine) (rows_of c.rest_all.new.machine) (form_drives (plain_form c.args.form.now))
     (sampled_does (plain_form c.args.form.now) count (samples_in c.args.machine.now)) c.args.budget c.take_cycles-answer.result every_cell

@@ -28,7 +28,7 @@ returns-in-Err-clause-paused c =
     let length : c.form_length-length.result ≡ count =
     length_told part form c.form_length-length.result
     (island_short (design_of c.args.plan.now) c.args.instance form part c.requires.instance c.requires.form c.requires.island c.requires.part
-    (λ path v stands island. c.accepted_islands_are_short.ensures (design_of c.args.plan.now) path v c.requires.plan.accepted stands island))
+    (λ path v stands island. c.accepted_islands_are_short.ensures (design_of c.args.plan.now) path v c.requires.plan.flat c.requires.plan.accepted stands island))
     c.form_length-length.ensures in
     let inside : c.loop-cycle.cycle < count = omega (arith, length, c.loop-cycle-test.true, c.min-cycle-end.ensures) in
     let left : c.loop-cycle.cycle < c.args.budget = omega (arith, c.loop-cycle-test.true, c.min-cycle-end.ensures) in
@@ -43,7 +43,7 @@ loop-cycle-preserved c =
     let length : c.form_length-length.result ≡ count =
     length_told part form c.form_length-length.result
     (island_short (design_of c.args.plan.now) c.args.instance form part c.requires.instance c.requires.form c.requires.island c.requires.part
-    (λ path v stands island. c.accepted_islands_are_short.ensures (design_of c.args.plan.now) path v c.requires.plan.accepted stands island))
+    (λ path v stands island. c.accepted_islands_are_short.ensures (design_of c.args.plan.now) path v c.requires.plan.flat c.requires.plan.accepted stands island))
     c.form_length-length.ensures in
     let inside : c.loop-cycle.cycle < count = omega (arith, length, c.loop-cycle-test.true, c.min-cycle-end.ensures) in
     let left : c.loop-cycle.cycle < c.args.budget = omega (arith, c.loop-cycle-test.true, c.min-cycle-end.ensures) in
@@ -62,7 +62,7 @@ returns-then-length-budget-clause-paused c =
     let length : c.form_length-length.result ≡ count =
     length_told part form c.form_length-length.result
     (island_short (design_of c.args.plan.now) c.args.instance form part c.requires.instance c.requires.form c.requires.island c.requires.part
-    (λ path v stands island. c.accepted_islands_are_short.ensures (design_of c.args.plan.now) path v c.requires.plan.accepted stands island))
+    (λ path v stands island. c.accepted_islands_are_short.ensures (design_of c.args.plan.now) path v c.requires.plan.flat c.requires.plan.accepted stands island))
     c.form_length-length.ensures in
     let lt : count < c.args.budget = omega (arith, length, c.if-length-budget.true) in
     let end : c.loop-cycle.cycle ≡ count = omega (arith, length, c.if-length-budget.true, c.loop-cycle-test.false, c.loop-cycle.auto.cycle-end, c.min-cycle-end.ensures) in
@@ -78,7 +78,7 @@ returns-else-length-budget-clause-paused c =
     let length : c.form_length-length.result ≡ count =
     length_told part form c.form_length-length.result
     (island_short (design_of c.args.plan.now) c.args.instance form part c.requires.instance c.requires.form c.requires.island c.requires.part
-    (λ path v stands island. c.accepted_islands_are_short.ensures (design_of c.args.plan.now) path v c.requires.plan.accepted stands island))
+    (λ path v stands island. c.accepted_islands_are_short.ensures (design_of c.args.plan.now) path v c.requires.plan.flat c.requires.plan.accepted stands island))
     c.form_length-length.ensures in
     let over : c.args.budget ≤ c.loop-cycle.cycle = omega (arith, c.if-length-budget.false, c.loop-cycle-test.false, c.min-cycle-end.ensures) in
     cycles_more (design_of c.args.plan.now) c.args.instance form (form_drives form) count c.args.budget (samples_in c.args.machine.now) (rows_of c.args.machine.now) (rows_of c.loop-cycle.machine) (samples_in c.loop-cycle.machine)

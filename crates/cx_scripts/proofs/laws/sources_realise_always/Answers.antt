@@ -3,4 +3,4 @@ use Rattle.cx_scripts.proofs.laws.sources_realise_always.Goals as goal
 
 pub returns : goal.returns
 returns c d design flat accepted sound =
-    realised_always d design flat accepted (λ path. c.instances_keep_rules.ensures.rules d path design flat accepted) (λ path. c.instances_keep_rules.ensures.islands d path accepted) sound
+    realised_always d design flat accepted (λ path. c.instances_keep_rules.ensures.rules d path design flat accepted) (λ path. c.instances_keep_rules.ensures.islands d path flat accepted) sound

@@ -1,5 +1,5 @@
 use Rattle.std.proofs.Common.{◌≡◌, drop, map}
-use Rattle.cx_shape_calls.specs.Callees.{plain_callee}
+use Rattle.cx_callees.specs.Callees.{plain_callee}
 use Rattle.cx_shape_calls.specs.Decisions.{calls_other}
 use Rattle.cx_shape_calls.proofs.assigns.calls_other.Given as goal
 

@@ -1,5 +1,5 @@
 use Rattle.std.proofs.Common.{rules}
-use Rattle.cx_shape_calls.specs.Callees.{plain_callee, done_of}
+use Rattle.cx_callees.specs.Callees.{plain_callee, done_of}
 use Rattle.cx_shape_calls.specs.Forms.{times}
 use Rattle.cx_shape_calls.proofs.DoneLemmas.{dones_counted}
 use Rattle.cx_shape_calls.proofs.dones.are_dones.Goals as goal

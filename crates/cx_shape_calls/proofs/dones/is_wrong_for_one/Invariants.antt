@@ -1,6 +1,6 @@
 use Rattle.std.proofs.Common.{◌≡◌, drop, map}
 use Rattle.cx_design.specs.PlainForms.{plain_assign}
-use Rattle.cx_shape_calls.specs.Callees.{plain_callee}
+use Rattle.cx_callees.specs.Callees.{plain_callee}
 use Rattle.cx_shape_calls.specs.Forms.{is_wrong_done}
 use Rattle.cx_shape_calls.proofs.dones.is_wrong_for_one.Given as goal
 

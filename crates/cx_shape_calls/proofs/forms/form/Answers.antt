@@ -5,7 +5,7 @@ use Rattle.cx_rules.specs.Ports.{component_of}
 use Rattle.cx_rules.specs.CallShape.{captured, with_target}
 use Rattle.cx_design.specs.PlainForms.{plain_assign, plain_assigns, plain_component, plain_group}
 use Rattle.cx_design.specs.PlainDesigns.{plain_design}
-use Rattle.cx_shape_calls.specs.Callees.{plain_callee, called_of}
+use Rattle.cx_callees.specs.Callees.{plain_callee, called_of}
 use Rattle.cx_shape_calls.specs.Forms.{times}
 use Rattle.cx_shape_calls.proofs.DoneLemmas.{calling_if, some_if_not, lacks_told, wrong_told}
 use Rattle.cx_meaning.proofs.DesignsLemmas.{same_part}

@@ -1,6 +1,6 @@
 use Rattle.std.proofs.Common.{◌≡◌, ◌&&◌, drop, map, nat_eq, not}
 use Rattle.std.specs.List.{list_any}
-use Rattle.cx_shape_calls.specs.Callees.{PlainCallee, plain_callee}
+use Rattle.cx_callees.specs.Callees.{PlainCallee, plain_callee}
 use Rattle.cx_shape_calls.specs.Forms.{times}
 use Rattle.cx_shape_calls.proofs.forms.lacks.Given as goal
 

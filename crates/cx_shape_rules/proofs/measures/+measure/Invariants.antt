@@ -1,8 +1,8 @@
 use Rattle.std.proofs.Common.{◌≡◌, ◌+◌, ◌&&◌, ◌++◌, ◌≤◌, ◌-◌, ◌^◌, max, map, drop}
 use Rattle.cx_design.specs.PlainForms.{plain_component, plain_statements}
-use Rattle.cx_meaning.specs.Islands.{sum_length, max_length}
 use Rattle.cx_rules.specs.Items.{InStatic, visit_all}
 use Rattle.cx_rules.specs.StaticControl.{all_have_length}
+use Rattle.cx_rules.specs.Invokes.{sum_lasts, max_lasts}
 use Rattle.cx_design_parts.specs.Items.{plain_context}
 use Rattle.cx_shape_rules.specs.Measures.{capped, measure_of}
 use Rattle.cx_shape_rules.proofs.measures.+measure.Given as goal
@@ -22,8 +22,8 @@ invariant-add_static-loop-statement l =
     record {
       list : l.list.items ++ map (measure_of part) (visit_all InStatic left) ≡ l.initial.list.items ++ map (measure_of part) (visit_all InStatic all);
       lengths : l.all_have_length && all_have_length part left ≡ all_have_length part all;
-      sum : capped (l.sum + sum_length part left) ≡ capped (sum_length part all);
-      longest : capped (max l.longest (max_length part left)) ≡ capped (max_length part all);
+      sum : capped (l.sum + sum_lasts part left) ≡ capped (sum_lasts part all);
+      longest : capped (max l.longest (max_lasts part left)) ≡ capped (max_lasts part all);
       few : l.sum ≤ 2 ^ 128 - 1;
       short : l.longest ≤ 2 ^ 128 - 1;
     }

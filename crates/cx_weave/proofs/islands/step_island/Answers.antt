@@ -51,7 +51,7 @@ overflow_add-result c =
     let path = get_or (paths_of (tree_of d)) c.args.instance [] in
     let short : form_length (part_of (instance_at (tree_of d) path)) form < REPETITIONS =
     island_short d c.args.instance form (part_of (instance_at (tree_of d) path)) c.requires.instance kept.1.stands kept.1.island (λ other number. ap (λ p. part_of (instance_at (tree_of d) p)) (one_path d c.args.instance path other own number))
-    (λ p v stands island. c.accepted_islands_are_short.ensures d p v c.requires.plan.accepted stands island) in
+    (λ p v stands island. c.accepted_islands_are_short.ensures d p v c.requires.plan.flat c.requires.plan.accepted stands island) in
     let whole = kept.1.whole path own in
     first_of (omega (arith, short, whole), search (rules, short, whole))
 

@@ -29,7 +29,7 @@ sample-requires-clause-cycle c =
     let form = plain_form c.args.form.now in
     let short : form_length (part_of (instance_at (tree_of d) path)) form < REPETITIONS =
     island_short d c.args.instance form (part_of (instance_at (tree_of d) path)) c.requires.instance c.requires.form c.requires.island (λ other number. ap (λ p. part_of (instance_at (tree_of d) p)) (one_path d c.args.instance path other own number))
-    (λ p v stands island. c.accepted_islands_are_short.ensures d p v c.requires.plan.accepted stands island) in
+    (λ p v stands island. c.accepted_islands_are_short.ensures d p v c.requires.plan.flat c.requires.plan.accepted stands island) in
     let inside = c.requires.within path own in
     omega (arith, short, inside)
 
@@ -41,7 +41,7 @@ activate-requires-clause-cycle c =
     let form = plain_form c.args.form.now in
     let short : form_length (part_of (instance_at (tree_of d) path)) form < REPETITIONS =
     island_short d c.args.instance form (part_of (instance_at (tree_of d) path)) c.requires.instance c.requires.form c.requires.island (λ other number. ap (λ p. part_of (instance_at (tree_of d) p)) (one_path d c.args.instance path other own number))
-    (λ p v stands island. c.accepted_islands_are_short.ensures d p v c.requires.plan.accepted stands island) in
+    (λ p v stands island. c.accepted_islands_are_short.ensures d p v c.requires.plan.flat c.requires.plan.accepted stands island) in
     let inside = c.requires.within path own in
     omega (arith, short, inside)
 
@@ -64,7 +64,7 @@ returns-in-Some-clause-taken c =
     gives_cycle (part_of (instance_at (tree_of d) path)) form c.args.cycle next (λ h. c.samples_give_the_cycle.ensures.active (part_of (instance_at (tree_of d) path)) form h c.args.cycle next) (λ h. c.samples_give_the_cycle.ensures.begun (part_of (instance_at (tree_of d) path)) form h c.args.cycle next)
     (λ h. c.timers_give_the_active_groups.ensures (part_of (instance_at (tree_of d) path)) form h c.args.cycle (c.requires.within path number))
     (λ h. c.timers_give_the_begun_ports.ensures (part_of (instance_at (tree_of d) path)) form h c.args.cycle
-    (c.accepted_has_no_empty_if.ensures d path (there form c.requires.form.0) c.requires.plan.accepted (stands_there d c.args.instance form c.requires.form path number)) (c.requires.within path number)))
+    (c.accepted_has_no_empty_if.ensures d path (there form c.requires.form.0) c.requires.plan.flat c.requires.plan.accepted (stands_there d c.args.instance form c.requires.form path number)) (c.requires.within path number)))
     c.in-Some.fault (subst (λ f. SamplesTaken d rows c.args.instance (plain_component c.instance_part-part.result.now) form c.args.cycle kept next f) c.in-Some.is c.sample.ensures.taken))
 
 pub cycle_of-requires-clause-active : goal.cycle_of-requires-clause-active
@@ -99,5 +99,5 @@ returns-clause-taken c =
     gives_cycle (part_of (instance_at (tree_of d) path)) form c.args.cycle next (λ h. c.samples_give_the_cycle.ensures.active (part_of (instance_at (tree_of d) path)) form h c.args.cycle next) (λ h. c.samples_give_the_cycle.ensures.begun (part_of (instance_at (tree_of d) path)) form h c.args.cycle next)
     (λ h. c.timers_give_the_active_groups.ensures (part_of (instance_at (tree_of d) path)) form h c.args.cycle (c.requires.within path number))
     (λ h. c.timers_give_the_begun_ports.ensures (part_of (instance_at (tree_of d) path)) form h c.args.cycle
-    (c.accepted_has_no_empty_if.ensures d path (there form c.requires.form.0) c.requires.plan.accepted (stands_there d c.args.instance form c.requires.form path number)) (c.requires.within path number)))
+    (c.accepted_has_no_empty_if.ensures d path (there form c.requires.form.0) c.requires.plan.flat c.requires.plan.accepted (stands_there d c.args.instance form c.requires.form path number)) (c.requires.within path number)))
     new c.activate.new.active c.args.cells.now c.cycle_of.result c.in_default.ensures.taken c.activate.ensures.value c.requires.driven cycled

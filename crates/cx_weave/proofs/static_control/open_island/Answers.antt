@@ -43,7 +43,7 @@ returns-clause-opens c =
     let part = plain_component c.instance_part.result.now in
     let island : Island = record { form = c.args.form; cycle = 0; left = c.form_length-left.result; samples = c.take_island-samples.result.samples; cells = c.driven_cells.new.cells } in
     let short : form_length part form < REPETITIONS =
-    island_short d c.args.instance form part c.requires.instance c.requires.form c.requires.island c.instance_part.ensures (λ path v stands is. c.accepted_islands_are_short.ensures d path v c.requires.plan.accepted stands is) in
+    island_short d c.args.instance form part c.requires.instance c.requires.form c.requires.island c.instance_part.ensures (λ path v stands is. c.accepted_islands_are_short.ensures d path v c.requires.plan.flat c.requires.plan.accepted stands is) in
     let long : c.form_length-left.result ≡ form_length part form = length_told part form c.form_length-left.result short c.form_length-left.ensures in
     let room : form_ifs form ≤ length c.take_island-samples.result.samples.items =
     samples_fit d c.args.instance c.args.spares.now form c.requires.supplied c.take_island-samples.new.spares (vec_capacity c.take_island-samples.result.cells) (length c.take_island-samples.result.samples.items) c.take_island-samples.ensures.ledger c.requires.instance c.requires.form in

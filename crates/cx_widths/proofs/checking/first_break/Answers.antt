@@ -8,5 +8,5 @@ use Rattle.cx_widths.proofs.checking.first_break.Goals as goal
 pub loop-number-preserved : goal.loop-number-preserved
 loop-number-preserved c =
     let d = plain_design c.args.design.now in
-    next_component d c.loop-number.number (length c.args.design.now.components.items) c.loop-number.first c.add_assigns.new.first c.add_conditions.new.first (first_of None (components_breaks d 0 (length c.args.design.now.components.items)))
-    (search rules) c.in_ok-add_assigns.ensures.value c.in_ok-add_conditions.ensures.value c.loop-number.invariant
+    next_component d c.loop-number.number (length c.args.design.now.components.items) c.loop-number.first c.add_assigns.new.first c.add_conditions.new.first c.add_binds.new.first (first_of None (components_breaks d 0 (length c.args.design.now.components.items)))
+    (search rules) c.in_ok-add_assigns.ensures.value c.in_ok-add_conditions.ensures.value c.in_ok-add_binds.ensures.value c.loop-number.invariant

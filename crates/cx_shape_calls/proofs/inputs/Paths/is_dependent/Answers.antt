@@ -9,7 +9,7 @@ use Rattle.cx_rules.specs.Ports.{component_of}
 use Rattle.cx_design.specs.PlainForms.{plain_component}
 use Rattle.cx_design.specs.PlainDesigns.{plain_design}
 use Rattle.cx_design_leads.specs.Edges.{LeadsInGroup}
-use Rattle.cx_shape_calls.specs.Callees.{plain_callee}
+use Rattle.cx_callees.specs.Callees.{plain_callee}
 use Rattle.cx_shape_calls.proofs.DependLemmas.{found_is, dependent_input, graph_bounded, more_bounded, node_bounded}
 use Rattle.cx_shape_calls.proofs.inputs.Paths.is_dependent.Goals as goal
 

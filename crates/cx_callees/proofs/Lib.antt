@@ -1,0 +1,2 @@
+pub mod CalledLemmas
+pub mod TargetLemmas

@@ -1,0 +1,6 @@
+//! The component cells whose ports a group drives.
+#![tactic(auto)]
+
+mod callees;
+
+pub use callees::{Callee, called, callee_of};

@@ -1,9 +1,0 @@
-use Rattle.std.proofs.Common.{◌≡◌, map, take}
-use Rattle.cx_graphs.specs.Graphs.{edges_of}
-use Rattle.cx_race.specs.Cells.{tested_by}
-use Rattle.cx_design.specs.PlainForms.{plain_statement}
-use Rattle.cx_race.proofs.arms.test_lists.Given as goal
-
--- the lists of the arms so far
-abbrev pub invariant-loop-arm : goal.invariant-loop-arm
-invariant-loop-arm l = edges_of l.lists.items ≡ map tested_by (map plain_statement (take l.arm-index l.arms))
