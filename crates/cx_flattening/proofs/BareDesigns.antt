@@ -84,10 +84,13 @@ module _ (d : PlainDesign) (design : IsDesign d) (flat : IsFlat d) where
     bare_cells (c ∷ cs) kinds = bare_cell c.kind (cells_for trees cs) (λ k e. kinds c k (inl refl) e) (bare_cells cs (λ cell k i e. kinds cell k (inr i) e))
 
   bare_tree : (m k : ℕ) → k < length d.components → BareTree (tree_within d m k)
-  bare_tree zero k there = (bare_one Dynamic (component_at d k).control (none_timed k there), (tt, tt))
+  bare_tree zero k there = ((flat k there).no_invoke, (bare_one Dynamic (component_at d k).control (none_timed k there), (tt, tt)))
   bare_tree (suc m) k there = (
-    bare_one Dynamic (component_at d k).control (none_timed k there),
-    (none_static m (component_at d k).cells (kinds_of k there), bare_cells (tree_within d m) (λ j h. bare_tree m j h) (component_at d k).cells (kinds_of k there)),
+    (flat k there).no_invoke,
+    (
+      bare_one Dynamic (component_at d k).control (none_timed k there),
+      (none_static m (component_at d k).cells (kinds_of k there), bare_cells (tree_within d m) (λ j h. bare_tree m j h) (component_at d k).cells (kinds_of k there)),
+    ),
   )
 
 pub bare_design : (d : PlainDesign) → IsDesign d → IsFlat d → BareTree (tree_of d)

@@ -10,7 +10,7 @@ use Rattle.cx_meaning.specs.Sights.{Look, Held, seen}
 use Rattle.cx_meaning.specs.Cycles.{Fault, Ended, cycle}
 use Rattle.cx_meaning.specs.Islands.{group_length, form_length, length_of, sum_length, max_length, Condition, condition, Occurrence, occurrence, rounds_from, form_flat, flat, seq_flat, par_flat, is_wanted, entry_if, port_if, active_in, looked_at, is_one, fault_of, unless_unclear, island_turn, island_from, island}
 use Rattle.cx_meaning.specs.Islands as islands
-use Rattle.cx_flattening.specs.Invokes.{form_lasts, lasts, sum_lasts, max_lasts}
+use Rattle.cx_rules.specs.Invokes.{form_lasts, lasts, sum_lasts, max_lasts}
 use Rattle.cx_flattening.specs.Events.{spot, Sample, Event, Runs, Looks, Beginning, Events, also_if, group_events, rounds_events, form_events, events, seq_events, par_events}
 use Rattle.cx_flattening.specs.Deeds.{History, hold, Deed, Acts, deed_if, deeds_in, spot_if, looked_in, own_entries, deeds_below, fault_in, or_later, first_unclear, held_below}
 use Rattle.cx_flattening.specs.Whole.{is_static, child_if, whole_cycle, cycles_below}

@@ -11,19 +11,20 @@ use Rattle.cx_meaning.specs.Active.{nothing, entries, group, capture}
 use Rattle.cx_meaning.specs.Sights.{Held, unheld, seen}
 use Rattle.cx_meaning.specs.Cycles.{Fault, cycle}
 use Rattle.cx_meaning.specs.Answers.{then_do, idle_turn, one_turn, turns_of, turn_then, test_turn, loop_of, rounds, both}
-use Rattle.cx_meaning.specs.Control.{Leaves, groups_drive, groups_of, drives, run, run_form, run_parts, run_arms}
+use Rattle.cx_meaning.specs.Control.{Leaves, drives, run, run_form, run_parts, run_arms}
 use Rattle.cx_meaning.specs.Islands.{Occurrence, form_flat, form_length, looked_at, active_in, is_one, turn_of, unless_unclear, island_turn, island_from, island}
 use Rattle.cx_meaning.specs.Islands as islands
 use Rattle.cx_meaning.specs.Calls.{hole_turn, called, captures, lift_answer, inputs_of_call}
 use Rattle.cx_meaning.specs.Calls as calls
 use Rattle.cx_meaning.specs.Running.{Children, leaves, run_control, control_below, run_main}
-use Rattle.cx_flattening.specs.Invokes.{form_lasts, form_invokes, invokes, any_invokes, drives_all}
+use Rattle.cx_rules.specs.Invokes.{form_lasts, drives_all}
+use Rattle.cx_rules.proofs.InvokesLemmas.{drives_all-flat}
 use Rattle.cx_flattening.specs.Events.{events_below}
 use Rattle.cx_flattening.specs.Deeds.{History, no_history, and_now, deeds_in, own_entries, first_unclear}
 use Rattle.cx_flattening.specs.Whole.{look_below, whole_cycle, whole_turn, whole_from, whole_island, after_child, group_turn, call_or_turns, enable_kind, whole_leaves, whole_control, whole_below, whole_main}
 use Rattle.cx_flattening.proofs.BareIslands.{Bare, BareOne, BareAll, event_of, bare_form, bare_form_lasts, Says, acts_same, looks_same, unclear_same, NoStatic, whole_is_cycle}
 
-module _ (part : PlainComponent) (cells : Cells) (u : NoStatic cells) (held : Held) where
+module _ (part : PlainComponent) (cells : Cells) (none : part.invokes ≡ []) (u : NoStatic cells) (held : Held) where
   says_now : (h : History) (k : islands.History) → Says h k → (t : ℕ) (s : State) → Says (and_now h t (look_below (Node part cells) held s)) (islands.and_now k t (seen (Node part cells) held nothing s))
   says_now h k says t s p at = ap (λ b. cond (nat_eq t at) (is_one (truth_of (seen (Node part cells) held nothing s p))) b) (says p at)
 
@@ -53,34 +54,8 @@ module _ (part : PlainComponent) (cells : Cells) (u : NoStatic cells) (held : He
       ∙ from_same (form_flat part form 0 []) (form_length part form) 0 no_history islands.no_history (λ p at. refl) s n
 
   -- what it drives
-  mutual
-    form_bare : (form : PlainForm) → Bare form → (c : ℕ) → form_invokes part form c ≡ false
-    form_bare Empty b c = refl
-    form_bare (Enable g) b c = refl
-    form_bare (Seq ss) b c = any_bare ss b c
-    form_bare (Par arms) b c = any_bare arms b c
-    form_bare (If test comb x y) b c = ap (λ z. z || invokes part y c) (one_bare x b.0 c) ∙ one_bare y b.1 c
-    form_bare (While test comb x) b c = one_bare x b c
-    form_bare (Repeat count x) b c = one_bare x b c
-    form_bare (StaticSeq length ss) b c = any_bare ss b c
-    form_bare (StaticPar length arms) b c = any_bare arms b c
-    form_bare (StaticIf length test x y) b c = ap (λ z. z || invokes part y c) (one_bare x b.0 c) ∙ one_bare y b.1 c
-    form_bare (StaticRepeat length count x) b c = one_bare x b c
-    form_bare (Timed k) b c = absurd b
-
-    one_bare : (s : PlainStatement) → BareOne s → (c : ℕ) → invokes part s c ≡ false
-    one_bare (Placed form place) b c = form_bare form b c
-
-    any_bare : (ss : PlainStatements) → BareAll ss → (c : ℕ) → any_invokes part ss c ≡ false
-    any_bare no_statements b c = refl
-    any_bare (a_statement s ss) b c = ap (λ z. z || any_invokes part ss c) (one_bare s b.0 c) ∙ any_bare ss b.1 c
-
-  or_false : (a : Bool) → (a || false) ≡ a
-  or_false true = refl
-  or_false false = refl
-
-  drives_same : (s : PlainStatement) → BareOne s → drives_all part s ≡ drives part s
-  drives_same s b = fun_ext (λ c. ap (λ z. groups_drive part (groups_of s) c || z) (one_bare s b c) ∙ or_false (groups_drive part (groups_of s) c))
+  drives_same : (s : PlainStatement) → drives_all part s ≡ drives part s
+  drives_same s = fun_ext (λ c. drives_all-flat part none s c)
 
   module _ (below beneath : Children) (children : (c : ℕ) (h : Held) (s : State) (n : ℕ) → below c h s n ≡ beneath c h s n) where
     group_turn_same : (g : ℕ) (s : State) → group_turn (Node part cells) held g s ≡ calls.group_turn (Node part cells) held g s
@@ -121,7 +96,7 @@ module _ (part : PlainComponent) (cells : Cells) (u : NoStatic cells) (held : He
           ∙ ap (then_do (run old first s n) n) (fun_ext (λ s1. fun_ext (λ m. parts_same later b.1 s1 m)))
       form_same (Par no_statements) b s n = refl
       form_same (Par (a_statement first later)) b s n =
-          ap (λ d. both (merge d) (run new first s n) (run_arms new later s n)) (drives_same first b.0)
+          ap (λ d. both (merge d) (run new first s n) (run_arms new later s n)) (drives_same first)
           ∙ ap (λ a. both (merge (drives part first)) a (run_arms new later s n)) (run_same first b.0 s n)
           ∙ ap (both (merge (drives part first)) (run old first s n)) (arms_same later b.1 s n)
       form_same (If test comb x y) b s n =
@@ -145,14 +120,14 @@ module _ (part : PlainComponent) (cells : Cells) (u : NoStatic cells) (held : He
       arms_same : (ss : PlainStatements) → BareAll ss → (s : State) (n : ℕ) → run_arms new ss s n ≡ run_arms old ss s n
       arms_same no_statements b s n = refl
       arms_same (a_statement first later) b s n =
-          ap (λ d. both (merge d) (run new first s n) (run_arms new later s n)) (drives_same first b.0)
+          ap (λ d. both (merge d) (run new first s n) (run_arms new later s n)) (drives_same first)
           ∙ ap (λ a. both (merge (drives part first)) a (run_arms new later s n)) (run_same first b.0 s n)
           ∙ ap (both (merge (drives part first)) (run old first s n)) (arms_same later b.1 s n)
 
 -- no static invoke and no static child in a tree
 abbrev mutual
   pub BareTree : Instance → Type 0
-  BareTree (Node part cells) = BareOne part.control × (NoStatic cells × BareCells cells)
+  BareTree (Node part cells) = (part.invokes ≡ []) × (BareOne part.control × (NoStatic cells × BareCells cells))
 
   pub BareCells : Cells → Type 0
   BareCells no_cells = Unit {0}
@@ -161,7 +136,7 @@ abbrev mutual
 
 mutual
   pub control_same : (i : Instance) → BareTree i → (held : Held) (s : State) (n : ℕ) → whole_control i held s n ≡ run_control i held s n
-  control_same (Node part cells) b held s n = run_same part cells b.1.0 held (whole_below cells) (control_below cells) (below_same cells b.1.1) part.control b.0 s n
+  control_same (Node part cells) b held s n = run_same part cells b.0 b.1.1.0 held (whole_below cells) (control_below cells) (below_same cells b.1.1.1) part.control b.1.0 s n
 
   below_same : (cells : Cells) → BareCells cells → (c : ℕ) (held : Held) (s : State) (n : ℕ) → whole_below cells c held s n ≡ control_below cells c held s n
   below_same no_cells b c held s n = refl

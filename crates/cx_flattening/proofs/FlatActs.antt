@@ -8,10 +8,11 @@ use Rattle.cx_meaning.specs.Instances.{Instance, Node, Cells, no_cells, a_primit
 use Rattle.cx_meaning.specs.Active.{nothing, Entry, offset_in, entries}
 use Rattle.cx_meaning.specs.Control.{groups_of}
 use Rattle.cx_meaning.specs.Sights.{In}
-use Rattle.cx_flattening.specs.Invokes.{no_invoke, invoke_at}
+use Rattle.cx_flattening.specs.Events.{no_invoke, the_invoke}
 use Rattle.cx_flattening.specs.Deeds.{Deed, Acts, Fed, deed_if, own_entries, deeds_below}
 use Rattle.cx_flattening.specs.Whole.{is_static}
-use Rattle.cx_flattening.specs.Copies.{is_one_of, count_if, enabled_below, enabled_groups}
+use Rattle.cx_rules.specs.Counts.{is_one_of}
+use Rattle.cx_flattening.specs.Copies.{count_if, enabled_below, enabled_groups}
 use Rattle.cx_flattening.specs.Flattened.{Kids, kid_at, flat_kids, flat_part, copies, copy_of}
 use Rattle.cx_flattening.specs.Acting.{fed_by, IsUsed, IsOf, ActsAs, AllActAs}
 use Rattle.cx_flattening.specs.Fair.{IsFair, AllFair, AllFairBelow}
@@ -19,7 +20,7 @@ use Rattle.cx_flattening.specs.FedOnce.{one_more, count_fed, FedOnce, FedOnceBel
 use Rattle.cx_flattening.proofs.FlatGroups.{enabled_grows, enabled_get, copies_flat}
 use Rattle.cx_flattening.proofs.LevelSights.{kid-static}
 use Rattle.cx_flattening.proofs.FlatDeeds.{lower, entry_by, Pairs, none_done, own_group, an_invoke}
-use Rattle.cx_flattening.proofs.FlatTurns.{still_acts}
+use Rattle.cx_flattening.proofs.StillActs.{still_acts}
 
 -- OFFSETS in lists
 abbrev or_else : Option ℕ → Option ℕ → Option ℕ
@@ -98,7 +99,7 @@ enabled_apart used g h is less = subst (λ k. enabled_below used g < enabled_bel
     step n = let grows = enabled_grows used (suc g) n in let one : enabled_below used (suc g) ≡ suc (enabled_below used g) = ap (λ b. count_if b (enabled_below used g)) is in omega (arith, grows, one)
 
 module _ (kids : Kids) (part : PlainComponent) where
-  copies_before : (vs : List PlainInvoke) (j m : ℕ) → j < m → j < length vs → length (flat_map (copies kids part) (take j vs)) + length (copies kids part (get_or vs j no_invoke)) ≤ length (flat_map (copies kids part) (take m vs))
+  pub copies_before : (vs : List PlainInvoke) (j m : ℕ) → j < m → j < length vs → length (flat_map (copies kids part) (take j vs)) + length (copies kids part (get_or vs j no_invoke)) ≤ length (flat_map (copies kids part) (take m vs))
   copies_before [] j m less there = absurd (omega (arith, there))
   copies_before (v ∷ vs) zero zero less there = absurd (omega (arith, less))
   copies_before (v ∷ vs) zero (suc m) less there = let all = length-append (copies kids part v) (flat_map (copies kids part) (take m vs)) in omega (arith, all)
@@ -110,10 +111,10 @@ module _ (kids : Kids) (part : PlainComponent) where
       omega (arith, ih, one, two)
 
   -- a copy is among those of its invoke
-  copy_within : (j g : ℕ) (kid : PlainComponent) → kid_at kids (invoke_at part j).cell ≡ Some kid → IsUsed kid g → g < length kid.groups → enabled_below (groups_of kid.control) g < length (copies kids part (invoke_at part j))
+  pub copy_within : (j g : ℕ) (kid : PlainComponent) → kid_at kids (the_invoke part j).cell ≡ Some kid → IsUsed kid g → g < length kid.groups → enabled_below (groups_of kid.control) g < length (copies kids part (the_invoke part j))
   copy_within j g kid its used there =
       let r = enabled_get (groups_of kid.control) 0 kid.groups g (enabled_below (groups_of kid.control) g) (ap (λ k. is_one_of k (groups_of kid.control)) (zero_plus g) ∙ used) there (zero_plus (enabled_below (groups_of kid.control) g) ∙ ap (enabled_below (groups_of kid.control)) (sym (zero_plus g))) in
-      let same : length (copies kids part (invoke_at part j)) ≡ length (enabled_groups (groups_of kid.control) 0 kid.groups) = ap length (copies_flat kids part (invoke_at part j) kid its) ∙ length-map (enabled_groups (groups_of kid.control) 0 kid.groups) _ in
+      let same : length (copies kids part (the_invoke part j)) ≡ length (enabled_groups (groups_of kid.control) 0 kid.groups) = ap length (copies_flat kids part (the_invoke part j) kid its) ∙ length-map (enabled_groups (groups_of kid.control) 0 kid.groups) _ in
       let inside = r.0 in
       omega (arith, same, inside)
     where
@@ -121,7 +122,7 @@ module _ (kids : Kids) (part : PlainComponent) where
       zero_plus a = omega arith
 
   -- so copies for different invokes are apart
-  invokes_apart : (j m g n : ℕ) (kid other : PlainComponent) → j < m → j < length part.invokes → kid_at kids (invoke_at part j).cell ≡ Some kid → IsUsed kid g → g < length kid.groups → copy_of kids part kid j g ≢ copy_of kids part other m n
+  invokes_apart : (j m g n : ℕ) (kid other : PlainComponent) → j < m → j < length part.invokes → kid_at kids (the_invoke part j).cell ≡ Some kid → IsUsed kid g → g < length kid.groups → copy_of kids part kid j g ≢ copy_of kids part other m n
   invokes_apart j m g n kid other less there its used inside same =
       let before = copies_before part.invokes j m less there in
       let within = copy_within j g kid its used inside in
@@ -158,7 +159,7 @@ module _ (part : PlainComponent) (cells : Cells) (fair : IsFair (Node part cells
   own_offsets (an_invoke {ds = ds} {kds = kds} {es = es} {kes = kes} j child there at static inner used rest) g less =
       offset-both (map (entry_by (copy_of kids part (flat_part child) j)) kes) es g
       ∙ ap (λ o. or_else o (offset_in es g)) (offset-beside (copy_of kids part (flat_part child) j) (λ m. Unit {0}) g (λ m u. behind_own (flat_part child) j m g less) kes (λ e i. tt))
-      ∙ own_offsets rest g less ∙ ap (λ l. offset_in l g) (sym (own-below (invoke_at part j).cell kds ds))
+      ∙ own_offsets rest g less ∙ ap (λ l. offset_in l g) (sym (own-below (the_invoke part j).cell kds ds))
 
   -- OF ONE STATIC CHILD
   module _ (d : ℕ) (child : Instance) (at : cell_at cells d ≡ OfInstance child) (static : is_static child ≡ true) where
@@ -180,7 +181,7 @@ module _ (part : PlainComponent) (cells : Cells) (fair : IsFair (Node part cells
     pub record IsBusy (ds : List Deed) (es : List Entry) : Type 0 where
       pub invoke : ℕ
       pub its : IsOf part d invoke
-      pub fed : fed_by d ds ≡ Some (invoke_at part invoke).inputs
+      pub fed : fed_by d ds ≡ Some (the_invoke part invoke).inputs
       pub inner_deeds : List Deed
       pub inner_entries : List Entry
       pub below : deeds_below d ds ≡ inner_deeds
@@ -190,18 +191,18 @@ module _ (part : PlainComponent) (cells : Cells) (fair : IsFair (Node part cells
       pub others : (j g : ℕ) → IsOf part d j → j ≢ invoke → IsUsed kid g → offset_in es (copy_of kids part kid j g) ≡ None
 
     -- the copies for one invoke beside those for another
-    apart_from : (j m g n : ℕ) (other : PlainComponent) → (j ≡ m → ⊥) → IsOf part d j → IsUsed kid g → m < length part.invokes → kid_at kids (invoke_at part m).cell ≡ Some other → IsUsed other n → nat_eq (copy_of kids part other m n) (copy_of kids part kid j g) ≡ false
+    apart_from : (j m g n : ℕ) (other : PlainComponent) → (j ≡ m → ⊥) → IsOf part d j → IsUsed kid g → m < length part.invokes → kid_at kids (the_invoke part m).cell ≡ Some other → IsUsed other n → nat_eq (copy_of kids part other m n) (copy_of kids part kid j g) ≡ false
     apart_from j m g n other ne its used m_there m_kid m_used =
         ne_eqb (copy_of kids part other m n) (copy_of kids part kid j g)
         (λ same. ⊎_elim
         (λ (l : j < m). invokes_apart kids part j m g n kid other l its.there (ap (kid_at kids) its.cell ∙ its_kid) used (used_there g used) (sym same))
-        (λ (l : m ≤ j). invokes_apart kids part m j n g other kid (strictly l) m_there m_kid m_used ((fair.targets.blocks (invoke_at part m).cell other m_kid).there n m_used) same)
+        (λ (l : m ≤ j). invokes_apart kids part m j n g other kid (strictly l) m_there m_kid m_used ((fair.targets.blocks (the_invoke part m).cell other m_kid).there n m_used) same)
         (cases_lt j m))
       where
         strictly : m ≤ j → m < j
         strictly l = ⊎_elim (λ (x : m < j). x) (λ (x : j ≤ m). absurd (ne (omega (arith, l, x)))) (cases_lt m j)
 
-    none_of : (m : ℕ) (other : Instance) (kes es : List Entry) → m < length part.invokes → kid_at kids (invoke_at part m).cell ≡ Some (flat_part other) → ((e : Entry) → In kes e → IsUsed (flat_part other) e.group) → (j g : ℕ) → (j ≡ m → ⊥) → IsOf part d j → IsUsed kid g
+    none_of : (m : ℕ) (other : Instance) (kes es : List Entry) → m < length part.invokes → kid_at kids (the_invoke part m).cell ≡ Some (flat_part other) → ((e : Entry) → In kes e → IsUsed (flat_part other) e.group) → (j g : ℕ) → (j ≡ m → ⊥) → IsOf part d j → IsUsed kid g
         → offset_in (map (entry_by (copy_of kids part (flat_part other) m)) kes ++ es) (copy_of kids part kid j g) ≡ offset_in es (copy_of kids part kid j g)
     none_of m other kes es m_there m_kid m_used j g ne its used =
         offset-both (map (entry_by (copy_of kids part (flat_part other) m)) kes) es (copy_of kids part kid j g)
@@ -237,54 +238,54 @@ module _ (part : PlainComponent) (cells : Cells) (fair : IsFair (Node part cells
         passes j g = ap (λ b. if b then Some e.offset else offset_in es (copy_of kids part kid j g)) (ne_eqb e.group (copy_of kids part kid j g) (λ same. omega (arith, there, same)))
     find (an_invoke {ds = ds} {kds = kds} {es = es} {kes = kes} m other m_there m_at m_static inner m_used rest) once =
         ⊎_elim
-        (λ (e : (invoke_at part m).cell ≡ d). here e (find rest (less e)))
-        (λ (ne : (invoke_at part m).cell ≡ d → ⊥). elsewhere ne (find rest (same ne)))
-        (cases_eq (invoke_at part m).cell d)
+        (λ (e : (the_invoke part m).cell ≡ d). here e (find rest (less e)))
+        (λ (ne : (the_invoke part m).cell ≡ d → ⊥). elsewhere ne (find rest (same ne)))
+        (cases_eq (the_invoke part m).cell d)
       where
-        m_kid : kid_at kids (invoke_at part m).cell ≡ Some (flat_part other)
-        m_kid = kid-static cells (invoke_at part m).cell other m_at m_static
+        m_kid : kid_at kids (the_invoke part m).cell ≡ Some (flat_part other)
+        m_kid = kid-static cells (the_invoke part m).cell other m_at m_static
 
-        counts : one_more (nat_eq (invoke_at part m).cell d) (count_fed d ds) ≤ 1
-        counts = subst (λ n. one_more (nat_eq (invoke_at part m).cell d) n ≤ 1) (count-below (invoke_at part m).cell d kds ds) once
+        counts : one_more (nat_eq (the_invoke part m).cell d) (count_fed d ds) ≤ 1
+        counts = subst (λ n. one_more (nat_eq (the_invoke part m).cell d) n ≤ 1) (count-below (the_invoke part m).cell d kds ds) once
 
-        same : ((invoke_at part m).cell ≡ d → ⊥) → count_fed d ds ≤ 1
-        same ne = subst (λ b. one_more b (count_fed d ds) ≤ 1) (ne_eqb (invoke_at part m).cell d ne) counts
+        same : ((the_invoke part m).cell ≡ d → ⊥) → count_fed d ds ≤ 1
+        same ne = subst (λ b. one_more b (count_fed d ds) ≤ 1) (ne_eqb (the_invoke part m).cell d ne) counts
 
-        none_left : (invoke_at part m).cell ≡ d → count_fed d ds ≡ 0
-        none_left e = let more : suc (count_fed d ds) ≤ 1 = subst (λ b. one_more b (count_fed d ds) ≤ 1) (eq-eqb (invoke_at part m).cell d e) counts in omega (arith, more)
+        none_left : (the_invoke part m).cell ≡ d → count_fed d ds ≡ 0
+        none_left e = let more : suc (count_fed d ds) ≤ 1 = subst (λ b. one_more b (count_fed d ds) ≤ 1) (eq-eqb (the_invoke part m).cell d e) counts in omega (arith, more)
 
-        less : (invoke_at part m).cell ≡ d → count_fed d ds ≤ 1
+        less : (the_invoke part m).cell ≡ d → count_fed d ds ≤ 1
         less e = let none = none_left e in omega (arith, none)
 
-        elsewhere : ((invoke_at part m).cell ≡ d → ⊥) → IsQuiet ds es ⊎ IsBusy ds es
-            → IsQuiet (Fed [] (invoke_at part m).cell (invoke_at part m).inputs ∷ (map (lower ((invoke_at part m).cell ∷ [])) kds ++ ds)) (map (entry_by (copy_of kids part (flat_part other) m)) kes ++ es)
-            ⊎ IsBusy (Fed [] (invoke_at part m).cell (invoke_at part m).inputs ∷ (map (lower ((invoke_at part m).cell ∷ [])) kds ++ ds)) (map (entry_by (copy_of kids part (flat_part other) m)) kes ++ es)
+        elsewhere : ((the_invoke part m).cell ≡ d → ⊥) → IsQuiet ds es ⊎ IsBusy ds es
+            → IsQuiet (Fed [] (the_invoke part m).cell (the_invoke part m).inputs ∷ (map (lower ((the_invoke part m).cell ∷ [])) kds ++ ds)) (map (entry_by (copy_of kids part (flat_part other) m)) kes ++ es)
+            ⊎ IsBusy (Fed [] (the_invoke part m).cell (the_invoke part m).inputs ∷ (map (lower ((the_invoke part m).cell ∷ [])) kds ++ ds)) (map (entry_by (copy_of kids part (flat_part other) m)) kes ++ es)
         elsewhere ne (inl q) = inl (record {
-          unfed = feeds_other (invoke_at part m).cell (invoke_at part m).inputs (map (lower ((invoke_at part m).cell ∷ [])) kds ++ ds) ne ∙ fed-below (invoke_at part m).cell d kds ds ∙ q.unfed;
-          none_below = below-elsewhere (invoke_at part m).cell d ne kds ds ∙ q.none_below;
-          copies = λ j g its u. none_of m other kes es m_there m_kid m_used j g (λ e. ne (ap (λ x. (invoke_at part x).cell) (sym e) ∙ its.cell)) its u ∙ q.copies j g its u;
+          unfed = feeds_other (the_invoke part m).cell (the_invoke part m).inputs (map (lower ((the_invoke part m).cell ∷ [])) kds ++ ds) ne ∙ fed-below (the_invoke part m).cell d kds ds ∙ q.unfed;
+          none_below = below-elsewhere (the_invoke part m).cell d ne kds ds ∙ q.none_below;
+          copies = λ j g its u. none_of m other kes es m_there m_kid m_used j g (λ e. ne (ap (λ x. (the_invoke part x).cell) (sym e) ∙ its.cell)) its u ∙ q.copies j g its u;
         })
         elsewhere ne (inr b) = inr (record {
           invoke = b.invoke;
           its = b.its;
-          fed = feeds_other (invoke_at part m).cell (invoke_at part m).inputs (map (lower ((invoke_at part m).cell ∷ [])) kds ++ ds) ne ∙ fed-below (invoke_at part m).cell d kds ds ∙ b.fed;
+          fed = feeds_other (the_invoke part m).cell (the_invoke part m).inputs (map (lower ((the_invoke part m).cell ∷ [])) kds ++ ds) ne ∙ fed-below (the_invoke part m).cell d kds ds ∙ b.fed;
           inner_deeds = b.inner_deeds;
           inner_entries = b.inner_entries;
-          below = below-elsewhere (invoke_at part m).cell d ne kds ds ∙ b.below;
+          below = below-elsewhere (the_invoke part m).cell d ne kds ds ∙ b.below;
           pairs = b.pairs;
           all_used = b.all_used;
-          used = λ g u. none_of m other kes es m_there m_kid m_used b.invoke g (λ e. ne (ap (λ x. (invoke_at part x).cell) (sym e) ∙ b.its.cell)) b.its u ∙ b.used g u;
-          others = λ j g its away u. none_of m other kes es m_there m_kid m_used j g (λ e. ne (ap (λ x. (invoke_at part x).cell) (sym e) ∙ its.cell)) its u ∙ b.others j g its away u;
+          used = λ g u. none_of m other kes es m_there m_kid m_used b.invoke g (λ e. ne (ap (λ x. (the_invoke part x).cell) (sym e) ∙ b.its.cell)) b.its u ∙ b.used g u;
+          others = λ j g its away u. none_of m other kes es m_there m_kid m_used j g (λ e. ne (ap (λ x. (the_invoke part x).cell) (sym e) ∙ its.cell)) its u ∙ b.others j g its away u;
         })
 
-        here : (invoke_at part m).cell ≡ d → IsQuiet ds es ⊎ IsBusy ds es
-            → IsQuiet (Fed [] (invoke_at part m).cell (invoke_at part m).inputs ∷ (map (lower ((invoke_at part m).cell ∷ [])) kds ++ ds)) (map (entry_by (copy_of kids part (flat_part other) m)) kes ++ es)
-            ⊎ IsBusy (Fed [] (invoke_at part m).cell (invoke_at part m).inputs ∷ (map (lower ((invoke_at part m).cell ∷ [])) kds ++ ds)) (map (entry_by (copy_of kids part (flat_part other) m)) kes ++ es)
-        here e (inr b) = absurd (let some = counted d ds (invoke_at part b.invoke).inputs b.fed in let none = none_left e in omega (arith, some, none))
+        here : (the_invoke part m).cell ≡ d → IsQuiet ds es ⊎ IsBusy ds es
+            → IsQuiet (Fed [] (the_invoke part m).cell (the_invoke part m).inputs ∷ (map (lower ((the_invoke part m).cell ∷ [])) kds ++ ds)) (map (entry_by (copy_of kids part (flat_part other) m)) kes ++ es)
+            ⊎ IsBusy (Fed [] (the_invoke part m).cell (the_invoke part m).inputs ∷ (map (lower ((the_invoke part m).cell ∷ [])) kds ++ ds)) (map (entry_by (copy_of kids part (flat_part other) m)) kes ++ es)
+        here e (inr b) = absurd (let some = counted d ds (the_invoke part b.invoke).inputs b.fed in let none = none_left e in omega (arith, some, none))
         here e (inl q) = inr (record {
           invoke = m;
           its = record { there = m_there; cell = e };
-          fed = feeds_it (invoke_at part m).cell (invoke_at part m).inputs (map (lower ((invoke_at part m).cell ∷ [])) kds ++ ds) e;
+          fed = feeds_it (the_invoke part m).cell (the_invoke part m).inputs (map (lower ((the_invoke part m).cell ∷ [])) kds ++ ds) e;
           inner_deeds = kds;
           inner_entries = kes;
           below = subst (λ c. deeds_below d (map (lower (c ∷ [])) kds ++ ds) ≡ kds) (sym e) (below-there d kds ds ∙ ap (λ l. kds ++ l) q.none_below ∙ append-nil kds);

@@ -6,7 +6,8 @@ use Rattle.cx_meaning.specs.Designs.{PlainAssign, PlainGroup}
 use Rattle.cx_meaning.specs.Active.{Active, owned, owned_by_groups, same_port, acting}
 use Rattle.cx_meaning.specs.Sights.{In}
 use Rattle.cx_rewrites.specs.Moving.{moved_assign, moved_group, moved_acting}
-use Rattle.cx_flattening.specs.Copies.{copied_group, is_one_of, count_if, enabled_below, group_if, enabled_groups}
+use Rattle.cx_rules.specs.Counts.{is_one_of, group_if}
+use Rattle.cx_flattening.specs.Copies.{copied_group, count_if, enabled_below, enabled_groups}
 use Rattle.cx_flattening.specs.Targets.{AllUsed}
 use Rattle.cx_flattening.proofs.Sorting.{acting_both}
 use Rattle.cx_flattening.proofs.CopiedAssigns.{acting_copied, acting_none, acting_elsewhere}

@@ -37,7 +37,7 @@ use Rattle.cx_flattening.proofs.Standing.{within_child, fair_own, embedded_row, 
 use Rattle.cx_flattening.proofs.LevelSights.{kid-row, kid-static, kid-dynamic}
 use Rattle.cx_flattening.proofs.FlatCycles.{stands_alike}
 use Rattle.cx_flattening.proofs.FlatTops.{flat_seen, flat_cycle}
-use Rattle.cx_flattening.proofs.FlatTurns.{group_acts, capture_acts}
+use Rattle.cx_flattening.proofs.StillActs.{group_acts, capture_acts}
 use Rattle.cx_flattening.proofs.FlatIslands.{turn_as, turn_then_as}
 use Rattle.cx_flattening.proofs.IdleStands.{idle_stands}
 
@@ -142,7 +142,7 @@ module _ (part : PlainComponent) (cells : Cells) (fair : IsFair (Node part cells
       zero a = omega arith
 
 -- a fault of a dynamic child
-spot-below : (cells : Cells) (c : ℕ) (child : Instance) (start cell : ℕ) (path : Path) (p : PortRef) → cell_at cells c ≡ OfInstance child → is_static child ≡ false → spot_in cells c start cell path p ≡ spot_if false cell (flat_spot child start path p) (flat_spot child 0 path p)
+pub spot-below : (cells : Cells) (c : ℕ) (child : Instance) (start cell : ℕ) (path : Path) (p : PortRef) → cell_at cells c ≡ OfInstance child → is_static child ≡ false → spot_in cells c start cell path p ≡ spot_if false cell (flat_spot child start path p) (flat_spot child 0 path p)
 spot-below no_cells c child start cell path p e dynamic = absurd (cc)
 spot-below (a_primitive row rest) zero child start cell path p e dynamic = absurd (cc)
 spot-below (a_primitive row rest) (suc c) child start cell path p e dynamic = spot-below rest c child start cell path p e dynamic
@@ -208,8 +208,6 @@ module _ (part : PlainComponent) (cells : Cells) (flat : Instance) (held : Held)
         done = refl;
         kept = λ d none. absurd (cc);
         no_circle = its.group.no_circle;
-        acyclic = its.group.acyclic;
-        deeper = its.group.deeper;
       }) (inside, λ other at static. absurd (not_static other at static)))
 
   -- after the child's turns
@@ -230,8 +228,6 @@ module _ (part : PlainComponent) (cells : Cells) (flat : Instance) (held : Held)
         done = refl;
         kept = λ d same. subst (λ k. (k < length part.cells) × (kid_at (flat_kids cells) k ≡ None)) (number c d same) (inside, kept);
         no_circle = its.no_circle;
-        acyclic = its.acyclic;
-        deeper = its.group.deeper;
       }))) (idle_stands i flat s z its.group.flattened.1 stands) (λ after w there. idle_as after w n there)
     where
       number : (a b : ℕ) → Some a ≡ Some b → a ≡ b

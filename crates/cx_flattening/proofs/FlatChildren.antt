@@ -13,8 +13,7 @@ use Rattle.cx_rules.specs.Circles.{IsAcyclic, AcyclicBelow}
 use Rattle.cx_rules.specs.Footprints.{AssignNames}
 use Rattle.cx_rewrites.specs.Moving.{moved_acting}
 use Rattle.std.specs.Prelude.{◌⊎◌, if◌then◌else◌}
-use Rattle.cx_flattening.specs.Invokes.{invoke_at}
-use Rattle.cx_flattening.specs.Events.{source_to}
+use Rattle.cx_flattening.specs.Events.{the_invoke, source_to}
 use Rattle.cx_flattening.specs.Deeds.{Deed, Acts, Fed, own_entries, deeds_below, held_if, held_below}
 use Rattle.cx_flattening.specs.Whole.{is_static}
 use Rattle.cx_flattening.specs.Flattened.{Kids, kid_at, kept_at, block_size, start_of, wire_at, flat_part, flat_kids, own_port, child_port, invoke_port}
@@ -185,7 +184,7 @@ module _ (part : PlainComponent) (cells : Cells) (fair : IsFair (Node part cells
 
     module _ (fed : IsFed kids part c kid deeds deed inner) where
       abbrev v : PlainInvoke
-      v = invoke_at part fed.invoke
+      v = the_invoke part fed.invoke
 
       abbrev its_inputs : ℕ → Type 0
       its_inputs n = n < length (part_of child).inputs

@@ -11,8 +11,8 @@ use Rattle.cx_meaning.specs.Islands.{group_length, or_zero, length_of, Condition
 use Rattle.cx_meaning.specs.Islands as islands
 use Rattle.cx_meaning.specs.Sights.{In}
 use Rattle.cx_meaning.proofs.SightsLaws.{image_in, in_left, in_right, in_either}
-use Rattle.cx_flattening.specs.Invokes.{invoke_at, lasts}
-use Rattle.cx_flattening.specs.Events.{Spot, spot, Sample, Event, Feeds, Beginning, Events, source_to, group_events, capture_events, rounds_events, bound_below, invoke_events, form_events, events, seq_events, par_events, control_events, events_below}
+use Rattle.cx_rules.specs.Invokes.{lasts}
+use Rattle.cx_flattening.specs.Events.{the_invoke, Spot, spot, Sample, Event, Feeds, Beginning, Events, source_to, group_events, capture_events, rounds_events, bound_below, invoke_events, form_events, events, seq_events, par_events, control_events, events_below}
 use Rattle.cx_flattening.specs.Deeds.{History, hold, Deed, Acts, Fed, deed_if, is_now, deeds_in}
 use Rattle.cx_flattening.specs.Whole.{is_static}
 use Rattle.cx_flattening.specs.Copies.{copied_form, copied_statement, copied_statements}
@@ -49,16 +49,16 @@ entry_twice copy other (e ∷ rest) = ap (λ l. entry_by (λ g. copy (other g)) 
 pub data Pairs : Instance → List Deed → List Entry → Type 0 where
   none_done : {i : Instance} → Pairs i [] []
   own_group : {i : Instance} {ds : List Deed} {es : List Entry} (e : Entry) → e.group < length (part_of i).groups → Pairs i ds es → Pairs i (Acts [] e ∷ ds) (e ∷ es)
-  an_invoke : {i : Instance} {ds kds : List Deed} {es kes : List Entry} (j : ℕ) (child : Instance) → j < length (part_of i).invokes → cell_at (cells_of i) (invoke_at (part_of i) j).cell ≡ OfInstance child → is_static child ≡ true
+  an_invoke : {i : Instance} {ds kds : List Deed} {es kes : List Entry} (j : ℕ) (child : Instance) → j < length (part_of i).invokes → cell_at (cells_of i) (the_invoke (part_of i) j).cell ≡ OfInstance child → is_static child ≡ true
       → Pairs child kds kes → ((e : Entry) → In kes e → IsUsed (flat_part child) e.group) → Pairs i ds es
-      → Pairs i (Fed [] (invoke_at (part_of i) j).cell (invoke_at (part_of i) j).inputs ∷ (map (lower ((invoke_at (part_of i) j).cell ∷ [])) kds ++ ds)) (map (entry_by (copy_of (flat_kids (cells_of i)) (part_of i) (flat_part child) j)) kes ++ es)
+      → Pairs i (Fed [] (the_invoke (part_of i) j).cell (the_invoke (part_of i) j).inputs ∷ (map (lower ((the_invoke (part_of i) j).cell ∷ [])) kds ++ ds)) (map (entry_by (copy_of (flat_kids (cells_of i)) (part_of i) (flat_part child) j)) kes ++ es)
 
 pub pairs_both : {i : Instance} {ds ws : List Deed} {es xs : List Entry} → Pairs i ds es → Pairs i ws xs → Pairs i (ds ++ ws) (es ++ xs)
 pairs_both none_done other = other
 pairs_both (own_group e less rest) other = own_group e less (pairs_both rest other)
 pairs_both {i} {ws = ws} {xs = xs} (an_invoke {ds = ds} {kds = kds} {es = es} {kes = kes} j child there at static inner used rest) other =
-    subst (λ l. Pairs i (Fed [] (invoke_at (part_of i) j).cell (invoke_at (part_of i) j).inputs ∷ l) ((map (entry_by (copy_of (flat_kids (cells_of i)) (part_of i) (flat_part child) j)) kes ++ es) ++ xs)) (sym (append_assoc (map (lower ((invoke_at (part_of i) j).cell ∷ [])) kds) ds ws))
-    (subst (λ l. Pairs i (Fed [] (invoke_at (part_of i) j).cell (invoke_at (part_of i) j).inputs ∷ (map (lower ((invoke_at (part_of i) j).cell ∷ [])) kds ++ (ds ++ ws))) l) (sym (append_assoc (map (entry_by (copy_of (flat_kids (cells_of i)) (part_of i) (flat_part child) j)) kes) es xs))
+    subst (λ l. Pairs i (Fed [] (the_invoke (part_of i) j).cell (the_invoke (part_of i) j).inputs ∷ l) ((map (entry_by (copy_of (flat_kids (cells_of i)) (part_of i) (flat_part child) j)) kes ++ es) ++ xs)) (sym (append_assoc (map (lower ((the_invoke (part_of i) j).cell ∷ [])) kds) ds ws))
+    (subst (λ l. Pairs i (Fed [] (the_invoke (part_of i) j).cell (the_invoke (part_of i) j).inputs ∷ (map (lower ((the_invoke (part_of i) j).cell ∷ [])) kds ++ (ds ++ ws))) l) (sym (append_assoc (map (entry_by (copy_of (flat_kids (cells_of i)) (part_of i) (flat_part child) j)) kes) es xs))
     (an_invoke j child there at static inner used (pairs_both rest other)))
 
 -- nothing acts where nothing is done
@@ -216,9 +216,9 @@ module _ (h : History) (k : islands.History) (t : ℕ) where
         (subst (λ z. FoundIn gs (rounds_events body n count (start (x + n) samples)) (rounds_from (λ y. list conditions y) m count (x + z))) (sym e) (rounds_found gs body list n m e one count (x + n) samples conditions same)))
 
     -- an invoke, without what captures
-    module _ (j : ℕ) (there : j < length part.invokes) (its : IsInvoked (Node part cells) (invoke_at part j)) where
+    module _ (j : ℕ) (there : j < length part.invokes) (its : IsInvoked (Node part cells) (the_invoke part j)) where
       abbrev v : PlainInvoke
-      v = invoke_at part j
+      v = the_invoke part j
 
       abbrev kid : PlainComponent
       kid = flat_part its.child
@@ -287,7 +287,7 @@ module _ (h : History) (k : islands.History) (t : ℕ) where
           (feed_found (is_now h t x (x + or_zero v.latency) samples) _ _
           (below v.cell its.child its.stands J (λ q. f (move q)) (λ g. copy (copied g)) (first + start_of kids part v.cell) x (at ++ (v.cell ∷ [])) (bound_below bound at v.cell v.inputs) samples conditions
           (invoke_lasting part cells fair controlled lasting J copy j there kid (kid-static cells v.cell its.child its.stands its.static) lasts_there) its_binds its_agree same)
-          (λ now. outside (deeds_in h t (control_events its.child (child_start x samples))) now (λ d i. subst (λ n. InWindow h t x (x + n) samples) (sym its.latency) (within v.cell its.child its.stands (child_start x samples) d i)))))
+          (λ now. outside (deeds_in h t (control_events its.child (child_start x samples))) now (λ d i. subst (λ n. InWindow h t x (x + n) samples) (sym (ap or_zero its.latency)) (within v.cell its.child its.stands (child_start x samples) d i)))))
         where
           outside : (list : List Deed) → is_now h t x (x + or_zero v.latency) samples ≡ false → ((d : Deed) → In list d → InWindow h t x (x + or_zero v.latency) samples) → list ≡ []
           outside [] now inside = refl
@@ -295,12 +295,12 @@ module _ (h : History) (k : islands.History) (t : ℕ) where
 
     -- an invoke
     timed_found : (j : ℕ) → j < length part.invokes → (x : ℕ) (samples : List Sample) (conditions : List Condition) → SameHold samples conditions
-        → Lasting J K copy (groups_in (inlined kids part (kid_at kids (invoke_at part j).cell) j (invoke_at part j)))
-        → FoundIn (groups_in (inlined kids part (kid_at kids (invoke_at part j).cell) j (invoke_at part j))) (invoke_events (events_below cells) (invoke_at part j) (start x samples))
-        (form_flat J (copied_form f copy (inlined kids part (kid_at kids (invoke_at part j).cell) j (invoke_at part j))) x conditions)
+        → Lasting J K copy (groups_in (inlined kids part (kid_at kids (the_invoke part j).cell) j (the_invoke part j)))
+        → FoundIn (groups_in (inlined kids part (kid_at kids (the_invoke part j).cell) j (the_invoke part j))) (invoke_events (events_below cells) (the_invoke part j) (start x samples))
+        (form_flat J (copied_form f copy (inlined kids part (kid_at kids (the_invoke part j).cell) j (the_invoke part j))) x conditions)
     timed_found j there x samples conditions same lasts_there =
         let its = controlled.invokes j there in
-        let v = invoke_at part j in
+        let v = the_invoke part j in
         let at_kid : kid_at kids v.cell ≡ Some (flat_part its.child) = kid-static cells v.cell its.child its.stands its.static in
         subst (λ o. FoundIn (groups_in (inlined kids part o j v)) (invoke_events (events_below cells) v (start x samples)) (form_flat J (copied_form f copy (inlined kids part o j v)) x conditions)) (sym at_kid)
         (with_captures j there its v.captures refl x samples conditions same (subst (λ o. Lasting J K copy (groups_in (inlined kids part o j v))) at_kid lasts_there))
@@ -315,42 +315,42 @@ module _ (h : History) (k : islands.History) (t : ℕ) where
         none_groups : (s : PlainStatement) (g : ℕ) → In (groups_of s) g → In (groups_in (with_capture None s)) g
         none_groups (Placed form place) g i = i
 
-        with_captures : (j : ℕ) (there : j < length part.invokes) (its : IsInvoked (Node part cells) (invoke_at part j)) (o : Option ℕ) → (invoke_at part j).captures ≡ o → (x : ℕ) (samples : List Sample) (conditions : List Condition) → SameHold samples conditions
-            → Lasting J K copy (groups_in (with_capture (invoke_at part j).captures (copied_statement (invoke_port kids part (flat_part its.child) (invoke_at part j)) (copy_of kids part (flat_part its.child) j) (flat_part its.child).control)))
-            → FoundIn (groups_in (with_capture o (copied_statement (invoke_port kids part (flat_part its.child) (invoke_at part j)) (copy_of kids part (flat_part its.child) j) (flat_part its.child).control)))
-            (Feeds at (invoke_at part j).cell (invoke_at part j).inputs x (x + or_zero (invoke_at part j).latency) samples
-            ∷ (events_below cells (invoke_at part j).cell (child_start j there its x samples) ++ capture_events o (start (x + or_zero (invoke_at part j).latency) samples)))
-            (form_flat J (copied_form f copy (with_capture o (copied_statement (invoke_port kids part (flat_part its.child) (invoke_at part j)) (copy_of kids part (flat_part its.child) j) (flat_part its.child).control))) x conditions)
+        with_captures : (j : ℕ) (there : j < length part.invokes) (its : IsInvoked (Node part cells) (the_invoke part j)) (o : Option ℕ) → (the_invoke part j).captures ≡ o → (x : ℕ) (samples : List Sample) (conditions : List Condition) → SameHold samples conditions
+            → Lasting J K copy (groups_in (with_capture (the_invoke part j).captures (copied_statement (invoke_port kids part (flat_part its.child) (the_invoke part j)) (copy_of kids part (flat_part its.child) j) (flat_part its.child).control)))
+            → FoundIn (groups_in (with_capture o (copied_statement (invoke_port kids part (flat_part its.child) (the_invoke part j)) (copy_of kids part (flat_part its.child) j) (flat_part its.child).control)))
+            (Feeds at (the_invoke part j).cell (the_invoke part j).inputs x (x + or_zero (the_invoke part j).latency) samples
+            ∷ (events_below cells (the_invoke part j).cell (child_start j there its x samples) ++ capture_events o (start (x + or_zero (the_invoke part j).latency) samples)))
+            (form_flat J (copied_form f copy (with_capture o (copied_statement (invoke_port kids part (flat_part its.child) (the_invoke part j)) (copy_of kids part (flat_part its.child) j) (flat_part its.child).control))) x conditions)
         with_captures j there its None e x samples conditions same lasts_there =
-            let s = copied_statement (invoke_port kids part (flat_part its.child) (invoke_at part j)) (copy_of kids part (flat_part its.child) j) (flat_part its.child).control in
+            let s = copied_statement (invoke_port kids part (flat_part its.child) (the_invoke part j)) (copy_of kids part (flat_part its.child) j) (flat_part its.child).control in
             found_as (Node part cells) at copy (groups_in (with_capture None s)) (groups_of s) _
-            (deed_if (is_now h t x (x + or_zero (invoke_at part j).latency) samples) (Fed at (invoke_at part j).cell (invoke_at part j).inputs) (deeds_in h t (events_below cells (invoke_at part j).cell (child_start j there its x samples)))) _
+            (deed_if (is_now h t x (x + or_zero (the_invoke part j).latency) samples) (Fed at (the_invoke part j).cell (the_invoke part j).inputs) (deeds_in h t (events_below cells (the_invoke part j).cell (child_start j there its x samples)))) _
             (active_in k t (flat J (copied_statement f copy s) x conditions))
-            (ap (λ l. deed_if (is_now h t x (x + or_zero (invoke_at part j).latency) samples) (Fed at (invoke_at part j).cell (invoke_at part j).inputs) (deeds_in h t l)) (append-nil (events_below cells (invoke_at part j).cell (child_start j there its x samples))))
+            (ap (λ l. deed_if (is_now h t x (x + or_zero (the_invoke part j).latency) samples) (Fed at (the_invoke part j).cell (the_invoke part j).inputs) (deeds_in h t l)) (append-nil (events_below cells (the_invoke part j).cell (child_start j there its x samples))))
             (ap (active_in k t) (with_none s x conditions)) (none_groups s) (invoke_found j there its x samples conditions same lasts_there)
         with_captures j there its (Some g) e x samples conditions same lasts_there =
-            let s = copied_statement (invoke_port kids part (flat_part its.child) (invoke_at part j)) (copy_of kids part (flat_part its.child) j) (flat_part its.child).control in
+            let s = copied_statement (invoke_port kids part (flat_part its.child) (the_invoke part j)) (copy_of kids part (flat_part its.child) j) (flat_part its.child).control in
             let captured = its.captures g e in
             let lasts_one : group_length J (copy g) ≡ Some 1 = subst (λ o. Lasting J K copy (groups_in (with_capture o s))) e lasts_there g (captures_in_it g s) ∙ own-length kids part g captured.0 ∙ captured.1 in
-            let length_is : length_of J (copied_statement f copy s) ≡ or_zero (invoke_at part j).latency =
-            ap (length_of J) (statement_twice f (invoke_port kids part (flat_part its.child) (invoke_at part j)) copy (copy_of kids part (flat_part its.child) j) (flat_part its.child).control)
-            ∙ lasting (invoke_at part j).cell its.child its.stands J (λ q. f (invoke_port kids part (flat_part its.child) (invoke_at part j) q)) (λ n. copy (copy_of kids part (flat_part its.child) j n))
-            (invoke_lasting part cells fair controlled lasting J copy j there (flat_part its.child) (kid-static cells (invoke_at part j).cell its.child its.stands its.static) lasts_there) ∙ sym its.latency in
+            let length_is : length_of J (copied_statement f copy s) ≡ or_zero (the_invoke part j).latency =
+            ap (length_of J) (statement_twice f (invoke_port kids part (flat_part its.child) (the_invoke part j)) copy (copy_of kids part (flat_part its.child) j) (flat_part its.child).control)
+            ∙ lasting (the_invoke part j).cell its.child its.stands J (λ q. f (invoke_port kids part (flat_part its.child) (the_invoke part j) q)) (λ n. copy (copy_of kids part (flat_part its.child) j n))
+            (invoke_lasting part cells fair controlled lasting J copy j there (flat_part its.child) (kid-static cells (the_invoke part j).cell its.child its.stands its.static) lasts_there) ∙ sym (ap or_zero its.latency) in
             found_as (Node part cells) at copy (groups_of s ++ (g ∷ [])) (groups_of s ++ (g ∷ [])) _
-            (deed_if (is_now h t x (x + or_zero (invoke_at part j).latency) samples) (Fed at (invoke_at part j).cell (invoke_at part j).inputs) (deeds_in h t (events_below cells (invoke_at part j).cell (child_start j there its x samples)))
-            ++ deeds_in h t (group_events g (Some 1) (start (x + or_zero (invoke_at part j).latency) samples))) _
-            (active_in k t (flat J (copied_statement f copy s) x conditions) ++ active_in k t (occurrence (copy g) (x + or_zero (invoke_at part j).latency) conditions (Some 1)))
-            (ap (deed_if (is_now h t x (x + or_zero (invoke_at part j).latency) samples) (Fed at (invoke_at part j).cell (invoke_at part j).inputs))
-            (deeds-both h t (events_below cells (invoke_at part j).cell (child_start j there its x samples)) (group_events g (Some 1) (start (x + or_zero (invoke_at part j).latency) samples)))
-            ∙ fed_both (is_now h t x (x + or_zero (invoke_at part j).latency) samples) (Fed at (invoke_at part j).cell (invoke_at part j).inputs) (deeds_in h t (events_below cells (invoke_at part j).cell (child_start j there its x samples)))
-            (deeds_in h t (group_events g (Some 1) (start (x + or_zero (invoke_at part j).latency) samples))))
+            (deed_if (is_now h t x (x + or_zero (the_invoke part j).latency) samples) (Fed at (the_invoke part j).cell (the_invoke part j).inputs) (deeds_in h t (events_below cells (the_invoke part j).cell (child_start j there its x samples)))
+            ++ deeds_in h t (group_events g (Some 1) (start (x + or_zero (the_invoke part j).latency) samples))) _
+            (active_in k t (flat J (copied_statement f copy s) x conditions) ++ active_in k t (occurrence (copy g) (x + or_zero (the_invoke part j).latency) conditions (Some 1)))
+            (ap (deed_if (is_now h t x (x + or_zero (the_invoke part j).latency) samples) (Fed at (the_invoke part j).cell (the_invoke part j).inputs))
+            (deeds-both h t (events_below cells (the_invoke part j).cell (child_start j there its x samples)) (group_events g (Some 1) (start (x + or_zero (the_invoke part j).latency) samples)))
+            ∙ fed_both (is_now h t x (x + or_zero (the_invoke part j).latency) samples) (Fed at (the_invoke part j).cell (the_invoke part j).inputs) (deeds_in h t (events_below cells (the_invoke part j).cell (child_start j there its x samples)))
+            (deeds_in h t (group_events g (Some 1) (start (x + or_zero (the_invoke part j).latency) samples))))
             (active-both k t (flat J (copied_statement f copy s) x conditions) (occurrence (copy g) (x + length_of J (copied_statement f copy s)) conditions (group_length J (copy g)) ++ [])
             ∙ ap (λ l. active_in k t (flat J (copied_statement f copy s) x conditions) ++ active_in k t l)
             (append-nil (occurrence (copy g) (x + length_of J (copied_statement f copy s)) conditions (group_length J (copy g)))
-            ∙ ap (λ n. occurrence (copy g) (x + n) conditions (group_length J (copy g))) length_is ∙ ap (occurrence (copy g) (x + or_zero (invoke_at part j).latency) conditions) lasts_one))
+            ∙ ap (λ n. occurrence (copy g) (x + n) conditions (group_length J (copy g))) length_is ∙ ap (occurrence (copy g) (x + or_zero (the_invoke part j).latency) conditions) lasts_one))
             (λ n i. i)
             (found_both (Node part cells) at copy (groups_of s) (g ∷ []) _ _ _ _ (invoke_found j there its x samples conditions same lasts_there)
-            (group_found g captured.0 (Some 1) (x + or_zero (invoke_at part j).latency) samples conditions same))
+            (group_found g captured.0 (Some 1) (x + or_zero (the_invoke part j).latency) samples conditions same))
 
     -- A STATEMENT, beside its flat form
     mutual

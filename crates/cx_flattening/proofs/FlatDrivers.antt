@@ -13,9 +13,10 @@ use Rattle.cx_meaning.specs.Sights.{In, GuardNames, AnyNames}
 use Rattle.cx_meaning.proofs.SightsLaws.{image_in}
 use Rattle.cx_rules.specs.Footprints.{AssignNames}
 use Rattle.cx_rewrites.specs.Moving.{moved_port, moved_guard, moved_guards, moved_assign, moved_group, moved_acting}
-use Rattle.cx_flattening.specs.Invokes.{no_invoke, invoke_at}
+use Rattle.cx_flattening.specs.Events.{no_invoke, the_invoke}
 use Rattle.cx_flattening.specs.Deeds.{Deed}
-use Rattle.cx_flattening.specs.Copies.{copied_group, is_one_of, enabled_below, group_if, enabled_groups}
+use Rattle.cx_rules.specs.Counts.{is_one_of, group_if}
+use Rattle.cx_flattening.specs.Copies.{copied_group, enabled_below, enabled_groups}
 use Rattle.cx_flattening.specs.Flattened.{Kids, kid_at, own_port, child_port, invoke_port, always_if, always_from, copies_if, copies, flat_groups}
 use Rattle.cx_flattening.specs.Targets.{OwnTarget, BlockTarget, AllUsed, HasTargets}
 use Rattle.cx_flattening.specs.Acting.{IsUsed, IsIdle, IsFed}
@@ -401,9 +402,9 @@ module _ (kids : Kids) (part : PlainComponent) (has : HasTargets kids part) (mor
     module _ (c : ℕ) (child : PlainComponent) (its : kid_at kids c ≡ Some child) (deeds : List Deed) (inner : Active) where
       -- WHERE INVOKE k FEEDS IT
       pub fed_drivers : (fed : IsFed kids part c child deeds inner more) (q : PortRef) → BlockTarget child q
-          → drivers K more (invoke_port kids part child (invoke_at part fed.invoke) q) ≡ map (moved_acting (invoke_port kids part child (invoke_at part fed.invoke))) (drivers child inner q)
+          → drivers K more (invoke_port kids part child (the_invoke part fed.invoke) q) ≡ map (moved_acting (invoke_port kids part child (the_invoke part fed.invoke))) (drivers child inner q)
       fed_drivers fed q there =
-          let v = invoke_at part fed.invoke in
+          let v = the_invoke part fed.invoke in
           let here : kid_at kids v.cell ≡ Some child = ap (kid_at kids) fed.its.cell ∙ its in
           let inside : InBlock kids part child c (invoke_port kids part child v q) = subst (λ n. InBlock kids part child n (invoke_port kids part child v q)) fed.its.cell (in_block kids part child v.cell _ q there) in
           drivers_mapped (invoke_port kids part child v) child K inner more q (invoke_port kids part child v q)

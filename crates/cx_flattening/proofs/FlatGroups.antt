@@ -4,13 +4,14 @@ use Rattle.std.proofs.lemmas.List.{get_or_append_left, get_or-append-add, get_or
 use Rattle.std.specs.Prelude.{flat_map, take}
 use Rattle.std.proofs.lemmas.Bool.{eq-eqb, eqb-true}
 use Rattle.std.proofs.lemmas.List.Concat.{get_or-flat_map}
-use Rattle.cx_meaning.specs.Designs.{PlainGroup, PlainInvoke, PlainComponent, no_group}
+use Rattle.cx_meaning.specs.Designs.{PlainGroup, PlainInvoke, PlainComponent, group_at, no_group}
 use Rattle.cx_meaning.specs.Control.{groups_of}
 use Rattle.cx_meaning.specs.Islands.{kind_length, group_length}
 use Rattle.cx_meaning.specs.Sights.{In}
 use Rattle.cx_rewrites.specs.Moving.{moved_group}
-use Rattle.cx_flattening.specs.Invokes.{no_invoke, invoke_at}
-use Rattle.cx_flattening.specs.Copies.{copied_group, is_one_of, count_if, enabled_below, group_if, enabled_groups}
+use Rattle.cx_flattening.specs.Events.{no_invoke, the_invoke}
+use Rattle.cx_rules.specs.Counts.{is_one_of, group_if}
+use Rattle.cx_flattening.specs.Copies.{copied_group, count_if, enabled_below, enabled_groups}
 use Rattle.cx_flattening.specs.Flattened.{Kids, kid_at, own_port, invoke_port, copies_if, copies, flat_groups, flat_component, copy_of}
 
 -- a number among others
@@ -92,20 +93,20 @@ module _ (kids : Kids) (part : PlainComponent) where
       (get_or_append_left (map (moved_group (own_port kids part)) part.groups) (flat_map (copies kids part) part.invokes) no_group g (let same = length-map part.groups (moved_group (own_port kids part)) in omega (arith, less, same))
       ∙ get_or-map (moved_group (own_port kids part)) part.groups g no_group no_group less)
 
-  pub copy-length : (j g : ℕ) (kid : PlainComponent) → j < length part.invokes → kid_at kids (invoke_at part j).cell ≡ Some kid → is_one_of g (groups_of kid.control) ≡ true → g < length kid.groups
-      → group_length (flat_component kids part) (copy_of kids part kid j g) ≡ group_length kid g
-  copy-length j g kid less its used there =
-      let move = invoke_port kids part kid (invoke_at part j) in
-      let some = copies_flat (invoke_at part j) kid its in
+  -- the group of a copy
+  pub copy-is : (j g : ℕ) (kid : PlainComponent) → j < length part.invokes → kid_at kids (the_invoke part j).cell ≡ Some kid → is_one_of g (groups_of kid.control) ≡ true → g < length kid.groups
+      → group_at (flat_component kids part) (copy_of kids part kid j g) ≡ copied_group (invoke_port kids part kid (the_invoke part j)) (group_at kid g)
+  copy-is j g kid less its used there =
+      let move = invoke_port kids part kid (the_invoke part j) in
+      let some = copies_flat (the_invoke part j) kid its in
       let r = enabled_get (groups_of kid.control) 0 kid.groups g (enabled_below (groups_of kid.control) g) (ap (λ k. is_one_of k (groups_of kid.control)) (zero_plus g) ∙ used) there (zero_sum (enabled_below (groups_of kid.control) g) ∙ ap (enabled_below (groups_of kid.control)) (sym (zero_plus g))) in
-      ap (λ x. kind_length x.kind)
-      (ap (λ k. get_or (flat_groups kids part) k no_group) (place (length part.groups) (length (flat_map (copies kids part) (take j part.invokes))) (enabled_below (groups_of kid.control) g) (sym (length-map part.groups (moved_group (own_port kids part)))))
+      ap (λ k. get_or (flat_groups kids part) k no_group) (place (length part.groups) (length (flat_map (copies kids part) (take j part.invokes))) (enabled_below (groups_of kid.control) g) (sym (length-map part.groups (moved_group (own_port kids part)))))
       ∙ get_or-append-add (map (moved_group (own_port kids part)) part.groups) (flat_map (copies kids part) part.invokes) (length (flat_map (copies kids part) (take j part.invokes)) + enabled_below (groups_of kid.control) g) no_group
       ∙ get_or-flat_map (copies kids part) part.invokes j (enabled_below (groups_of kid.control) g) no_invoke no_group less
-      (let same : length (copies kids part (invoke_at part j)) ≡ length (enabled_groups (groups_of kid.control) 0 kid.groups) = ap length some ∙ length-map (enabled_groups (groups_of kid.control) 0 kid.groups) (copied_group move) in let inside = r.0 in omega (arith, same, inside))
+      (let same : length (copies kids part (the_invoke part j)) ≡ length (enabled_groups (groups_of kid.control) 0 kid.groups) = ap length some ∙ length-map (enabled_groups (groups_of kid.control) 0 kid.groups) (copied_group move) in let inside = r.0 in omega (arith, same, inside))
       ∙ ap (λ l. get_or l (enabled_below (groups_of kid.control) g) no_group) some
-      ∙ get_or-map (copied_group move) (enabled_groups (groups_of kid.control) 0 kid.groups) (enabled_below (groups_of kid.control) g) no_group no_group r.0)
-      ∙ ap (λ x. kind_length x.kind) r.1
+      ∙ get_or-map (copied_group move) (enabled_groups (groups_of kid.control) 0 kid.groups) (enabled_below (groups_of kid.control) g) no_group no_group r.0
+      ∙ ap (copied_group move) r.1
     where
       zero_plus : (a : ℕ) → 0 + a ≡ a
       zero_plus a = omega arith
@@ -115,3 +116,7 @@ module _ (kids : Kids) (part : PlainComponent) where
 
       place : (a b c : ℕ) → {d : ℕ} → a ≡ d → a + b + c ≡ d + (b + c)
       place a b c {d} e = omega (arith, e)
+
+  pub copy-length : (j g : ℕ) (kid : PlainComponent) → j < length part.invokes → kid_at kids (the_invoke part j).cell ≡ Some kid → is_one_of g (groups_of kid.control) ≡ true → g < length kid.groups
+      → group_length (flat_component kids part) (copy_of kids part kid j g) ≡ group_length kid g
+  copy-length j g kid less its used there = ap (λ (x : PlainGroup). kind_length x.kind) (copy-is j g kid less its used there)

@@ -17,7 +17,9 @@ use Rattle.cx_meaning.specs.Answers.{Answer, End, More, Turn, turn_then, after_t
 use Rattle.cx_meaning.specs.Answers as answers
 use Rattle.cx_meaning.specs.Islands.{kind_length, group_length, or_zero, form_length, length_of, sum_length, max_length, Condition, condition, Occurrence, occurrence, rounds_from, form_flat, flat, seq_flat, par_flat, is_one, fault_of, turn_of, unless_unclear, active_in, looked_at, island_turn, island_from, island}
 use Rattle.cx_meaning.specs.Islands as islands
-use Rattle.cx_flattening.specs.Invokes.{form_lasts}
+use Rattle.cx_rules.specs.Invokes.{form_lasts}
+use Rattle.cx_flattening.proofs.FlatSafe.{flat_acyclic}
+use Rattle.cx_flattening.proofs.FlatDeeper.{flat_deeper}
 use Rattle.cx_flattening.specs.Events.{Spot, spot, Event}
 use Rattle.cx_flattening.specs.Deeds.{History, no_history, own_entries, deeds_in, looked_in, and_now, fault_in, or_later, first_unclear}
 use Rattle.cx_flattening.specs.Whole.{whole_cycle, look_below, whole_turn, whole_from, whole_island}
@@ -32,7 +34,7 @@ use Rattle.cx_flattening.specs.Sampling.{AllSpots, SpotsBelow, SampledAlike, Agr
 use Rattle.cx_flattening.specs.Lists.{island_events, IsIsland}
 use Rattle.cx_flattening.proofs.FlatCycles.{spot-in}
 use Rattle.cx_flattening.proofs.FlatTops.{flat_seen, flat_cycle, all_numbers, top_played}
-use Rattle.cx_flattening.proofs.FlatTurns.{still_tops}
+use Rattle.cx_flattening.proofs.StillActs.{still_tops}
 use Rattle.cx_flattening.proofs.FlatLists.{island_length, island_acts, island_looks}
 use Rattle.cx_flattening.proofs.FlatLooks.{AllRelated}
 use Rattle.cx_flattening.proofs.FlatSpots.{look_from, spots_seen}
@@ -239,13 +241,11 @@ module _ (i flat : Instance) (form : PlainForm) (held : Held) (its : IsIsland i 
       done = refl;
       kept = λ c none. absurd (cc);
       no_circle = its.still;
-      acyclic = its.calm;
-      deeper = its.deeper;
     }
 
     seen_there : AllSpots (λ x q. seen flat held nothing z q ≡ look_below i held s x.at x.port) i 0 []
     seen_there =
-        spots_seen flat held nothing z its.calm its.deeper (look_below i held s) i its.fair 0 (λ q. q) held nothing nothing s all_numbers all_numbers all_numbers (top_played i flat held nothing nothing [] s z calm_beside)
+        spots_seen flat held nothing z (flat_acyclic i flat its.flattened its.fair nothing nothing [] (still_tops i) its.still) (flat_deeper i flat its.flattened its.fair nothing [] its.still) (look_below i held s) i its.fair 0 (λ q. q) held nothing nothing s all_numbers all_numbers all_numbers (top_played i flat held nothing nothing [] s z calm_beside)
         (still_tops i) its.still (λ d sources e n less. tt) [] (λ path p. look_is i held s path p)
 
     told_there : AllSpots (IsToldAt i) i 0 []
@@ -291,8 +291,6 @@ module _ (i flat : Instance) (form : PlainForm) (held : Held) (its : IsIsland i 
         done = refl;
         kept = λ c none. absurd (cc);
         no_circle = its.no_circle now t;
-        acyclic = its.acyclic flat_now t;
-        deeper = its.deeper;
       })
 
       turn_now : TurnAs i (whole_turn i held L t now s) (island_turn flat held M t flat_now z)

@@ -1,6 +1,7 @@
 -- LENGTHS: a statement of the flat component lasts as long as the statement, with the invokes in it; so does a copy of it in another
 -- component, where each copied group lasts as long as the group.
 use Rattle.std.proofs.Common.{◌≡◌, ℕ, zero, suc, ◌+◌, ◌*◌, ◌<◌, max, ⊎_elim, inl, inr, List, [], ◌∷◌, ◌++◌, length, Option, Some, None, refl, sym, ap, ◌∙◌, subst, arith}
+use Rattle.std.proofs.lemmas.Option.{slice_get-get_or}
 use Rattle.cx_meaning.specs.declared.ports.PortRef.{PortRef}
 use Rattle.cx_meaning.specs.Designs.{PlainComponent, PlainForm, Empty, Enable, Seq, Par, If, While, Repeat, StaticSeq, StaticPar, StaticIf, StaticRepeat, Timed, PlainStatement, Placed, PlainStatements, no_statements, a_statement}
 use Rattle.cx_meaning.specs.Instances.{Instance, Node, Cells, no_cells, a_primitive, an_instance, OfInstance, part_of, cell_at}
@@ -8,7 +9,8 @@ use Rattle.cx_meaning.specs.Control.{with_comb, groups_in, groups_of, groups_in_
 use Rattle.cx_meaning.specs.Islands.{group_length, or_zero, form_length, length_of, sum_length, max_length}
 use Rattle.cx_meaning.specs.Sights.{In}
 use Rattle.cx_meaning.proofs.SightsLaws.{in_left, in_right, in_either}
-use Rattle.cx_flattening.specs.Invokes.{invoke_at, capture_length, invoke_length, form_lasts, lasts, sum_lasts, max_lasts}
+use Rattle.cx_rules.specs.Invokes.{invoke_at, capture_length, cycles_of, invoke_length, form_lasts, lasts, sum_lasts, max_lasts}
+use Rattle.cx_flattening.specs.Events.{no_invoke, the_invoke}
 use Rattle.cx_flattening.specs.Copies.{copied_comb, copied_form, copied_statement, copied_statements}
 use Rattle.cx_flattening.specs.Flattened.{Kids, kid_at, flat_kids, flat_part, invoke_port, copy_of, with_capture, inlined, flat_form, flat_statement, flat_statements}
 use Rattle.cx_flattening.specs.Fair.{IsFair, AllFair, AllFairBelow}
@@ -16,6 +18,15 @@ use Rattle.cx_flattening.specs.Controlled.{timed_in, timed_of, timed_all, IsCont
 use Rattle.cx_flattening.proofs.CopiedControl.{statement_twice}
 use Rattle.cx_flattening.proofs.FlatGroups.{in_one_of, own-length, copy-length}
 use Rattle.cx_flattening.proofs.LevelSights.{kid-static}
+
+-- how long an invoke takes whose number is there
+pub invoke_takes : (part : PlainComponent) (j n : ℕ) → j < length part.invokes → (the_invoke part j).latency ≡ Some n
+    → invoke_length (invoke_at part j) ≡ or_zero (the_invoke part j).latency + capture_length (the_invoke part j).captures
+invoke_takes part j n there e = ap invoke_length (slice_get-get_or part.invokes j no_invoke there) ∙ takes (the_invoke part j).latency e
+  where
+    takes : (o : Option ℕ) → o ≡ Some n → cycles_of o (the_invoke part j).captures ≡ or_zero o + capture_length (the_invoke part j).captures
+    takes None e = absurd (cc)
+    takes (Some m) e = refl
 
 -- a statement's groups, each with a copy as long as it
 abbrev pub Lasting : PlainComponent → PlainComponent → (ℕ → ℕ) → List ℕ → Type 0
@@ -101,18 +112,18 @@ module _ (part : PlainComponent) (cells : Cells) (fair : IsFair (Node part cells
   flat = flat_part (Node part cells)
 
   -- the copies for invoke j, where they stand in a component
-  pub invoke_lasting : (J : PlainComponent) (copy : ℕ → ℕ) (j : ℕ) (there : j < length part.invokes) (kid : PlainComponent) → kid_at kids (invoke_at part j).cell ≡ Some kid
-      → Lasting J flat copy (groups_in (with_capture (invoke_at part j).captures (copied_statement (invoke_port kids part kid (invoke_at part j)) (copy_of kids part kid j) kid.control)))
+  pub invoke_lasting : (J : PlainComponent) (copy : ℕ → ℕ) (j : ℕ) (there : j < length part.invokes) (kid : PlainComponent) → kid_at kids (the_invoke part j).cell ≡ Some kid
+      → Lasting J flat copy (groups_in (with_capture (the_invoke part j).captures (copied_statement (invoke_port kids part kid (the_invoke part j)) (copy_of kids part kid j) kid.control)))
       → Lasting J kid (λ g. copy (copy_of kids part kid j g)) (groups_of kid.control)
   invoke_lasting J copy j there kid its h g i =
-      h (copy_of kids part kid j g) (capture_in (invoke_at part j).captures (copied_statement (invoke_port kids part kid (invoke_at part j)) (copy_of kids part kid j) kid.control) (copy_of kids part kid j g) (copied_one (invoke_port kids part kid (invoke_at part j)) (copy_of kids part kid j) kid.control g i))
-      ∙ copy-length kids part j g kid there its (in_one_of g (groups_of kid.control) i) ((fair.targets.blocks (invoke_at part j).cell kid its).there g (in_one_of g (groups_of kid.control) i))
+      h (copy_of kids part kid j g) (capture_in (the_invoke part j).captures (copied_statement (invoke_port kids part kid (the_invoke part j)) (copy_of kids part kid j) kid.control) (copy_of kids part kid j g) (copied_one (invoke_port kids part kid (the_invoke part j)) (copy_of kids part kid j) kid.control g i))
+      ∙ copy-length kids part j g kid there its (in_one_of g (groups_of kid.control) i) ((fair.targets.blocks (the_invoke part j).cell kid its).there g (in_one_of g (groups_of kid.control) i))
 
   module _ (J : PlainComponent) (f : PortRef → PortRef) (copy : ℕ → ℕ) where
-    invoke_lasts : (j : ℕ) → j < length part.invokes → Lasting J flat copy (groups_in (inlined kids part (kid_at kids (invoke_at part j).cell) j (invoke_at part j)))
-        → form_length J (copied_form f copy (inlined kids part (kid_at kids (invoke_at part j).cell) j (invoke_at part j))) ≡ invoke_length (invoke_at part j)
+    invoke_lasts : (j : ℕ) → j < length part.invokes → Lasting J flat copy (groups_in (inlined kids part (kid_at kids (the_invoke part j).cell) j (the_invoke part j)))
+        → form_length J (copied_form f copy (inlined kids part (kid_at kids (the_invoke part j).cell) j (the_invoke part j))) ≡ invoke_length (invoke_at part j)
     invoke_lasts j there h =
-        let v = invoke_at part j in
+        let v = the_invoke part j in
         let its = controlled.invokes j there in
         let kid = flat_part its.child in
         let at : kid_at kids v.cell ≡ Some kid = kid-static cells v.cell its.child its.stands its.static in
@@ -121,7 +132,8 @@ module _ (part : PlainComponent) (cells : Cells) (fair : IsFair (Node part cells
         ∙ capture_lasts J f copy v.captures (copied_statement (invoke_port kids part kid v) (copy_of kids part kid j) kid.control) (captured v.captures (λ c e. its.captures c e) (copied_statement (invoke_port kids part kid v) (copy_of kids part kid j) kid.control) g)
         ∙ ap (λ n. n + capture_length v.captures)
         (ap (length_of J) (statement_twice f (invoke_port kids part kid v) copy (copy_of kids part kid j) kid.control)
-        ∙ below v.cell its.child its.stands J (λ q. f (invoke_port kids part kid v q)) (λ n. copy (copy_of kids part kid j n)) (invoke_lasting J copy j there kid at g) ∙ sym its.latency)
+        ∙ below v.cell its.child its.stands J (λ q. f (invoke_port kids part kid v q)) (λ n. copy (copy_of kids part kid j n)) (invoke_lasting J copy j there kid at g) ∙ sym (ap or_zero its.latency))
+        ∙ sym (invoke_takes part j (lasts (part_of its.child) (part_of its.child).control) there its.latency)
       where
         captured : (o : Option ℕ) → ((c : ℕ) → o ≡ Some c → (c < length part.groups) × (group_length part c ≡ Some 1)) → (s : PlainStatement) → Lasting J flat copy (groups_in (with_capture o s))
             → (c : ℕ) → o ≡ Some c → group_length J (copy c) ≡ Some 1

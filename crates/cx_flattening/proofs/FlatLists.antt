@@ -8,7 +8,7 @@ use Rattle.cx_meaning.specs.Active.{Entry, entries}
 use Rattle.cx_meaning.specs.Control.{groups_in}
 use Rattle.cx_meaning.specs.Islands.{form_flat, form_length, active_in, looked_at, group_length}
 use Rattle.cx_meaning.specs.Islands as islands
-use Rattle.cx_flattening.specs.Invokes.{form_lasts}
+use Rattle.cx_rules.specs.Invokes.{form_lasts}
 use Rattle.cx_flattening.specs.Events.{Spot, spot}
 use Rattle.cx_flattening.specs.Deeds.{History, Deed, Acts, Fed, own_entries, deeds_in, looked_in}
 use Rattle.cx_flattening.specs.Copies.{copied_comb, copied_form, copied_statement, copied_statements}

@@ -10,8 +10,8 @@ use Rattle.cx_meaning.specs.Islands.{group_length, or_zero, length_of, Condition
 use Rattle.cx_meaning.specs.Islands as islands
 use Rattle.cx_meaning.specs.Sights.{In}
 use Rattle.cx_meaning.proofs.SightsLaws.{in_left, in_right}
-use Rattle.cx_flattening.specs.Invokes.{invoke_at, lasts}
-use Rattle.cx_flattening.specs.Events.{Spot, spot, Sample, Event, Runs, Feeds, Looks, Beginning, Events, later_by, source_to, group_events, capture_events, rounds_events, bound_below, invoke_events, form_events, events, seq_events, par_events, control_events, events_below}
+use Rattle.cx_rules.specs.Invokes.{lasts}
+use Rattle.cx_flattening.specs.Events.{the_invoke, Spot, spot, Sample, Event, Runs, Feeds, Looks, Beginning, Events, later_by, source_to, group_events, capture_events, rounds_events, bound_below, invoke_events, form_events, events, seq_events, par_events, control_events, events_below}
 use Rattle.cx_flattening.specs.Deeds.{History, hold, spot_if, looked_in}
 use Rattle.cx_flattening.specs.Whole.{is_static}
 use Rattle.cx_flattening.specs.Copies.{copied_form, copied_statement, copied_statements}
@@ -162,11 +162,11 @@ module _ (S : Spot → PortRef → Type 0) where
       sum a b c = omega arith
 
       timed_looks : (j : ℕ) → j < length part.invokes → (x : ℕ) (samples : List Sample) (conditions : List Condition) → SameHold samples conditions
-          → Lasting J K copy (groups_in (inlined kids part (kid_at kids (invoke_at part j).cell) j (invoke_at part j)))
-          → SameLooks (invoke_events (events_below cells) (invoke_at part j) (start x samples)) (form_flat J (copied_form f copy (inlined kids part (kid_at kids (invoke_at part j).cell) j (invoke_at part j))) x conditions)
+          → Lasting J K copy (groups_in (inlined kids part (kid_at kids (the_invoke part j).cell) j (the_invoke part j)))
+          → SameLooks (invoke_events (events_below cells) (the_invoke part j) (start x samples)) (form_flat J (copied_form f copy (inlined kids part (kid_at kids (the_invoke part j).cell) j (the_invoke part j))) x conditions)
       timed_looks j there x samples conditions same lasts_there =
           let its = controlled.invokes j there in
-          let v = invoke_at part j in
+          let v = the_invoke part j in
           let kid = flat_part its.child in
           let at_kid : kid_at kids v.cell ≡ Some kid = kid-static cells v.cell its.child its.stands its.static in
           let lasts_here = subst (λ o. Lasting J K copy (groups_in (inlined kids part o j v))) at_kid lasts_there in

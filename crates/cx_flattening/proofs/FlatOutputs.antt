@@ -76,7 +76,7 @@ module _ (part : PlainComponent) (cells : Cells) (fair : IsFair (Node part cells
   abbrev kids : Kids
   kids = flat_kids cells
 
-  resting_known : (p : PortRef) → Resting (Node part cells) p → IsKnown (Node part cells) p
+  pub resting_known : (p : PortRef) → Resting (Node part cells) p → IsKnown (Node part cells) p
   resting_known p (an_output less) = tt
   resting_known p (at_rest rests leads named) = known p named
     where
@@ -89,17 +89,17 @@ module _ (part : PlainComponent) (cells : Cells) (fair : IsFair (Node part cells
   resting_known p (is_read m row at side reads rests leads less) = (less, λ child e static. absurd (row_instance row child (sym at ∙ e)))
 
   -- no input and no hole is among them, and of the outputs those that are there
-  no_input : (n : ℕ) → Resting (Node part cells) (ports.Input n) → ⊥
+  pub no_input : (n : ℕ) → Resting (Node part cells) (ports.Input n) → ⊥
   no_input n (at_rest rests leads named) = leads (n, inl refl)
 
-  no_hole : (g : ℕ) → Resting (Node part cells) (ports.Done g) → ⊥
+  pub no_hole : (g : ℕ) → Resting (Node part cells) (ports.Done g) → ⊥
   no_hole g (at_rest rests leads named) = named
 
-  an_output_there : (n : ℕ) → Resting (Node part cells) (ports.Output n) → n < length part.outputs
+  pub an_output_there : (n : ℕ) → Resting (Node part cells) (ports.Output n) → n < length part.outputs
   an_output_there n (an_output less) = less
   an_output_there n (at_rest rests leads named) = absurd named
 
-  block_target : (p : PortRef) → Resting (Node part cells) p → OwnTarget kids part p → BlockTarget (flat_part (Node part cells)) (own_port kids part p)
+  pub block_target : (p : PortRef) → Resting (Node part cells) p → OwnTarget kids part p → BlockTarget (flat_part (Node part cells)) (own_port kids part p)
   block_target (ports.Cell c p) rest own =
       subst (BlockTarget (flat_part (Node part cells))) (sym (own-kept kids part c p own.1))
       (let less = kept_less kids part.cells c own.0 own.1 in let all = length-append (kept kids part.cells) (blocks kids part.cells) in omega (arith, less, all))

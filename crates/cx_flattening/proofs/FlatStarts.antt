@@ -131,7 +131,7 @@ none_behind n (cell ∷ cs) words c x past = choice cell.external words (λ ws. 
     choice true (w ∷ ws) rest = ap (λ b. if b then with_words w x else loaded (suc n) cs ws c x) (not_just n c (λ e. omega (arith, past, e))) ∙ rest ws
 
 -- the cell of a static child is no external memory
-abbrev OwnExternal : Kids → List PlainCell → Type 0
+abbrev pub OwnExternal : Kids → List PlainCell → Type 0
 OwnExternal [] cs = Unit {0}
 OwnExternal (k ∷ ks) [] = Unit {0}
 OwnExternal (None ∷ ks) (x ∷ xs) = OwnExternal ks xs
@@ -272,18 +272,18 @@ flat_cells_are : (i : Instance) → (flat_part i).cells ≡ flat_cells (flat_kid
 flat_cells_are (Node part cells) = refl
 
 module _ (d : PlainDesign) (design : IsDesign d) where
-  none_external : (c : PlainCell) (k : ℕ) → In (component_at d d.main).cells c → c.kind ≡ OfComponent k → c.external ≡ false
+  pub none_external : (c : PlainCell) (k : ℕ) → In (component_at d d.main).cells c → c.kind ≡ OfComponent k → c.external ≡ false
   none_external c k i e = choice c.external refl
     where
       choice : (b : Bool) → c.external ≡ b → b ≡ false
       choice false f = refl
       choice true f = absurd (subst (IsExternal d d.main) e (((design.components d.main design.main_there).cells c i).external f))
 
-  own_within : (n : ℕ) → OwnExternal (flat_kids (cells_of (tree_within d n d.main))) (part_of (tree_within d n d.main)).cells
+  pub own_within : (n : ℕ) → OwnExternal (flat_kids (cells_of (tree_within d n d.main))) (part_of (tree_within d n d.main)).cells
   own_within zero = tt
   own_within (suc n) = own_external (tree_within d n) (component_at d d.main).cells none_external
 
-  externals_are : externals_of (part_of (tree_of (flat_design d))) ≡ externals_from 0 (kept (flat_kids (cells_of (tree_of d))) (part_of (tree_of d)).cells)
+  pub externals_are : externals_of (part_of (tree_of (flat_design d))) ≡ externals_from 0 (kept (flat_kids (cells_of (tree_of d))) (part_of (tree_of d)).cells)
   externals_are =
       ap externals_of (same_part (flat_design d) (length (flat_design d).components) (flat_design d).main ∙ flat_component_is d d.main design.main_there (itself d (length d.components) d.main))
       ∙ externals_renumbered d 0 (flat_of d d.main).cells

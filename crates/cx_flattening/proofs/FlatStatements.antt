@@ -24,7 +24,7 @@ use Rattle.cx_meaning.proofs.SightsLaws.{in_at}
 use Rattle.cx_meaning.proofs.DesignsLemmas.{there_below}
 use Rattle.cx_frames.proofs.RunLemmas.{run_stays}
 use Rattle.cx_rewrites.specs.Moving.{moved_assign, moved_group}
-use Rattle.cx_flattening.specs.Invokes.{drives_all}
+use Rattle.cx_rules.specs.Invokes.{drives_all}
 use Rattle.cx_flattening.specs.Whole as whole
 use Rattle.cx_flattening.specs.Whole.{is_static, whole_leaves}
 use Rattle.cx_flattening.specs.Flattened.{Kids, kid_at, kept_at, start_of, flat_kids, flat_part, own_port, copies, flat_form, flat_statement, flat_statements}

@@ -21,7 +21,8 @@ use Rattle.cx_flattening.specs.Sampling.{placed}
 use Rattle.cx_flattening.specs.Turning.{TestAs, IsGroupBeside}
 use Rattle.cx_flattening.specs.Runs.{AnswerAs}
 use Rattle.cx_flattening.proofs.FlatTops.{flat_seen}
-use Rattle.cx_flattening.proofs.FlatTurns.{still_tops, group_acts, flat_turn}
+use Rattle.cx_flattening.proofs.StillActs.{still_tops, group_acts}
+use Rattle.cx_flattening.proofs.FlatTurns.{flat_turn}
 use Rattle.cx_flattening.proofs.FlatIslands.{turn_then_as}
 use Rattle.cx_flattening.proofs.IdleStands.{idle_stands}
 
@@ -31,10 +32,10 @@ pub flat_group : (i flat : Instance) (held : Held) (g : ℕ) → IsGroupBeside i
 flat_group i flat held g its zero s z stands = refl
 flat_group i flat held g its (suc n) s z stands =
     turn_then_as i flat s z (group_turn i held g s) (calls.group_turn flat held g z) (λ after. turns_of (idle i) (group_turn i held g) after n) (λ after. turns_of (idle flat) (calls.group_turn flat held g) after n)
-    (flat_turn i flat held g s z (its.there g refl) its.flattened its.fair stands its.no_circle its.acyclic its.deeper) (idle_stands i flat s z its.flattened.1 stands)
+    (flat_turn i flat held g s z (its.there g refl) its.flattened its.fair stands its.no_circle) (idle_stands i flat s z its.flattened.1 stands)
     (λ after w there. flat_group i flat held g its n after w there)
 
-placed_zero : (q : PortRef) → placed 0 q ≡ q
+pub placed_zero : (q : PortRef) → placed 0 q ≡ q
 placed_zero (ports.Cell e p) = let same : 0 + e ≡ e = omega arith in ap (λ k. ports.Cell k p) same
 placed_zero (ports.Input n) = refl
 placed_zero (ports.Output n) = refl
@@ -63,8 +64,6 @@ flat_test i flat held p None s z its known stands =
       done = refl;
       kept = λ c none. absurd (cc);
       no_circle = its.no_circle;
-      acyclic = its.acyclic;
-      deeper = its.deeper;
     }) known))
 flat_test i flat held p (Some g) s z its known stands =
     test_as i p (truth_of (seen i held (group g) s p)) (truth_of (seen flat held (group g) z (own_of i p)))
@@ -76,6 +75,4 @@ flat_test i flat held p (Some g) s z its known stands =
       done = refl;
       kept = λ c none. absurd (cc);
       no_circle = its.no_circle;
-      acyclic = its.acyclic;
-      deeper = its.deeper;
     }) known))

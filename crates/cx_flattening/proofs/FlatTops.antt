@@ -8,6 +8,7 @@ use Rattle.cx_meaning.specs.Instances.{Instance, Node, Cells, part_of, cells_of,
 use Rattle.cx_meaning.specs.Active.{Active, drivers}
 use Rattle.cx_meaning.specs.Sights.{Held, is_done_cell, seen}
 use Rattle.cx_meaning.specs.Cycles.{first_fault, outcome_of, state_after, unless_fault, Ended, Goes, Faults, every_cell, cycle}
+use Rattle.cx_rules.specs.Circles.{IsAcyclic, AcyclicBelow}
 use Rattle.cx_rules.proofs.FoundLemmas.{seen_solves}
 use Rattle.cx_flattening.specs.Deeds.{Deed}
 use Rattle.cx_flattening.specs.Whole.{whole_cycle}
@@ -24,6 +25,8 @@ use Rattle.cx_flattening.proofs.FlatSights.{played_found}
 use Rattle.cx_flattening.proofs.FlatChildren.{own_acts}
 use Rattle.cx_flattening.proofs.FlatSeen.{cells_seen}
 use Rattle.cx_flattening.proofs.FlatCycles.{cycle_told}
+use Rattle.cx_flattening.proofs.FlatSafe.{flat_acyclic}
+use Rattle.cx_flattening.proofs.FlatDeeper.{flat_deeper}
 
 abbrev pub all_numbers : ℕ → Type 0
 all_numbers n = Unit {0}
@@ -47,15 +50,21 @@ module _ (part : PlainComponent) (cells : Cells) (flat : Instance) (held : Held)
   abbrev kids : Kids
   kids = flat_kids cells
 
+  acyclic : IsAcyclic flat more
+  acyclic = flat_acyclic (Node part cells) flat beside.flattened beside.fair act more deeds beside.acts beside.no_circle
+
+  deeper : AcyclicBelow (cells_of flat)
+  deeper = flat_deeper (Node part cells) flat beside.flattened beside.fair act deeds beside.no_circle
+
   played : IsPlayed flat held more z (Node part cells) 0 (λ q. q) held act more s all_numbers all_numbers all_numbers
   played = record {
     cells = λ e p. ap (λ k. ports.Cell k p) (zero_plus e);
     literals = λ w v. refl;
     drives = λ q h. drivers_like (part_of flat) (flat_part (Node part cells)) beside.flattened.0 more q ∙ sym (moved_still (drivers (flat_part (Node part cells)) more q));
     acts = own_acts (Node part cells) act deeds more beside.acts;
-    held_there = λ n h. seen_solves flat held more z beside.acyclic beside.deeper (ports.Input n);
-    given = λ n h. seen_solves flat held more z beside.acyclic beside.deeper (ports.Output n);
-    ended = λ g h. seen_solves flat held more z beside.acyclic beside.deeper (ports.Done g);
+    held_there = λ n h. seen_solves flat held more z acyclic deeper (ports.Input n);
+    given = λ n h. seen_solves flat held more z acyclic deeper (ports.Output n);
+    ended = λ g h. seen_solves flat held more z acyclic deeper (ports.Done g);
     all_outputs = λ n h. tt;
     named = λ o k n j active names. tt;
     dones = λ c child at dynamic.
@@ -77,12 +86,12 @@ module _ (part : PlainComponent) (cells : Cells) (flat : Instance) (held : Held)
 
   top_seen : (p : PortRef) → IsKnown (Node part cells) p → seen flat held more z (own_of (Node part cells) p) ≡ seen (Node part cells) held act s p
   top_seen p known =
-      played_found part cells beside.fair.0 (kids_seen cells beside.fair.1) flat held more z beside.acyclic beside.deeper 0 (λ q. q) held act more s all_numbers all_numbers all_numbers played
+      played_found part cells beside.fair.0 (kids_seen cells beside.fair.1) flat held more z acyclic deeper 0 (λ q. q) held act more s all_numbers all_numbers all_numbers played
       beside.no_circle.0 beside.no_circle.1 p (asked p known)
 
   top_cells : CellsSeen (seen flat held more z) (Node part cells) 0 held act deeds s
   top_cells =
-      cells_seen flat held more z beside.acyclic beside.deeper (Node part cells) beside.fair 0 (λ q. q) held act more s all_numbers all_numbers all_numbers played deeds beside.acts beside.no_circle
+      cells_seen flat held more z acyclic deeper (Node part cells) beside.fair 0 (λ q. q) held act more s all_numbers all_numbers all_numbers played deeds beside.acts beside.no_circle
       (λ d sources e n less. tt)
 
   top_cycle : CycleAs (Node part cells) (whole_cycle (Node part cells) held act deeds s) (cycle flat held more z)

@@ -3,9 +3,10 @@ use Rattle.std.proofs.Common.{◌≡◌, ℕ, zero, suc, ◌+◌, ◌-◌, ◌<�
 use Rattle.std.proofs.lemmas.List.{length-map}
 use Rattle.cx_prim.specs.Table.{row_of}
 use Rattle.cx_meaning.specs.Designs.{PlainKind, OfPrimitive, OfComponent, PlainCell, PlainComponent, PlainDesign, component_at}
-use Rattle.cx_meaning.specs.Instances.{Instance, Node, Cells, no_cells, a_primitive, an_instance, At, Nothing, OfRow, OfInstance, part_of, cells_of, cell_at, cells_for, tree_within, tree_of}
+use Rattle.cx_meaning.specs.Instances.{Instance, Node, Cells, no_cells, a_primitive, an_instance, At, Nothing, OfRow, OfInstance, part_of, cells_of, cell_at, cell_count, cells_for, tree_within, tree_of}
 use Rattle.cx_meaning.specs.Sights.{In}
 use Rattle.cx_meaning.proofs.DesignsLemmas.{same_part}
+use Rattle.cx_rules.specs.Ports.{cell_name}
 use Rattle.cx_rules.specs.Wellformed.{IsSignature, IsDesign}
 use Rattle.cx_rules.proofs.Finite.{Distinct}
 use Rattle.cx_flattening.specs.Whole.{is_static}
@@ -27,7 +28,8 @@ module _ (kids : Kids) (part : PlainComponent) (first : ℕ) (host : Cells) wher
   EmbeddedAt c (OfRow row) = cell_at host (first + kept_at kids c) ≡ OfRow row
   EmbeddedAt c (OfInstance child) =
       (is_static child ≡ true → IsEmbedded child (first + start_of kids part c) host × HasWires (part_of child).outputs (first + wire_at kids part (flat_part child) c 0) host)
-      × (is_static child ≡ false → (twin : Instance) × (cell_at host (first + kept_at kids c) ≡ OfInstance twin) × IsLike (part_of twin) (flat_part child) × IsEmbedded child 0 (cells_of twin))
+      × (is_static child ≡ false → (twin : Instance) × (cell_at host (first + kept_at kids c) ≡ OfInstance twin) × IsLike (part_of twin) (flat_part child) × IsEmbedded child 0 (cells_of twin)
+      × (cell_count (cells_of twin) ≡ length (flat_part child).cells))
 
   here : (c : ℕ) (at : At) → EmbeddedAt (c + 0) at → EmbeddedAt c at
   here c at h = subst (λ k. EmbeddedAt k at) (let e : c + 0 ≡ c = omega arith in e) h
@@ -41,6 +43,11 @@ module _ (kids : Kids) (part : PlainComponent) (first : ℕ) (host : Cells) wher
   embedded_by (an_instance child rest) c h =
       let own = here c (OfInstance child) (h 0) in
       (own.0, own.1, embedded_by rest (suc c) (λ e. next c e (cell_at rest e) (h (suc e))))
+
+renumbered_name : (d : PlainDesign) (cs : List PlainCell) (e : ℕ) → cell_name (map (renumbered_cell d) cs) e ≡ cell_name cs e
+renumbered_name d [] e = refl
+renumbered_name d (c ∷ cs) zero = refl
+renumbered_name d (c ∷ cs) (suc e) = renumbered_name d cs e
 
 outputs_are : (i : Instance) → (flat_part i).outputs ≡ (part_of i).outputs
 outputs_are (Node part cells) = refl
@@ -136,6 +143,7 @@ module _ (d : PlainDesign) (design : IsDesign d) where
       groups = ap (λ (p : PlainComponent). p.groups) part_is ∙ ap (λ (p : PlainComponent). p.groups) same;
       always = ap (λ (p : PlainComponent). p.always) part_is ∙ ap (λ (p : PlainComponent). p.always) same;
       control = ap (λ (p : PlainComponent). p.control) part_is ∙ ap (λ (p : PlainComponent). p.control) same;
+      names = λ e. ap (λ (p : PlainComponent). cell_name p.cells e) part_is ∙ renumbered_name d (flat_of d k).cells e ∙ ap (λ (p : PlainComponent). cell_name p.cells e) same;
     },
     embeds path k n ups k 0 (cells_for (tree_within (flat_design d) n) (component_at (flat_design d) (reached_below d k)).cells)
         (record { way = way; many = many; is_top = top; enough = enough; within = inside })
@@ -209,7 +217,8 @@ module _ (d : PlainDesign) (design : IsDesign d) where
 
       twin : is_static (tree_within d m j) ≡ false
           → (other : Instance) × (cell_at host (first + kept_at kids e) ≡ OfInstance other) × IsLike (part_of other) (flat_part (tree_within d m j)) × IsEmbedded (tree_within d m j) 0 (cells_of other)
-      twin dynamic = (trees_at n j, is (first + kept_at kids e) ∙ ap (at_kind (trees_at n)) kind, made.0, made.1)
+          × (cell_count (cells_of other) ≡ length (flat_part (tree_within d m j)).cells)
+      twin dynamic = (trees_at n j, is (first + kept_at kids e) ∙ ap (at_kind (trees_at n)) kind, made.0, made.1, made.2)
         where
           kind : kind_at (flat_of d top).cells (first + kept_at kids e) ≡ Some (OfComponent j)
           kind =

@@ -23,38 +23,13 @@ use Rattle.cx_flattening.specs.Seeing.{NoCircle}
 use Rattle.cx_flattening.specs.FlatFaults.{CycleAs}
 use Rattle.cx_flattening.specs.Beside.{IsBeside}
 use Rattle.cx_flattening.specs.Turning.{TurnAs}
+use Rattle.cx_flattening.proofs.StillActs.{group_acts}
 use Rattle.cx_flattening.proofs.FlatTops.{flat_seen, flat_cycle}
 
--- WHERE NOTHING IS DONE BELOW, no static child acts
-mutual
-  pub still_acts : (i : Instance) → ActsAs i (entries []) [] nothing
-  still_acts (Node part cells) = (λ g less. refl, all_still (flat_kids cells) part nothing (λ c j g kid its used. refl) cells 0)
-
-  pub all_still : (kids : Kids) (part : PlainComponent) (more : Active) → ((c j g : ℕ) (kid : PlainComponent) → IsOf part c j → IsUsed kid g → more.offset (copy_of kids part kid j g) ≡ None) → (cells : Cells) (c : ℕ) → AllActAs kids part cells c [] more
-  all_still kids part more still no_cells c = tt
-  all_still kids part more still (a_primitive row rest) c = all_still kids part more still rest (suc c)
-  all_still kids part more still (an_instance child rest) c = (
-    λ static. (nothing, refl, still_acts child, inl (record { unfed = refl; none_below = refl; still = λ g. refl; copies = λ j g its used. still c j g (flat_part child) its used })),
-    all_still kids part more still rest (suc c),
-  )
-
-pub still_tops : (i : Instance) → ActsAs i nothing [] nothing
-still_tops (Node part cells) = (λ g less. refl, all_still (flat_kids cells) part nothing (λ c j g kid its used. refl) cells 0)
-
--- a group alone
-only_still : (kids : Kids) (part : PlainComponent) (h : ℕ) → h < length part.groups → (c j g : ℕ) (kid : PlainComponent) → IsOf part c j → IsUsed kid g → only_at h (copy_of kids part kid j g) ≡ None
-only_still kids part h less c j g kid its used = ap (λ b. if b then Some 0 else None) (ne_eqb h (copy_of kids part kid j g) (λ same. omega (arith, less, same)))
-
-pub group_acts : (i : Instance) (g : ℕ) → g < length (part_of i).groups → ActsAs i (group g) [] (group g)
-group_acts (Node part cells) g less = (λ h inside. refl, all_still (flat_kids cells) part (group g) (only_still (flat_kids cells) part g less) cells 0)
-
-pub capture_acts : (i : Instance) (g c e : ℕ) → g < length (part_of i).groups → ActsAs i (capture g c) [] (capture g e)
-capture_acts (Node part cells) g c e less = (λ h inside. refl, all_still (flat_kids cells) part (capture g e) (only_still (flat_kids cells) part g less) cells 0)
-
 -- A TURN OF A GROUP
-pub flat_turn : (i flat : Instance) (held : Held) (g : ℕ) (s z : State) → g < length (part_of i).groups → IsFlattened i flat → AllFair i → Stands i 0 s z → NoCircle i (group g) [] → IsAcyclic flat (group g) → AcyclicBelow (cells_of flat)
+pub flat_turn : (i flat : Instance) (held : Held) (g : ℕ) (s z : State) → g < length (part_of i).groups → IsFlattened i flat → AllFair i → Stands i 0 s z → NoCircle i (group g) []
     → TurnAs i (group_turn i held g s) (calls.group_turn flat held g z)
-flat_turn (Node part cells) flat held g s z less flattened fair stands calm acyclic deeper =
+flat_turn (Node part cells) flat held g s z less flattened fair stands calm =
     by_hole (truth_of (seen (Node part cells) held (group g) s (ports.Done g))) (truth_of (seen flat held (group g) z (ports.Done g)))
     (ap truth_of (flat_seen (Node part cells) flat held (group g) (group g) [] s z (ports.Done g) beside tt)) (whole_cycle (Node part cells) held (group g) [] s) (cycle flat held (group g) z) (flat_cycle (Node part cells) flat held (group g) (group g) [] s z beside)
   where
@@ -67,8 +42,6 @@ flat_turn (Node part cells) flat held g s z less flattened fair stands calm acyc
       done = refl;
       kept = λ c none. absurd (cc);
       no_circle = calm;
-      acyclic = acyclic;
-      deeper = deeper;
     }
 
     by_hole : (t u : Truth) → u ≡ t → (x y : Ended) → CycleAs (Node part cells) x y → TurnAs (Node part cells) (hole_turn g x t) (hole_turn g y u)

@@ -37,11 +37,42 @@ mod FlatIslands
 mod FlatRows
 mod FlatTests
 mod FlatCalls
-mod CellLayout
-mod Reached
-mod TreeLevels
+pub mod CellLayout
+pub mod Reached
+pub mod TreeLevels
 mod FlatTrees
 mod FlatStarts
 mod FlatArms
 mod FlatStatements
 mod FlatRuns
+mod RowReads
+mod Ruled
+mod Statements
+mod FairParts
+mod FlatOrigins
+mod FlatBlocks
+mod AcceptedTrees
+mod Safe
+mod SafeLevels
+mod SafeOutputs
+mod FlatSafe
+mod FlatDeeper
+mod StillActs
+mod DeedSources
+mod DeedsApart
+mod DeedsOnce
+mod FlatDrives
+mod ArmsAlike
+mod FlatBare
+mod StaticControls
+mod AcceptedAsks
+mod AcceptedRuns
+mod FaultRuns
+pub mod FlatSizes
+pub mod FlatFolds
+pub mod FlatLimits
+mod KeptRuns
+mod KnownFaults
+mod ToldRuns
+mod FlatNames
+mod ToldNames

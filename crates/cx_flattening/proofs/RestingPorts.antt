@@ -1,14 +1,15 @@
 -- THE PORTS ON WHICH OUTPUTS REST: what they depend on is among them, and no group drives one of them.
 use Rattle.std.proofs.Common.{◌≡◌, ℕ, suc, ◌+◌, ◌<◌, ◌⊎◌, inl, inr, ⊎_elim, true, false, List, [], ◌∷◌, ◌++◌, length, get_or, Some, None, refl, sym, ap, ◌∙◌, subst, arith}
+use Rattle.cx_prim.specs.declared.ports.Side.{Side}
 use Rattle.cx_prim.specs.declared.ports.Side.TheVariants as sides
 use Rattle.cx_prim.specs.Rows.{Row}
 use Rattle.cx_meaning.specs.declared.ports.PortRef.{PortRef}
 use Rattle.cx_meaning.specs.declared.ports.PortRef.TheVariants as ports
 use Rattle.cx_meaning.specs.Rows.{side_of}
 use Rattle.cx_meaning.specs.Designs.{PlainAssign, PlainGroup, PlainComponent, group_at, no_group}
-use Rattle.cx_meaning.specs.Instances.{Instance, OfRow, part_of, cells_of, cell_at}
+use Rattle.cx_meaning.specs.Instances.{Instance, At, Nothing, OfRow, OfInstance, part_of, cells_of, cell_at}
 use Rattle.cx_meaning.specs.Active.{Active, nothing, Owned, owned, owned_by_groups, source_order, offset_of, same_port, drivers}
-use Rattle.cx_meaning.specs.Sights.{In, IsWanted}
+use Rattle.cx_meaning.specs.Sights.{In, IsWanted, PartPort, Go, AnInput, AnOutput, ItsDone, part_port}
 use Rattle.cx_meaning.proofs.SightsLaws.{in_at}
 use Rattle.cx_meaning.proofs.DesignsLemmas.{group_there, there_below}
 use Rattle.cx_meaning.proofs.ActiveLemmas.{acting_has}
@@ -23,12 +24,12 @@ use Rattle.cx_rules.proofs.FrameLemmas.{acting_alike}
 use Rattle.cx_rules.proofs.ForeignLemmas.{sorted_among, owned_among, split, groups_among}
 use Rattle.cx_flattening.specs.Flattened.{flat_kids}
 use Rattle.cx_flattening.specs.Targets.{OwnTarget}
-use Rattle.cx_flattening.specs.Fair.{IsNamed, IsFair}
+use Rattle.cx_flattening.specs.Fair.{IsNamed, IsAtRest, IsFair}
 
 pub data Resting (i : Instance) : PortRef → Type 0 where
   an_output : {n : ℕ} → n < length (part_of i).outputs → Resting i (ports.Output n)
-  at_rest : {q : PortRef} → Rests i q → (LeadsToInput i q → ⊥) → IsNamed i q → Resting i q
-  is_read : {c m : ℕ} (p : ℕ) (row : Row) → cell_at (cells_of i) c ≡ OfRow row → side_of row p ≡ sides.Output → row.reads p m ≡ true → Rests i (ports.Cell c p)
+  at_rest : {q : PortRef} → IsAtRest i q → (LeadsToInput i q → ⊥) → IsNamed i q → Resting i q
+  is_read : {c m : ℕ} (p : ℕ) (row : Row) → cell_at (cells_of i) c ≡ OfRow row → side_of row p ≡ sides.Output → row.reads p m ≡ true → IsAtRest i (ports.Cell c p)
       → (LeadsToInput i (ports.Cell c m) → ⊥) → c < length (part_of i).cells → Resting i (ports.Cell c m)
 
 -- the number of a group
@@ -79,8 +80,8 @@ module _ (i : Instance) (fair : IsFair i) where
   pub none_drives : (q : PortRef) → Resting i q → OwnTarget (flat_kids (cells_of i)) (part_of i) q → (x : PlainGroup) (a : PlainAssign) → In (part_of i).groups x → In x.assigns a → a.target ≡ q → ⊥
   none_drives _ (an_output {n = n} less) own x a j k e = fair.outputs_outside x a n j k e
   none_drives q (at_rest rests leads named) own x a j k e =
-      let none : false ≡ true = sym (fair.not_source a (inr (x, j, k))) ∙ ap (is_source_only i) e ∙ rests_source q rests own in cc
-  none_drives _ (is_read {c = c} {m = m} p row at side reads rests leads less) own x a j k e = none_in_group c p m row at side reads rests x a j k e
+      rests (λ r. let none : false ≡ true = sym (fair.not_source a (inr (x, j, k))) ∙ ap (is_source_only i) e ∙ rests_source q r own in cc)
+  none_drives _ (is_read {c = c} {m = m} p row at side reads rests leads less) own x a j k e = rests (λ r. none_in_group c p m row at side reads r x a j k e)
 
   pub resting_drivers : (act : Active) (q : PortRef) → Resting i q → OwnTarget (flat_kids (cells_of i)) (part_of i) q → drivers (part_of i) act q ≡ drivers (part_of i) nothing q
   resting_drivers act q rest own = acting_alike act nothing q (source_order (part_of i)) (λ o j e. one o e (owner_of (part_of i) o j))
@@ -93,7 +94,7 @@ module _ (i : Instance) (fair : IsFair i) where
   leads_back : (p q : PortRef) → Leads i nothing p q → (LeadsToInput i p → ⊥) → LeadsToInput i q → ⊥
   leads_back p q lead none to = none (to.0, ⊎_elim (λ e. inr (at_once (subst (Leads i nothing p) e lead))) (λ d. inr (by_way_of q lead d)) to.1)
 
-  wanted_closed : (c p : ℕ) (row : Row) (q : PortRef) → cell_at (cells_of i) c ≡ OfRow row → side_of row p ≡ sides.Output → Rests i (ports.Cell c p) → (LeadsToInput i (ports.Cell c p) → ⊥) → c < length (part_of i).cells
+  wanted_closed : (c p : ℕ) (row : Row) (q : PortRef) → cell_at (cells_of i) c ≡ OfRow row → side_of row p ≡ sides.Output → IsAtRest i (ports.Cell c p) → (LeadsToInput i (ports.Cell c p) → ⊥) → c < length (part_of i).cells
       → IsWanted c (row.reads p) q → Resting i q
   wanted_closed c p row q at side rests none less wanted =
       subst (Resting i) wanted.2 (is_read p row at side wanted.1 rests (leads_back (ports.Cell c p) (ports.Cell c wanted.0) (lead wanted.0 wanted.1) none) less)
@@ -101,18 +102,42 @@ module _ (i : Instance) (fair : IsFair i) where
       lead : (m : ℕ) → row.reads p m ≡ true → Leads i nothing (ports.Cell c p) (ports.Cell c m)
       lead m reads = subst (λ x. CellLeads (part_of i) nothing c p x (ports.Cell c m)) (sym at) (subst (λ x. SideLeads (part_of i) nothing row c p x (ports.Cell c m)) (sym side) (m, reads, refl))
 
-  rests_closed : (act : Active) (p q : PortRef) → Rests i p → (LeadsToInput i p → ⊥) → IsNamed i p → Leads i act p q → Resting i q
-  rests_closed act _ q literal_rests none named lead = absurd lead
-  rests_closed act _ q input_rests none named lead = absurd lead
-  rests_closed act _ q (registered_rests {c = c} {p = p} row at side) none named lead =
-      absurd (subst (λ x. SideLeads (part_of i) act row c p x q) side (subst (λ x. CellLeads (part_of i) act c p x q) at lead))
-  rests_closed act _ q (output_rests {c = c} {p = p} n child at port) none named lead =
-      absurd (subst (λ x. PartLeads (part_of i) act c p x q) port (subst (λ x. CellLeads (part_of i) act c p x q) at lead))
-  rests_closed act _ q (done_rests {c = c} {p = p} child at port) none named lead =
-      absurd (subst (λ x. PartLeads (part_of i) act c p x q) port (subst (λ x. CellLeads (part_of i) act c p x q) at lead))
-  rests_closed act _ q (combinational_rests {c = c} {p = p} row at side groups always) none named lead =
-      wanted_closed c p row q at side (combinational_rests row at side groups always) none named.0
-      (subst (λ x. SideLeads (part_of i) act row c p x q) side (subst (λ x. CellLeads (part_of i) act c p x q) at lead))
+  -- a port at rest is no target, so it leads on only as an output of a row
+  not_target : (p : PortRef) → IsAtRest i p → (Rests i p → is_source_only i p ≡ true) → is_source_only i p ≡ false → ⊥
+  not_target p rests source target = rests (λ r. let none : false ≡ true = sym target ∙ source r in cc)
+
+  cell_source : (c p : ℕ) → Rests i (ports.Cell c p) → is_source_only i (ports.Cell c p) ≡ true
+  cell_source c p (registered_rests row at side) = ap (λ x. is_cell_output x p) at ∙ ap is_output_side side
+  cell_source c p (output_rests n child at port) = ap (λ x. is_cell_output x p) at ∙ ap is_part_output port
+  cell_source c p (done_rests child at port) = ap (λ x. is_cell_output x p) at ∙ ap is_part_output port
+  cell_source c p (combinational_rests row at side groups always) = ap (λ x. is_cell_output x p) at ∙ ap is_output_side side
+
+  side_closed : (act : Active) (c p : ℕ) (row : Row) (q : PortRef) → cell_at (cells_of i) c ≡ OfRow row → IsAtRest i (ports.Cell c p) → (LeadsToInput i (ports.Cell c p) → ⊥) → c < length (part_of i).cells
+      → (side : Side) → side_of row p ≡ side → SideLeads (part_of i) act row c p side q → Resting i q
+  side_closed act c p row q at rests none less sides.Enable is lead = absurd (not_target (ports.Cell c p) rests (cell_source c p) (ap (λ x. is_cell_output x p) at ∙ ap is_output_side is))
+  side_closed act c p row q at rests none less sides.Plain is lead = absurd (not_target (ports.Cell c p) rests (cell_source c p) (ap (λ x. is_cell_output x p) at ∙ ap is_output_side is))
+  side_closed act c p row q at rests none less sides.Output is lead = wanted_closed c p row q at is rests none less lead
+  side_closed act c p row q at rests none less sides.Registered is lead = absurd lead
+
+  part_closed : (act : Active) (c p : ℕ) (child : Instance) (q : PortRef) → cell_at (cells_of i) c ≡ OfInstance child → IsAtRest i (ports.Cell c p)
+      → (port : PartPort) → part_port (part_of child) p ≡ port → PartLeads (part_of i) act c p port q → Resting i q
+  part_closed act c p child q at rests Go is lead = absurd (not_target (ports.Cell c p) rests (cell_source c p) (ap (λ x. is_cell_output x p) at ∙ ap is_part_output is))
+  part_closed act c p child q at rests (AnInput n) is lead = absurd (not_target (ports.Cell c p) rests (cell_source c p) (ap (λ x. is_cell_output x p) at ∙ ap is_part_output is))
+  part_closed act c p child q at rests (AnOutput n) is lead = absurd lead
+  part_closed act c p child q at rests ItsDone is lead = absurd lead
+
+  at_closed : (act : Active) (c p : ℕ) (q : PortRef) → IsAtRest i (ports.Cell c p) → (LeadsToInput i (ports.Cell c p) → ⊥) → c < length (part_of i).cells
+      → (x : At) → cell_at (cells_of i) c ≡ x → CellLeads (part_of i) act c p x q → Resting i q
+  at_closed act c p q rests none less Nothing at lead = absurd lead
+  at_closed act c p q rests none less (OfRow row) at lead = side_closed act c p row q at rests none less (side_of row p) refl lead
+  at_closed act c p q rests none less (OfInstance child) at lead = part_closed act c p child q at rests (part_port (part_of child) p) refl lead
+
+  rests_closed : (act : Active) (p q : PortRef) → IsAtRest i p → (LeadsToInput i p → ⊥) → IsNamed i p → Leads i act p q → Resting i q
+  rests_closed act (ports.Cell c p) q rests none named lead = at_closed act c p q rests none named.0 (cell_at (cells_of i) c) refl lead
+  rests_closed act (ports.Input n) q rests none named lead = absurd lead
+  rests_closed act (ports.Output n) q rests none named lead = absurd named
+  rests_closed act (ports.Done g) q rests none named lead = absurd named
+  rests_closed act (ports.Literal w v) q rests none named lead = absurd lead
 
   -- a continuous assignment of a port leads there whatever acts
   always_mentions : (p q : PortRef) (o : Owned) → In (source_order (part_of i)) o → o.owner ≡ None → o.assign.target ≡ p → AssignNames o.assign q → Mentions (drivers (part_of i) nothing p) q
@@ -161,7 +186,7 @@ module _ (i : Instance) (fair : IsFair i) where
   resting_closed act p q (at_rest rests leads named) lead = rests_closed act p q rests leads named lead
   resting_closed act _ q (is_read {c = c} {m = m} p row at side reads rests leads less) lead =
       mention_closed act (ports.Cell c m) q ((input_leads act c m row q at (fair.reads c p m row at reads)).0 lead)
-      (λ o j owner always e names. at_rest (always_rests c p m row at side reads rests o.assign q always e names)
+      (λ o j owner always e names. at_rest (λ no. rests (λ r. no (always_rests c p m row at side reads r o.assign q always e names)))
       (leads_back (ports.Cell c m) q ((input_leads nothing c m row q at (fair.reads c p m row at reads)).1 (always_mentions (ports.Cell c m) q o j owner e names)) leads)
       (fair.names o.assign q (inl always) names))
-      (none_in_group c p m row at side reads rests)
+      (λ x a j k e. rests (λ r. none_in_group c p m row at side reads r x a j k e))

@@ -5,7 +5,7 @@ use Rattle.cx_prim.specs.Rows.{Row}
 use Rattle.cx_meaning.specs.declared.kinds.PortDecl.{PortDecl}
 use Rattle.cx_meaning.specs.declared.ports.PortRef.TheVariants as ports
 use Rattle.cx_meaning.specs.Designs.{PlainCell, PlainComponent}
-use Rattle.cx_meaning.specs.Instances.{Instance, Node, Cells, no_cells, a_primitive, an_instance, OfRow, OfInstance, part_of, cells_of, cell_at, State, under}
+use Rattle.cx_meaning.specs.Instances.{Instance, Node, Cells, no_cells, a_primitive, an_instance, OfRow, OfInstance, part_of, cells_of, cell_at, cell_count, State, under}
 use Rattle.cx_meaning.specs.Sights.{unheld, seen, outputs_below}
 use Rattle.cx_meaning.specs.Active.{nothing}
 use Rattle.cx_meaning.proofs.InstancesLemmas.{nothing_instance, nothing_row}
@@ -47,7 +47,7 @@ module _ (kids : Kids) (part : PlainComponent) (first : ℕ) (host : Cells) wher
       subst (λ k. IsEmbedded child (first + start_of kids part k) host × HasWires (part_of child).outputs (first + wire_at kids part (flat_part child) k 0) host) (plus c n) (embedded_static rest (suc c) n child h.2 e static)
 
   abbrev pub TwinAt : Instance → ℕ → Type 0
-  TwinAt child k = (twin : Instance) × (cell_at host (first + kept_at kids k) ≡ OfInstance twin) × IsLike (part_of twin) (flat_part child) × IsEmbedded child 0 (cells_of twin)
+  TwinAt child k = (twin : Instance) × (cell_at host (first + kept_at kids k) ≡ OfInstance twin) × IsLike (part_of twin) (flat_part child) × IsEmbedded child 0 (cells_of twin) × (cell_count (cells_of twin) ≡ length (flat_part child).cells)
 
   pub embedded_dynamic : (cells : Cells) (c n : ℕ) (child : Instance) → AreEmbedded kids part cells c first host → cell_at cells n ≡ OfInstance child → is_static child ≡ false → TwinAt child (c + n)
   embedded_dynamic no_cells c n child h e dynamic = absurd (cc)

@@ -13,7 +13,8 @@ use Rattle.cx_meaning.proofs.PortsLemmas.{same_self}
 use Rattle.cx_rules.proofs.FoundLemmas.{same_is}
 use Rattle.cx_rewrites.specs.Moving.{moved_assign, moved_group}
 use Rattle.cx_flattening.specs.Events.{source_to}
-use Rattle.cx_flattening.specs.Copies.{copied_group, is_one_of, group_if, enabled_groups}
+use Rattle.cx_rules.specs.Counts.{is_one_of, group_if}
+use Rattle.cx_flattening.specs.Copies.{copied_group, enabled_groups}
 use Rattle.cx_flattening.specs.Flattened.{Kids, kid_at, own_port, child_port, invoke_port, copies_if, copies, flat_groups}
 use Rattle.cx_flattening.specs.Targets.{OwnTarget, BlockTarget, AllUsed, HasTargets}
 use Rattle.cx_flattening.specs.Levels.{IsStill}
@@ -53,7 +54,7 @@ module _ (kids : Kids) (part : PlainComponent) (has : HasTargets kids part) wher
       choice None e k = absurd k
       choice (Some child) e k = enabled_copied v child e a (groups_of child.control) 0 child.groups (λ y m. m) (has.blocks v.cell child e).used x k j
 
-  all_copied : (vs : List PlainInvoke) (a : PlainAssign) (x : PlainGroup) → In (flat_map (copies kids part) vs) x → In x.assigns a → IsCopied kids part a
+  pub all_copied : (vs : List PlainInvoke) (a : PlainAssign) (x : PlainGroup) → In (flat_map (copies kids part) vs) x → In x.assigns a → IsCopied kids part a
   all_copied [] a x i j = absurd i
   all_copied (v ∷ vs) a x i j = ⊎_elim (λ k. invoke_copied v a x k j) (λ k. all_copied vs a x k j) (in_either (copies kids part v) (flat_map (copies kids part) vs) x i)
 

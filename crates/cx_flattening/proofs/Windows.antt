@@ -6,11 +6,11 @@ use Rattle.cx_meaning.specs.Instances.{Instance, Node, Cells, no_cells, a_primit
 use Rattle.cx_meaning.specs.Islands.{group_length, or_zero, is_wanted}
 use Rattle.cx_meaning.specs.Sights.{In}
 use Rattle.cx_meaning.proofs.SightsLaws.{in_either}
-use Rattle.cx_flattening.specs.Invokes.{invoke_at, capture_length, invoke_length, form_lasts, lasts, sum_lasts, max_lasts}
-use Rattle.cx_flattening.specs.Events.{Spot, Sample, Event, Runs, Feeds, Looks, Beginning, Events, later_by, also_if, group_events, capture_events, rounds_events, bound_below, invoke_events, form_events, events, seq_events, par_events, control_events, events_below}
+use Rattle.cx_rules.specs.Invokes.{invoke_at, capture_length, invoke_length, form_lasts, lasts, sum_lasts, max_lasts}
+use Rattle.cx_flattening.specs.Events.{the_invoke, Spot, Sample, Event, Runs, Feeds, Looks, Beginning, Events, later_by, also_if, group_events, capture_events, rounds_events, bound_below, invoke_events, form_events, events, seq_events, par_events, control_events, events_below}
 use Rattle.cx_flattening.specs.Deeds.{History, hold, Deed, Acts, Fed, deed_if, is_now, deeds_in}
 use Rattle.cx_flattening.specs.Controlled.{timed_in, timed_of, timed_all, IsControlled, AllControlled, AllControlledBelow}
-use Rattle.cx_flattening.proofs.FlatLengths.{AllThere, there_left, there_right}
+use Rattle.cx_flattening.proofs.FlatLengths.{invoke_takes, AllThere, there_left, there_right}
 
 pub deeds-both : (h : History) (t : ℕ) (xs ys : List Event) → deeds_in h t (xs ++ ys) ≡ deeds_in h t xs ++ deeds_in h t ys
 deeds-both h t [] ys = refl
@@ -61,7 +61,7 @@ window_now h t from to conditions w = three (nat_le from t) (nat_lt t to) (hold 
     three false b c e f g = absurd (cc)
 
 module _ (h : History) (t : ℕ) where
-  now_is : (from to : ℕ) (conditions : List Sample) → is_now h t from to conditions ≡ true → InWindow h t from to conditions
+  pub now_is : (from to : ℕ) (conditions : List Sample) → is_now h t from to conditions ≡ true → InWindow h t from to conditions
   now_is from to conditions e =
       let r = all_three (nat_le from t) (nat_lt t to) (hold h conditions) e in
       record { begun = leb-true from t r.0; left = ltb-true t to r.1; holds = r.2 }
@@ -70,7 +70,7 @@ module _ (h : History) (t : ℕ) where
   one_in true x d i = refl
   one_in false x d i = absurd i
 
-  abbrev Within : Beginning → ℕ → List Event → Type 0
+  abbrev pub Within : Beginning → ℕ → List Event → Type 0
   Within b n list = (d : Deed) → In (deeds_in h t list) d → InWindow h t b.from (b.from + n) b.conditions
 
   both_within : (b : Beginning) (n : ℕ) (xs ys : List Event) → Within b n xs → Within b n ys → Within b n (xs ++ ys)
@@ -107,7 +107,7 @@ module _ (h : History) (t : ℕ) where
       choice true e j = now_is b.from (b.from + n) b.conditions e
       choice false e j = inside d j
 
-  rounds_within : (body : Events) (n : ℕ) → ((b : Beginning) → Within b n (body b)) → (count : ℕ) (b : Beginning) → Within b (count * n) (rounds_events body n count b)
+  pub rounds_within : (body : Events) (n : ℕ) → ((b : Beginning) → Within b n (body b)) → (count : ℕ) (b : Beginning) → Within b (count * n) (rounds_events body n count b)
   rounds_within body n inside zero b = λ d i. absurd i
   rounds_within body n inside (suc count) b =
       subst (λ m. Within b m (body b ++ rounds_events body n count (later_by n b))) (sym (suc-times count n))
@@ -122,17 +122,18 @@ module _ (h : History) (t : ℕ) where
   ControlWithin i = (b : Beginning) → Within b (lasts (part_of i) (part_of i).control) (control_events i b)
 
   module _ (part : PlainComponent) (cells : Cells) (controlled : IsControlled (Node part cells)) (below : (c : ℕ) (child : Instance) → cell_at cells c ≡ OfInstance child → ControlWithin child) where
-    invoke_within : (j : ℕ) → j < length part.invokes → (b : Beginning) → Within b (invoke_length (invoke_at part j)) (invoke_events (events_below cells) (invoke_at part j) b)
+    invoke_within : (j : ℕ) → j < length part.invokes → (b : Beginning) → Within b (invoke_length (invoke_at part j)) (invoke_events (events_below cells) (the_invoke part j) b)
     invoke_within j there b =
-        let v = invoke_at part j in
+        let v = the_invoke part j in
         let its = controlled.invokes j there in
         let start : Beginning = record { at = b.at ++ (v.cell ∷ []); bound = bound_below b.bound b.at v.cell v.inputs; from = b.from; conditions = b.conditions } in
         let child : Within b (or_zero v.latency) (events_below cells v.cell start) =
-        subst (λ l. Within b (or_zero v.latency) l) (sym (events-child cells v.cell its.child start its.stands)) (subst (λ n. Within b n (control_events its.child start)) (sym its.latency) (below v.cell its.child its.stands start)) in
+        subst (λ l. Within b (or_zero v.latency) l) (sym (events-child cells v.cell its.child start its.stands)) (subst (λ n. Within b n (control_events its.child start)) (sym (ap or_zero its.latency)) (below v.cell its.child its.stands start)) in
         let capture : Within b (or_zero v.latency + capture_length v.captures) (capture_events v.captures (later_by (or_zero v.latency) b)) =
         later_within b (or_zero v.latency) (capture_length v.captures) (capture_events v.captures (later_by (or_zero v.latency) b)) (capture_within v.captures (later_by (or_zero v.latency) b)) in
-        feeds v start (both_within b (or_zero v.latency + capture_length v.captures) (events_below cells v.cell start) (capture_events v.captures (later_by (or_zero v.latency) b))
-        (wider b (or_zero v.latency) (or_zero v.latency + capture_length v.captures) (events_below cells v.cell start) (omega arith) child) capture)
+        subst (λ n. Within b n (invoke_events (events_below cells) v b)) (sym (invoke_takes part j (lasts (part_of its.child) (part_of its.child).control) there its.latency))
+        (feeds v start (both_within b (or_zero v.latency + capture_length v.captures) (events_below cells v.cell start) (capture_events v.captures (later_by (or_zero v.latency) b))
+        (wider b (or_zero v.latency) (or_zero v.latency + capture_length v.captures) (events_below cells v.cell start) (omega arith) child) capture))
       where
         feeds : (v : PlainInvoke) (start : Beginning) → Within b (or_zero v.latency + capture_length v.captures) (events_below cells v.cell start ++ capture_events v.captures (later_by (or_zero v.latency) b))
             → Within b (or_zero v.latency + capture_length v.captures)
@@ -174,7 +175,7 @@ module _ (h : History) (t : ℕ) where
       pub one_within : (s : PlainStatement) → AllThere (timed_of s) (length part.invokes) → (b : Beginning) → Within b (lasts part s) (events part (events_below cells) s b)
       one_within (Placed form place) there b d i = form_within form there b d i
 
-      seq_within : (ss : PlainStatements) → AllThere (timed_all ss) (length part.invokes) → (b : Beginning) → Within b (sum_lasts part ss) (seq_events part (events_below cells) ss b)
+      pub seq_within : (ss : PlainStatements) → AllThere (timed_all ss) (length part.invokes) → (b : Beginning) → Within b (sum_lasts part ss) (seq_events part (events_below cells) ss b)
       seq_within no_statements there b d i = absurd i
       seq_within (a_statement s ss) there b d i =
           both_within b (lasts part s + sum_lasts part ss) (events part (events_below cells) s b) (seq_events part (events_below cells) ss (later_by (lasts part s) b))

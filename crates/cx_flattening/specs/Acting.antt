@@ -4,10 +4,10 @@ use Rattle.cx_meaning.specs.Designs.{PlainAssign, PlainComponent}
 use Rattle.cx_meaning.specs.Instances.{Instance, Node, Cells, no_cells, a_primitive, an_instance}
 use Rattle.cx_meaning.specs.Active.{Active, entries}
 use Rattle.cx_meaning.specs.Control.{groups_of}
-use Rattle.cx_flattening.specs.Invokes.{invoke_at}
+use Rattle.cx_flattening.specs.Events.{the_invoke}
 use Rattle.cx_flattening.specs.Deeds.{Deed, Acts, Fed, own_entries, deeds_below}
 use Rattle.cx_flattening.specs.Whole.{is_static}
-use Rattle.cx_flattening.specs.Copies.{is_one_of}
+use Rattle.cx_rules.specs.Counts.{is_one_of}
 use Rattle.cx_flattening.specs.Flattened.{Kids, flat_part, flat_kids, copy_of}
 
 -- the sources that a cell is fed, if it is
@@ -24,7 +24,7 @@ IsUsed child g = is_one_of g (groups_of child.control) ≡ true
 -- invoke j is one of cell c
 pub record IsOf (part : PlainComponent) (c j : ℕ) : Type 0 where
   pub there : j < length part.invokes
-  pub cell : (invoke_at part j).cell ≡ c
+  pub cell : (the_invoke part j).cell ≡ c
 
 module _ (kids : Kids) (part : PlainComponent) (c : ℕ) (child : PlainComponent) (deeds : List Deed) (inner more : Active) where
   -- a static child that is not fed: nothing of it acts, and no copy for it
@@ -38,7 +38,7 @@ module _ (kids : Kids) (part : PlainComponent) (c : ℕ) (child : PlainComponent
   pub record IsFed : Type 0 where
     pub invoke : ℕ
     pub its : IsOf part c invoke
-    pub fed : fed_by c deeds ≡ Some (invoke_at part invoke).inputs
+    pub fed : fed_by c deeds ≡ Some (the_invoke part invoke).inputs
     pub used : (g : ℕ) → IsUsed child g → more.offset (copy_of kids part child invoke g) ≡ inner.offset g
     pub unused : (g : ℕ) → is_one_of g (groups_of child.control) ≡ false → inner.offset g ≡ None
     pub others : (j g : ℕ) → IsOf part c j → j ≢ invoke → IsUsed child g → more.offset (copy_of kids part child j g) ≡ None

@@ -3,7 +3,7 @@ use Rattle.std.specs.Prelude.{◌≡◌, ℕ, ◌+◌, ◌<◌, true, false, Som
 use Rattle.cx_meaning.specs.Designs.{PlainComponent, PlainStatement, PlainStatements, no_statements, a_statement}
 use Rattle.cx_meaning.specs.Instances.{Instance, part_of, cells_of}
 use Rattle.cx_meaning.specs.Control.{drives}
-use Rattle.cx_flattening.specs.Invokes.{drives_all}
+use Rattle.cx_rules.specs.Invokes.{drives_all}
 use Rattle.cx_flattening.specs.Flattened.{kid_at, kept_at, start_of, flat_kids, flat_statement}
 
 -- the statement in the flat component

@@ -2,7 +2,6 @@
 use Rattle.std.specs.Prelude.{◌≡◌, ℕ, ◌<◌, List, Option, Some, None, length}
 use Rattle.cx_meaning.specs.Instances.{Instance, part_of, cells_of, State}
 use Rattle.cx_meaning.specs.Active.{Active}
-use Rattle.cx_rules.specs.Circles.{IsAcyclic, AcyclicBelow}
 use Rattle.cx_flattening.specs.Deeds.{Deed}
 use Rattle.cx_flattening.specs.Flattened.{Kids, kid_at, kept_at, flat_kids}
 use Rattle.cx_flattening.specs.Acting.{ActsAs}
@@ -28,5 +27,3 @@ pub record IsBeside (i flat : Instance) (act more : Active) (deeds : List Deed) 
   pub done : more.done_cell ≡ kept_done (flat_kids (cells_of i)) act.done_cell
   pub kept : IsKeptDone i act.done_cell
   pub no_circle : NoCircle i act deeds
-  pub acyclic : IsAcyclic flat more
-  pub deeper : AcyclicBelow (cells_of flat)

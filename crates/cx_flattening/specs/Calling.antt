@@ -4,7 +4,6 @@ use Rattle.cx_meaning.specs.Instances.{Instance, OfInstance, cells_of, cell_at, 
 use Rattle.cx_meaning.specs.Active.{capture}
 use Rattle.cx_meaning.specs.Sights.{Held}
 use Rattle.cx_meaning.specs.Running.{Children}
-use Rattle.cx_rules.specs.Circles.{IsAcyclic}
 use Rattle.cx_flattening.specs.Whole.{is_static}
 use Rattle.cx_flattening.specs.Flattened.{flat_kids, kept_at}
 use Rattle.cx_flattening.specs.Embedded.{Stands}
@@ -18,7 +17,6 @@ pub record IsCallBeside (i flat : Instance) (g c : ℕ) (child : Instance) : Typ
   pub dynamic : is_static child ≡ false
   -- in the cycle in which registers are captured
   pub no_circle : NoCircle i (capture g c) []
-  pub acyclic : IsAcyclic flat (capture g (kept_at (flat_kids (cells_of i)) c))
 
 -- the control of a child runs in the flat instance as in the tree
 abbrev pub RunsAs : Instance → ℕ → ℕ → Children → Children → Type 0

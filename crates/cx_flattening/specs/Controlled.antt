@@ -5,8 +5,9 @@ use Rattle.cx_meaning.specs.Designs.{PlainInvoke, PlainForm, Empty, Enable, Seq,
 use Rattle.cx_meaning.specs.Instances.{Instance, Node, Cells, no_cells, a_primitive, an_instance, OfInstance, part_of, cells_of, cell_at}
 use Rattle.cx_meaning.specs.Control.{groups_of}
 use Rattle.cx_meaning.specs.Sights.{In}
-use Rattle.cx_meaning.specs.Islands.{group_length, or_zero}
-use Rattle.cx_flattening.specs.Invokes.{invoke_at, lasts}
+use Rattle.cx_meaning.specs.Islands.{group_length}
+use Rattle.cx_rules.specs.Invokes.{lasts}
+use Rattle.cx_flattening.specs.Events.{the_invoke}
 use Rattle.cx_flattening.specs.Whole.{is_static}
 use Rattle.cx_flattening.specs.Fair.{IsNamed}
 
@@ -61,7 +62,7 @@ pub record IsInvoked (i : Instance) (v : PlainInvoke) : Type 0 where
   pub child : Instance
   pub stands : cell_at (cells_of i) v.cell ≡ OfInstance child
   pub static : is_static child ≡ true
-  pub latency : or_zero v.latency ≡ lasts (part_of child) (part_of child).control
+  pub latency : v.latency ≡ Some (lasts (part_of child) (part_of child).control)
   pub captures : (g : ℕ) → v.captures ≡ Some g → (g < length (part_of i).groups) × (group_length (part_of i) g ≡ Some 1)
 
 -- control enables groups and has invokes that are there, and tests ports that may be named
@@ -69,7 +70,7 @@ pub record IsControlled (i : Instance) : Type 0 where
   pub enables : (g : ℕ) → In (groups_of (part_of i).control) g → g < length (part_of i).groups
   pub timed : (j : ℕ) → In (timed_of (part_of i).control) j → j < length (part_of i).invokes
   pub tests : (p : PortRef) → In (tested_of (part_of i).control) p → IsNamed i p
-  pub invokes : (j : ℕ) → j < length (part_of i).invokes → IsInvoked i (invoke_at (part_of i) j)
+  pub invokes : (j : ℕ) → j < length (part_of i).invokes → IsInvoked i (the_invoke (part_of i) j)
 
 abbrev mutual
   pub AllControlled : Instance → Type 0

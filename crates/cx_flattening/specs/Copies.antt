@@ -1,7 +1,8 @@
 -- Copies of groups and of static control, in which each port and each group becomes another.
-use Rattle.std.specs.Prelude.{ℕ, zero, suc, Bool, true, false, ◌||◌, nat_eq, List, [], ◌∷◌, Option, Some, None, map}
+use Rattle.std.specs.Prelude.{ℕ, zero, suc, Bool, true, false, List, [], ◌∷◌, Option, Some, None, map}
 use Rattle.cx_meaning.specs.declared.ports.PortRef.{PortRef}
 use Rattle.cx_meaning.specs.Designs.{PlainGroup, PlainForm, Empty, Enable, Seq, Par, If, While, Repeat, StaticSeq, StaticPar, StaticIf, StaticRepeat, Timed, PlainStatement, Placed, PlainStatements, no_statements, a_statement}
+use Rattle.cx_rules.specs.Counts.{is_one_of, group_if}
 use Rattle.cx_rewrites.specs.Moving.{moved_port, moved_assign}
 
 -- a copy of a group has no name
@@ -36,11 +37,6 @@ module _ (move : PortRef → PortRef) (copy : ℕ → ℕ) where
     copied_statements no_statements = no_statements
     copied_statements (a_statement s ss) = a_statement (copied_statement s) (copied_statements ss)
 
--- the groups that static control enables, by their numbers
-abbrev pub is_one_of : ℕ → List ℕ → Bool
-is_one_of g [] = false
-is_one_of g (h ∷ hs) = nat_eq g h || is_one_of g hs
-
 abbrev pub count_if : Bool → ℕ → ℕ
 count_if true n = suc n
 count_if false n = n
@@ -49,10 +45,6 @@ count_if false n = n
 abbrev pub enabled_below : List ℕ → ℕ → ℕ
 enabled_below used zero = 0
 enabled_below used (suc g) = count_if (is_one_of g used) (enabled_below used g)
-
-abbrev pub group_if : Bool → PlainGroup → List PlainGroup → List PlainGroup
-group_if true g rest = g ∷ rest
-group_if false g rest = rest
 
 -- the enabled ones of the groups from g on
 abbrev pub enabled_groups : List ℕ → ℕ → List PlainGroup → List PlainGroup

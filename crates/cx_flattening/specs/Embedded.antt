@@ -5,16 +5,18 @@ use Rattle.cx_prim.specs.CombinationalRows.{unary_row}
 use Rattle.cx_meaning.specs.declared.kinds.PortDecl.{PortDecl}
 use Rattle.cx_meaning.specs.Designs.{PlainComponent}
 use Rattle.cx_meaning.specs.Instances.{Instance, Node, Cells, no_cells, a_primitive, an_instance, OfRow, OfInstance, part_of, cells_of, cell_at, cell_count, State, under}
+use Rattle.cx_rules.specs.Ports.{cell_name}
 use Rattle.cx_flattening.specs.Whole.{is_static}
 use Rattle.cx_flattening.specs.Flattened.{Kids, flat_part, flat_kids, kept_at, start_of, wire_at}
 
--- a component that is the flat one in all that a run knows of it
+-- a component that is the flat one in all that a run knows and tells of it
 pub record IsLike (one other : PlainComponent) : Type 0 where
   pub inputs : one.inputs ≡ other.inputs
   pub outputs : one.outputs ≡ other.outputs
   pub groups : one.groups ≡ other.groups
   pub always : one.always ≡ other.always
   pub control : one.control ≡ other.control
+  pub names : (e : ℕ) → cell_name one.cells e ≡ cell_name other.cells e
 
 -- the row of the wire of an output, which gives what it is given
 abbrev pub wire_row : ℕ → Row
@@ -34,7 +36,8 @@ abbrev mutual
   AreEmbedded kids part (a_primitive row rest) c first host = (cell_at host (first + kept_at kids c) ≡ OfRow row) × AreEmbedded kids part rest (suc c) first host
   AreEmbedded kids part (an_instance child rest) c first host =
       (is_static child ≡ true → IsEmbedded child (first + start_of kids part c) host × HasWires (part_of child).outputs (first + wire_at kids part (flat_part child) c 0) host)
-      × (is_static child ≡ false → (twin : Instance) × (cell_at host (first + kept_at kids c) ≡ OfInstance twin) × IsLike (part_of twin) (flat_part child) × IsEmbedded child 0 (cells_of twin))
+      × (is_static child ≡ false → (twin : Instance) × (cell_at host (first + kept_at kids c) ≡ OfInstance twin) × IsLike (part_of twin) (flat_part child) × IsEmbedded child 0 (cells_of twin)
+      × (cell_count (cells_of twin) ≡ length (flat_part child).cells))
       × AreEmbedded kids part rest (suc c) first host
 
 -- THE FLAT INSTANCE of an instance

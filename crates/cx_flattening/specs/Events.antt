@@ -1,13 +1,20 @@
 -- What an island does: its groups, the cells of static components that it feeds, and the ports at which it looks, with those of the
 -- static components below.
-use Rattle.std.specs.Prelude.{ℕ, zero, suc, ◌+◌, Bool, true, false, List, [], ◌∷◌, ◌++◌, Option, Some, None, if◌then◌else◌}
+use Rattle.std.specs.Prelude.{ℕ, zero, suc, ◌+◌, Bool, true, false, List, [], ◌∷◌, ◌++◌, Option, Some, None, get_or, if◌then◌else◌}
 use Rattle.cx_meaning.specs.declared.ports.PortRef.{PortRef}
 use Rattle.cx_meaning.specs.declared.ports.PortRef.TheVariants as ports
 use Rattle.cx_meaning.specs.Designs.{PlainAssign, PlainInvoke, PlainComponent, PlainForm, Empty, Enable, Seq, Par, If, While, Repeat, StaticSeq, StaticPar, StaticIf, StaticRepeat, Timed, PlainStatement, Placed, PlainStatements, no_statements, a_statement}
 use Rattle.cx_meaning.specs.Instances.{Instance, Node, Cells, no_cells, a_primitive, an_instance, Path}
 use Rattle.cx_meaning.specs.Active.{same_port}
 use Rattle.cx_meaning.specs.Islands.{group_length, or_zero}
-use Rattle.cx_flattening.specs.Invokes.{invoke_at, lasts}
+use Rattle.cx_rules.specs.Invokes.{lasts}
+
+-- the static invoke of a number; a number that names none stands for one that takes no cycles
+abbrev pub no_invoke : PlainInvoke
+no_invoke = record { cell = 0; written = false; length = None; latency = None; inputs = []; captures = None }
+
+abbrev pub the_invoke : PlainComponent → ℕ → PlainInvoke
+the_invoke part k = get_or part.invokes k no_invoke
 
 -- WHERE a port of a static component is seen: it is the port itself, at the instance's path from the island's own instance; but an
 -- input of a static child is seen as what its source is seen as
@@ -97,7 +104,7 @@ abbrev mutual
       Looks (b.bound test.port) b.from b.conditions
       ∷ (events part below x (also_if (b.bound test.port) true b) ++ events part below y (also_if (b.bound test.port) false b))
   form_events part below (StaticRepeat length count x) b = rounds_events (events part below x) (lasts part x) count b
-  form_events part below (Timed k) b = invoke_events below (invoke_at part k) b
+  form_events part below (Timed k) b = invoke_events below (the_invoke part k) b
 
   pub events : PlainComponent → (ℕ → Events) → PlainStatement → Events
   events part below (Placed form place) b = form_events part below form b

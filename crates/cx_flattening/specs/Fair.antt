@@ -11,8 +11,7 @@ use Rattle.cx_meaning.specs.Rows.{side_of}
 use Rattle.cx_rules.specs.Ports.{is_source_only}
 use Rattle.cx_rules.specs.Footprints.{AssignNames, Rests}
 use Rattle.cx_rules.specs.ShapeRules.{LeadsToInput}
-use Rattle.cx_flattening.specs.Invokes.{invoke_at}
-use Rattle.cx_flattening.specs.Events.{source_to}
+use Rattle.cx_flattening.specs.Events.{the_invoke, source_to}
 use Rattle.cx_flattening.specs.Whole.{is_static}
 use Rattle.cx_flattening.specs.Flattened.{flat_kids}
 use Rattle.cx_flattening.specs.Targets.{HasTargets}
@@ -30,6 +29,10 @@ IsNamed i (ports.Output n) = ⊥
 IsNamed i (ports.Done g) = ⊥
 IsNamed i (ports.Literal w v) = Unit {0}
 
+-- that a port does not rest on state is not so
+abbrev pub IsAtRest : Instance → PortRef → Type 0
+IsAtRest i q = (Rests i q → ⊥) → ⊥
+
 -- an instance: its cells are there, what is driven and what is named may be, cells read inputs, and its outputs rest on state and lead to
 -- no input
 pub record IsFair (i : Instance) : Type 0 where
@@ -38,12 +41,12 @@ pub record IsFair (i : Instance) : Type 0 where
   pub within : (c : ℕ) → (cell_at (cells_of i) c ≡ Nothing → ⊥) → c < length (part_of i).cells
   pub targets : HasTargets (flat_kids (cells_of i)) (part_of i)
   pub names : (a : PlainAssign) (q : PortRef) → IsAssignOf (part_of i) a → AssignNames a q → IsNamed i q
-  pub sources : (j n : ℕ) (child : Instance) → j < length (part_of i).invokes → cell_at (cells_of i) (invoke_at (part_of i) j).cell ≡ OfInstance child → n < length (part_of child).inputs
-      → IsNamed i (source_to (invoke_at (part_of i) j).cell (invoke_at (part_of i) j).inputs n)
+  pub sources : (j n : ℕ) (child : Instance) → j < length (part_of i).invokes → cell_at (cells_of i) (the_invoke (part_of i) j).cell ≡ OfInstance child → n < length (part_of child).inputs
+      → IsNamed i (source_to (the_invoke (part_of i) j).cell (the_invoke (part_of i) j).inputs n)
   pub kept : is_static i ≡ true → (a : PlainAssign) (n : ℕ) → In (part_of i).always a → AssignNames a (ports.Input n) → ⊥
   pub not_source : (a : PlainAssign) → IsAssignOf (part_of i) a → is_source_only i a.target ≡ false
   pub reads : (c p m : ℕ) (row : Row) → cell_at (cells_of i) c ≡ OfRow row → row.reads p m ≡ true → (side_of row m ≡ sides.Enable) ⊎ (side_of row m ≡ sides.Plain)
-  pub outputs_rest : (n : ℕ) (a : PlainAssign) (q : PortRef) → In (part_of i).always a → a.target ≡ ports.Output n → AssignNames a q → Rests i q
+  pub outputs_rest : (n : ℕ) (a : PlainAssign) (q : PortRef) → In (part_of i).always a → a.target ≡ ports.Output n → AssignNames a q → IsAtRest i q
   pub outputs_lead : (n : ℕ) (a : PlainAssign) (q : PortRef) → In (part_of i).always a → a.target ≡ ports.Output n → AssignNames a q → LeadsToInput i q → ⊥
   pub outputs_outside : (x : PlainGroup) (a : PlainAssign) (n : ℕ) → In (part_of i).groups x → In x.assigns a → a.target ≡ ports.Output n → ⊥
 

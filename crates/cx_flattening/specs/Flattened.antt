@@ -8,8 +8,7 @@ use Rattle.cx_meaning.specs.declared.kinds.PortDecl.{PortDecl}
 use Rattle.cx_meaning.specs.Designs.{PlainAssign, PlainGroup, OfPrimitive, PlainCell, PlainInvoke, PlainForm, Empty, Enable, Seq, Par, If, While, Repeat, StaticSeq, StaticPar, StaticIf, StaticRepeat, Timed, PlainStatement, Placed, PlainStatements, no_statements, a_statement, PlainComponent, no_place}
 use Rattle.cx_meaning.specs.Control.{groups_of}
 use Rattle.cx_rewrites.specs.Moving.{moved_port, moved_assign, moved_group}
-use Rattle.cx_flattening.specs.Invokes.{invoke_at}
-use Rattle.cx_flattening.specs.Events.{source_to}
+use Rattle.cx_flattening.specs.Events.{the_invoke, source_to}
 use Rattle.cx_meaning.specs.Instances.{Instance, Node, Cells, no_cells, a_primitive, an_instance}
 use Rattle.cx_flattening.specs.Whole.{is_static}
 use Rattle.cx_flattening.specs.Copies.{copied_group, copied_statement, enabled_below, enabled_groups}
@@ -154,7 +153,7 @@ module _ (kids : Kids) (part : PlainComponent) where
     flat_form (StaticPar length arms) = StaticPar length (flat_statements arms)
     flat_form (StaticIf length test a b) = StaticIf length (moved_port own_port test) (flat_statement a) (flat_statement b)
     flat_form (StaticRepeat length count a) = StaticRepeat length count (flat_statement a)
-    flat_form (Timed k) = inlined (kid_at kids (invoke_at part k).cell) k (invoke_at part k)
+    flat_form (Timed k) = inlined (kid_at kids (the_invoke part k).cell) k (the_invoke part k)
 
     pub flat_statement : PlainStatement → PlainStatement
     flat_statement (Placed form place) = Placed (flat_form form) place

@@ -1,4 +1,3 @@
-pub mod Invokes
 pub mod Events
 pub mod Deeds
 pub mod Whole
@@ -23,3 +22,5 @@ pub mod Runs
 pub mod Calling
 pub mod Arms
 pub mod Asking
+pub mod Ends
+pub mod Faulty

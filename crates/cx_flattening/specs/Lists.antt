@@ -9,7 +9,6 @@ use Rattle.cx_meaning.specs.Islands.{active_in, form_flat}
 use Rattle.cx_meaning.specs.Islands as islands
 use Rattle.cx_meaning.specs.Sights.{In}
 use Rattle.cx_flattening.specs.Events.{Event, spot, form_events, events_below}
-use Rattle.cx_rules.specs.Circles.{IsAcyclic, AcyclicBelow}
 use Rattle.cx_flattening.specs.Deeds.{History, deeds_in, own_entries}
 use Rattle.cx_flattening.specs.Flattened.{flat_form, flat_kids}
 use Rattle.cx_flattening.specs.Embedded.{IsFlattened}
@@ -37,6 +36,3 @@ pub record IsIsland (i flat : Instance) (form : PlainForm) : Type 0 where
   pub once : (h : History) (t : ℕ) → FedOnce i (deeds_in h t (island_events i form))
   pub no_circle : (h : History) (t : ℕ) → NoCircle i (entries (own_entries (deeds_in h t (island_events i form)))) (deeds_in h t (island_events i form))
   pub still : NoCircle i nothing []
-  pub acyclic : (k : islands.History) (t : ℕ) → IsAcyclic flat (entries (active_in k t (form_flat (part_of flat) (flat_form (flat_kids (cells_of i)) (part_of i) form) 0 [])))
-  pub calm : IsAcyclic flat nothing
-  pub deeper : AcyclicBelow (cells_of flat)

@@ -6,7 +6,7 @@ use Rattle.cx_meaning.specs.Designs.{PlainAssign, PlainGroup, PlainComponent}
 use Rattle.cx_meaning.specs.Control.{groups_of}
 use Rattle.cx_meaning.specs.Sights.{In}
 use Rattle.cx_rules.specs.Footprints.{AssignNames}
-use Rattle.cx_flattening.specs.Copies.{is_one_of}
+use Rattle.cx_rules.specs.Counts.{is_one_of}
 use Rattle.cx_flattening.specs.Flattened.{Kids, kid_at}
 
 -- in the caller: a port of a cell that is kept, an output, a hole

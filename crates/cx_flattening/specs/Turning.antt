@@ -1,10 +1,9 @@
 -- A turn of the flat instance beside a turn of the tree.
 use Rattle.std.specs.Prelude.{◌≡◌, ℕ, ◌<◌, [], Option, Some, length}
-use Rattle.cx_meaning.specs.Instances.{Instance, part_of, cells_of, State}
+use Rattle.cx_meaning.specs.Instances.{Instance, part_of, State}
 use Rattle.cx_meaning.specs.Active.{comb}
 use Rattle.cx_meaning.specs.Cycles.{Fault}
 use Rattle.cx_meaning.specs.Answers.{Turn, Ends, Goes, Faults, Test, Holds, Fails, Unclear}
-use Rattle.cx_rules.specs.Circles.{IsAcyclic, AcyclicBelow}
 use Rattle.cx_flattening.specs.Embedded.{IsFlattened, Stands}
 use Rattle.cx_flattening.specs.Fair.{AllFair}
 use Rattle.cx_flattening.specs.Seeing.{NoCircle}
@@ -28,5 +27,3 @@ pub record IsGroupBeside (i flat : Instance) (with_group : Option ℕ) : Type 0 
   pub fair : AllFair i
   pub there : (g : ℕ) → with_group ≡ Some g → g < length (part_of i).groups
   pub no_circle : NoCircle i (comb with_group) []
-  pub acyclic : IsAcyclic flat (comb with_group)
-  pub deeper : AcyclicBelow (cells_of flat)

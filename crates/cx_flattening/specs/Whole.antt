@@ -15,7 +15,7 @@ use Rattle.cx_meaning.specs.Control.{Leaves, run}
 use Rattle.cx_meaning.specs.Islands.{turn_of, unless_unclear}
 use Rattle.cx_meaning.specs.Calls.{hole_turn, test, called, captures, fault_below, lift_answer, inputs_of_call}
 use Rattle.cx_meaning.specs.Running.{Children}
-use Rattle.cx_flattening.specs.Invokes.{form_lasts, drives_all}
+use Rattle.cx_rules.specs.Invokes.{form_lasts, drives_all}
 use Rattle.cx_flattening.specs.Events.{Event, spot, form_events, events_below}
 use Rattle.cx_flattening.specs.Deeds.{History, no_history, Deed, deeds_in, looked_in, own_entries, deeds_below, held_below, and_now, first_unclear}
 

@@ -1,6 +1,7 @@
 //! Laws of static components and of flat instances: each function does nothing, and its clause is the law.
 
-ghost use Rattle.std.specs.Prelude.{◌≡◌, ℕ, List, [], Option, Some};
+ghost use Rattle.std.specs.Prelude.{◌≡◌, ℕ, List, [], Option, Some, length};
+ghost use Rattle.cx_text.specs.declared.places.Place.{Place};
 ghost use Rattle.cx_meaning.specs.declared.ports.PortRef.{PortRef};
 ghost use Rattle.cx_meaning.specs.declared.ports.PortRef.TheVariants.{Input};
 ghost use Rattle.cx_meaning.specs.Designs.{PlainDesign, PlainForm};
@@ -13,10 +14,15 @@ ghost use Rattle.cx_meaning.specs.Islands.{active_in, form_flat, form_length};
 ghost use Rattle.cx_meaning.specs.Islands as islands;
 ghost use Rattle.cx_meaning.specs.Calls as calls;
 ghost use Rattle.cx_meaning.specs.Running.{Children, run_control, run_main};
+ghost use Rattle.cx_rules.specs.Counts.{counted_cells, counted_depth, counted_instances};
+ghost use Rattle.cx_rules.specs.Sizes.{depth_below, instances_below, words_below};
+ghost use Rattle.cx_rules.specs.Spots.{Spot};
 ghost use Rattle.cx_rules.specs.Externals.{external_rows};
-ghost use Rattle.cx_rules.specs.Flat.{IsFlat};
+ghost use Rattle.cx_rewrites.specs.FlatRules.{BreaksCells, BreaksDepth, BreaksInstances, BreaksWords};
+ghost use Rattle.cx_rules.specs.Flat.{ArePlainNames, IsFlat};
+ghost use Rattle.cx_rules.specs.Accepted.{IsAccepted};
 ghost use Rattle.cx_rules.specs.Wellformed.{IsDesign};
-ghost use Rattle.cx_flattening.specs.Invokes.{form_lasts};
+ghost use Rattle.cx_rules.specs.Invokes.{form_lasts};
 ghost use Rattle.cx_flattening.specs.Events.{spot};
 ghost use Rattle.cx_flattening.specs.Deeds.{Deed, History, deeds_in, own_entries};
 ghost use Rattle.cx_flattening.specs.Whole.{call, group_turn, whole_control, whole_cycle, whole_island, whole_main};
@@ -33,6 +39,8 @@ ghost use Rattle.cx_flattening.specs.Turning.{IsGroupBeside, TestAs, TurnAs};
 ghost use Rattle.cx_flattening.specs.Controlled.{AllControlled};
 ghost use Rattle.cx_flattening.specs.FedOnce.{FedOnce};
 ghost use Rattle.cx_flattening.specs.Sampling.{AgreesAt};
+ghost use Rattle.cx_flattening.specs.Ends.{NoneNamesDone};
+ghost use Rattle.cx_flattening.specs.Told.{KeepsRuns};
 ghost use Rattle.cx_flattening.specs.Lists.{IsIsland, IsStaticOf, island_events};
 ghost use Rattle.cx_flattening.specs.Runs.{AnswerAs};
 ghost use Rattle.cx_flattening.specs.Calling.{IsCallBeside, RunsAs};
@@ -123,4 +131,43 @@ pub fn flat_runs_are_those_of_the_tree()
     ensures { (i flat : Instance) (held : Held) (s z : State) (n : ℕ)
         → TreeAsks i flat → Stands i 0 s z → IsSettled flat z
         → AnswerAs i (whole_control i held s n) (run_control flat held z n) }
+{}
+
+/// Every instance of the tree of an accepted design, in which nothing looks at the done of a static component's cell, is fair and
+/// controlled: what flattening asks of its ports, its assignments, its control and its static invokes holds.
+pub fn accepted_trees_are_fair()
+    ensures fair { (d : PlainDesign) → IsDesign d → IsAccepted d → NoneNamesDone d → AllFair (tree_of d) }
+    ensures controlled { (d : PlainDesign) → IsDesign d → IsAccepted d → NoneNamesDone d → AllControlled (tree_of d) }
+{}
+
+/// The run of main of an accepted design, in which nothing looks at the done of a static component's cell, is that of its flat
+/// design: it ends in as many turns in a state of the same cells, has the fault in the same turn at the port that stands for the
+/// faulty one, or needs more turns where that does.
+pub fn accepted_runs_are_those_of_the_flat_design()
+    ensures { (d : PlainDesign) (words : List (List ℕ)) (n : ℕ) → IsDesign d → IsAccepted d → NoneNamesDone d
+        → AnswerAs (tree_of d) (whole_main d words n) (run_main (flat_design d) words n) }
+{}
+
+/// The flat design of an accepted design with plain names, in which nothing looks at the done of a static component's cell, tells
+/// of a run what the design tells: its turns with the words of the external memories, or the kind, the name and the turn of its
+/// fault; and it has the external memories of the design.
+pub fn accepted_designs_keep_their_runs()
+    ensures { (d : PlainDesign) → IsDesign d → IsAccepted d → NoneNamesDone d → ArePlainNames d → KeepsRuns d }
+{}
+
+/// The flat component has the cells that are counted with static components written out, and over the tree of the flat design there
+/// are as many instances, levels and memory words as are counted in that of the design.
+pub fn flat_sizes_are_counted()
+    ensures cells { (i : Instance) → length (flat_part i).cells ≡ counted_cells i }
+    ensures instances { (d : PlainDesign) → IsDesign d → instances_below (tree_of (flat_design d)) ≡ counted_instances (tree_of d) }
+    ensures depth { (d : PlainDesign) → IsDesign d → depth_below (tree_of (flat_design d)) ≡ counted_depth (tree_of d) }
+    ensures words { (d : PlainDesign) → IsDesign d → words_below (tree_of (flat_design d)) ≡ words_below (tree_of d) }
+{}
+
+/// The flat design of an accepted design exceeds no limit on cells, instances, levels and memory words.
+pub fn flat_designs_keep_limits()
+    ensures cells { (d : PlainDesign) (at : Spot) (place : Place) (name : List ℕ) → IsDesign d → IsAccepted d → BreaksCells (flat_design d) at place name → ⊥ }
+    ensures instances { (d : PlainDesign) (at : Spot) (place : Place) (name : List ℕ) → IsDesign d → IsAccepted d → BreaksInstances (flat_design d) at place name → ⊥ }
+    ensures depth { (d : PlainDesign) (at : Spot) (place : Place) (name : List ℕ) → IsDesign d → IsAccepted d → BreaksDepth (flat_design d) at place name → ⊥ }
+    ensures words { (d : PlainDesign) (at : Spot) (place : Place) (name : List ℕ) → IsDesign d → IsAccepted d → BreaksWords (flat_design d) at place name → ⊥ }
 {}
