@@ -1,10 +1,10 @@
 -- Marks that are bits of words.
-use Rattle.std.proofs.Common.{◌≡◌, ◌≢◌, ℕ, zero, suc, ◌+◌, ◌*◌, ◌/◌, ◌%◌, ◌^◌, ◌<◌, ◌≤◌, max, Bool, true, false, ◌||◌, nat_eq, List, get_or, set, length, replicate, bit_or, bit_and, w64, refl, sym, ap, ◌∙◌, arith, tests, ⊎_elim}
+use Rattle.std.proofs.Common.{◌≡◌, ◌≢◌, ℕ, zero, suc, ◌+◌, ◌*◌, ◌/◌, ◌%◌, ◌^◌, ◌<◌, ◌≤◌, max, min, Bool, true, false, ◌||◌, ◌&&◌, nat_eq, List, get_or, set, length, replicate, bit_or, bit_and, w64, refl, sym, ap, ◌∙◌, arith, tests, ⊎_elim}
 use Rattle.std.specs.Int.{bit_at}
 use Rattle.std.specs.Int.Bits.{or_zero_r}
 use Rattle.std.proofs.lemmas.Bool.{cases_eq, cases_lt}
 use Rattle.std.proofs.lemmas.List.{get_or-set_same, get_or-set_other, length-set, get_or_past, ext_get_or, get_or-replicate, length-replicate}
-use Rattle.std.proofs.lemmas.Nat.Bits.{bit_at-zero, bit_at-lt, bit_at_or, bit_at_set_same, bit_at_set_other, shr_and_one}
+use Rattle.std.proofs.lemmas.Nat.Bits.{bit_at-zero, bit_at-lt, bit_at_or, bit_at_and, bit_at_set_same, bit_at_set_other, shr_and_one}
 use Rattle.cx_share.specs.Bits.{bit_in, marks_of}
 use Rattle.cx_meaning.specs.Instances.{just}
 use Rattle.cx_share.specs.Marks.{Adds}
@@ -165,3 +165,74 @@ joined_all n old others new end j k = ⊎_elim (λ lt. j.first k lt) (λ le. pas
     past le =
         let none : get_or others k 0 ≡ 0 = get_or_past others k 0 (omega arith) in
         j.rest k le ∙ sym (or_zero_r (get_or old k 0)) ∙ ap (bit_or (get_or old k 0)) (sym none)
+
+-- the bits that two words have
+both : (a b : ℕ) → a < 2 → b < 2 → nat_eq (min a b) 1 ≡ (nat_eq a 1 && nat_eq b 1)
+both zero zero h k = refl
+both zero (suc zero) h k = refl
+both (suc zero) zero h k = refl
+both (suc zero) (suc zero) h k = refl
+both (suc (suc a)) b h k = absurd (omega arith)
+both zero (suc (suc b)) h k = absurd (omega arith)
+both (suc zero) (suc (suc b)) h k = absurd (omega arith)
+
+and-none : (a : Bool) → (a && false) ≡ false
+and-none true = refl
+and-none false = refl
+
+pub words_kept : (count other : ℕ) (a b o : List ℕ) (old two : List Bool) → marks_of count a ≡ old → marks_of other o ≡ two → other ≡ count
+    → ((k : ℕ) → get_or b k 0 ≡ bit_and (get_or a k 0) (get_or o k 0)) → (c : ℕ) → get_or (marks_of count b) c false ≡ (get_or old c false && get_or two c false)
+words_kept count other a b o old two first second same h c = ⊎_elim inside beyond (cases_lt c count)
+  where
+    bit : bit_in b c ≡ (bit_in a c && bit_in o c)
+    bit =
+        let x = get_or a (c / 64) 0 in
+        let y = get_or o (c / 64) 0 in
+        ap (λ n. nat_eq (bit_at n (c % 64)) 1) (h (c / 64)) ∙ ap (λ n. nat_eq n 1) (bit_at_and x y (c % 64)) ∙ both (bit_at x (c % 64)) (bit_at y (c % 64)) (bit_at-lt x (c % 64)) (bit_at-lt y (c % 64))
+
+    inside : c < count → get_or (marks_of count b) c false ≡ (get_or old c false && get_or two c false)
+    inside lt =
+        mark_at count b c lt ∙ bit ∙ ap (λ v. v && bit_in o c) (sym (mark_at count a c lt) ∙ ap (λ m. get_or m c false) first)
+        ∙ ap (λ v. get_or old c false && v) (sym (mark_at other o c (omega (arith, same, lt))) ∙ ap (λ m. get_or m c false) second)
+
+    beyond : count ≤ c → get_or (marks_of count b) c false ≡ (get_or old c false && get_or two c false)
+    beyond past =
+        mark_past count b c past ∙ sym (and-none (get_or old c false))
+        ∙ ap (λ v. get_or old c false && v) (sym (mark_past other o c (omega (arith, same, past))) ∙ ap (λ m. get_or m c false) second)
+
+-- the first words are those that the others have too, and the rest are as they were
+pub record KeptTo (n : ℕ) (old others new : List ℕ) : Type 0 where
+  pub count : length new ≡ length old
+  pub first : (k : ℕ) → k < n → get_or new k 0 ≡ bit_and (get_or old k 0) (get_or others k 0)
+  pub rest : (k : ℕ) → n ≤ k → get_or new k 0 ≡ get_or old k 0
+
+pub kept_none : (old others : List ℕ) → KeptTo 0 old others old
+kept_none old others = record { count = refl; first = λ k lt. absurd (omega arith); rest = λ k le. refl }
+
+pub kept_next : (n : ℕ) (old others mid : List ℕ) (word other : ℕ) → n < length old → word ≡ get_or mid n 0 → other ≡ get_or others n 0 → KeptTo n old others mid
+    → KeptTo (n + 1) old others (set mid n (bit_and word other))
+kept_next n old others mid word other inside at there j = record {
+  count = length-set mid n new ∙ j.count;
+  first = λ k lt. ⊎_elim (λ e. rw e here) (λ h. away k h ∙ j.first k (omega (arith, h))) (cases_eq k n);
+  rest = λ k le. away k (λ e. absurd (omega (arith, e))) ∙ j.rest k (omega arith);
+}
+  where
+    new : ℕ
+    new = bit_and word other
+
+    here : get_or (set mid n new) n 0 ≡ bit_and (get_or old n 0) (get_or others n 0)
+    here =
+        get_or-set_same mid n new 0 (let wide = j.count in omega (arith, wide, inside))
+        ∙ ap (λ x. bit_and x other) (at ∙ j.rest n (omega arith)) ∙ ap (bit_and (get_or old n 0)) there
+
+    away : (k : ℕ) → (k ≡ n → ⊥) → get_or (set mid n new) k 0 ≡ get_or mid k 0
+    away k h = get_or-set_other mid n k new 0 h
+
+pub kept_all : (n : ℕ) (old others new : List ℕ) → length old ≤ n → KeptTo n old others new → length others ≡ length old → (k : ℕ) → get_or new k 0 ≡ bit_and (get_or old k 0) (get_or others k 0)
+kept_all n old others new end j same k = ⊎_elim (λ lt. j.first k lt) (λ le. past le) (cases_lt k n)
+  where
+    past : n ≤ k → get_or new k 0 ≡ bit_and (get_or old k 0) (get_or others k 0)
+    past le =
+        let none : get_or others k 0 ≡ 0 = get_or_past others k 0 (omega (arith, same, le, end)) in
+        let bare : get_or old k 0 ≡ 0 = get_or_past old k 0 (omega (arith, le, end)) in
+        j.rest k le ∙ bare ∙ sym (ap (λ x. bit_and x (get_or others k 0)) bare)

@@ -5,4 +5,5 @@ mod UseLemmas
 mod KindLemmas
 mod MeetLemmas
 mod GiveLemmas
+mod RefusedLemmas
 mod TreeLemmas

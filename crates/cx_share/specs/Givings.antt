@@ -1,5 +1,5 @@
 -- What is kept, as it lies in memory, and the cells that stand for cells.
-use Rattle.std.specs.Prelude.{◌≡◌, ℕ, ◌<◌, true, false, ◌||◌, List, [], ◌∷◌, get_or, length, reverse, if◌then◌else◌}
+use Rattle.std.specs.Prelude.{◌≡◌, ℕ, ◌<◌, ◌≤◌, ◌+◌, ◌*◌, Bool, true, false, ◌||◌, List, [], ◌∷◌, get_or, length, map, reverse, if◌then◌else◌}
 use Rattle.std.specs.List.{list_any}
 use Rattle.cx_meaning.specs.Designs.{PlainComponent, no_component}
 use Rattle.cx_sharing.specs.Giving as giving
@@ -22,6 +22,26 @@ pub record IsNear (part : PlainComponent) (k : Kept) : Type 0 where
 abbrev pub AllNear : PlainComponent → List Kept → Type 0
 AllNear part [] = Unit {0}
 AllNear part (k ∷ ks) = IsNear part k × AllNear part ks
+
+-- the marks that stand with each kept one, and with one of them
+abbrev pub nears : List Kept → List (List Bool)
+nears kept = map (λ k. k.near) kept
+
+abbrev pub near_of : List Kept → ℕ → List Bool
+near_of kept k = get_or (nears kept) k []
+
+-- sets of as many cells each
+abbrev pub AreAsWide : List (List Bool) → Type 0
+AreAsWide sets = (j k : ℕ) → j < length sets → k < length sets → length (get_or sets j []) ≡ length (get_or sets k [])
+
+-- each cell of one set is of the other
+abbrev pub IsWithin : List Bool → List Bool → Type 0
+IsWithin one other = (c : ℕ) → get_or one c false ≡ true → get_or other c false ≡ true
+
+-- sets of cells that each of 64 kept ones refuses: of the first 64, of the next 64, and so on
+pub record AreRefused (kept : List Kept) (refused : List (List Bool)) : Type 0 where
+  pub few : length refused * 64 ≤ length kept
+  pub each : (b k : ℕ) → b < length refused → b * 64 ≤ k → k < b * 64 + 64 → IsWithin (get_or refused b []) (near_of kept k)
 
 -- a kept cell and those that were given to it are below a bound
 pub record Within (n : ℕ) (k : giving.Kept) : Type 0 where

@@ -1,6 +1,6 @@
 //! Giving: each candidate is given to the first kept one that takes it, else it is kept.
 
-ghost use Rattle.std.specs.Prelude.{◌≡◌, ◌<◌, ℕ, [], ◌∷◌, ◌++◌, true, false, IfOk, IfSome, IfNone, OnOk, get_or, length, map};
+ghost use Rattle.std.specs.Prelude.{◌≡◌, ◌<◌, ◌≤◌, ◌+◌, ℕ, [], ◌∷◌, ◌++◌, true, false, IfOk, IfSome, IfNone, OnOk, get_or, length, map};
 ghost use Rattle.cx_design.specs.PlainForms.{plain_component, plain_kind};
 ghost use Rattle.cx_sharing.specs.Giving as giving;
 ghost use Rattle.cx_sharing.specs.Giving.{kept_of, keeper_in};
@@ -8,7 +8,7 @@ ghost use Rattle.cx_sharing.specs.Meeting.{meet};
 ghost use Rattle.cx_sharing.specs.Uses.{is_candidate, kind_in};
 ghost use Rattle.cx_share.specs.Marks.{Adds, AreMarks, lists_of};
 ghost use Rattle.cx_share.specs.Tables.{IsMeeting};
-ghost use Rattle.cx_share.specs.Givings.{AllKeepers, AllNear, AllWithin, AreKeepers, IsNear, KeptBy, Put, Within, no_kept, plain_kept};
+ghost use Rattle.cx_share.specs.Givings.{AllKeepers, AllNear, AllWithin, AreAsWide, AreKeepers, AreRefused, IsNear, IsWithin, KeptBy, Put, Within, near_of, nears, no_kept, plain_kept};
 
 use crate::candidates::candidates;
 use crate::kinds::is_same_kind;
@@ -61,11 +61,20 @@ fn kept_cells(
     ensures value { IfOk result (λ kept. map plain_kept kept.items ≡ kept_of (plain_component part.now)) }
 {
     let mut kept = Vec::new(alloc);
+    let mut refused = Vec::new(alloc);
     for cell in 0..part.cells.len() {
         if !candidates[cell] {
             continue;
         }
-        give(alloc, &mut kept, part, &table[cell], cell)?;
+        give(
+            alloc,
+            &mut kept,
+            refused.as_slice(),
+            part,
+            &table[cell],
+            cell,
+        )?;
+        refuse(&mut refused, kept.as_slice())?;
     }
     Ok(kept)
 }
@@ -74,6 +83,7 @@ fn kept_cells(
 fn give(
     alloc: Global,
     kept: &mut Vec<Kept>,
+    refused: &[Marks],
     part: &Component,
     row: &Marks,
     cell: usize,
@@ -81,12 +91,14 @@ fn give(
     requires cell { cell < length part.now.cells.items }
     requires kept { AllWithin cell (map plain_kept kept.old.items) }
     requires near { AllNear (plain_component part.now) kept.old.items }
+    requires refused { AreRefused kept.old.items refused.now }
     requires count { length row.now ≡ length part.now.cells.items }
     requires row { AreMarks row.now (meet (plain_component part.now) cell) }
     ensures value { OnOk result (map plain_kept kept.new.items ≡ giving.give (plain_component part.now) cell (map plain_kept kept.old.items)) }
     ensures near { OnOk result (AllNear (plain_component part.now) kept.new.items) }
+    ensures refused { OnOk result (AreRefused kept.new.items refused.now) }
 {
-    match first_taker(kept.as_slice(), part, cell) {
+    match first_taker(kept.as_slice(), refused, part, cell) {
         Some(taker) => add_given(&mut kept[taker], row, cell)?,
         None => kept.push(Kept {
             cell,
@@ -109,18 +121,69 @@ fn add_given(kept: &mut Kept, row: &Marks, cell: usize) -> Result<(), Memory>
     Ok(())
 }
 
-/// The number of the first that takes a cell.
-fn first_taker(kept: &[Kept], part: &Component, cell: usize) -> Option<usize>
+/// Where 64 more are kept, adds the cells that each of these refuses.
+fn refuse(refused: &mut Vec<Marks>, kept: &[Kept]) -> Result<(), Memory>
+    requires refused { AreRefused kept.now refused.old.items }
+    requires wide { AreAsWide (nears kept.now) }
+    ensures refused { OnOk result (AreRefused kept.now refused.new.items) }
+{
+    let from = refused.len() * 64;
+    if kept.len() - from >= 64 {
+        refused.push(refused_from(kept, from)?)?;
+    }
+    Ok(())
+}
+
+/// The cells that each of 64 kept ones refuses: they meet it, or one that was given to it.
+fn refused_from(kept: &[Kept], from: usize) -> Result<Marks, Memory>
+    requires within { from + 64 ≤ length kept.now }
+    requires wide { AreAsWide (nears kept.now) }
+    ensures value { IfOk result (λ near. (k : ℕ) → from ≤ k → k < from + 64 → IsWithin near (near_of kept.now k)) }
+{
+    let mut near = kept[from].near.copied()?;
+    for number in from + 1..from + 64 {
+        near.keep(&kept[number].near);
+    }
+    Ok(near)
+}
+
+/// The number of the first that takes a cell. Where 64 refuse it, they are passed at once.
+fn first_taker(kept: &[Kept], refused: &[Marks], part: &Component, cell: usize) -> Option<usize>
     requires cell { cell < length part.now.cells.items }
     requires kept { AllWithin cell (map plain_kept kept.now) }
     requires near { AllNear (plain_component part.now) kept.now }
+    requires refused { AreRefused kept.now refused.now }
     ensures within { IfSome result (λ i. i < length kept.now) }
     ensures takes { IfSome result (λ i. giving.takes (plain_component part.now) cell (get_or (map plain_kept kept.now) i no_kept) ≡ true) }
     ensures first { IfSome result (λ i. (k : ℕ) → k < i → giving.takes (plain_component part.now) cell (get_or (map plain_kept kept.now) k no_kept) ≡ false) }
     ensures none { IfNone result ((k : ℕ) → k < length kept.now → giving.takes (plain_component part.now) cell (get_or (map plain_kept kept.now) k no_kept) ≡ false) }
 {
-    for (number, keeper) in kept.iter().enumerate() {
-        if takes(keeper, part, cell) {
+    for (block, cells) in refused.iter().enumerate() {
+        if cells.has(cell) {
+            continue;
+        }
+        let from = block * 64;
+        if let Some(taker) = taker_from(kept, part, cell, from, from + 64) {
+            return Some(taker);
+        }
+    }
+    taker_from(kept, part, cell, refused.len() * 64, kept.len())
+}
+
+/// The number of the first of some kept ones that takes a cell.
+fn taker_from(kept: &[Kept], part: &Component, cell: usize, from: usize, to: usize) -> Option<usize>
+    requires cell { cell < length part.now.cells.items }
+    requires kept { AllWithin cell (map plain_kept kept.now) }
+    requires near { AllNear (plain_component part.now) kept.now }
+    requires range { from ≤ to }
+    requires to { to ≤ length kept.now }
+    ensures within { IfSome result (λ i. i < to) }
+    ensures takes { IfSome result (λ i. giving.takes (plain_component part.now) cell (get_or (map plain_kept kept.now) i no_kept) ≡ true) }
+    ensures first { IfSome result (λ i. (k : ℕ) → from ≤ k → k < i → giving.takes (plain_component part.now) cell (get_or (map plain_kept kept.now) k no_kept) ≡ false) }
+    ensures none { IfNone result ((k : ℕ) → from ≤ k → k < to → giving.takes (plain_component part.now) cell (get_or (map plain_kept kept.now) k no_kept) ≡ false) }
+{
+    for number in from..to {
+        if takes(&kept[number], part, cell) {
             return Some(number);
         }
     }

@@ -1,7 +1,7 @@
 //! Sets of a component's cells: a bit for each cell, by its number. A number that names no cell is in no set.
 
-ghost use Rattle.std.specs.Prelude.{◌≡◌, ◌<◌, ◌≤◌, ◌+◌, ◌/◌, ◌^◌, ℕ, ◌||◌, false, IsTrue, IfOk, get_or, length, replicate};
-ghost use Rattle.std.specs.Int.Bits.{bit_or};
+ghost use Rattle.std.specs.Prelude.{◌≡◌, ◌<◌, ◌≤◌, ◌+◌, ◌/◌, ◌^◌, ℕ, ◌||◌, ◌&&◌, false, IsTrue, IfOk, get_or, length, replicate};
+ghost use Rattle.std.specs.Int.Bits.{bit_and, bit_or};
 ghost use Rattle.cx_share.specs.Bits.{bit_in};
 ghost use Rattle.cx_meaning.specs.Control.{targets_cell};
 ghost use Rattle.cx_meaning.specs.Instances.{just};
@@ -95,6 +95,15 @@ impl Marks {
     {
         join_words(&mut self.words, other.words.as_slice());
     }
+
+    /// Leaves the cells that another set of as many has too.
+    pub fn keep(&mut self, other: &Marks)
+        requires count { length other.now ≡ length self.old }
+        ensures count { length self.new ≡ length self.old }
+        ensures value { (c : ℕ) → get_or self.new c false ≡ (get_or self.old c false && get_or other.now c false) }
+    {
+        keep_words(&mut self.words, other.words.as_slice());
+    }
 }
 
 /// Sets a bit of words.
@@ -114,6 +123,17 @@ fn join_words(words: &mut Vec<u64>, others: &[u64])
 {
     for (number, other) in others.iter().enumerate() {
         words[number] |= *other;
+    }
+}
+
+/// Leaves the bits that as many other words have too.
+fn keep_words(words: &mut Vec<u64>, others: &[u64])
+    requires count { length others.now ≡ length words.old.items }
+    ensures count { length words.new.items ≡ length words.old.items }
+    ensures value { (k : ℕ) → get_or words.new.items k 0 ≡ bit_and (get_or words.old.items k 0) (get_or others.now k 0) }
+{
+    for (number, other) in others.iter().enumerate() {
+        words[number] &= *other;
     }
 }
 

@@ -5,6 +5,7 @@ use Rattle.cx_sharing.specs.Giving as giving
 use Rattle.cx_design.specs.PlainForms.{plain_cell, plain_component}
 use Rattle.cx_share.specs.Givings.{IsNear, no_kept, plain_kept}
 use Rattle.cx_share.proofs.GiveLemmas.{given_more, kept_more, near_at, near_given, near_kept, near_push, near_set}
+use Rattle.cx_share.proofs.RefusedLemmas.{refused_push, refused_set, within_adds}
 use Rattle.cx_share.proofs.giving.give.Goals as goal
 
 pub add_given-requires : goal.add_given-requires
@@ -51,3 +52,15 @@ returns-in_ok-push-in-None-clause-near c =
     rw c.in_ok-push-in-None.ensures.items
     (near_push part c.args.kept.now.items _ c.requires.near
     (near_kept part c.args.cell _ c.args.row.now refl c.new.ensures.items c.in_ok-copied-in-None.ensures.value (c.requires.count ∙ sym (length-map c.args.part.now.cells.items plain_cell)) c.requires.row))
+
+pub returns-in_ok-add_given-in-Some-clause-refused : goal.returns-in_ok-add_given-in-Some-clause-refused
+returns-in_ok-add_given-in-Some-clause-refused c =
+    let e = c.as_slice.ensures.value in
+    let taker = c.in-Some.taker in
+    let inside : List Kept → Type 0 = λ xs. taker < length xs in
+    refused_set c.args.kept.now.items c.args.refused.now taker c.index_mut.result.now c.add_given.new.kept (subst inside e c.in-Some.ensures.within) c.index_mut.ensures.value
+    (within_adds c.index_mut.result.now.near c.add_given.new.kept.near _ c.in_ok-add_given-in-Some.ensures.near) c.requires.refused
+
+pub returns-in_ok-push-in-None-clause-refused : goal.returns-in_ok-push-in-None-clause-refused
+returns-in_ok-push-in-None-clause-refused c =
+    rw c.in_ok-push-in-None.ensures.items (refused_push c.args.kept.now.items c.args.refused.now _ c.requires.refused)

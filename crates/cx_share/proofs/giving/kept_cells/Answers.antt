@@ -3,6 +3,7 @@ use Rattle.std.proofs.lemmas.List.{get_or_default, length-map}
 use Rattle.cx_design.specs.PlainForms.{plain_cell, plain_component}
 use Rattle.cx_share.specs.Givings.{plain_kept}
 use Rattle.cx_share.proofs.GiveLemmas.{kept_within, now_given}
+use Rattle.cx_share.proofs.RefusedLemmas.{near_wide}
 use Rattle.cx_share.proofs.giving.kept_cells.Goals as goal
 
 pub give-requires-clause-kept : goal.give-requires-clause-kept
@@ -26,4 +27,8 @@ loop-cell-preserved c =
       kept = now_given (plain_component c.args.part.now) c.loop-cell.cell (map plain_kept c.loop-cell.kept.items) (map plain_kept c.give.new.kept.items)
           (sym (c.requires.candidates c.loop-cell.cell inside) ∙ marked) c.loop-cell.invariant.kept c.in_ok-give.ensures.value;
       near = c.in_ok-give.ensures.near;
+      refused = rw (sym c.as_slice-in-loop-cell.ensures.value) c.in_ok-refuse.ensures.refused;
     }
+
+pub refuse-requires-clause-wide : goal.refuse-requires-clause-wide
+refuse-requires-clause-wide c = near_wide (plain_component c.args.part.now) c.as_slice-in-loop-cell.result.now (rw c.as_slice-in-loop-cell.ensures.value c.in_ok-give.ensures.near)
