@@ -16,6 +16,7 @@ use Rattle.cx_compiler.proofs.WrittenNets.{written_nets}
 use Rattle.cx_compiler.proofs.WrittenLength.{answer_few}
 use Rattle.cx_compiler.proofs.WrittenCells.{written_cells}
 use Rattle.cx_compiler.proofs.WrittenShape.{written_shape, written_names}
+use Rattle.cx_compiler.proofs.WrittenUses.{written_used}
 use Rattle.cx_compiler.proofs.TextLayers.{text_rules}
 use Rattle.cx_compiler.proofs.TextLemmas.{one_design, text_of_design, accepted_once, break_once}
 
@@ -62,6 +63,7 @@ text_written bytes text d (Ok x) stands always realised h =
         reset = source_reset (written_net d);
         shape = written_shape d rules.0 rules.1 rules.2 h.1.sound;
         cells = written_cells d rules.0;
+        used = written_used d rules.0 rules.1 rules.2 h.1.sound;
         names = written_names d;
         nets = written_nets text d stands h.0;
         small = answer_few text (bytes x) d stands h.0 h.1;

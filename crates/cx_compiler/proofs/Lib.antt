@@ -4,8 +4,10 @@ pub mod TextLemmas
 pub mod WrittenRows
 pub mod Layers
 pub mod LoweredShape
+pub mod TimerUses
 pub mod WrittenShape
 pub mod WrittenCells
+pub mod WrittenUses
 pub mod TextLayers
 pub mod TextWords
 pub mod TextGuards
@@ -18,3 +20,4 @@ pub mod BelowLemmas
 pub mod OwedLemmas
 pub mod PromiseLemmas
 pub mod OneSource
+pub mod OneRefusal

@@ -1,6 +1,6 @@
 -- In the design of a text no statement stands within more than 64 static ifs: each branch of a static if is a block, and a text has no more than
 -- 64 of these one in the other.
-use Rattle.std.proofs.Common.{◌≡◌, ℕ, zero, suc, ◌+◌, ◌-◌, ◌≤◌, Bool, true, false, List, [], ◌∷◌, length, Option, Some, None, inl, inr, sym, subst, arith}
+use Rattle.std.proofs.Common.{◌≡◌, ℕ, zero, suc, ◌-◌, ◌≤◌, Bool, true, false, List, [], ◌∷◌, length, Option, Some, None, inl, inr, sym, subst, arith}
 use Rattle.std.proofs.lemmas.List.{length-map}
 use Rattle.cx_text.specs.declared.places.Place.{Place}
 use Rattle.cx_ast.specs.declared.tokens.Token.{Token}
@@ -16,8 +16,7 @@ use Rattle.cx_grammar.specs.Calyx.{behind, before, within, pair, many, mapped, n
 use Rattle.cx_grammar.specs.Parsing.{Parse}
 use Rattle.cx_meaning.specs.Designs.{PlainStatements, no_statements, a_statement, PlainComponent, PlainDesign}
 use Rattle.cx_meaning.specs.Sights.{In}
-use Rattle.cx_numbering.specs.Names.{group_names}
-use Rattle.cx_numbering.specs.DesignOf.{invokes_in, invokes_of, form_of, of_block, block_of, parts_of, all_of, control_of, component_of, design_of}
+use Rattle.cx_numbering.specs.DesignOf.{Next, is_static_invoke, past, invokes_in, invokes_of, invoke_form, form_of, of_block, block_of, parts_of, all_of, first, control_of, component_of, design_of}
 use Rattle.cx_numbering.specs.DesignOf as design
 use Rattle.cx_names.proofs.Base.{in_at, some_at}
 use Rattle.cx_names.proofs.There.{component_is}
@@ -60,63 +59,68 @@ module _ (whole : PlainTree) (part : ast.PlainComponent) where
   one_shallow true m place (a_statement s (a_statement u rest)) h = h
   one_shallow false m place (a_statement s (a_statement u rest)) h = h
 
+  invoke_shallow : (static : Bool) (k : Next) (m : ℕ) → FormShallow m (invoke_form whole part static k)
+  invoke_shallow true k m = tt
+  invoke_shallow false k m = tt
+
   mutual
-    form_shallow : (form : PlainForm) (k : ℕ) (place : Place) (n m : ℕ) → n ≤ m → FormFits n form → FormShallow m (form_of whole part k place form)
+    form_shallow : (form : PlainForm) (k : Next) (place : Place) (n m : ℕ) → n ≤ m → FormFits n form → FormShallow m (form_of whole part k place form)
     form_shallow (tree.Enable group marks) k place n m less h = tt
     form_shallow (tree.Seq marks block) k place n m less h = parts_shallow block k n m less h
     form_shallow (tree.Par marks block) k place n m less h = parts_shallow block k n m less h
     form_shallow (tree.StaticSeq written marks block) k place n m less h = parts_shallow block k n m less h
     form_shallow (tree.StaticPar written marks block) k place n m less h = parts_shallow block k n m less h
-    form_shallow (tree.If test comb block otherwise) k place n m less h = (lower_shallow false block k n m less h.0, otherwise_shallow false otherwise (k + length (invokes_of block)) place n m less h.1)
+    form_shallow (tree.If test comb block otherwise) k place n m less h = (lower_shallow false block k n m less h.0, otherwise_shallow false otherwise (past whole part k (invokes_of block)) place n m less h.1)
     form_shallow (tree.StaticIf written test block otherwise) k place n m less h = (
       some_level block n m less h.0,
-      (block_shallow true block k n (m - 1) (omega (arith, less)) h.0, else_shallow true otherwise (k + length (invokes_of block)) place n (m - 1) (omega (arith, less)) h.1),
+      (block_shallow true block k n (m - 1) (omega (arith, less)) h.0, else_shallow true otherwise (past whole part k (invokes_of block)) place n (m - 1) (omega (arith, less)) h.1),
     )
     form_shallow (tree.While test comb body) k place n m less h = lower_shallow false body k n m less h
     form_shallow (tree.Repeat count body) k place n m less h = lower_shallow false body k n m less h
     form_shallow (tree.StaticRepeat written count body) k place n m less h = lower_shallow true body k n m less h
-    form_shallow (tree.Invoke cell inputs outputs) k place n m less h = tt
+    form_shallow (tree.Invoke cell inputs outputs) k place n m less h =
+        invoke_shallow (is_static_invoke whole part (record { cell = cell; written = false; length = None; inputs = inputs; outputs = outputs; place = place })) k m
     form_shallow (tree.StaticInvoke written cell inputs outputs) k place n m less h = tt
 
     some_level : (block : PlainBlock) (n m : ℕ) → n ≤ m → BlockFits n block → 1 ≤ m
     some_level (tree.Braces list place) n m less h = let own : 1 ≤ n = h.0 in omega (arith, less, own)
 
-    parts_shallow : (block : PlainBlock) (k n m : ℕ) → n ≤ m → BlockFits n block → PartsShallow m (parts_of whole part k block)
+    parts_shallow : (block : PlainBlock) (k : Next) (n m : ℕ) → n ≤ m → BlockFits n block → PartsShallow m (parts_of whole part k block)
     parts_shallow (tree.Braces list place) k n m less h = all_shallow list k (n - 1) m (omega (arith, less)) h.1
 
     -- the statement of a block is a level deeper than the block
-    block_shallow : (static : Bool) (block : PlainBlock) (k n m : ℕ) → n - 1 ≤ m → BlockFits n block → Shallow m (block_of whole part static k block)
+    block_shallow : (static : Bool) (block : PlainBlock) (k : Next) (n m : ℕ) → n - 1 ≤ m → BlockFits n block → Shallow m (block_of whole part static k block)
     block_shallow static (tree.Braces list place) k n m less h = one_shallow static m place (all_of whole part k list) (all_shallow list k (n - 1) m less h.1)
 
-    lower_shallow : (static : Bool) (block : PlainBlock) (k n m : ℕ) → n ≤ m → BlockFits n block → Shallow m (block_of whole part static k block)
+    lower_shallow : (static : Bool) (block : PlainBlock) (k : Next) (n m : ℕ) → n ≤ m → BlockFits n block → Shallow m (block_of whole part static k block)
     lower_shallow static (tree.Braces list place) k n m less h = one_shallow static m place (all_of whole part k list) (all_shallow list k (n - 1) m (omega (arith, less)) h.1)
 
-    else_shallow : (static : Bool) (otherwise : PlainElse) (k : ℕ) (place : Place) (n m : ℕ) → n - 1 ≤ m → ElseFits n otherwise → Shallow m (design.else_of whole part static k place otherwise)
+    else_shallow : (static : Bool) (otherwise : PlainElse) (k : Next) (place : Place) (n m : ℕ) → n - 1 ≤ m → ElseFits n otherwise → Shallow m (design.else_of whole part static k place otherwise)
     else_shallow static tree.NoElse k place n m less h = tt
     else_shallow static (tree.Else block) k place n m less h = block_shallow static block k n m less h
 
-    otherwise_shallow : (static : Bool) (otherwise : PlainElse) (k : ℕ) (place : Place) (n m : ℕ) → n ≤ m → ElseFits n otherwise → Shallow m (design.else_of whole part static k place otherwise)
+    otherwise_shallow : (static : Bool) (otherwise : PlainElse) (k : Next) (place : Place) (n m : ℕ) → n ≤ m → ElseFits n otherwise → Shallow m (design.else_of whole part static k place otherwise)
     otherwise_shallow static tree.NoElse k place n m less h = tt
     otherwise_shallow static (tree.Else block) k place n m less h = lower_shallow static block k n m less h
 
-    all_shallow : (list : tree.PlainStatements) (k n m : ℕ) → n ≤ m → AllFit n list → PartsShallow m (all_of whole part k list)
+    all_shallow : (list : tree.PlainStatements) (k : Next) (n m : ℕ) → n ≤ m → AllFit n list → PartsShallow m (all_of whole part k list)
     all_shallow tree.NoStatements k n m less h = tt
     all_shallow (tree.StatementThen (tree.Placed attributes form place) rest) k n m less h =
-        (form_shallow form k place n m less h.0, all_shallow rest (k + length (invokes_in form place)) n m less h.1)
+        (form_shallow form k place n m less h.0, all_shallow rest (past whole part k (invokes_in form place)) n m less h.1)
 
   abbrev ControlFits : Option PlainBlock → Type 0
   ControlFits control = ElseFits 64 (else_of control)
 
   control_shallow : (control : Option PlainBlock) → ControlFits control → Shallow 64 (control_of whole part control)
   control_shallow None h = tt
-  control_shallow (Some block) h = block_shallow false block (length (group_names part)) 64 64 (omega arith) h
+  control_shallow (Some block) h = block_shallow false block (first whole part) 64 64 (omega arith) h
 
 -- FROM THE GRAMMAR TO THE TREE: what holds of all that a grammar spells
 abbrev pub Each : {A : Type 0} → (A → Type 0) → List A → Type 0
 Each P [] = Unit {0}
 Each P (x ∷ xs) = P x × Each P xs
 
-each_in : {A : Type 0} (P : A → Type 0) (xs : List A) (x : A) → Each P xs → In xs x → P x
+pub each_in : {A : Type 0} (P : A → Type 0) (xs : List A) (x : A) → Each P xs → In xs x → P x
 each_in P [] x h i = absurd i
 each_in P (y ∷ xs) x h (inl e) = subst P e h.0
 each_in P (y ∷ xs) x h (inr i) = each_in P xs x h.1 i

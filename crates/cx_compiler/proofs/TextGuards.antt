@@ -1,5 +1,5 @@
 -- No part of a guard of a text's design is Always: that stands for an assignment without a guard, alone.
-use Rattle.std.proofs.Common.{◌≡◌, ℕ, suc, ◌<◌, List, [], ◌∷◌, ◌++◌, Option, Some, None, length, map, flat_map, inl, inr, ⊎_elim, sym, subst, arith}
+use Rattle.std.proofs.Common.{◌≡◌, ℕ, ◌<◌, Bool, true, false, List, [], ◌∷◌, ◌++◌, Option, Some, None, length, map, flat_map, inl, inr, ⊎_elim, sym, subst, arith}
 use Rattle.std.proofs.lemmas.List.{length-map}
 use Rattle.std.proofs.lemmas.Option.{get_or_from_slice_get}
 use Rattle.cx_ast.specs.declared.statements.BindItem.{BindItem}
@@ -9,8 +9,8 @@ use Rattle.cx_ast.specs.PlainTree.{PlainTree}
 use Rattle.cx_meaning.specs.Designs.{Atom, guards_of, PlainAssign, PlainGroup, no_group, component_at, group_at}
 use Rattle.cx_meaning.specs.Sights.{In}
 use Rattle.cx_rules.specs.Wellformed.{StandsIn}
-use Rattle.cx_numbering.specs.Names.{groups_in, always_in, group_names}
-use Rattle.cx_numbering.specs.DesignOf.{Invoke, guard_of, guards_in, guard_or_always, assign_of, group_of, input_assign, go_assign, go_guard, capture_assigns, register_done, done_assign, invoke_group, invoke_groups, control_invokes, component_of, design_of}
+use Rattle.cx_numbering.specs.Names.{groups_in, always_in}
+use Rattle.cx_numbering.specs.DesignOf.{Invoke, Next, guard_of, guards_in, guard_or_always, assign_of, group_of, input_assign, go_assign, go_guard, capture_assigns, register_done, done_assign, invoke_group, is_static_invoke, static_capture, capture_group, after, captures_for, groups_for, invoke_groups, first, control_invokes, component_of, design_of}
 use Rattle.cx_names.proofs.Base.{in_at, in_either, in_map, flat_in, some_at}
 use Rattle.cx_names.proofs.There.{component_is}
 use Rattle.cx_wiring.specs.Nesting.{IsPart, AreParts, HasParts}
@@ -90,17 +90,39 @@ module _ (tree : PlainTree) (part : ast.PlainComponent) where
           last
           (in_either (flat_map (capture_assigns tree part k) k.outputs) (done_assign tree part k g k.outputs ∷ []) a j)
 
-  invoked_parts : (n : ℕ) (ks : List Invoke) (group : PlainGroup) → In (invoke_groups tree part n ks) group → (a : PlainAssign) → In group.assigns a → Parts a
-  invoked_parts n [] group i a j = absurd i
-  invoked_parts n (k ∷ ks) group (inl e) a j = invoke_parts n k a (subst (λ (x : PlainGroup). In x.assigns a) (sym e) j)
-  invoked_parts n (k ∷ ks) group (inr i) a j = invoked_parts (suc n) ks group i a j
+  static_capture_parts : (k : Invoke) (b : BindItem) (a : PlainAssign) → In (static_capture tree part k b) a → Parts a
+  static_capture_parts k b a (inl e) = subst Parts e tt
+  static_capture_parts k b a (inr (inl e)) = subst Parts e tt
+  static_capture_parts k b a (inr (inr i)) = absurd i
+
+  abbrev GroupParts : PlainGroup → Type 0
+  GroupParts group = (a : PlainAssign) → In group.assigns a → Parts a
+
+  capture_group_parts : (k : Invoke) → GroupParts (capture_group tree part k)
+  capture_group_parts k a i = let found = flat_in (static_capture tree part k) k.outputs a i in static_capture_parts k found.0 a found.2
+
+  captures_parts : (k : Invoke) (binds : List BindItem) (group : PlainGroup) → In (captures_for tree part k binds) group → GroupParts group
+  captures_parts k [] group i = absurd i
+  captures_parts k (b ∷ binds) group (inl e) = subst GroupParts e (capture_group_parts k)
+  captures_parts k (b ∷ binds) group (inr i) = absurd i
+
+  one_parts : (static : Bool) (n : Next) (k : Invoke) (group : PlainGroup) → In (groups_for tree part static n k) group → GroupParts group
+  one_parts true n k group i = captures_parts k k.outputs group i
+  one_parts false n k group (inl e) = subst GroupParts e (invoke_parts n.group k)
+  one_parts false n k group (inr i) = absurd i
+
+  invoked_parts : (n : Next) (ks : List Invoke) (group : PlainGroup) → In (invoke_groups tree part n ks) group → GroupParts group
+  invoked_parts n [] group i = absurd i
+  invoked_parts n (k ∷ ks) group i =
+      ⊎_elim (λ own. one_parts (is_static_invoke tree part k) n k group own) (λ later. invoked_parts (after tree part n k) ks group later)
+      (in_either (groups_for tree part (is_static_invoke tree part k) n k) (invoke_groups tree part (after tree part n k) ks) group i)
 
   group_parts : (group : PlainGroup) → In (component_of tree part).groups group → (a : PlainAssign) → In group.assigns a → Parts a
   group_parts group i a j =
       ⊎_elim
       (λ l. let found = in_map (group_of tree part) (groups_in part.wires) group l in written_assign found.0.assigns a (subst (λ (x : PlainGroup). In x.assigns a) (sym found.2) j))
-      (λ r. invoked_parts (length (group_names part)) (control_invokes tree part part.control) group r a j)
-      (in_either (map (group_of tree part) (groups_in part.wires)) (invoke_groups tree part (length (group_names part)) (control_invokes tree part part.control)) group i)
+      (λ r. invoked_parts (first tree part) (control_invokes tree part part.control) group r a j)
+      (in_either (map (group_of tree part) (groups_in part.wires)) (invoke_groups tree part (first tree part) (control_invokes tree part part.control)) group i)
 
   stands_parts : (owner : Option ℕ) (a : PlainAssign) → StandsIn (component_of tree part) owner a → Parts a
   stands_parts None a i = written_assign (always_in part.wires) a i

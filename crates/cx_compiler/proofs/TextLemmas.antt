@@ -57,7 +57,7 @@ some_or y (Some x) = x
 not_both : {A : Type 0} (o : Option A) (x : A) → o ≡ Some x → o ≡ None → ⊥
 not_both o x e f = cc
 
-same_diagnostic : (a b : Diagnostic) → a.rule ≡ b.rule → a.place ≡ b.place → a.name ≡ b.name → a ≡ b
+pub same_diagnostic : (a b : Diagnostic) → a.rule ≡ b.rule → a.place ≡ b.place → a.name ≡ b.name → a ≡ b
 same_diagnostic a b rule place name =
     let tell : Rule → Place → List ℕ → Diagnostic = λ r p n. record { rule = r; place = p; name = n } in
     ap (λ r. tell r a.place a.name) rule ∙ ap (λ p. tell b.rule p a.name) place ∙ ap (λ n. tell b.rule b.place n) name

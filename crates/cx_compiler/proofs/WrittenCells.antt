@@ -23,7 +23,7 @@ use Rattle.cx_wiring.proofs.TimerCells.{cells-lowered_component}
 use Rattle.cx_wiring.proofs.WayLemmas.{count_is, placed, net_long}
 use Rattle.cx_holes.specs.Inlining.{inlined_component, inlined}
 use Rattle.cx_holes.proofs.RenamedRuns.{part_same}
-use Rattle.cx_emit.specs.Names.{numbered, module_name, cell_module_name}
+use Rattle.cx_emit.specs.Names.{numbered, cell_module_name}
 use Rattle.cx_emit.specs.Numbered.{with_numbers, lists_from}
 use Rattle.cx_emit.specs.Signatures.{PlainCellPorts, kind_modules, cell_modules, kind_ports, cell_ports}
 use Rattle.cx_emit.specs.Sources.{cell_instance, component_module, component_modules, source_of}
@@ -32,8 +32,8 @@ use Rattle.cx_text.proofs.ListLaws.{front}
 use Rattle.cx_text.proofs.OptionLaws.{map_some}
 use Rattle.cx_compiler.specs.Cells.{IsModule, IsNameOf, HasEachCell, HasCells}
 use Rattle.cx_compiler.specs.Compiled.{written_source}
-use Rattle.cx_compiler.proofs.LoweredShape.{IsTimer, timers_are}
-use Rattle.cx_compiler.proofs.WrittenShape.{place_at, timer_at}
+use Rattle.cx_compiler.proofs.TimerUses.{is_timer}
+use Rattle.cx_compiler.proofs.WrittenShape.{place_at}
 
 module _ (d : PlainDesign) (rules : IsDesign d) where
   abbrev places : List ℕ
@@ -42,7 +42,7 @@ module _ (d : PlainDesign) (rules : IsDesign d) where
   abbrev net : PlainNet
   net = inlined (net_of (lowered_of d))
 
-  main_here : has_number d.main (order (lowered_of d)) ≡ true
+  pub main_here : has_number d.main (order (lowered_of d)) ≡ true
   main_here = order_main (lowered_of d) (subst (λ n. d.main < n) (sym (count_is d rules)) rules.main_there)
 
   -- what main leads to is reached
@@ -77,7 +77,7 @@ module _ (d : PlainDesign) (rules : IsDesign d) where
     own_is = part_same (net_of (lowered_of d)).components (spot k) ∙ ap inlined_component (placed d rules k here)
 
     -- its cells in the net are those of the lowered component
-    cell_at : (c : ℕ) → slice_get (own k).cells c ≡ option_map (cell_in places) (slice_get (part.cells ++ timer_cells part) c)
+    pub cell_at : (c : ℕ) → slice_get (own k).cells c ≡ option_map (cell_in places) (slice_get (part.cells ++ timer_cells part) c)
     cell_at c =
         ap (λ (x : PlainNetComponent). slice_get x.cells c) own_is ∙ slice_get-map (cell_in places) (lowered_component part).part.cells c
         ∙ ap (λ cells. option_map (cell_in places) (slice_get cells c)) (cells-lowered_component part)
@@ -114,7 +114,7 @@ module _ (d : PlainDesign) (rules : IsDesign d) where
         let (y, at_ports, is) = numbered_in cell_instance (with_numbers (cell_ports net (spot k)) (own k).cells) c x e in
         let (cell, at, same) = numbered_in (cell_ports net (spot k)) (own k).cells c y at_ports in
         let (low, at_low, cell_is) = map_some (cell_in places) (slice_get (part.cells ++ timer_cells part) c) cell (sym (cell_at c) ∙ at) in
-        let its : IsTimer low = timer_at (timer_cells part) t low (timers_are part) (sym (slice_right part.cells (timer_cells part) t) ∙ at_low) in
+        let its = is_timer part t low (sym (slice_right part.cells (timer_cells part) t) ∙ at_low) in
         let row : PrimitiveRow = record { name = primitives.Timer; numbers = its.0 ∷ [] } in
         let kind_is : cell.kind ≡ OfPrimitive row = ap (λ (z : PlainCell). z.kind) (sym cell_is) ∙ ap (kind_in places) its.1 in
         let named : cell_module_name (spot k) c ≡ x.kind =

@@ -11,6 +11,7 @@ use Rattle.cx_rules.specs.LimitRule.{OnWeight, word_of, order_of}
 use Rattle.cx_rules.specs.Sizes.{design_size, weight_of}
 use Rattle.cx_rules.specs.Spots.{Whole}
 use Rattle.cx_rules.specs.Wellformed.{IsDesign}
+use Rattle.cx_rules.proofs.CountsLemmas.{counted_weight-flat}
 use Rattle.cx_numbering.specs.DesignOf.{design_of}
 use Rattle.cx_names.specs.Targets.{HasTargets}
 use Rattle.cx_check.specs.Acceptance.{IsAcceptedTree}
@@ -39,21 +40,21 @@ bytes_few text d h within =
 pub answer_few : (text answer : List ℕ) (d : PlainDesign) → IsDesignOf text d → design_size d ≤ COMPILE_SIZE → IsVerilogOf answer (written_source d) → length answer ≤ 4096 * design_size d + 256 * weight_of d
 answer_few text answer d h within is = subst (λ bytes. length bytes ≤ 4096 * design_size d + 256 * weight_of d) (sym is.spelled) (bytes_few text d h within)
 
--- an accepted design is not over the limit on weight
-weight_few : (d : PlainDesign) → IsAccepted d → weight_of d ≤ WEIGHT
-weight_few d accepted = ⊎_elim (λ more. absurd (over more)) (λ h. h) (cases_lt WEIGHT (weight_of d))
+-- an accepted design without static components is not over the limit on weight
+weight_few : (d : PlainDesign) → IsFlat d → IsAccepted d → weight_of d ≤ WEIGHT
+weight_few d flat accepted = ⊎_elim (λ more. absurd (over more)) (λ h. h) (cases_lt WEIGHT (weight_of d))
   where
     over : WEIGHT < weight_of d → ⊥
     over more =
         accepted.limits told.Limit (record { component = d.main; part = Whole (order_of OnWeight) }) (component_at d d.main).place (word_of OnWeight) refl
-        (inr (inr (inr (inr (inr (inr (record { at_main = refl; is = refl; exceeds = more; tells = (refl, refl) })))))))
+        (inr (inr (inr (inr (inr (inr (record { at_main = refl; is = refl; exceeds = subst (λ n. WEIGHT < n) (sym (counted_weight-flat d flat (length d.components) d.main)) more; tells = (refl, refl) })))))))
 
 -- SO IT IS SHORT, of a tree that is accepted
 module _ (d : PlainDesign) (rules : IsDesign d) (flat : IsFlat d) (accepted : IsAccepted d) (within : design_size d ≤ COMPILE_SIZE) (parts : (k : ℕ) → k < length d.components → PartsHold (component_at d k)) where
   pub short : IsShallow d → is_sound (written_source d) ≡ true → length (text_of (written_source d)) ≤ VERILOG_BYTES
   short shallow sound =
       let small : design_size d ≤ 16384 = within in
-      let weight : weight_of d ≤ WEIGHT = weight_few d accepted in
+      let weight : weight_of d ≤ WEIGHT = weight_few d flat accepted in
       let light : weight_of d ≤ 65536 = omega (arith, weight) in
       written_within d rules flat accepted small parts shallow sound light
 

@@ -115,7 +115,7 @@ module _ (d : PlainDesign) (rules : IsDesign d) (flat : IsFlat d) (accepted : Is
       (λ k. refl)
 
   few_nets : nets_below (net_tree (inlined net)) ≤ 4194304
-  few_nets = subst (λ tree. nets_below tree ≤ 4194304) (sym made_so) (whole_nets d rules (made d) no_numbers accepted own_nets)
+  few_nets = subst (λ tree. nets_below tree ≤ 4194304) (sym made_so) (whole_nets d rules (made d) no_numbers flat accepted own_nets)
 
   -- the wires and holes of a component are few
   own_wires : (k : ℕ) → k < length d.components → length (wired_in d (component_at d k)).wires + (wired_in d (component_at d k)).holes < 2 ^ 64

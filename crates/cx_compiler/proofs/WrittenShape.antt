@@ -1,5 +1,5 @@
 -- The source that is written of a design hides nothing: its modules, instances, registers and names are those that the design asks for.
-use Rattle.std.proofs.Common.{◌≡◌, ◌⊎◌, inl, inr, ⊎_elim, ℕ, zero, suc, ◌+◌, ◌-◌, ◌<◌, ◌≤◌, true, List, [], ◌∷◌, ◌++◌, length, get_or, Some, slice_get, refl, sym, ap, ◌∙◌, subst, if◌then◌else◌, arith, lt-ltb, le-ltb}
+use Rattle.std.proofs.Common.{◌≡◌, ◌⊎◌, inl, inr, ⊎_elim, ℕ, zero, suc, ◌+◌, ◌-◌, ◌<◌, ◌≤◌, true, List, [], ◌∷◌, ◌++◌, length, get_or, Some, slice_get, refl, sym, ap, ◌∙◌, subst, if◌then◌else◌, arith, length-append}
 use Rattle.std.specs.Prelude.{◌||◌}
 use Rattle.std.proofs.lemmas.Bool.{cases_lt}
 use Rattle.std.proofs.lemmas.Bool.Decides.{eqb_tells}
@@ -31,12 +31,13 @@ use Rattle.cx_wiring.proofs.WayLemmas.{count_is, there, net_long, child_there}
 use Rattle.cx_holes.specs.Inlining.{inlined_component, inlined}
 use Rattle.cx_holes.proofs.FitNames.{fit_names}
 use Rattle.cx_holes.proofs.RenamedFits.{inlined_fits}
-use Rattle.cx_emit.specs.Shapes.{ForCell, ForTimer, IsUse, IsShaped, HasOwnNames}
+use Rattle.cx_emit.specs.Shapes.{Use, ForCell, ForIsland, ForRepeat, IsTimerOf, IsUse, IsShaped, HasOwnNames}
 use Rattle.cx_emit.proofs.OwnNames.{source_own_names}
-use Rattle.cx_emit.proofs.ShapedSources.{kind_for, use_at, IsPartFor, IsNetFor, source_shaped}
+use Rattle.cx_emit.proofs.ShapedSources.{kind_for, IsPartFor, IsNetFor, source_shaped}
 use Rattle.cx_compiler.specs.Compiled.{written_source}
 use Rattle.cx_wiring.proofs.FitTargets.{targets_there}
-use Rattle.cx_compiler.proofs.LoweredShape.{IsTimer, AreTimers, timers_are, timers_few, component_registers_few}
+use Rattle.cx_compiler.proofs.LoweredShape.{component_registers_few}
+use Rattle.cx_compiler.proofs.TimerUses.{use_at, use_of_cell, use_of_timer, use_once}
 use Rattle.cx_text.proofs.OptionLaws.{map_some}
 use Rattle.cx_meaning.proofs.DesignsLemmas.{same_part}
 use Rattle.cx_text.proofs.ListLaws.{there_at, front}
@@ -61,11 +62,6 @@ place_at k (n ∷ ns) h = by (eqb_tells k n) (place_at k ns) where
 
 place_there : (k : ℕ) (ns : List ℕ) → has_number k ns ≡ true → get_or ns (place_in k ns) 0 ≡ k
 place_there k ns h = get_or_at ns (place_in k ns) k (place_at k ns h)
-
-pub timer_at : (cells : List PlainCell) (n : ℕ) (cell : PlainCell) → AreTimers cells → slice_get cells n ≡ Some cell → IsTimer cell
-timer_at [] n cell are e = absurd (cc)
-timer_at (c ∷ cells) zero cell are e = let same : c ≡ cell = cc in subst IsTimer same are.0
-timer_at (c ∷ cells) (suc n) cell are e = timer_at cells n cell are.1 e
 
 module _ (d : PlainDesign) (rules : IsDesign d) (flat : IsFlat d) where
   abbrev low : PlainLowereds
@@ -92,7 +88,7 @@ module _ (d : PlainDesign) (rules : IsDesign d) (flat : IsFlat d) where
       let step : LeadsTo d k r.0 = by_cell r.0 own.cell own.stands own.is in
       ⊎_elim (λ e. inr (subst (LeadsTo d k) (sym e) step)) (λ more. inr (by_way_of r.0 step more)) (leads n r.0 (child_there d rules k r.0 within own.cell own.stands own.is) x r.2)
 
-  reached : (k : ℕ) → has_number k places ≡ true → (k ≡ d.main) ⊎ LeadsTo d d.main k
+  pub reached : (k : ℕ) → has_number k places ≡ true → (k ≡ d.main) ⊎ LeadsTo d d.main k
   reached k here = leads (count low) d.main rules.main_there k (number_in k (reached_from low (count low) d.main) (from_main d rules k here))
 
   module _ (k : ℕ) (here : has_number k places ≡ true) where
@@ -111,23 +107,18 @@ module _ (d : PlainDesign) (rules : IsDesign d) (flat : IsFlat d) where
     own_kind cell i (OfComponent j) is = ap OfComponent (place_there j places (closed d rules k here cell j i is))
 
     abbrev IsFor : ℕ → PlainCell → Type 0
-    IsFor c cell = IsUse d k (kind_for stands (kind_in places cell.kind)) (use_at (length part.cells) c)
+    IsFor c cell = IsUse d k (kind_for stands (kind_in places cell.kind)) (use_at part c)
 
     for_cell : (c : ℕ) (cell : PlainCell) → slice_get part.cells c ≡ Some cell → IsFor c cell
     for_cell c cell e =
-        let first : use_at (length part.cells) c ≡ ForCell c = ap (λ b. if b then ForCell c else ForTimer (c - length part.cells)) (lt-ltb c (length part.cells) (slice_get_within part.cells c cell e)) in
-        subst (IsUse d k (kind_for stands (kind_in places cell.kind))) (sym first) (cell, e, own_kind cell (in_at part.cells c cell e) cell.kind refl)
+        subst (IsUse d k (kind_for stands (kind_in places cell.kind))) (sym (use_of_cell part c (slice_get_within part.cells c cell e)))
+        (cell, e, own_kind cell (in_at part.cells c cell e) cell.kind refl)
 
-    for_timer : (t : ℕ) (cell : PlainCell) → slice_get (timer_cells part) t ≡ Some cell → IsFor (length part.cells + t) cell
-    for_timer t cell e =
-        let less = slice_get_within (timer_cells part) t cell e in
-        let few = timers_few part in
-        let timer = timer_at (timer_cells part) t cell (timers_are part) e in
-        let c : ℕ = length part.cells + t in
-        let number : t ≡ c - length part.cells = omega arith in
-        let last : use_at (length part.cells) c ≡ ForTimer (c - length part.cells) = ap (λ b. if b then ForCell c else ForTimer (c - length part.cells)) (le-ltb c (length part.cells) (omega arith)) in
-        subst (IsUse d k (kind_for stands (kind_in places cell.kind))) (ap ForTimer number ∙ sym last)
-        (omega (arith, less, few), (timer.0, ap (λ kind. kind_for stands (kind_in places kind)) timer.1))
+    -- a timer is of no component
+    timer_use : (kind : PlainKind) (u : Use) → IsTimerOf part kind u → IsUse d k (kind_for stands (kind_in places kind)) u
+    timer_use kind (ForCell c) h = absurd h
+    timer_use kind (ForIsland n) h = (h.0, h.1, h.2, ap (λ x. kind_for stands (kind_in places x)) h.3)
+    timer_use kind (ForRepeat n) h = (h.0, h.1, (h.2.0, h.2.1, ap (λ x. kind_for stands (kind_in places x)) h.2.2))
 
     each_for : (c : ℕ) (cell : PlainCell) → slice_get (lowered_component part).part.cells c ≡ Some cell → IsFor c cell
     each_for c cell e = ⊎_elim own timer (cases_lt c (length part.cells)) where
@@ -140,15 +131,20 @@ module _ (d : PlainDesign) (rules : IsDesign d) (flat : IsFlat d) where
       timer : length part.cells ≤ c → IsFor c cell
       timer past =
           let same : length part.cells + (c - length part.cells) ≡ c = omega (arith, past) in
-          subst (λ n. IsFor n cell) same (for_timer (c - length part.cells) cell (sym (slice_right part.cells (timer_cells part) (c - length part.cells)) ∙ ap (slice_get (part.cells ++ timer_cells part)) same ∙ whole))
+          timer_use cell.kind (use_at part c) (use_of_timer part c cell past (sym (slice_right part.cells (timer_cells part) (c - length part.cells)) ∙ ap (slice_get (part.cells ++ timer_cells part)) same ∙ whole))
+
+    cells_long : length (inlined_component (wired_in d part)).cells ≡ length part.cells + length (timer_cells part)
+    cells_long = length-map (lowered_component part).part.cells (cell_in places) ∙ ap length (cells-lowered_component part) ∙ length-append part.cells (timer_cells part)
 
     part_for : IsPartFor d stands k (inlined_component (wired_in d part))
     part_for = record {
       reached = reached k here;
       registers = component_registers_few part untimed;
+      use_of = use_at part;
       cells = λ c cell e.
           let (own, at, is) = map_some (cell_in places) (slice_get (lowered_component part).part.cells c) cell (sym (slice_get-map (cell_in places) (lowered_component part).part.cells c) ∙ e) in
-          subst (λ (x : PlainCell). IsUse d k (kind_for stands x.kind) (use_at (length part.cells) c)) is (each_for c own at);
+          subst (λ (x : PlainCell). IsUse d k (kind_for stands x.kind) (use_at part c)) is (each_for c own at);
+      once = λ i j less fewer. let long = cells_long in use_once part i j (omega (arith, less, long)) (omega (arith, fewer, long));
     }
 
   parts_for : (n : ℕ) → n < length net.components → IsPartFor d stands (stands n) (net_component_at net n)

@@ -1,8 +1,9 @@
--- That each cell of a design has an instance of its own in a source.
+-- That each cell of a design has an instance of its own in a source, and that each module of a source stands somewhere.
 use Rattle.std.specs.Prelude.{◌≡◌, ◌⊎◌, ℕ, ◌+◌, List, [], ◌∷◌, length, Some, slice_get, codes}
 use Rattle.cx_prim.specs.declared.names.PrimitiveName.TheVariants as primitives
 use Rattle.cx_meaning.specs.Designs.{PlainKind, OfPrimitive, OfComponent, PlainCell, PlainDesign, component_at}
 use Rattle.cx_rules.specs.Wellformed.{LeadsTo}
+use Rattle.cx_vtree.specs.InstanceTree.{Placed, instances_of}
 use Rattle.cx_vtree.specs.Plain.{PlainInstance, PlainModule, PlainSource}
 use Rattle.cx_vmods.specs.Modules.{module_of}
 
@@ -29,3 +30,7 @@ pub record HasCells (d : PlainDesign) (source : PlainSource) : Type 0 where
   pub module_for : ℕ → PlainModule
   pub main : (module_for d.main).name ≡ codes "main"
   pub parts : (k : ℕ) → (k ≡ d.main) ⊎ LeadsTo d d.main k → HasEachCell d source module_for k
+
+-- EACH MODULE STANDS SOMEWHERE: `main`, or an instance in the tree below it, is of it
+abbrev pub EachStands : PlainSource → Type 0
+EachStands source = (m : PlainModule) → IsModule source m → (i : ℕ) × (instance : Placed) × (slice_get (instances_of source) i ≡ Some instance) × (instance.part ≡ m)

@@ -28,12 +28,12 @@ use Rattle.cx_emit.specs.Sources.{source_of}
 use Rattle.cx_commands.specs.Stopping.{TellsBreak}
 use Rattle.cx_commands.specs.declared.stops.Stop.{Stop}
 use Rattle.cx_commands.specs.declared.stops.Stop.TheVariants as stops
-use Rattle.cx_compiler.specs.Cells.{HasCells}
+use Rattle.cx_compiler.specs.Cells.{HasCells, EachStands}
 use Rattle.cx_compiler.specs.Texts.{IsDesignOf, TextBreak}
 use Rattle.cx_compiler.specs.Simulated.{IsVerilogOf}
 
 -- THE TEXT OF A DESIGN: it spells a sound source, which realises the design, from any power-up state and behind any script of waiting and running too,
--- whose reset sets every register to 0, in which nothing of the design's control hides and each cell has its instance, whose names are no words of
+-- whose reset sets every register to 0, in which nothing of the design's control hides, each cell has its instance and each module stands somewhere, whose names are no words of
 -- Verilog, and which has few nets; and it has few bytes: 4,096 for each unit of the design's size, and 256 for each unit of its weight
 pub record IsTextOf (d : PlainDesign) (answer : List ℕ) : Type 0 where
   pub source : PlainSource
@@ -43,6 +43,7 @@ pub record IsTextOf (d : PlainDesign) (answer : List ℕ) : Type 0 where
   pub reset : IsReset source
   pub shape : IsShaped d source
   pub cells : HasCells d source
+  pub used : EachStands source
   pub names : HasOwnNames source
   pub nets : HasFewNets d source
   pub small : length answer ≤ 4096 * design_size d + 256 * weight_of d

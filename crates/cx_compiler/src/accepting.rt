@@ -2,6 +2,7 @@
 
 ghost use Rattle.std.specs.Prelude.{◌≡◌, ◌≤◌, ◌⊎◌, IfOk, IfErr, OnOk, MatchResult, length};
 ghost use Rattle.cx_text.specs.declared.diagnostics.Diagnostic.{Diagnostic as DiagnosticValue};
+ghost use Rattle.cx_rules.specs.Flat.{IsFlat};
 ghost use Rattle.cx_ast.specs.PlainTree.{plain_tree};
 ghost use Rattle.cx_numbering.specs.DesignOf.{design_of};
 ghost use Rattle.cx_design.specs.PlainDesigns.{plain_design};
@@ -37,6 +38,7 @@ pub fn check_text(alloc: Global, text: &[u8]) -> Result<(), Stop>
 pub fn accepted_design(alloc: Global, text: &[u8]) -> Result<Checked, Stop>
     requires { length text.now ≤ 1048576 }
     ensures design { IfOk result (λ checked. IsDesignOf text.now (plain_design checked)) }
+    ensures flat { IfOk result (λ checked. IsFlat (plain_design checked)) }
     ensures cause { IfErr result (IsTextRefusal text.now) }
 {
     match tree_of(alloc, text) {
@@ -50,6 +52,7 @@ pub fn tried(alloc: Global, tree: &Tree) -> Result<Checked, Stop>
     requires targets { HasTargets (plain_tree tree.now) }
     ensures accepted { IfOk result (λ checked. IsAcceptedTree (plain_tree tree.now)) }
     ensures value { IfOk result (λ checked. plain_design checked ≡ design_of (plain_tree tree.now)) }
+    ensures flat { IfOk result (λ checked. IsFlat (plain_design checked)) }
     ensures cause { IfErr result (IsTreeStop (plain_tree tree.now)) }
 {
     match accept(alloc, tree) {

@@ -1,7 +1,7 @@
 -- The source of a net is shaped as a design asks, where each component of the net has the cells and the registers of one of the design.
-use Rattle.std.proofs.Common.{◌≡◌, ◌⊎◌, inl, inr, ℕ, zero, suc, ◌+◌, ◌-◌, ◌<◌, ◌≤◌, true, false, List, [], ◌∷◌, ◌++◌, length, map, Some, option_map, slice_get, refl, sym, ap, ◌∙◌, subst, if◌then◌else◌, arith, lt-ltb, le-ltb}
-use Rattle.std.specs.Prelude.{codes, nat_lt, ◌==◌}
-use Rattle.std.proofs.lemmas.Bool.{cases_lt, eq-eqb, cond-true, cond-false, false_from_ne_true, or_parts}
+use Rattle.std.proofs.Common.{◌≡◌, ◌⊎◌, inl, inr, ℕ, zero, suc, ◌+◌, ◌-◌, ◌<◌, ◌≤◌, true, false, List, [], ◌∷◌, ◌++◌, length, map, Some, option_map, slice_get, refl, sym, ap, ◌∙◌, subst, if◌then◌else◌, arith}
+use Rattle.std.specs.Prelude.{codes, ◌==◌}
+use Rattle.std.proofs.lemmas.Bool.{eq-eqb, cond-true, cond-false, false_from_ne_true, or_parts}
 use Rattle.std.proofs.lemmas.List.{map-append}
 use Rattle.std.proofs.lemmas.Option.{slice_get-map, slice_get-get_or, slice_get_within}
 use Rattle.cx_prim.specs.Table.{PrimitiveRow}
@@ -22,50 +22,31 @@ use Rattle.cx_emit.specs.Names.{numbered, cell_port_name, wire_name, module_name
 use Rattle.cx_emit.specs.Numbered.{numbered_from, with_numbers, lists_from}
 use Rattle.cx_emit.specs.Signatures.{PlainCellPorts, kind_ports, cell_ports, kind_modules, cell_modules}
 use Rattle.cx_emit.specs.Sources.{port_decl, cell_decls, wire_decl, register_decl, decls_with, cell_instance, component_module, component_modules, source_of}
-use Rattle.cx_emit.specs.Shapes.{most_registers, registers_in, Use, ForCell, ForTimer, IsUse, IsPartModule, IsOfKind, IsShaped}
+use Rattle.cx_emit.specs.Shapes.{most_registers, registers_in, Use, IsUse, IsPartModule, IsOfKind, IsShaped}
 use Rattle.cx_emit.proofs.CellPorts.{each_in}
 use Rattle.cx_emit.proofs.NumberedLemmas.{In, in_left, in_right, in_either, numbered_in, in_lists, lists_in}
 use Rattle.cx_text.proofs.OptionLaws.{map_some}
 use Rattle.cx_vtree.proofs.InstanceTreeLemmas.{same_is, is_same}
 use Rattle.cx_emit.proofs.EmittedParts.{each_all}
+use Rattle.cx_emit.proofs.PortPlaces.{length-numbered}
 
 -- WHAT IS ASKED OF THE NET: the component of the design that each of its components stands for, and what is in these
 abbrev pub kind_for : (ℕ → ℕ) → PlainKind → PlainKind
 kind_for stands (OfPrimitive p) = OfPrimitive p
 kind_for stands (OfComponent j) = OfComponent (stands j)
 
--- the cells of the design come first, then the timers
-abbrev pub use_at : ℕ → ℕ → Use
-use_at cells c = if nat_lt c cells then ForCell c else ForTimer (c - cells)
-
 -- of component k of the design
 pub record IsPartFor (d : PlainDesign) (stands : ℕ → ℕ) (k : ℕ) (part : PlainNetComponent) : Type 0 where
   pub reached : (k ≡ d.main) ⊎ LeadsTo d d.main k
   pub registers : length part.registers ≤ most_registers (component_at d k)
-  pub cells : (c : ℕ) (cell : PlainCell) → slice_get part.cells c ≡ Some cell → IsUse d k (kind_for stands cell.kind) (use_at (length (component_at d k).cells) c)
+  pub use_of : ℕ → Use
+  pub cells : (c : ℕ) (cell : PlainCell) → slice_get part.cells c ≡ Some cell → IsUse d k (kind_for stands cell.kind) (use_of c)
+  pub once : (i j : ℕ) → i < length part.cells → j < length part.cells → use_of i ≡ use_of j → i ≡ j
 
 pub record IsNetFor (d : PlainDesign) (net : PlainNet) : Type 0 where
   pub stands : ℕ → ℕ
   pub main : stands net.main ≡ d.main
   pub parts : (k : ℕ) → k < length net.components → IsPartFor d stands (stands k) (net_component_at net k)
-
--- two places are of two uses
-pub use_at-same : (cells i j : ℕ) → use_at cells i ≡ use_at cells j → i ≡ j
-use_at-same cells i j same = by (cases_lt i cells) (cases_lt j cells) where
-  for_cell : (c : ℕ) → c < cells → use_at cells c ≡ ForCell c
-  for_cell c less = ap (λ b. if b then ForCell c else ForTimer (c - cells)) (lt-ltb c cells less)
-
-  for_timer : (c : ℕ) → cells ≤ c → use_at cells c ≡ ForTimer (c - cells)
-  for_timer c past = ap (λ b. if b then ForCell c else ForTimer (c - cells)) (le-ltb c cells past)
-
-  by : (i < cells) ⊎ (cells ≤ i) → (j < cells) ⊎ (cells ≤ j) → i ≡ j
-  by (inl h) (inl k) = let e : ForCell i ≡ ForCell j = sym (for_cell i h) ∙ same ∙ for_cell j k in cc
-  by (inl h) (inr k) = let e : ForCell i ≡ ForTimer (j - cells) = sym (for_cell i h) ∙ same ∙ for_timer j k in absurd (cc)
-  by (inr h) (inl k) = let e : ForTimer (i - cells) ≡ ForCell j = sym (for_timer i h) ∙ same ∙ for_cell j k in absurd (cc)
-  by (inr h) (inr k) =
-      let e : ForTimer (i - cells) ≡ ForTimer (j - cells) = sym (for_timer i h) ∙ same ∙ for_timer j k in
-      let f : i - cells ≡ j - cells = cc in
-      omega (arith, f, h, k)
 
 -- DECLARATIONS of a component's module: registers, and no array
 arrays_in-append : (xs ys : List PlainDecl) → arrays_in xs ≡ [] → arrays_in ys ≡ [] → arrays_in (xs ++ ys) ≡ []
@@ -239,14 +220,17 @@ module _ (net : PlainNet) (stands : ℕ → ℕ) where
           reached = for.reached;
           no_array = declares_no_array (comp k) (with_numbers (cell_ports net k) (comp k).cells);
           registers = (let few = for.registers in let same = declares_registers (comp k) (with_numbers (cell_ports net k) (comp k).cells) in omega (arith, few, same));
-          use_of = use_at (length (component_at d (stands k)).cells);
+          use_of = for.use_of;
           each = λ i x e.
               let (y, at, is) = numbered_in cell_instance (with_numbers (cell_ports net k) (comp k).cells) i x e in
               let (cell, there, same) = numbered_in (cell_ports net k) (comp k).cells i y at in
               let named : (cell_ports net k i cell).kind ≡ x.kind = ap (λ (z : PlainCellPorts). z.kind) same ∙ ap (λ (z : PlainInstance). z.kind) is in
               let kinds : kind_for stands cell.kind ≡ kind_named labels x.kind = sym (cell_kind k i cell lt there) ∙ ap (kind_named labels) named in
-              subst (λ kind. IsUse d (stands k) kind (use_at (length (component_at d (stands k)).cells) i)) kinds (for.cells i cell there);
-          once = λ i j less fewer same. use_at-same (length (component_at d (stands k)).cells) i j same;
+              subst (λ kind. IsUse d (stands k) kind (for.use_of i)) kinds (for.cells i cell there);
+          once = λ i j less fewer.
+              let ports = length-numbered (cell_ports net k) 0 (comp k).cells in
+              let made = length-numbered cell_instance 0 (with_numbers (cell_ports net k) (comp k).cells) in
+              for.once i j (omega (arith, less, ports, made)) (omega (arith, fewer, ports, made));
         }
 
         module _ (parts : (k : ℕ) → k < length net.components → IsPartFor d stands (stands k) (comp k)) where

@@ -1,11 +1,12 @@
 -- What stands in the source of a design, so that nothing of its control hides there: the modules of its components and of primitives, an
 -- instance for each cell and each timer, few registers and no array beside them; names of its own; few nets.
-use Rattle.std.specs.Prelude.{◌≡◌, ◌⊎◌, ℕ, ◌+◌, ◌*◌, ◌<◌, ◌≤◌, ◌||◌, Bool, true, List, [], ◌∷◌, ◌++◌, length, map, take, All, Some, slice_get, codes}
+use Rattle.std.specs.Prelude.{◌≡◌, ◌⊎◌, ℕ, ◌+◌, ◌*◌, ◌<◌, ◌≤◌, ◌||◌, Bool, true, List, [], ◌∷◌, ◌++◌, length, map, take, All, Option, Some, None, slice_get, codes}
 use Rattle.cx_prim.specs.declared.names.PrimitiveName.TheVariants as primitives
 use Rattle.cx_meaning.specs.Designs.{PlainKind, OfPrimitive, OfComponent, PlainCell, PlainComponent, PlainDesign, component_at, PlainForm, Par, Repeat, StaticIf, StaticRepeat, list_of}
+use Rattle.cx_meaning.specs.Islands.{form_length, length_of}
 use Rattle.cx_rules.specs.Items.{Visited, statements_in}
 use Rattle.cx_rules.specs.Sizes.{weight_of}
-use Rattle.cx_rules.specs.StaticControl.{is_island, one_if}
+use Rattle.cx_rules.specs.StaticControl.{is_island}
 use Rattle.cx_rules.specs.Wellformed.{LeadsTo}
 use Rattle.cx_vtree.specs.InstanceTree.{same_name, instances_of}
 use Rattle.cx_vtree.specs.Plain.{PlainDecl, WireOf, RegisterOf, ArrayOf, PlainInstance, PlainModule, PlainSource}
@@ -30,10 +31,6 @@ abbrev pub static_ifs_in : PlainForm → ℕ
 static_ifs_in (StaticIf written test a b) = 1
 static_ifs_in other = 0
 
-abbrev pub static_repeats_in : PlainForm → ℕ
-static_repeats_in (StaticRepeat written count body) = 1
-static_repeats_in other = 0
-
 -- two for each region, which is the control of the component or an arm of a `par`; one for each `repeat`, and one for each
 -- `static if`; and two more
 abbrev pub most_registers : PlainComponent → ℕ
@@ -41,9 +38,14 @@ most_registers part =
     2 * (1 + summed (λ v. arms_in v.form) (statements_in part)) + summed (λ v. repeats_in v.form) (statements_in part)
     + summed (λ v. static_ifs_in v.form) (statements_in part) + 2
 
--- one for each island, and one for each `static repeat`
-abbrev pub most_timers : PlainComponent → ℕ
-most_timers part = summed (λ v. one_if (is_island part v)) (statements_in part) + summed (λ v. static_repeats_in v.form) (statements_in part)
+-- the cycles of one round of a `static repeat`
+abbrev pub round_of : PlainComponent → PlainForm → Option ℕ
+round_of part (StaticRepeat written count body) = Some (length_of part body)
+round_of part other = None
+
+-- a timer of so many cycles
+abbrev pub timer_kind : ℕ → PlainKind
+timer_kind n = OfPrimitive (record { name = primitives.Timer; numbers = n ∷ [] })
 
 abbrev pub registers_in : List PlainDecl → ℕ
 registers_in [] = 0
@@ -51,15 +53,24 @@ registers_in (WireOf n w ∷ ds) = registers_in ds
 registers_in (RegisterOf n w ∷ ds) = 1 + registers_in ds
 registers_in (ArrayOf n w k ∷ ds) = registers_in ds
 
--- what an instance in the module of a component is for: a cell, or one of its timers
+-- what an instance in the module of a component is for: a cell, or the timer of an island or that of a `static repeat`, each the statement of
+-- this number among the component's, in pre-order
 pub data Use : Type 0 where
   ForCell : (cell : ℕ) → Use
-  ForTimer : (timer : ℕ) → Use
+  ForIsland : (statement : ℕ) → Use
+  ForRepeat : (statement : ℕ) → Use
+
+-- a timer of this kind is for this: an island has one of its own length, a `static repeat` one of the length of a round
+abbrev pub IsTimerOf : PlainComponent → PlainKind → Use → Type 0
+IsTimerOf part kind (ForCell c) = ⊥
+IsTimerOf part kind (ForIsland n) = (v : Visited) × (slice_get (statements_in part) n ≡ Some v) × (is_island part v ≡ true) × (kind ≡ timer_kind (form_length part v.form))
+IsTimerOf part kind (ForRepeat n) = (v : Visited) × (slice_get (statements_in part) n ≡ Some v) × ((cycles : ℕ) × (round_of part v.form ≡ Some cycles) × (kind ≡ timer_kind cycles))
 
 -- the module of an instance, of component k, is of the kind that its use wants
 abbrev pub IsUse : PlainDesign → ℕ → PlainKind → Use → Type 0
 IsUse d k kind (ForCell c) = (cell : PlainCell) × (slice_get (component_at d k).cells c ≡ Some cell) × (kind ≡ cell.kind)
-IsUse d k kind (ForTimer t) = (t < most_timers (component_at d k)) × ((n : ℕ) × (kind ≡ OfPrimitive (record { name = primitives.Timer; numbers = n ∷ [] })))
+IsUse d k kind (ForIsland n) = IsTimerOf (component_at d k) kind (ForIsland n)
+IsUse d k kind (ForRepeat n) = IsTimerOf (component_at d k) kind (ForRepeat n)
 
 -- THE MODULE OF A COMPONENT that main reaches, where `kind` tells what the module of each name is of
 pub record IsPartModule (d : PlainDesign) (kind : List ℕ → PlainKind) (k : ℕ) (m : PlainModule) : Type 0 where
