@@ -13,6 +13,8 @@ pub data Asked : Type 0 where
   trial : (seed : ℕ) → Asked
   share : (design : List ℕ) → Asked
   promote : (design : List ℕ) → Asked
+  instrument : (design : List ℕ) → Asked
+  profile : (design json : List ℕ) (budget : ℕ) → Asked
   weave : (design json : List ℕ) (steps : ℕ) (list : List ℕ) → Asked
 
 -- one decimal digit or more, with a value of at most 10^12; zeros may stand before
@@ -46,6 +48,8 @@ Asks words (sim verilog json budget) = AsksRun words (codes "sim") verilog json 
 Asks words (trial seed) = AsksTrial words seed
 Asks words (share design) = AsksDesign words (codes "share") design
 Asks words (promote design) = AsksDesign words (codes "promote") design
+Asks words (instrument design) = AsksDesign words (codes "instrument") design
+Asks words (profile design json budget) = AsksRun words (codes "profile") design json budget
 Asks words (weave design json steps list) = AsksWeave words design json steps list
 
 -- the words ask for no compilation and no check
@@ -58,14 +62,24 @@ pub record AsksNoRewriting (words : List (List ℕ)) : Type 0 where
   pub shares : (design : List ℕ) → Asks words (share design) → ⊥
   pub promotes : (design : List ℕ) → Asks words (promote design) → ⊥
 
+-- nor for the text of an instrumented one
+pub record AsksNoChange (words : List (List ℕ)) : Type 0 where
+  pub rewritings : AsksNoRewriting words
+  pub instruments : (design : List ℕ) → Asks words (instrument design) → ⊥
+
 -- the words ask for nothing on one file
 pub record AsksNoDesign (words : List (List ℕ)) : Type 0 where
   pub verdicts : AsksNoVerdict words
-  pub rewritings : AsksNoRewriting words
+  pub changes : AsksNoChange words
 
--- the words ask for no run
-pub record AsksNoRun (words : List (List ℕ)) : Type 0 where
+-- the words ask for no run of a design
+pub record AsksNoDesignRun (words : List (List ℕ)) : Type 0 where
   pub interprets : (design json : List ℕ) (budget : ℕ) → Asks words (interp design json budget) → ⊥
+  pub profiles : (design json : List ℕ) (budget : ℕ) → Asks words (profile design json budget) → ⊥
+
+-- the words ask for no run with a budget
+pub record AsksNoRun (words : List (List ℕ)) : Type 0 where
+  pub designs : AsksNoDesignRun words
   pub simulates : (verilog json : List ℕ) (budget : ℕ) → Asks words (sim verilog json budget) → ⊥
 
 -- the words ask for no trial, and for no woven run
@@ -96,6 +110,8 @@ wanted_by (sim verilog json budget) = record { file = verilog; most = VERILOG_BY
 wanted_by (trial seed) = []
 wanted_by (share design) = record { file = design; most = DESIGN_BYTES } ∷ []
 wanted_by (promote design) = record { file = design; most = DESIGN_BYTES } ∷ []
+wanted_by (instrument design) = record { file = design; most = DESIGN_BYTES } ∷ []
+wanted_by (profile design json budget) = record { file = design; most = DESIGN_BYTES } ∷ record { file = json; most = DATA_BYTES } ∷ []
 wanted_by (weave design json steps list) = record { file = design; most = DESIGN_BYTES } ∷ record { file = json; most = DATA_BYTES } ∷ []
 
 abbrev pub files_of : Asked → List (List ℕ)
@@ -105,13 +121,15 @@ files_of command = map (λ w. w.file) (wanted_by command)
 abbrev pub IsFileOf : List (List ℕ) → List ℕ → Type 0
 IsFileOf words file = (command : Asked) × Asks words command × Contains (files_of command) file
 
--- where a command is a woven run its last word is a list
-abbrev pub HasList : Asked → Type 0
-HasList (compile design) = Unit {0}
-HasList (interp design json budget) = Unit {0}
-HasList (check design) = Unit {0}
-HasList (sim verilog json budget) = Unit {0}
-HasList (trial seed) = Unit {0}
-HasList (share design) = Unit {0}
-HasList (promote design) = Unit {0}
-HasList (weave design json steps list) = IsList list
+-- what holds of a command that words ask for: the last word of a woven run is a list, the budget of a profile is within that of all
+abbrev pub IsPossible : Asked → Type 0
+IsPossible (compile design) = Unit {0}
+IsPossible (interp design json budget) = Unit {0}
+IsPossible (check design) = Unit {0}
+IsPossible (sim verilog json budget) = Unit {0}
+IsPossible (trial seed) = Unit {0}
+IsPossible (share design) = Unit {0}
+IsPossible (promote design) = Unit {0}
+IsPossible (instrument design) = Unit {0}
+IsPossible (profile design json budget) = budget ≤ BUDGET
+IsPossible (weave design json steps list) = IsList list

@@ -1,7 +1,7 @@
 //! The commands that the words on the command line spell.
 
 ghost use Rattle.std.specs.Prelude.{◌≡◌, ℕ, List, MatchOption};
-ghost use Rattle.cx_commands.specs.Commands.{Asks, AsksDesign, AsksNeither, AsksNoDesign, AsksNoOther, AsksNoRewriting, AsksNoRun, AsksNoVerdict, AsksNothing, AsksRun, IsBudget, check, compile, interp, promote, share, sim, trial, weave};
+ghost use Rattle.cx_commands.specs.Commands.{Asks, AsksDesign, AsksNeither, AsksNoChange, AsksNoDesign, AsksNoDesignRun, AsksNoOther, AsksNoRewriting, AsksNoRun, AsksNoVerdict, AsksNothing, AsksRun, IsBudget, check, compile, instrument, interp, profile, promote, share, sim, trial, weave};
 ghost use Rattle.cx_commands.specs.Asked.{asked_of};
 ghost use Rattle.cx_commands.specs.Lists.{IsList};
 
@@ -44,6 +44,16 @@ pub enum Command<'a> {
     Promote {
         design: &'a [u8],
     },
+    /// Writes the Verilog text of the design of a file with a counter for each group.
+    Instrument {
+        design: &'a [u8],
+    },
+    /// Runs the design of a file on a data file with a budget in turns, and counts how long each group is active.
+    Profile {
+        design: &'a [u8],
+        json: &'a [u8],
+        budget: u64,
+    },
     /// Runs the design of a file on a data file by so many choices, those of a list.
     Weave {
         design: &'a [u8],
@@ -84,13 +94,23 @@ fn command_on_numbers(words: &[Word]) -> Option<Command<'_>>
     }
 }
 
-/// The command of the words `compile FILE`, `check FILE`, `share FILE` or `promote FILE`.
+/// The command of the words `NAME FILE` with a design.
 fn command_on_design(words: &[Word]) -> Option<Command<'_>>
     ensures { MatchOption result (AsksNoDesign words.now) (λ command. Asks words.now (asked_of command)) }
 {
     match verdict_of(words) {
         Some(command) => Some(command),
-        None => rewriter_of(words),
+        None => changer_of(words),
+    }
+}
+
+/// The command of the words `share FILE`, `promote FILE` or `instrument FILE`.
+fn changer_of(words: &[Word]) -> Option<Command<'_>>
+    ensures { MatchOption result (AsksNoChange words.now) (λ command. Asks words.now (asked_of command)) }
+{
+    match rewriter_of(words) {
+        Some(command) => Some(command),
+        None => instrumenter_of(words),
     }
 }
 
@@ -150,6 +170,15 @@ fn promoter_of(words: &[Word]) -> Option<Command<'_>>
     }
 }
 
+fn instrumenter_of(words: &[Word]) -> Option<Command<'_>>
+    ensures { MatchOption result ((design : List ℕ) → Asks words.now (instrument design) → ⊥) (λ command. Asks words.now (asked_of command)) }
+{
+    match design_of(words, b"instrument".as_slice()) {
+        Some(design) => Some(Command::Instrument { design }),
+        None => None,
+    }
+}
+
 /// The file of the words `NAME FILE`.
 fn design_of<'a>(words: &'a [Word], name: &[u8]) -> Option<&'a [u8]>
     ensures { MatchOption result ((design : List ℕ) → AsksDesign words.now name.now design → ⊥) (λ design. AsksDesign words.now name.now design.now) }
@@ -160,13 +189,23 @@ fn design_of<'a>(words: &'a [Word], name: &[u8]) -> Option<&'a [u8]>
     }
 }
 
-/// The command of the words `interp FILE FILE BUDGET` or `sim FILE FILE BUDGET`.
+/// The command of the words `interp FILE FILE BUDGET`, `profile FILE FILE BUDGET` or `sim FILE FILE BUDGET`.
 fn run_of(words: &[Word]) -> Option<Command<'_>>
     ensures { MatchOption result (AsksNoRun words.now) (λ command. Asks words.now (asked_of command)) }
 {
-    match interpreter_of(words) {
+    match design_run_of(words) {
         Some(command) => Some(command),
         None => simulator_of(words),
+    }
+}
+
+/// The command of the words `interp FILE FILE BUDGET` or `profile FILE FILE BUDGET`.
+fn design_run_of(words: &[Word]) -> Option<Command<'_>>
+    ensures { MatchOption result (AsksNoDesignRun words.now) (λ command. Asks words.now (asked_of command)) }
+{
+    match interpreter_of(words) {
+        Some(command) => Some(command),
+        None => profiler_of(words),
     }
 }
 
@@ -175,6 +214,19 @@ fn interpreter_of(words: &[Word]) -> Option<Command<'_>>
 {
     match run_on_files(words, b"interp".as_slice()) {
         Some((design, json, budget)) => Some(Command::Interp {
+            design,
+            json,
+            budget,
+        }),
+        None => None,
+    }
+}
+
+fn profiler_of(words: &[Word]) -> Option<Command<'_>>
+    ensures { MatchOption result ((design json : List ℕ) (budget : ℕ) → Asks words.now (profile design json budget) → ⊥) (λ command. Asks words.now (asked_of command)) }
+{
+    match run_on_files(words, b"profile".as_slice()) {
+        Some((design, json, budget)) => Some(Command::Profile {
             design,
             json,
             budget,

@@ -3,7 +3,7 @@ use Rattle.std.proofs.Common.{◌≡◌, ◌⊎◌, inl, inr, ⊎_elim, ℕ, Lis
 use Rattle.cx_outside.specs.Counts.{HasRisen}
 use Rattle.cx_text.specs.declared.diagnostics.Diagnostic.{Diagnostic}
 use Rattle.cx_text.specs.declared.limits.TheConstants.{DESIGN_BYTES, DATA_BYTES, VERILOG_BYTES}
-use Rattle.cx_commands.specs.Commands.{Asked, compile, interp, check, sim, trial, share, promote, weave, wanted_by}
+use Rattle.cx_commands.specs.Commands.{Asked, compile, interp, check, sim, trial, share, promote, instrument, profile, weave, wanted_by}
 use Rattle.cx_compiler.specs.Compiled.{IsCompilable, Compiles}
 use Rattle.cx_compiler.specs.Texts.{IsAcceptedText, TextBreak}
 use Rattle.cx_compiler.specs.Interpreted.{Interprets}
@@ -23,11 +23,15 @@ use Rattle.cx_commands.specs.declared.refusals.Status.TheVariants as statuses
 use Rattle.cx_commands.specs.declared.stops.Stop.{Stop}
 use Rattle.cx_commands.specs.declared.stops.Stop.TheVariants as stops
 use Rattle.cx_driver.specs.Tried.{Tries}
+use Rattle.cx_driver.specs.Instrumenting.{Instruments, IsInstrumentable}
+use Rattle.cx_driver.specs.Profiling.{Profiles}
 use Rattle.cx_driver.specs.Promoting.{Promotes, PromotesTree}
 use Rattle.cx_driver.specs.Sharing.{IsSharedTree, Shares}
 use Rattle.cx_driver.specs.Weaving.{Weaves}
 use Rattle.cx_driver.specs.Causes.{HasCause}
+use Rattle.cx_driver.proofs.InstrumentLemmas.{instrumentable_once, instruments_once, instruments_status}
 use Rattle.cx_driver.proofs.InterpLemmas.{one_result}
+use Rattle.cx_driver.proofs.ProfileLemmas.{one_profile}
 use Rattle.cx_driver.proofs.TrialLemmas.{one_line, tries_once}
 use Rattle.cx_driver.proofs.WovenLemmas.{one_woven}
 use Rattle.cx_driver.proofs.RewritingLemmas.{accepted_rewrites, rewrites_once, rewrites_status}
@@ -74,6 +78,8 @@ module _ (holds : List ℕ → Option (List ℕ)) where
   does_read (trial seed) result h = tt
   does_read (share design) result h = ((h.bytes, h.reads), tt)
   does_read (promote design) result h = ((h.bytes, h.reads), tt)
+  does_read (instrument design) result h = ((h.bytes, h.reads), tt)
+  does_read (profile design json budget) result h = ((h.bytes, h.reads), ((h.is.bytes, h.is.reads), tt))
   does_read (weave design json steps list) result h = ((h.bytes, h.reads), ((h.is.bytes, h.is.reads), tt))
 
   can_read : (command : Asked) → CanAnswer (Some holds) command → Readable holds (wanted_by command)
@@ -84,6 +90,8 @@ module _ (holds : List ℕ → Option (List ℕ)) where
   can_read (trial seed) can = does_read (trial seed) (Ok can.0) can.1
   can_read (share design) can = ((can.bytes, can.reads), tt)
   can_read (promote design) can = ((can.bytes, can.reads), tt)
+  can_read (instrument design) can = ((can.bytes, can.reads), tt)
+  can_read (profile design json budget) can = does_read (profile design json budget) (Ok can.0) can.1
   can_read (weave design json steps list) can = does_read (weave design json steps list) (Ok can.0) can.1
 
   -- of one file
@@ -107,6 +115,12 @@ module _ (holds : List ℕ → Option (List ℕ)) where
   does_once (trial seed) answer stop h k = tries_once seed answer stop h k
   does_once (share design) answer stop h k = of_one (λ text. Shares text (Ok answer)) (λ text. Shares text (Err stop)) DESIGN_BYTES design (λ text. rewrites_once IsSharedTree text answer stop) h k
   does_once (promote design) answer stop h k = of_one (λ text. Promotes text (Ok answer)) (λ text. Promotes text (Err stop)) DESIGN_BYTES design (λ text. rewrites_once PromotesTree text answer stop) h k
+  does_once (instrument design) answer stop h k = of_one (λ text. Instruments text (Ok answer)) (λ text. Instruments text (Err stop)) DESIGN_BYTES design (λ text. instruments_once text answer stop) h k
+  does_once (profile design json budget) answer stop h k =
+      of_one (λ text. OfFile (Some holds) DATA_BYTES json (λ bytes. Profiles text bytes budget (Ok answer))) (λ text. OfFile (Some holds) DATA_BYTES json (λ bytes. Profiles text bytes budget (Err stop)))
+      DESIGN_BYTES design
+      (λ text. of_one (λ bytes. Profiles text bytes budget (Ok answer)) (λ bytes. Profiles text bytes budget (Err stop)) DATA_BYTES json
+      (λ bytes p q. not_both answer stop (one_profile text bytes budget (Ok answer) (Err stop) p q))) h k
   does_once (weave design json steps list) answer stop h k =
       of_one (λ text. OfFile (Some holds) DATA_BYTES json (λ bytes. Weaves text bytes steps (numbers_in list) (Ok answer))) (λ text. OfFile (Some holds) DATA_BYTES json (λ bytes. Weaves text bytes steps (numbers_in list) (Err stop)))
       DESIGN_BYTES design
@@ -122,6 +136,8 @@ module _ (holds : List ℕ → Option (List ℕ)) where
   can_once (trial seed) stop can k = does_once (trial seed) can.0 stop can.1 k
   can_once (share design) stop can k = of_one IsAcceptedText (λ text. Shares text (Err stop)) DESIGN_BYTES design (λ text. accepted_rewrites IsSharedTree text stop) can k
   can_once (promote design) stop can k = of_one IsAcceptedText (λ text. Promotes text (Err stop)) DESIGN_BYTES design (λ text. accepted_rewrites PromotesTree text stop) can k
+  can_once (instrument design) stop can k = of_one IsInstrumentable (λ text. Instruments text (Err stop)) DESIGN_BYTES design (λ text. instrumentable_once text stop) can k
+  can_once (profile design json budget) stop can k = does_once (profile design json budget) can.0 stop can.1 k
   can_once (weave design json steps list) stop can k = does_once (weave design json steps list) can.0 stop can.1 k
 
   -- nothing but want of memory is told of files that give an answer
@@ -149,6 +165,12 @@ module _ (holds : List ℕ → Option (List ℕ)) where
   same_status (trial seed) a b h k = tried_status seed a b h k
   same_status (share design) a b h k = rewrites_status IsSharedTree h.bytes k.bytes a b h.is k.is
   same_status (promote design) a b h k = rewrites_status PromotesTree h.bytes k.bytes a b h.is k.is
+  same_status (instrument design) a b h k = instruments_status h.bytes k.bytes a b h.is k.is
+  same_status (profile design json budget) a b h k =
+      let text = same_bytes holds DESIGN_BYTES DESIGN_BYTES design h.bytes k.bytes h.reads k.reads in
+      let loaded = same_bytes holds DATA_BYTES DATA_BYTES json h.is.bytes k.is.bytes h.is.reads k.is.reads in
+      let own = subst (λ t. Profiles t h.is.bytes budget (Err a)) text h.is.is in
+      ap stop_status (same_stop a b (one_profile k.bytes k.is.bytes budget (Err a) (Err b) (subst (λ d. Profiles k.bytes d budget (Err a)) loaded own) k.is.is))
   same_status (weave design json steps list) a b h k =
       let text = same_bytes holds DESIGN_BYTES DESIGN_BYTES design h.bytes k.bytes h.reads k.reads in
       let loaded = same_bytes holds DATA_BYTES DATA_BYTES json h.is.bytes k.is.bytes h.is.reads k.is.reads in
@@ -188,6 +210,10 @@ module _ (P R : Asked → Held → Type 0) (p_any : OfAnyTrial P) (r_any : OfAny
   told_some (share design) (Some holds) so own = (holds, so, own)
   told_some (promote design) None so own = absurd so
   told_some (promote design) (Some holds) so own = (holds, so, own)
+  told_some (instrument design) None so own = absurd so
+  told_some (instrument design) (Some holds) so own = (holds, so, own)
+  told_some (profile design json budget) None so own = absurd so
+  told_some (profile design json budget) (Some holds) so own = (holds, so, own)
   told_some (weave design json steps list) None so own = absurd so
   told_some (weave design json steps list) (Some holds) so own = (holds, so, own)
 

@@ -1,5 +1,5 @@
 -- In the design of a trial no statement stands within more than 64 static ifs: it has none, and few blocks one in the other.
-use Rattle.std.proofs.Common.{◌≡◌, ℕ, zero, suc, ◌+◌, ◌*◌, ◌%◌, ◌-◌, Bool, true, false, List, [], ◌∷◌, ◌++◌, inl, inr, sym, subst, if◌then◌else◌, codes, arith}
+use Rattle.std.proofs.Common.{◌≡◌, ℕ, suc, ◌+◌, ◌*◌, ◌%◌, ◌-◌, Bool, true, false, List, [], ◌∷◌, inl, inr, sym, subst, if◌then◌else◌, codes, arith}
 use Rattle.std.specs.Prelude.{nat_eq}
 use Rattle.cx_ast.specs.PlainStatements.{PlainStatement, statements_of}
 use Rattle.cx_ast.specs.PlainTree.{PlainComponent}
@@ -11,16 +11,7 @@ use Rattle.cx_trial.specs.TrialControl.{block_of, enable, seq_of, par_of, repeat
 use Rattle.cx_trial.specs.TrialTree.{trial_tree}
 use Rattle.cx_bytes.specs.Shallow.{IsShallow}
 use Rattle.cx_compiler.proofs.TextDepth.{AllFit, BlockFits, Each, OtherwiseFits, StatementFits, all_fit, tree_shallow}
-
--- LISTS
-both : {A : Type 0} (P : A → Type 0) (xs ys : List A) → Each P xs → Each P ys → Each P (xs ++ ys)
-both P [] ys h k = k
-both P (x ∷ xs) ys h k = (h.0, both P xs ys h.1 k)
-
-each_up_to : {A : Type 0} (P : A → Type 0) (f : ℕ → List A) → ((n : ℕ) → Each P (f n)) → (n : ℕ) → Each P (up_to f n)
-unfolding up_to
-each_up_to P f one zero = tt
-each_up_to P f one (suc n) = both P (up_to f n) (f n) (each_up_to P f one n) (one n)
+use Rattle.cx_driver.proofs.TrialWires.{each_up_to}
 
 -- STATEMENTS, each a block above its own
 block_fits : (n : ℕ) (ss : List PlainStatement) → Each (StatementFits n) ss → BlockFits (suc n) (block_of ss)

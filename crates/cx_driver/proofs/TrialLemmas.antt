@@ -1,13 +1,12 @@
 -- What a trial tells is one thing, made of what its parts tell; targets of its tree are ports.
-use Rattle.std.proofs.Common.{◌≡◌, ◌⊎◌, inl, inr, ⊎_elim, ℕ, zero, suc, ◌≤◌, ◌<◌, ◌^◌, All, if◌then◌else◌, Bool, false, List, [], ◌∷◌, ◌++◌, map, flat_map, Some, None, Result, Ok, Err, IfOk, IfErr, MatchResult, refl, sym, ap, ◌∙◌, subst, codes}
+use Rattle.std.proofs.Common.{◌≡◌, ◌⊎◌, inl, inr, ⊎_elim, ℕ, ◌≤◌, ◌<◌, ◌^◌, All, if◌then◌else◌, Bool, false, List, [], ◌∷◌, map, flat_map, Some, None, Result, Ok, Err, IfOk, IfErr, MatchResult, refl, sym, ap, ◌∙◌, subst}
 use Rattle.std.proofs.lemmas.Bool.{lt-ltb, le-ltb}
 use Rattle.cx_text.specs.declared.diagnostics.Diagnostic.{Diagnostic}
 use Rattle.cx_text.specs.declared.limits.TheConstants.{BUDGET, COMPILE_SIZE}
 use Rattle.cx_text.specs.Loading.{FitsShape}
 use Rattle.cx_data.specs.Dump.{dump_text}
 use Rattle.cx_vtree.specs.PlainParts.{rows_of}
-use Rattle.cx_ast.specs.PlainTree as ast
-use Rattle.cx_ast.specs.PlainTree.{PlainTree, PlainComponent, PlainGroup, PlainWire, PlainAssign}
+use Rattle.cx_ast.specs.PlainTree.{PlainTree, PlainComponent, PlainGroup, PlainAssign}
 use Rattle.cx_meaning.specs.Designs.{PlainDesign}
 use Rattle.cx_meaning.specs.Sights.{In}
 use Rattle.cx_rules.specs.Externals.{external_rows}
@@ -20,8 +19,7 @@ use Rattle.cx_names.specs.Targets.{is_literal, HasTargets}
 use Rattle.cx_design_parts.proofs.Lists.{in_either, flat_in}
 use Rattle.cx_check.specs.Acceptance.{IsAcceptedTree, TreeBreak}
 use Rattle.cx_check.proofs.Verdicts as verdicts
-use Rattle.cx_trial.specs.TrialParts.{up_to, step_group, sum_group, store_group, indexed}
-use Rattle.cx_trial.specs.TrialTree.{arm_groups, step_groups, trial_tree}
+use Rattle.cx_trial.specs.TrialTree.{all_groups, trial_tree}
 use Rattle.cx_commands.specs.declared.stops.Stop.{Stop}
 use Rattle.cx_commands.specs.declared.stops.Stop.TheVariants as stops
 use Rattle.cx_compiler.specs.Interpreted.{PlainLeft, design_left, StopsDesign}
@@ -31,52 +29,20 @@ use Rattle.cx_compiler.specs.Texts.{IsTreeStop}
 use Rattle.cx_compiler.proofs.Once.{Told, not_both, same_stop, all_answered, all_stopped}
 use Rattle.cx_compiler.proofs.OneSource.{one_source_of}
 use Rattle.cx_compiler.proofs.BelowLemmas.{loaded_fits}
-use Rattle.cx_driver.specs.Tried.{HasTrialMemory, words_sum, zeros, line_of, line_result, try_result, TreeTries, Tries, TellsRule}
+use Rattle.cx_compiler.proofs.TextDepth.{Each, each_in}
+use Rattle.cx_driver.specs.Tried.{HasTrialMemory, words_sum, zeros, line_of, line_result, try_result, TreeTries, Tries}
 use Rattle.cx_driver.proofs.SimLemmas.{left_answers, no_stop}
 use Rattle.cx_driver.proofs.TrialMemory.{shapes_stay, small_sum}
+use Rattle.cx_driver.proofs.TrialPlaces.{trial_once}
+use Rattle.cx_driver.proofs.TrialWires.{OfGroup, groups_each, none_always, all_hold}
 use Rattle.cx_driver.proofs.LeftLemmas.{design_in_text, text_once}
 
--- TARGETS: all wires are groups, none of whose assignments has a literal as its target
-abbrev Ports : List PlainAssign → Type 0
-Ports [] = Unit {0}
-Ports (a ∷ rest) = (is_literal a.target.form ≡ false) × Ports rest
+-- TARGETS: no target of an assignment is a literal
+abbrev IsDriven : PlainAssign → Type 0
+IsDriven a = is_literal a.target.form ≡ false
 
-abbrev Grouped : List PlainWire → Type 0
-Grouped [] = Unit {0}
-Grouped (ast.Group g ∷ rest) = Ports g.assigns × Grouped rest
-Grouped (ast.Assign a ∷ rest) = ⊥
-
-both_grouped : (xs ys : List PlainWire) → Grouped xs → Grouped ys → Grouped (xs ++ ys)
-both_grouped [] ys h k = k
-both_grouped (ast.Group g ∷ xs) ys h k = (h.0, both_grouped xs ys h.1 k)
-both_grouped (ast.Assign a ∷ xs) ys h k = absurd h
-
-up_to_grouped : (f : ℕ → List PlainWire) → ((n : ℕ) → Grouped (f n)) → (n : ℕ) → Grouped (up_to f n)
-unfolding up_to
-up_to_grouped f each zero = tt
-up_to_grouped f each (suc n) = both_grouped (up_to f n) (f n) (up_to_grouped f each n) (each n)
-
-arm_grouped : (seed arm : ℕ) → Grouped (arm_groups seed arm)
-arm_grouped seed arm =
-    both_grouped (step_groups seed arm) (sum_group (indexed (codes "h") arm) (indexed (codes "b") arm) (indexed (codes "s") arm) 1 ∷ store_group arm ∷ [])
-    (up_to_grouped (λ step. step_group seed arm step ∷ []) (λ step. ((refl, (refl, (refl, (refl, (refl, tt))))), tt)) 8)
-    ((refl, (refl, (refl, (refl, (refl, tt))))), ((refl, (refl, (refl, (refl, (refl, (refl, tt)))))), tt))
-
-port_in : (assigns : List PlainAssign) (a : PlainAssign) → Ports assigns → In assigns a → is_literal a.target.form ≡ false
-port_in [] a h i = absurd i
-port_in (b ∷ rest) a h (inl e) = subst (λ (x : PlainAssign). is_literal x.target.form ≡ false) e h.0
-port_in (b ∷ rest) a h (inr i) = port_in rest a h.1 i
-
-group_ports : (wires : List PlainWire) (g : PlainGroup) → Grouped wires → In (groups_in wires) g → Ports g.assigns
-group_ports [] g h i = absurd i
-group_ports (ast.Group x ∷ wires) g h (inl e) = subst (λ (v : PlainGroup). Ports v.assigns) e h.0
-group_ports (ast.Group x ∷ wires) g h (inr i) = group_ports wires g h.1 i
-group_ports (ast.Assign a ∷ wires) g h i = absurd h
-
-none_always : (wires : List PlainWire) → Grouped wires → always_in wires ≡ []
-none_always [] h = refl
-none_always (ast.Group x ∷ wires) h = none_always wires h.1
-none_always (ast.Assign a ∷ wires) h = absurd h
+all_driven : (seed : ℕ) → Each (OfGroup IsDriven) (all_groups seed)
+all_driven seed = all_hold IsDriven (λ cell port source. refl) (λ group cell. refl) seed
 
 abbrev IsPort : Standing → Type 0
 IsPort x = is_literal x.assign.target.form ≡ false
@@ -90,21 +56,21 @@ inside g = map (owned g) g.assigns
 abbrev free : PlainAssign → Standing
 free a = record { group = None; assign = a }
 
-owned_port : (g : PlainGroup) (assigns : List PlainAssign) (x : Standing) → Ports assigns → In (map (owned g) assigns) x → IsPort x
+owned_port : (g : PlainGroup) (assigns : List PlainAssign) (x : Standing) → Each IsDriven assigns → In (map (owned g) assigns) x → IsPort x
 owned_port g [] x h i = absurd i
 owned_port g (a ∷ rest) x h (inl e) = subst IsPort e h.0
 owned_port g (a ∷ rest) x h (inr i) = owned_port g rest x h.1 i
 
-stands_as_port : (part : PlainComponent) (x : Standing) → Grouped part.wires → In (standing part) x → IsPort x
+stands_as_port : (part : PlainComponent) (x : Standing) → Each (OfGroup IsDriven) part.wires → In (standing part) x → IsPort x
 stands_as_port part x h i =
-    let none : In (map free (always_in part.wires)) x → IsPort x = λ p. absurd (subst (λ assigns. In (map free assigns) x) (none_always part.wires h) p) in
+    let none : In (map free (always_in part.wires)) x → IsPort x = λ p. absurd (subst (λ assigns. In (map free assigns) x) (none_always IsDriven part.wires h) p) in
     let of_group : In (flat_map inside (groups_in part.wires)) x → IsPort x = λ q.
-    (let found = flat_in inside (groups_in part.wires) x q in owned_port found.0 found.0.assigns x (group_ports part.wires found.0 h found.1) found.2) in
+    (let found = flat_in inside (groups_in part.wires) x q in owned_port found.0 found.0.assigns x (each_in (λ (g : PlainGroup). Each IsDriven g.assigns) (groups_in part.wires) found.0 (groups_each IsDriven part.wires h) found.1) found.2) in
     ⊎_elim none of_group (in_either (map free (always_in part.wires)) (flat_map inside (groups_in part.wires)) x i)
 
 -- in the tree of a trial targets are ports
 pub trial_targets : (seed : ℕ) → HasTargets (trial_tree seed)
-trial_targets seed part (inl e) x i = stands_as_port part x (subst (λ (p : PlainComponent). Grouped p.wires) e (up_to_grouped (arm_groups seed) (arm_grouped seed) 16)) i
+trial_targets seed part (inl e) x i = stands_as_port part x (subst (λ (p : PlainComponent). Each (OfGroup IsDriven) p.wires) e (all_driven seed)) i
 trial_targets seed part (inr none) x i = absurd none
 
 -- WHAT A TRIAL DOES is one thing, where its tree is accepted
@@ -123,18 +89,19 @@ module _ (seed : ℕ) (tree : PlainTree) where
   pub one_trial : (line : List ℕ) (stop : Stop) → TreeTries seed tree (Ok line) → TreeTries seed tree (Err stop) → ⊥
   one_trial line stop h k = not_both line stop (one_line (Ok line) (Err stop) (line_accepts line h) k)
 
-  -- what is told of a tree that is refused
-  tells_rule : (told : Diagnostic) (stop : Stop) → TreeBreak tree told → TreeTries seed tree (Err stop) → TellsRule told stop
-  tells_rule told stop b (inl k) = absurd (verdicts.accepted_once tree told k.0 b)
-  tells_rule told stop b (inr k) =
-      let same = verdicts.refused_once tree k.0 told k.1 b in
-      record { own = k.0; is = same_stop stop (stops.Rule k.0) k.2; rule = same.rule; place = same.place }
+  -- what is told of a tree that is refused, where it breaks one rule alone
+  abbrev pub BreaksOnce : Type 0
+  BreaksOnce = (a b : Diagnostic) → TreeBreak tree a → TreeBreak tree b → a ≡ b
 
-  pub all_told : {X : Type 0} (bytes : X → List ℕ) (r : Result X Stop) → IfOk r (λ x. TreeTries seed tree (Ok (bytes x))) → IfErr r (λ stop. (stop ≡ stops.Memory) ⊎ TreeTries seed tree (Err stop))
-      → (told : Diagnostic) → TreeBreak tree told → MatchResult r (λ _. ⊥) (λ stop. (stop ≡ stops.Memory) ⊎ TellsRule told stop)
-  all_told bytes (Ok x) h k told b = verdicts.accepted_once tree told (line_accepts (bytes x) h).0 b
-  all_told bytes (Err stop) h (inl memory) told b = inl memory
-  all_told bytes (Err stop) h (inr own) told b = inr (tells_rule told stop b own)
+  tells_rule : BreaksOnce → (told : Diagnostic) (stop : Stop) → TreeBreak tree told → TreeTries seed tree (Err stop) → stop ≡ stops.Rule told
+  tells_rule once told stop b (inl k) = absurd (verdicts.accepted_once tree told k.0 b)
+  tells_rule once told stop b (inr k) = same_stop stop (stops.Rule k.0) k.2 ∙ ap (λ d. stops.Rule d) (once k.0 told k.1 b)
+
+  pub all_told : BreaksOnce → {X : Type 0} (bytes : X → List ℕ) (r : Result X Stop) → IfOk r (λ x. TreeTries seed tree (Ok (bytes x))) → IfErr r (λ stop. (stop ≡ stops.Memory) ⊎ TreeTries seed tree (Err stop))
+      → (told : Diagnostic) → TreeBreak tree told → MatchResult r (λ _. ⊥) (λ stop. (stop ≡ stops.Memory) ⊎ (stop ≡ stops.Rule told))
+  all_told once bytes (Ok x) h k told b = verdicts.accepted_once tree told (line_accepts (bytes x) h).0 b
+  all_told once bytes (Err stop) h (inl memory) told b = inl memory
+  all_told once bytes (Err stop) h (inr own) told b = inr (tells_rule once told stop b own)
 
 pub tries_once : (seed : ℕ) (line : List ℕ) (stop : Stop) → Tries seed (Ok line) → Tries seed (Err stop) → ⊥
 tries_once seed line stop = one_trial seed (trial_tree seed) line stop
@@ -200,16 +167,16 @@ pub record TreeTold {X : Type 0} (bytes : X → List ℕ) (seed : ℕ) (tree : P
   pub cause : IfErr r (λ stop. (stop ≡ stops.Memory) ⊎ TreeTries seed tree (Err stop))
   pub all_answers : (line : List ℕ) → TreeTries seed tree (Ok line) → MatchResult r (λ x. bytes x ≡ line) (λ stop. stop ≡ stops.Memory)
   pub all_stops : (why : Stop) → IsAcceptedTree tree × (try_result seed (design_of tree) ≡ Err why) → MatchResult r (λ _. ⊥) (λ stop. (stop ≡ stops.Memory) ⊎ (stop ≡ why))
-  pub all_refusals : (told : Diagnostic) → TreeBreak tree told → MatchResult r (λ _. ⊥) (λ stop. (stop ≡ stops.Memory) ⊎ TellsRule told stop)
+  pub all_refusals : (told : Diagnostic) → TreeBreak tree told → MatchResult r (λ _. ⊥) (λ stop. (stop ≡ stops.Memory) ⊎ (stop ≡ stops.Rule told))
 
-tree_told : {X : Type 0} (bytes : X → List ℕ) (seed : ℕ) (tree : PlainTree) (r : Result X Stop) → IfOk r (λ x. TreeTries seed tree (Ok (bytes x))) → IfErr r (λ stop. (stop ≡ stops.Memory) ⊎ TreeTries seed tree (Err stop))
+tree_told : {X : Type 0} (bytes : X → List ℕ) (seed : ℕ) (tree : PlainTree) (r : Result X Stop) → tree ≡ trial_tree seed → IfOk r (λ x. TreeTries seed tree (Ok (bytes x))) → IfErr r (λ stop. (stop ≡ stops.Memory) ⊎ TreeTries seed tree (Err stop))
     → TreeTold bytes seed tree r
-tree_told bytes seed tree r answer cause = record {
+tree_told bytes seed tree r made answer cause = record {
   answer = answer;
   cause = cause;
   all_answers = λ line h. all_answered bytes (Accepts seed tree) (TreeTries seed tree) (one_line seed tree) r answer cause line (line_accepts seed tree line h);
   all_stops = λ why h. all_stopped bytes (Accepts seed tree) (TreeTries seed tree) (one_line seed tree) r answer cause why (h.0, sym h.1);
-  all_refusals = all_told seed tree bytes r answer cause;
+  all_refusals = all_told seed tree (subst (λ t. (a b : Diagnostic) → TreeBreak t a → TreeBreak t b → a ≡ b) (sym made) (trial_once seed)) bytes r answer cause;
 }
 
 -- from the tree that was made to that of the seed
@@ -217,7 +184,7 @@ pub design_told : {X : Type 0} (bytes : X → List ℕ) (seed : ℕ) (tree : Pla
     → IfOk r (λ x. try_result seed d ≡ Ok (bytes x)) → IfErr r (λ stop. (stop ≡ stops.Memory) ⊎ (try_result seed d ≡ Err stop)) → TreeTold bytes seed (trial_tree seed) r
 design_told bytes seed tree d r made accepted is answer cause =
     subst (λ t. TreeTold bytes seed t r) made
-    (tree_told bytes seed tree r (tree_tried bytes seed tree d accepted is r answer) (tree_stopped bytes seed tree d accepted is r cause))
+    (tree_told bytes seed tree r made (tree_tried bytes seed tree d accepted is r answer) (tree_stopped bytes seed tree d accepted is r cause))
 
 abbrev no_bytes : Unit {0} → List ℕ
 no_bytes _ = []
@@ -227,4 +194,4 @@ StoppedTold seed tree stop = TreeTold {X = Unit {0}} no_bytes seed tree (Err sto
 
 pub refusal_told : (seed : ℕ) (tree : PlainTree) (stop : Stop) → tree ≡ trial_tree seed → IsTreeStop tree stop → StoppedTold seed (trial_tree seed) stop
 refusal_told seed tree stop made refused =
-    subst (λ t. StoppedTold seed t stop) made (tree_told {X = Unit {0}} no_bytes seed tree (Err stop) tt (tree_refused seed tree stop refused))
+    subst (λ t. StoppedTold seed t stop) made (tree_told {X = Unit {0}} no_bytes seed tree (Err stop) made tt (tree_refused seed tree stop refused))

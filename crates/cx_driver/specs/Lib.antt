@@ -7,6 +7,9 @@ pub mod Sharing
 pub mod Promoting
 pub mod Alike
 pub mod NoLater
+pub mod Counting
+pub mod Instrumenting
+pub mod Profiling
+pub mod Counted
 pub mod Outcomes
 pub mod Causes
-pub mod Lines

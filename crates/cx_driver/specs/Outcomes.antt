@@ -2,12 +2,14 @@
 use Rattle.std.specs.Prelude.{◌≡◌, ◌⊎◌, ℕ, List, Option, Some, Result, Ok, Err, IsSomeAnd, codes}
 use Rattle.cx_text.specs.declared.diagnostics.Diagnostic.{Diagnostic}
 use Rattle.cx_text.specs.declared.limits.TheConstants.{DESIGN_BYTES, DATA_BYTES, VERILOG_BYTES}
-use Rattle.cx_commands.specs.Commands.{Asked, compile, interp, check, sim, trial, share, promote, weave, Asks}
+use Rattle.cx_commands.specs.Commands.{Asked, compile, interp, check, sim, trial, share, promote, instrument, profile, weave, Asks}
 use Rattle.cx_commands.specs.Reads.{OfFile}
 use Rattle.cx_compiler.specs.Texts.{IsAcceptedText, TextBreak}
 use Rattle.cx_compiler.specs.Compiled.{IsCompilable, Compiles}
 use Rattle.cx_compiler.specs.Interpreted.{Interprets}
 use Rattle.cx_compiler.specs.Simulated.{Simulates}
+use Rattle.cx_driver.specs.Instrumenting.{Instruments, IsInstrumentable}
+use Rattle.cx_driver.specs.Profiling.{Profiles}
 use Rattle.cx_driver.specs.Tried.{Tries}
 use Rattle.cx_driver.specs.Promoting.{Promotes}
 use Rattle.cx_driver.specs.Sharing.{Shares}
@@ -33,6 +35,9 @@ Does held (sim verilog json budget) result =
 Does held (trial seed) result = Tries seed result
 Does held (share design) result = OfFile held DESIGN_BYTES design (λ text. Shares text result)
 Does held (promote design) result = OfFile held DESIGN_BYTES design (λ text. Promotes text result)
+Does held (instrument design) result = OfFile held DESIGN_BYTES design (λ text. Instruments text result)
+Does held (profile design json budget) result =
+    OfFile held DESIGN_BYTES design (λ text. OfFile held DATA_BYTES json (λ bytes. Profiles text bytes budget result))
 Does held (weave design json steps list) result =
     OfFile held DESIGN_BYTES design (λ text. OfFile held DATA_BYTES json (λ bytes. Weaves text bytes steps (numbers_in list) result))
 
@@ -48,7 +53,8 @@ IsAnswerTo held words answer = (command : Asked) × Asks words command × IsAnsw
 abbrev pub HasAnswer : Option (List ℕ → Option (List ℕ)) → Asked → Type 0
 HasAnswer held command = (answer : List ℕ) × IsAnswer held command answer
 
--- what the files hold can be answered: of compile, the text is accepted and its design is within the size; of share and promote, it is accepted
+-- what the files hold can be answered: of compile, the text is accepted and its design is within the size; of share and promote, it is
+-- accepted; of instrument, its instrumented design keeps the limits and is within the size
 abbrev pub CanAnswer : Option (List ℕ → Option (List ℕ)) → Asked → Type 0
 CanAnswer held (compile design) = OfFile held DESIGN_BYTES design IsCompilable
 CanAnswer held (interp design json budget) = HasAnswer held (interp design json budget)
@@ -57,6 +63,8 @@ CanAnswer held (sim verilog json budget) = HasAnswer held (sim verilog json budg
 CanAnswer held (trial seed) = HasAnswer held (trial seed)
 CanAnswer held (share design) = OfFile held DESIGN_BYTES design IsAcceptedText
 CanAnswer held (promote design) = OfFile held DESIGN_BYTES design IsAcceptedText
+CanAnswer held (instrument design) = OfFile held DESIGN_BYTES design IsInstrumentable
+CanAnswer held (profile design json budget) = HasAnswer held (profile design json budget)
 CanAnswer held (weave design json steps list) = HasAnswer held (weave design json steps list)
 
 -- what the files hold stops the command
@@ -72,6 +80,8 @@ OfTold (sim verilog json budget) held P = IsSomeAnd held (λ holds. P (Some hold
 OfTold (trial seed) held P = P held
 OfTold (share design) held P = IsSomeAnd held (λ holds. P (Some holds))
 OfTold (promote design) held P = IsSomeAnd held (λ holds. P (Some holds))
+OfTold (instrument design) held P = IsSomeAnd held (λ holds. P (Some holds))
+OfTold (profile design json budget) held P = IsSomeAnd held (λ holds. P (Some holds))
 OfTold (weave design json steps list) held P = IsSomeAnd held (λ holds. P (Some holds))
 
 -- why it stops, unless memory is wanting

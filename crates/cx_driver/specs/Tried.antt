@@ -61,13 +61,6 @@ IsTrialStop seed stop = (stop ≡ stops.Memory) ⊎ Tries seed (Err stop)
 abbrev pub StopsTrial : ℕ → Stop → Type 0
 StopsTrial seed stop = IsAcceptedTree (trial_tree seed) × (try_result seed (design_of (trial_tree seed)) ≡ Err stop)
 
--- a break of the same rule, at the same place, is told
-pub record TellsRule (told : Diagnostic) (stop : Stop) : Type 0 where
-  pub own : Diagnostic
-  pub is : stop ≡ stops.Rule own
-  pub rule : own.rule ≡ told.rule
-  pub place : own.place ≡ told.place
-
 -- the one external memory of a trial: 16 words of 32 bits
 abbrev pub trial_row : PlainRow
 trial_row = record { name = codes "mem"; width = 32; sizes = 16 ∷ [] }

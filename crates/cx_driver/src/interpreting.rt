@@ -6,6 +6,7 @@ ghost use Rattle.cx_meaning.specs.Answers.{End};
 ghost use Rattle.cx_meaning.specs.Instances.{State, tree_of, words_of};
 ghost use Rattle.cx_meaning.specs.Running.{run_main};
 ghost use Rattle.cx_rules.specs.Externals.{external_rows};
+ghost use Rattle.cx_rules.specs.Flat.{IsFlat};
 ghost use Rattle.cx_design.specs.PlainDesigns.{plain_design};
 ghost use Rattle.cx_interp.specs.Runs.{HasRun};
 ghost use Rattle.cx_compiler.specs.Interpreted.{IsDesignAnswer, IsDesignLeft, IsDesignStop, IsInterpAnswer, IsInterpStop, IsRunLeft, StopsDesign, StopsRun, StopsText};
@@ -54,6 +55,7 @@ pub fn interp(alloc: Global, text: &[u8], json: &[u8], turns: u64) -> Result<Vec
 
 /// The dump of what a design leaves on a data file.
 fn design_dump(alloc: Global, design: &Checked, json: &[u8], turns: u64) -> Result<Vec<u8>, Stop>
+    requires flat { IsFlat (plain_design design.now) }
     ensures answer { IfOk result (λ dump. IsDesignAnswer (plain_design design.now) json.now turns dump.items) }
     ensures cause { IfErr result (IsDesignStop (plain_design design.now) json.now turns) }
 {
@@ -73,6 +75,7 @@ pub(crate) fn run_design(
     json: &[u8],
     turns: u64,
 ) -> Result<Left, Stop>
+    requires flat { IsFlat (plain_design design.now) }
     ensures answer { IfOk result (λ left. IsDesignLeft (plain_design design.now) json.now turns (plain_left left)) }
     ensures ready { IfOk result CanDump }
     ensures cause { IfErr result (StopsDesign (plain_design design.now) json.now turns) }
@@ -85,7 +88,13 @@ pub(crate) fn run_design(
 }
 
 /// Runs a design with these words loaded.
-fn run_loaded(alloc: Global, design: &Checked, loaded: Loaded, turns: u64) -> Result<Left, Stop>
+pub(crate) fn run_loaded(
+    alloc: Global,
+    design: &Checked,
+    loaded: Loaded,
+    turns: u64,
+) -> Result<Left, Stop>
+    requires flat { IsFlat (plain_design design.now) }
     requires fits { FitsRows (external_rows (plain_design design.now)) (plain_loaded loaded) }
     ensures answer { IfOk result (λ left. IsRunLeft (plain_design design.now) (plain_loaded loaded) turns (plain_left left)) }
     ensures ready { IfOk result CanDump }

@@ -1,9 +1,13 @@
 //! The top call: from the words of a command line and the files that they name to what is written.
 #![tactic(auto)]
 
+mod counted;
+mod counting;
 mod faults;
+mod instrumenting;
 mod interpreting;
 mod memories;
+mod profiling;
 mod promoting;
 mod running;
 mod sharing;
@@ -12,7 +16,9 @@ mod trying;
 mod weaving;
 
 pub use cx_commands::{Status, Stop};
+pub use instrumenting::instrument;
 pub use interpreting::interp;
+pub use profiling::profile;
 pub use promoting::promote;
 pub use running::run;
 pub use sharing::share;

@@ -1,9 +1,10 @@
 //! The top call.
 
 ghost use Rattle.std.specs.Prelude.{◌≡◌, ◌≢◌, ◌⊎◌, ◌↔◌, ◌≤◌, ℕ, List, Option, [], ◌∷◌, Some, Contains, codes, length, IfOk, IfErr, IsSomeAnd};
+ghost use Rattle.cx_text.specs.declared.limits.TheConstants.{BUDGET};
 ghost use Rattle.cx_outside.specs.Counts.{HasRisen};
 ghost use Rattle.cx_outside.specs.Writing.{grown, GrowsByPart};
-ghost use Rattle.cx_commands.specs.Commands.{Asked, Asks, AsksNothing, HasList, IsFileOf, files_of};
+ghost use Rattle.cx_commands.specs.Commands.{Asked, Asks, AsksNothing, IsPossible, IsFileOf, files_of};
 ghost use Rattle.cx_commands.specs.Asked.{asked_of};
 ghost use Rattle.cx_commands.specs.Commands as asked;
 ghost use Rattle.cx_commands.specs.Lists.{IsList};
@@ -18,10 +19,11 @@ ghost use Rattle.cx_commands.specs.declared.refusals.Refusal.TheVariants as refu
 ghost use Rattle.cx_commands.specs.declared.refusals.Status.TheVariants as statuses;
 ghost use Rattle.cx_commands.specs.declared.stops.Stop.{Stop as StopValue};
 ghost use Rattle.cx_driver.specs.Causes.{HasCause, IsMemory, IsOfFile, IsTold, IsTrueOfFile, ToldWhy};
-ghost use Rattle.cx_driver.specs.Lines.{HasOneLine};
 ghost use Rattle.cx_commands.specs.Statuses.{IsRefusing, ReceivesLine, fixed_line, status_of};
 
+use crate::instrumenting::instrument;
 use crate::interpreting::interp;
+use crate::profiling::profile;
 use crate::promoting::promote;
 use crate::sharing::share;
 use crate::simulating::sim;
@@ -80,8 +82,8 @@ pub fn run<F: Files, O: Sink, E: Sink>(
     ensures all_stops { (command : Asked) (why : StopValue) → Asks words.now command → OfTold command (F.held files.old) (λ held. IsStopped held command why)
         → (HasRisen (F.faults files.old) (F.faults files.new) → ⊥) → (result ≡ status_of (refusals.Stop why)) ⊎ (result ≡ statuses.Memory) }
 
-    // And that is told by its line, but for a Verilog text that spells no sound source, and a rule that the design of a seed breaks.
-    ensures all_lines { (command : Asked) (why : StopValue) → Asks words.now command → HasOneLine command why → OfTold command (F.held files.old) (λ held. IsStopped held command why)
+    // And that is told by its line.
+    ensures all_lines { (command : Asked) (why : StopValue) → Asks words.now command → OfTold command (F.held files.old) (λ held. IsStopped held command why)
         → (HasRisen (F.faults files.old) (F.faults files.new) → ⊥) → IsTold (refusals.Stop why) result (E.written err.old) (E.faults err.old) (E.written err.new) (E.faults err.new) }
 
     // Where the files are told, and one is over its limit or is not there, behind others that are within theirs, it is told, but for want of memory.
@@ -107,7 +109,7 @@ fn obey<F: Files, O: Sink, E: Sink>(
     out: &mut O,
     err: &mut E,
 ) -> Status
-    requires list { HasList (asked_of command) }
+    requires possible { IsPossible (asked_of command) }
     ensures done { result ≡ statuses.Done →
         (text : List ℕ) × IsAnswer (F.held files.old) (asked_of command.entry) text × (O.written out.new ≡ grown (O.written out.old) text) }
 
@@ -187,7 +189,7 @@ fn answer<'a, F: Files>(
     command: Command<'a>,
     files: &mut F,
 ) -> Result<Vec<u8>, Refusal<'a>>
-    requires list { HasList (asked_of command) }
+    requires possible { IsPossible (asked_of command) }
     ensures answer { IfOk result (λ text. IsAnswer (F.held files.old) (asked_of command.entry) text.items) }
     ensures cause { IfErr result (HasCause (asked_of command.entry) (F.held files.old) (F.faults files.old) (F.faults files.new)) }
     ensures kept { F.held files.new ≡ F.held files.old }
@@ -208,6 +210,12 @@ fn answer<'a, F: Files>(
         Command::Trial { seed } => tried(alloc, seed),
         Command::Share { design } => shared(alloc, design, files),
         Command::Promote { design } => promoted(alloc, design, files),
+        Command::Instrument { design } => instrumented(alloc, design, files),
+        Command::Profile {
+            design,
+            json,
+            budget,
+        } => profiled(alloc, design, json, budget, files),
         Command::Weave {
             design,
             json,
@@ -355,6 +363,44 @@ fn promoted<'a, F: Files>(
     match promote(alloc, &text) {
         Ok(answer) => Ok(answer),
         Err(why) => Err(Refusal::Stop(why)),
+    }
+}
+
+/// The answer of instrumenting on a file.
+fn instrumented<'a, F: Files>(
+    alloc: Global,
+    design: &'a [u8],
+    files: &mut F,
+) -> Result<Vec<u8>, Refusal<'a>>
+    ensures answer { IfOk result (λ text. IsAnswer (F.held files.old) (asked.instrument design.now) text.items) }
+    ensures cause { IfErr result (HasCause (asked.instrument design.now) (F.held files.old) (F.faults files.old) (F.faults files.new)) }
+    ensures kept { F.held files.new ≡ F.held files.old }
+{
+    let text = read(alloc, files, design, DESIGN_BYTES)?;
+    match instrument(alloc, &text) {
+        Ok(verilog) => Ok(verilog),
+        Err(why) => Err(Refusal::Stop(why)),
+    }
+}
+
+/// The answer of the profiler on files.
+fn profiled<'a, F: Files>(
+    alloc: Global,
+    design: &'a [u8],
+    json: &'a [u8],
+    budget: u64,
+    files: &mut F,
+) -> Result<Vec<u8>, Refusal<'a>>
+    requires budget { budget ≤ BUDGET }
+    ensures answer { IfOk result (λ text. IsAnswer (F.held files.old) (asked.profile design.now json.now budget) text.items) }
+    ensures cause { IfErr result (HasCause (asked.profile design.now json.now budget) (F.held files.old) (F.faults files.old) (F.faults files.new)) }
+    ensures kept { F.held files.new ≡ F.held files.old }
+{
+    let text = read(alloc, files, design, DESIGN_BYTES)?;
+    let data = read(alloc, files, json, DATA_BYTES)?;
+    match profile(alloc, &text, &data, budget) {
+        Ok(answer) => Ok(answer),
+        Err(stop) => Err(Refusal::Stop(stop)),
     }
 }
 

@@ -3,6 +3,7 @@
 ghost use Rattle.std.specs.Prelude.{◌≡◌, ◌⊎◌, ◌++◌, ◌<◌, ◌^◌, List, ℕ, IfOk, IfErr, Ok, Err, MatchResult, map, sum};
 ghost use Rattle.cx_text.specs.declared.diagnostics.Diagnostic.{Diagnostic as DiagnosticValue};
 ghost use Rattle.cx_text.specs.Loading.{plain_memory};
+ghost use Rattle.cx_rules.specs.Flat.{IsFlat};
 ghost use Rattle.cx_design.specs.PlainDesigns.{plain_design};
 ghost use Rattle.cx_design_sizes.specs.Capped.{capped};
 ghost use Rattle.cx_check.specs.Acceptance.{TreeBreak};
@@ -12,7 +13,7 @@ ghost use Rattle.cx_commands.specs.declared.stops.Stop.TheVariants as stops;
 ghost use Rattle.cx_compiler.specs.Compiled.{EmitsWithin, IsShortWithin, KeepsRulesWithin};
 ghost use Rattle.cx_driver.specs.Leaving.{plain_left};
 ghost use Rattle.cx_driver.specs.Tried as plain;
-ghost use Rattle.cx_driver.specs.Tried.{EndsOnZeros, HasTrialMemory, IsTrialStop, StopsTrial, TellsRule, Tries, counted, trial_line, try_result, words_sum};
+ghost use Rattle.cx_driver.specs.Tried.{EndsOnZeros, HasTrialMemory, IsTrialStop, StopsTrial, Tries, counted, trial_line, try_result, words_sum};
 
 use crate::interpreting::{Left, run_design};
 use crate::simulating::simulate;
@@ -40,9 +41,9 @@ pub fn trial(alloc: Global, seed: u64) -> Result<Vec<u8>, Stop>
     // What stops an accepted design is told, unless memory is wanting.
     ensures all_stops { (why : StopValue) → StopsTrial seed why → MatchResult result (λ _. ⊥) (λ stop. (stop ≡ stops.Memory) ⊎ (stop ≡ why)) }
 
-    // A rule that the design breaks is told, with its place, unless memory is wanting.
+    // A rule that the design breaks is told, with its place and name, unless memory is wanting.
     ensures all_refusals { (told : DiagnosticValue) → TreeBreak (tree_of.trial_tree seed) told
-        → MatchResult result (λ _. ⊥) (λ stop. (stop ≡ stops.Memory) ⊎ TellsRule told stop) }
+        → MatchResult result (λ _. ⊥) (λ stop. (stop ≡ stops.Memory) ⊎ (stop ≡ stops.Rule told)) }
 {
     match trial_tree(alloc, seed) {
         Ok(tree) => match tried(alloc, &tree) {
@@ -55,6 +56,7 @@ pub fn trial(alloc: Global, seed: u64) -> Result<Vec<u8>, Stop>
 
 /// The line of a design that a seed gave.
 fn try_design(alloc: Global, design: &Checked, seed: u64) -> Result<Vec<u8>, Stop>
+    requires flat { IsFlat (plain_design design.now) }
     requires memory { HasTrialMemory (plain_design design.now) }
     requires rules { KeepsRulesWithin (plain_design design.now) }
     requires net { EmitsWithin (plain_design design.now) }

@@ -4,6 +4,7 @@ ghost use Rattle.std.specs.Prelude.{◌≡◌, ◌≤◌, ◌<◌, ◌⊎◌, Al
 ghost use Rattle.cx_text.specs.Loading.{FitsRows, FitsShape, plain_loaded};
 ghost use Rattle.cx_data.specs.Widths.{HasWordWidth};
 ghost use Rattle.cx_rules.specs.Externals.{external_rows};
+ghost use Rattle.cx_rules.specs.Flat.{IsFlat};
 ghost use Rattle.cx_design.specs.PlainDesigns.{plain_design};
 ghost use Rattle.cx_commands.specs.Lists.{IsList, numbers_in};
 ghost use Rattle.cx_commands.specs.declared.stops.Stop.{Stop as StopValue};
@@ -87,6 +88,7 @@ fn weave_design(
     steps: u64,
     list: &[u32],
 ) -> Result<Vec<u8>, Stop>
+    requires flat { IsFlat (plain_design design.now) }
     requires some { 0 < length list.now }
     ensures answer { IfOk result (λ told. IsDesignWoven (plain_design design.now) list.now json.now steps told.items) }
     ensures cause { IfErr result (StopsDesignWoven (plain_design design.now) list.now json.now steps) }
@@ -106,6 +108,7 @@ fn weave_loaded(
     steps: u64,
     list: &[u32],
 ) -> Result<Vec<u8>, Stop>
+    requires flat { IsFlat (plain_design design.now) }
     requires fits { FitsRows (external_rows (plain_design design.now)) (plain_loaded loaded) }
     requires some { 0 < length list.now }
     ensures answer { IfOk result (λ told. IsRunWoven (plain_design design.now) list.now (plain_loaded loaded) steps told.items) }

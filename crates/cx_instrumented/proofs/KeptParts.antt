@@ -1,11 +1,9 @@
--- AN INSTRUMENTED DESIGN has no static component, guards with parts, few static ifs around a statement and words for the names of its memories, where
--- its design has.
-use Rattle.std.proofs.Common.{◌≡◌, ℕ, ◌+◌, ◌^◌, ◌<◌, inl, inr, ◌⊎◌, Bool, true, false, if◌then◌else◌, [], length, map, refl, sym, ap, ◌∙◌, subst}
+-- AN INSTRUMENTED DESIGN has guards with parts, few static ifs around a statement and words for the names of its memories, where its design has.
+use Rattle.std.proofs.Common.{◌≡◌, ℕ, ◌+◌, ◌^◌, ◌<◌, inl, inr, ◌⊎◌, Bool, true, false, if◌then◌else◌, length, refl, sym, ap, ◌∙◌, subst}
 use Rattle.std.specs.Prelude.{nat_eq}
 use Rattle.cx_meaning.specs.Active.{Owned}
 use Rattle.cx_meaning.specs.Designs.{PlainAssign, PlainCell, PlainComponent, PlainDesign, component_at}
 use Rattle.cx_meaning.specs.Sights.{In}
-use Rattle.cx_rules.specs.Flat.{IsFlat, IsFlatPart}
 use Rattle.cx_rules.specs.Sizes.{design_size}
 use Rattle.cx_rules.specs.Wellformed.{IsDesign}
 use Rattle.cx_vtree.specs.Layout.{is_word}
@@ -16,7 +14,7 @@ use Rattle.cx_compiler.proofs.WrittenNets.{HasWords}
 use Rattle.cx_rewrites.specs.Moving.{moved_statement}
 use Rattle.cx_profiling.specs.Counters.{entry_count}
 use Rattle.cx_profiling.specs.FreeNames.{profile_name}
-use Rattle.cx_profiling.specs.Instrumented.{moved_in, moved_invoke, instrumented, with_counts}
+use Rattle.cx_profiling.specs.Instrumented.{moved_in, instrumented, with_counts}
 use Rattle.cx_profiling.proofs.GainedLemmas.{components-length}
 use Rattle.cx_profiling.proofs.MemoryNames.{memories_named}
 use Rattle.cx_profiling.proofs.PartTable.{OwnedMade, old_owned, showing, counting, storing, owned_made}
@@ -37,24 +35,6 @@ by_entries P d old new = by (nat_eq (entry_count d) 0)
 module _ (d : PlainDesign) (design : IsDesign d) where
   there : (k : ℕ) → k < length (with_counts d).components → k < length d.components
   there k less = subst (λ n. k < n) (components-length d) less
-
-  -- NO STATIC COMPONENT
-  flat_part : IsFlat d → (k : ℕ) → k < length d.components → IsFlatPart (component_at (with_counts d) k)
-  flat_part flat k within = by (role d k within)
-    where
-      part : IsFlatPart (component_at d k)
-      part = flat k within
-
-      invokes : map (moved_invoke d (component_at d k)) (component_at d k).invokes ≡ []
-      invokes = ap (map (moved_invoke d (component_at d k))) part.no_invoke
-
-      by : Role d k → IsFlatPart (component_at (with_counts d) k)
-      by (as_main names is e) = subst IsFlatPart (sym e) (record { dynamic = part.dynamic; no_invoke = invokes })
-      by (as_child names is reached e) = subst IsFlatPart (sym e) (record { dynamic = part.dynamic; no_invoke = invokes })
-      by (as_kept is none e) = subst IsFlatPart (sym e) (record { dynamic = part.dynamic; no_invoke = invokes })
-
-  pub is_flat : IsFlat d → IsFlat (instrumented d)
-  is_flat flat = by_entries IsFlat d flat (λ k less. flat_part flat k (there k less))
 
   -- GUARDS
   guard_kept : HasGuards d → (k : ℕ) (within : k < length d.components) (o : Owned) → OwnedMade d design k within o → HasParts o.assign.guard

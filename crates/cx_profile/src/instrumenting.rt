@@ -2,14 +2,14 @@
 
 ghost use Rattle.std.specs.Prelude.{◌≡◌, IfErr, IfOk, MatchResult, Some, [], length, map, slice_get};
 ghost use Rattle.cx_text.specs.declared.diagnostics.Diagnostic.{Diagnostic};
-ghost use Rattle.cx_meaning.specs.Designs.{PlainDesign};
 ghost use Rattle.cx_meaning.specs.Instances.{externals_from, paths_of, tree_of};
-ghost use Rattle.cx_rules.specs.Accepted.{IsFirstOf};
+ghost use Rattle.cx_rules.specs.Accepted.{IsAccepted, IsFirstOf, KeepsStage};
+ghost use Rattle.cx_rules.specs.Flat.{IsFlat};
 ghost use Rattle.cx_rules.specs.Sizes.{sizes_of};
 ghost use Rattle.cx_design.specs.PlainForms.{plain_cell, plain_component};
 ghost use Rattle.cx_design.specs.PlainDesigns.{plain_design};
 ghost use Rattle.cx_design_sizes.specs.Capped.{capped};
-ghost use Rattle.cx_check.specs.Verdicts.{IsRefusal, TellsAs};
+ghost use Rattle.cx_check.specs.Verdicts.{TellsAs};
 ghost use Rattle.cx_profiling.specs.Counters.{entries_of, entry_count};
 ghost use Rattle.cx_profiling.specs.Instrumented as definitions;
 ghost use Rattle.cx_profile.specs.Gains.{AreGains};
@@ -20,10 +20,10 @@ use crate::components::{instrumented_components, same_components};
 use crate::entries::{ProfiledGroup, profiled_groups};
 use crate::gained::{Gains, gains_of};
 use crate::numbers::sum;
-use cx_check::check;
 use cx_design::{Cell, Checked, Component, Design, Refusal};
 use cx_design_sizes::component_size;
-use cx_text::{Memory, Rule};
+use cx_limits::limits;
+use cx_text::Memory;
 use std::alloc::Global;
 
 /// An instrumented design, the place of the memory of the counts among its external memories, if there is a count, and the group of
@@ -35,8 +35,10 @@ pub struct Profiled {
     pub groups: Vec<ProfiledGroup>,
 }
 
-/// The instrumented design of an accepted one. It is refused exactly where it exceeds a limit, or for want of memory.
+/// The instrumented design of an accepted one without static components. It is refused exactly where it exceeds a limit, or for
+/// want of memory.
 pub fn instrument(alloc: Global, design: &Checked) -> Result<Profiled, Refusal>
+    requires flat { IsFlat (plain_design design.now) }
     ensures design { IfOk result (λ p. plain_design p.design ≡ definitions.instrumented (plain_design design.now)) }
     ensures memory { IfOk result (λ p. p.memory ≡ memory_place_of (plain_design design.now)) }
     // Of each word of the memory, in order: the path of the group, its number, and that of the instance.
@@ -53,7 +55,7 @@ pub fn instrument(alloc: Global, design: &Checked) -> Result<Profiled, Refusal>
     }
 }
 
-/// What an instrumented design is made of, before it is checked.
+/// What an instrumented design is made of, before its limits are checked.
 #[derive(Drop)]
 struct Unchecked {
     design: Design,
@@ -63,6 +65,7 @@ struct Unchecked {
 
 /// The instrumented design, the place of its memory, and the group of each word.
 fn made(alloc: Global, design: &Design) -> Result<Unchecked, Memory>
+    requires flat { IsFlat (plain_design design.now) }
     ensures design { IfOk result (λ p. plain_design p.design ≡ definitions.instrumented (plain_design design.now)) }
     ensures memory { IfOk result (λ p. p.memory ≡ memory_place_of (plain_design design.now)) }
     ensures groups { IfOk result (λ p. p.groups.items ≡ rows_in (tree_of (plain_design design.now)) 0 []) }
@@ -78,9 +81,10 @@ fn made(alloc: Global, design: &Design) -> Result<Unchecked, Memory>
     })
 }
 
-/// The design checked. Where it exceeds a limit the first one is told; that it breaks another rule is answered as if memory were
-/// wanting.
+/// The design checked, where it breaks no rule but a limit; where it exceeds one, the first is told.
 fn checked(alloc: Global, made: Unchecked) -> Result<Profiled, Refusal>
+    requires flat { IsFlat (plain_design made.design) }
+    requires accepted { KeepsStage 7 (plain_design made.design) → IsAccepted (plain_design made.design) }
     ensures design { IfOk result (λ p. plain_design p.design ≡ plain_design made.design) }
     ensures memory { IfOk result (λ p. p.memory ≡ made.memory) }
     ensures groups { IfOk result (λ p. p.groups.items ≡ made.groups.items) }
@@ -92,26 +96,13 @@ fn checked(alloc: Global, made: Unchecked) -> Result<Profiled, Refusal>
         memory,
         groups,
     } = made;
-    match check(alloc, design) {
-        Ok(design) => Ok(Profiled {
-            design,
+    match limits(alloc, &design) {
+        Ok(()) => Ok(Profiled {
+            design: Checked::new(design),
             memory,
             groups,
         }),
-        Err(refused) => Err(limit_alone(refused.refusal)),
-    }
-}
-
-/// A limit that is exceeded, and no other rule.
-fn limit_alone(refusal: Refusal) -> Refusal
-    ensures limit { (d : PlainDesign) → IsRefusal d refusal → IsLimit d result }
-{
-    match refusal {
-        Refusal::Rule(told) => match told.rule {
-            Rule::Limit => Refusal::Rule(told),
-            _ => Refusal::Memory,
-        },
-        Refusal::Memory => Refusal::Memory,
+        Err(refusal) => Err(refusal),
     }
 }
 
@@ -143,6 +134,7 @@ fn externals(cells: &[Cell]) -> Result<u32, Memory>
 
 /// The instrumented design.
 fn instrumented_design(alloc: Global, design: &Design, gains: &Gains) -> Result<Design, Memory>
+    requires flat { IsFlat (plain_design design.now) }
     requires gains { AreGains (plain_design design.now) gains.now }
     ensures value { IfOk result (λ made. plain_design made ≡ definitions.instrumented (plain_design design.now)) }
 {

@@ -17,7 +17,7 @@ load-requires c =
 pub run_loaded-requires : goal.run_loaded-requires
 run_loaded-requires c =
     let Fit : List PlainRow → Type 0 = λ rows. FitsRows rows (plain_loaded c.in-Ok.loaded) in
-    record { fits = subst Fit (ap (λ rows. plain_rows rows) c.deref.ensures.value ∙ c.in_ok-rows.ensures.value) c.in-Ok.ensures.fits }
+    record { flat = c.requires.flat; fits = subst Fit (ap (λ rows. plain_rows rows) c.deref.ensures.value ∙ c.in_ok-rows.ensures.value) c.in-Ok.ensures.fits }
 
 pub returns-in-Ok : goal.returns-in-Ok
 returns-in-Ok c =

@@ -1,6 +1,6 @@
 use Rattle.std.proofs.Common.{IfErr, IfOk, subst, sym}
 use Rattle.cx_commands.specs.Asked.{asked_of}
-use Rattle.cx_commands.specs.Commands.{HasList}
+use Rattle.cx_commands.specs.Commands.{IsPossible}
 use Rattle.cx_commands.specs.declared.commands.Command.{Command}
 use Rattle.cx_driver.specs.Causes.{HasCause}
 use Rattle.cx_driver.specs.Outcomes.{IsAnswer}
@@ -21,5 +21,10 @@ returns-in-Trial-clause-cause g c =
 
 pub woven-requires : goal.woven-requires
 woven-requires g c =
-    let Listed : Command → Type 0 = λ command. HasList (asked_of command) in
-    record { list = subst Listed c.in-Weave.is c.requires.list }
+    let Listed : Command → Type 0 = λ command. IsPossible (asked_of command) in
+    record { list = subst Listed c.in-Weave.is c.requires.possible }
+
+pub profiled-requires : goal.profiled-requires
+profiled-requires g c =
+    let Within : Command → Type 0 = λ command. IsPossible (asked_of command) in
+    record { budget = subst Within c.in-Profile.is c.requires.possible }

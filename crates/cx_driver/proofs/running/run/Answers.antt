@@ -1,13 +1,12 @@
-use Rattle.std.proofs.Common.{List, ℕ, refl, subst}
+use Rattle.std.proofs.Common.{List, ℕ, refl}
 use Rattle.cx_commands.specs.Statuses.{ReceivesLine}
 use Rattle.cx_commands.specs.Asked.{asked_of}
 use Rattle.cx_commands.specs.declared.refusals.Status.TheVariants as statuses
 use Rattle.cx_driver.proofs.CauseLemmas.{said_words, words_tell_nothing}
-use Rattle.cx_commands.proofs.CommandLemmas.{has_list, one_command}
+use Rattle.cx_commands.proofs.CommandLemmas.{is_possible, one_command}
 use Rattle.cx_commands.specs.Commands as asked
 use Rattle.cx_driver.proofs.CompleteLemmas.{complete_asked, stopped_asked}
 use Rattle.cx_driver.proofs.FileLemmas.{file_asked}
-use Rattle.cx_driver.specs.Lines.{HasOneLine}
 use Rattle.cx_driver.proofs.LineLemmas.{line_told}
 use Rattle.cx_driver.proofs.AlikeLemmas.{shared_of_file}
 use Rattle.cx_driver.proofs.FilePromise.{kept_of_file}
@@ -66,7 +65,7 @@ returns-in-None-clause-said g c =
     λ told e. said_words Received told c.tell.ensures e
 
 pub obey-requires : goal.obey-requires
-obey-requires g c = record { list = has_list c.args.words.now (asked_of c.in-Some.command) c.in-Some.ensures }
+obey-requires g c = record { possible = is_possible c.args.words.now (asked_of c.in-Some.command) c.in-Some.ensures }
 
 pub returns-in-Some-clause-all_files : goal.returns-in-Some-clause-all_files
 returns-in-Some-clause-all_files g c = λ command why asks so never.
@@ -77,13 +76,13 @@ pub returns-in-None-clause-all_files : goal.returns-in-None-clause-all_files
 returns-in-None-clause-all_files g c = λ command why asks so never. absurd (c.in-None.ensures command asks)
 
 pub returns-in-Some-clause-all_lines : goal.returns-in-Some-clause-all_lines
-returns-in-Some-clause-all_lines g c = λ command why asks one stopped never.
+returns-in-Some-clause-all_lines g c = λ command why asks stopped never.
     let own = asked_of c.in-Some.command in
     let same = one_command c.args.words.now command own asks c.in-Some.ensures in
     let held = g.F.Files.held c.args.files.now in
     let so = stopped_asked held command own why same stopped in
     line_told held own (g.F.Files.faults c.args.files.now) (g.F.Files.faults c.obey.new.files) why c.obey.result (g.E.Sink.written c.args.err.now) (g.E.Sink.faults c.args.err.now)
-    (g.E.Sink.written c.obey.new.err) (g.E.Sink.faults c.obey.new.err) (subst (λ x. HasOneLine x why) same one) so never (c.obey.ensures.all_stops why so never) c.obey.ensures.cause
+    (g.E.Sink.written c.obey.new.err) (g.E.Sink.faults c.obey.new.err) so never (c.obey.ensures.all_stops why so never) c.obey.ensures.cause
 
 pub returns-in-None-clause-all_lines : goal.returns-in-None-clause-all_lines
-returns-in-None-clause-all_lines g c = λ command why asks one stopped never. absurd (c.in-None.ensures command asks)
+returns-in-None-clause-all_lines g c = λ command why asks stopped never. absurd (c.in-None.ensures command asks)

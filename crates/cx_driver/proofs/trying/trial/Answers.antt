@@ -22,6 +22,7 @@ try_design-requires c =
     let same = c.in-Ok-tried.ensures.value ∙ ap (λ t. design_of t) c.in-Ok.ensures.value in
     let memory = trial_memory c.args.seed d same in
     record {
+      flat = c.in-Ok-tried.ensures.flat;
       memory = memory;
       rules = tree_rules tree d targets c.in-Ok-tried.ensures.accepted c.in-Ok-tried.ensures.value;
       net = tree_emitted tree d targets c.in-Ok-tried.ensures.accepted c.in-Ok-tried.ensures.value (trial_words d memory);

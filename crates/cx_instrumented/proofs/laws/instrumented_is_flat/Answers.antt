@@ -1,5 +1,5 @@
-use Rattle.cx_instrumented.proofs.KeptParts.{is_flat}
+use Rattle.cx_profiling.proofs.FlatKept.{instrumented_flat}
 use Rattle.cx_instrumented.proofs.laws.instrumented_is_flat.Goals as goal
 
 pub returns : goal.returns
-returns c = is_flat
+returns c = λ d design flat. instrumented_flat d flat

@@ -1,0 +1,42 @@
+use Rattle.std.proofs.Common.{[], ◌∷◌, refl, subst, List, ℕ, Ok, Err}
+use Rattle.std.proofs.lemmas.Result.{err_from_is_err_and}
+use Rattle.cx_text.specs.declared.limits.TheConstants.{DATA_BYTES, DESIGN_BYTES}
+use Rattle.cx_commands.specs.Commands.{Wanted, profile}
+use Rattle.cx_driver.specs.Profiling.{IsProfileStop, Profiles}
+use Rattle.cx_compiler.proofs.Once.{or_memory}
+use Rattle.cx_driver.proofs.ReadLemmas.{both_read, first_read, second_read}
+use Rattle.cx_driver.proofs.running.profiled.Goals as goal
+
+pub returns-in_err-text-clause-cause : goal.returns-in_err-text-clause-cause
+returns-in_err-text-clause-cause g c =
+    let p = err_from_is_err_and c.from_residual.result c.from_residual.ensures.1 in
+    let held = g.F.Files.held c.args.files.now in
+    let first : Wanted = record { file = c.args.design.now; most = DESIGN_BYTES } in
+    let second : Wanted = record { file = c.args.json.now; most = DATA_BYTES } in
+    rw (p.1, p.2) (first_read (profile c.args.design.now c.args.json.now c.args.budget) held (g.F.Files.faults c.args.files.now) (g.F.Files.faults c.read.new.files) first (second ∷ []) c.in_err-text.field-0.0 refl c.in_err-text.ensures.cause)
+
+pub returns-in_err-data-clause-cause : goal.returns-in_err-data-clause-cause
+returns-in_err-data-clause-cause g c =
+    let p = err_from_is_err_and c.from_residual-in_err-data.result c.from_residual-in_err-data.ensures.1 in
+    let first : Wanted = record { file = c.args.design.now; most = DESIGN_BYTES } in
+    let second : Wanted = record { file = c.args.json.now; most = DATA_BYTES } in
+    rw (p.1, p.2) (second_read (profile c.args.design.now c.args.json.now c.args.budget) (g.F.Files.held c.args.files.now) (g.F.Files.held c.read.new.files)
+    (g.F.Files.faults c.args.files.now) (g.F.Files.faults c.read.new.files) (g.F.Files.faults c.read-2.new.files) first second [] c.in_ok-text.text.items c.in_err-data.field-0.0 refl
+    c.in_ok-text.ensures.held c.read.ensures.kept c.read.ensures.count c.in_err-data.ensures.cause)
+
+pub returns-in-Ok-clause-answer : goal.returns-in-Ok-clause-answer
+returns-in-Ok-clause-answer g c =
+    let Does : List ℕ → List ℕ → Type 0 = λ t d. Profiles t d c.args.budget (Ok c.in-Ok.answer.items) in
+    let ByText : List ℕ → Type 0 = λ t. Does t c.deref-2.result.now in
+    let ByData : List ℕ → Type 0 = λ d. Does c.in_ok-text.text.items d in
+    both_read Does (g.F.Files.held c.args.files.now) (g.F.Files.held c.read.new.files) DESIGN_BYTES DATA_BYTES c.args.design.now c.args.json.now c.in_ok-text.text.items c.in_ok-data.data.items
+    c.in_ok-text.ensures.held c.read.ensures.kept c.in_ok-data.ensures.held (subst ByData c.deref-2.ensures.value (subst ByText c.deref.ensures.value c.in-Ok.ensures.answer))
+
+pub returns-clause-cause : goal.returns-clause-cause
+returns-clause-cause g c =
+    let Does : List ℕ → List ℕ → Type 0 = λ t d. Profiles t d c.args.budget (Err c.in-Err.stop) in
+    let ByText : List ℕ → Type 0 = λ t. IsProfileStop t c.deref-2.result.now c.args.budget c.in-Err.stop in
+    let ByData : List ℕ → Type 0 = λ d. IsProfileStop c.in_ok-text.text.items d c.args.budget c.in-Err.stop in
+    or_memory c.in-Err.stop (subst ByData c.deref-2.ensures.value (subst ByText c.deref.ensures.value c.in-Err.ensures.cause))
+    (λ p. both_read Does (g.F.Files.held c.args.files.now) (g.F.Files.held c.read.new.files) DESIGN_BYTES DATA_BYTES c.args.design.now c.args.json.now c.in_ok-text.text.items c.in_ok-data.data.items
+    c.in_ok-text.ensures.held c.read.ensures.kept c.in_ok-data.ensures.held p)

@@ -1,0 +1,65 @@
+-- The run of an instrumented design, and what is read off it.
+use Rattle.std.specs.Prelude.{◌≡◌, ◌⊎◌, ◌+◌, ◌*◌, ◌++◌, ◌∷◌, [], ℕ, List, Ok, Err, length}
+use Rattle.cx_text.specs.Loading.{PlainMemory, PlainRow, FitsRows, words_loaded}
+use Rattle.cx_prim.specs.CellStates.{AreWords}
+use Rattle.cx_meaning.specs.Designs.{PlainDesign}
+use Rattle.cx_rules.specs.Accepted.{IsAccepted}
+use Rattle.cx_rules.specs.Externals.{external_rows}
+use Rattle.cx_design.specs.PlainDesigns.{plain_design}
+use Rattle.cx_interp.specs.Runs.{HasRun}
+use Rattle.cx_interp.specs.declared.interp.Ran.{Ran}
+use Rattle.cx_profiling.specs.Counters.{entry_count}
+use Rattle.cx_profiling.specs.Instrumented.{instrumented}
+use Rattle.cx_profile.specs.Profiles.{memory_place}
+use Rattle.cx_profile.specs.declared.instrumenting.Profiled.{Profiled}
+use Rattle.cx_commands.specs.declared.stops.Stop.{Stop}
+use Rattle.cx_commands.specs.declared.stops.Stop.TheVariants as stops
+use Rattle.cx_driver.specs.Leaving.{plain_left}
+use Rattle.cx_driver.specs.Profiling.{PlainCounted, counted_left, design_counted}
+use Rattle.cx_driver.specs.declared.counted.Counted.{Counted}
+
+abbrev pub plain_counted : Counted → PlainCounted
+plain_counted counted = record { left = plain_left counted.left; counts = counted.counts.items }
+
+-- this is the instrumented design of a design, which is accepted, with the place of its memory of the counts, and a group for each count
+pub record IsProfiled (d : PlainDesign) (p : Profiled) : Type 0 where
+  pub design : plain_design p.design ≡ instrumented d
+  pub accepted : IsAccepted (instrumented d)
+  pub memory : p.memory ≡ memory_place d
+  pub each : length p.groups.items ≡ entry_count d
+
+-- what a design leaves on a data file, with its counts, or why it does not
+abbrev pub CountsLoaded : PlainDesign → List ℕ → ℕ → PlainCounted → Type 0
+CountsLoaded d json budget counted = design_counted d json budget ≡ Ok counted
+
+abbrev pub StopsLoaded : PlainDesign → List ℕ → ℕ → Stop → Type 0
+StopsLoaded d json budget stop = (stop ≡ stops.Memory) ⊎ (design_counted d json budget ≡ Err stop)
+
+-- the same of a run
+abbrev pub CountsRun : PlainDesign → List PlainMemory → ℕ → PlainCounted → Type 0
+CountsRun d memories budget counted = counted_left d memories budget ≡ Ok counted
+
+abbrev pub StopsRunCounted : PlainDesign → List PlainMemory → ℕ → Stop → Type 0
+StopsRunCounted d memories budget stop = (stop ≡ stops.Memory) ⊎ (counted_left d memories budget ≡ Err stop)
+
+-- these memories are those of the instrumented design but the last, which has a word of 64 bits for each group
+pub record HasRoom (p : Profiled) (memories : List PlainMemory) : Type 0 where
+  pub old : List PlainRow
+  pub name : List ℕ
+  pub rows : external_rows (plain_design p.design) ≡ old ++ record { name = name; width = 64; sizes = length p.groups.items ∷ [] } ∷ []
+  pub fits : FitsRows old memories
+
+-- the last memory stands behind them, with words that fit
+pub record IsAdded (p : Profiled) (memories all : List PlainMemory) : Type 0 where
+  pub last : PlainMemory
+  pub joined : all ≡ memories ++ last ∷ []
+  pub words : AreWords 64 (length p.groups.items) last.words
+  pub fits : FitsRows (external_rows (plain_design p.design)) all
+
+-- THE RUN of the instrumented design on the memories of a design and that of the counts, with two turns more for each group
+pub record IsCountedRun (d : PlainDesign) (p : Profiled) (memories all : List PlainMemory) (budget : ℕ) (ran : Ran) : Type 0 where
+  pub profiled : IsProfiled d p
+  pub some : length p.groups.items ≡ 0 → ⊥
+  pub fits : FitsRows (external_rows d) memories
+  pub added : IsAdded p memories all
+  pub run : HasRun p.design (words_loaded all) (budget + 2 * length p.groups.items) ran
