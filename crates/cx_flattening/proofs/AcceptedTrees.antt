@@ -117,14 +117,14 @@ has_cells trees part = record {
 }
 
 -- a child, by its kind
-child_kind : (trees : ℕ → Instance) (kind : Option PlainKind) (child : Instance) → at_kind trees kind ≡ OfInstance child → (j : ℕ) × (kind ≡ Some (OfComponent j)) × (trees j ≡ child)
+pub child_kind : (trees : ℕ → Instance) (kind : Option PlainKind) (child : Instance) → at_kind trees kind ≡ OfInstance child → (j : ℕ) × (kind ≡ Some (OfComponent j)) × (trees j ≡ child)
 child_kind trees None child e = absurd (cc)
 child_kind trees (Some (OfPrimitive p)) child e = absurd (cc)
 child_kind trees (Some (OfComponent k)) child e = (k, refl, instance_is (trees k) child e)
 
 module _ (d : PlainDesign) (design : IsDesign d) (accepted : IsAccepted d) (undone : NoneNamesDone d) where
   -- with levels enough
-  ruled_tree : (n k : ℕ) (path : List ℕ) → IsWay d design path k → length d.components ≤ n + length path → IsRuled (component_at d k) (tree_within d n k)
+  pub ruled_tree : (n k : ℕ) (path : List ℕ) → IsWay d design path k → length d.components ≤ n + length path → IsRuled (component_at d k) (tree_within d n k)
   ruled_tree n k path way many =
       subst (IsRuled (component_at d k))
       (levels d design (length d.components) (n + length d.components) path k way (omega arith) (omega arith) ∙ sym (levels d design n (n + length d.components) path k way many (omega arith)))

@@ -8,6 +8,7 @@ use Rattle.cx_meaning.proofs.DesignsLemmas.{same_part}
 use Rattle.cx_rules.specs.Items.{Context, Dynamic, InStatic, Branch, below_dynamic, Visited, visit, visit_parts, visit_all}
 use Rattle.cx_rules.specs.Wellformed.{IsForm, IsKind, IsDesign}
 use Rattle.cx_rules.specs.Flat.{IsFlat}
+use Rattle.cx_flattening.specs.Forms.{HasForms}
 use Rattle.cx_flattening.specs.Whole.{is_static}
 use Rattle.cx_flattening.proofs.BareIslands.{Bare, BareOne, BareAll, NoStatic}
 use Rattle.cx_flattening.proofs.BareRuns.{BareTree, BareCells}
@@ -45,11 +46,11 @@ mutual
   bare_all context no_statements h = tt
   bare_all context (a_statement s ss) h = (bare_one context s (left (visit context s) (visit_all context ss) h), bare_all context ss (right (visit context s) (visit_all context ss) h))
 
-module _ (d : PlainDesign) (design : IsDesign d) (flat : IsFlat d) where
+module _ (d : PlainDesign) (has : HasForms d) (flat : IsFlat d) where
   none_timed : (k : ℕ) → k < length d.components → NoneTimed (visit Dynamic (component_at d k).control)
   none_timed k there v n i e =
       let form : n < length (component_at d k).invokes =
-      subst (λ form. IsForm (component_at d k) form) e (subst (λ part. IsForm part v.form) (same_part d (length d.components) k) ((design.components k there).statements v i).form) in
+      subst (λ form. IsForm (component_at d k) form) e (has.forms k v there i) in
       let none : n < 0 = subst (λ list. n < length list) (flat k there).no_invoke form in
       absurd (omega (arith, none))
 
@@ -67,12 +68,8 @@ module _ (d : PlainDesign) (design : IsDesign d) (flat : IsFlat d) where
       choice (OfPrimitive primitive) e rest = rest
       choice (OfComponent k) e rest = (dynamic m k (kinds c k (inl refl) e), rest)
 
-  kind_there : (kind : PlainKind) (j : ℕ) → IsKind d kind → kind ≡ OfComponent j → j < length d.components
-  kind_there (OfPrimitive primitive) j h e = absurd (cc)
-  kind_there (OfComponent k) j h e = let same : k ≡ j = cc in subst (λ n. n < length d.components) same h
-
   kinds_of : (k : ℕ) → k < length d.components → AreKinds (component_at d k).cells
-  kinds_of k there cell j i e = kind_there cell.kind j ((design.components k there).cells cell i).kind e
+  kinds_of k there cell j i e = has.kinds k j cell there i e
 
   module _ (trees : ℕ → Instance) (bare : (k : ℕ) → k < length d.components → BareTree (trees k)) where
     bare_cell : (kind : PlainKind) (rest : Cells) → ((k : ℕ) → kind ≡ OfComponent k → k < length d.components) → BareCells rest → BareCells (add_cell trees kind rest)
@@ -93,5 +90,20 @@ module _ (d : PlainDesign) (design : IsDesign d) (flat : IsFlat d) where
     ),
   )
 
+pub bare_forms : (d : PlainDesign) → HasForms d → IsFlat d → BareTree (tree_of d)
+bare_forms d has flat = bare_tree d has flat (length d.components) d.main has.main
+
+-- each design has them
+kind_there : (d : PlainDesign) (kind : PlainKind) (j : ℕ) → IsKind d kind → kind ≡ OfComponent j → j < length d.components
+kind_there d (OfPrimitive primitive) j h e = absurd (cc)
+kind_there d (OfComponent k) j h e = let same : k ≡ j = cc in subst (λ n. n < length d.components) same h
+
+forms_of : (d : PlainDesign) → IsDesign d → HasForms d
+forms_of d design = record {
+  main = design.main_there;
+  forms = λ k v there i. subst (λ part. IsForm part v.form) (same_part d (length d.components) k) ((design.components k there).statements v i).form;
+  kinds = λ k j cell there i e. kind_there d cell.kind j ((design.components k there).cells cell i).kind e;
+}
+
 pub bare_design : (d : PlainDesign) → IsDesign d → IsFlat d → BareTree (tree_of d)
-bare_design d design flat = bare_tree d design flat (length d.components) d.main design.main_there
+bare_design d design flat = bare_forms d (forms_of d design) flat

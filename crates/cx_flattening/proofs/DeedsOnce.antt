@@ -291,7 +291,7 @@ module _ (part : PlainComponent) (cells : Cells) where
 
 -- NOTHING AT ALL is fed once
 mutual
-  none_once : (i : Instance) → FedOnce i []
+  pub none_once : (i : Instance) → FedOnce i []
   none_once (Node part cells) = (λ c. omega arith, none_once_below cells 0)
 
   none_once_below : (cells : Cells) (c : ℕ) → FedOnceBelow cells c []

@@ -149,7 +149,7 @@ module _ (part : PlainComponent) (cells : Cells) (ruled : IsRuled part (Node par
       let s = ruled.enabled j less in
       ruled.invoked s.0 j (the_invoke part j) s.1 s.2 (slice_get-get_or part.invokes j no_invoke less) broken
 
-  input_bound : (j n : ℕ) (child : Instance) → j < length part.invokes → cell_at cells (the_invoke part j).cell ≡ OfInstance child → n < length (part_of child).inputs
+  pub input_bound : (j n : ℕ) (child : Instance) → j < length part.invokes → cell_at cells (the_invoke part j).cell ≡ OfInstance child → n < length (part_of child).inputs
       → some_target (same_port (input_port (the_invoke part j).cell n)) (the_invoke part j).inputs ≡ true
   input_bound j n child less at there = by (some_target (same_port (input_port (the_invoke part j).cell n)) (the_invoke part j).inputs) refl
     where
@@ -249,9 +249,9 @@ module _ (part : PlainComponent) (cells : Cells) (ruled : IsRuled part (Node par
       by (Some w) at h = and_true w.written (is_some w.latency) h (latency w at w.latency refl)
 
   -- so a static statement has a length
-  record Lengthy (vs : List Visited) : Type 0 where
-    stands : (v : Visited) → In vs v → is_in_static v.context ≡ true → may_stand part v.context v.form ≡ true
-    timed : (v : Visited) (k : ℕ) → In vs v → v.form ≡ Timed k → is_written (invoke_at part k) ≡ true → is_timed (invoke_at part k) ≡ true
+  pub record Lengthy (vs : List Visited) : Type 0 where
+    pub stands : (v : Visited) → In vs v → is_in_static v.context ≡ true → may_stand part v.context v.form ≡ true
+    pub timed : (v : Visited) (k : ℕ) → In vs v → v.form ≡ Timed k → is_written (invoke_at part k) ≡ true → is_timed (invoke_at part k) ≡ true
 
   lengthy_left : (vs ws : List Visited) → Lengthy (vs ++ ws) → Lengthy vs
   lengthy_left vs ws h = record { stands = λ v j. h.stands v (in_left vs ws v j); timed = λ v k j. h.timed v k (in_left vs ws v j) }
@@ -260,7 +260,7 @@ module _ (part : PlainComponent) (cells : Cells) (ruled : IsRuled part (Node par
   lengthy_right vs ws h = record { stands = λ v j. h.stands v (in_right vs ws v j); timed = λ v k j. h.timed v k (in_right vs ws v j) }
 
   mutual
-    form_lengthy : (context at : Context) (form : PlainForm) → may_stand part context form ≡ true → ((k : ℕ) → form ≡ Timed k → is_written (invoke_at part k) ≡ true → is_timed (invoke_at part k) ≡ true)
+    pub form_lengthy : (context at : Context) (form : PlainForm) → may_stand part context form ≡ true → ((k : ℕ) → form ≡ Timed k → is_written (invoke_at part k) ≡ true → is_timed (invoke_at part k) ≡ true)
         → Lengthy (visit_parts at form) → form_has_length part context form ≡ true
     form_lengthy context at Empty may own h = may
     form_lengthy context at (Enable g) may own h = may
@@ -287,7 +287,7 @@ module _ (part : PlainComponent) (cells : Cells) (ruled : IsRuled part (Node par
     all_lengthy (a_statement s ss) h =
         and_true (has_length part InStatic s) (all_have_length part ss) (one_lengthy InStatic s refl (lengthy_left (visit InStatic s) (visit_all InStatic ss) h)) (all_lengthy ss (lengthy_right (visit InStatic s) (visit_all InStatic ss) h))
 
-  lengthy_whole : Lengthy (statements_in part)
+  pub lengthy_whole : Lengthy (statements_in part)
   lengthy_whole = record { stands = λ v j. ruled.stands v j; timed = λ v k j. timed_has v k j }
 
   -- THE CONTROL OF A STATIC COMPONENT has a length, and takes as many cycles as it says

@@ -53,7 +53,7 @@ offset-none P g none (e ∷ rest) all =
     ap (λ b. if b then Some e.offset else offset_in rest g) (ne_eqb e.group g (λ same. none (subst P same (all e (inl refl))))) ∙ offset-none P g none rest (λ x i. all x (inr i))
 
 -- DEEDS below a cell among others
-own-below : (c : ℕ) (kds ds : List Deed) → own_entries (map (lower (c ∷ [])) kds ++ ds) ≡ own_entries ds
+pub own-below : (c : ℕ) (kds ds : List Deed) → own_entries (map (lower (c ∷ [])) kds ++ ds) ≡ own_entries ds
 own-below c [] ds = refl
 own-below c (Acts at e ∷ rest) ds = own-below c rest ds
 own-below c (Fed at d inputs ∷ rest) ds = own-below c rest ds
@@ -63,17 +63,17 @@ fed-below c d [] ds = refl
 fed-below c d (Acts at e ∷ rest) ds = fed-below c d rest ds
 fed-below c d (Fed at f inputs ∷ rest) ds = fed-below c d rest ds
 
-count-below : (c d : ℕ) (kds ds : List Deed) → count_fed d (map (lower (c ∷ [])) kds ++ ds) ≡ count_fed d ds
+pub count-below : (c d : ℕ) (kds ds : List Deed) → count_fed d (map (lower (c ∷ [])) kds ++ ds) ≡ count_fed d ds
 count-below c d [] ds = refl
 count-below c d (Acts at e ∷ rest) ds = count-below c d rest ds
 count-below c d (Fed at f inputs ∷ rest) ds = count-below c d rest ds
 
-below-there : (c : ℕ) (kds ds : List Deed) → deeds_below c (map (lower (c ∷ [])) kds ++ ds) ≡ kds ++ deeds_below c ds
+pub below-there : (c : ℕ) (kds ds : List Deed) → deeds_below c (map (lower (c ∷ [])) kds ++ ds) ≡ kds ++ deeds_below c ds
 below-there c [] ds = refl
 below-there c (Acts at e ∷ rest) ds = ap (λ b. deed_if b (Acts at e) (deeds_below c (map (lower (c ∷ [])) rest ++ ds))) (eq-eqb c c refl) ∙ ap (λ l. Acts at e ∷ l) (below-there c rest ds)
 below-there c (Fed at f inputs ∷ rest) ds = ap (λ b. deed_if b (Fed at f inputs) (deeds_below c (map (lower (c ∷ [])) rest ++ ds))) (eq-eqb c c refl) ∙ ap (λ l. Fed at f inputs ∷ l) (below-there c rest ds)
 
-below-elsewhere : (c d : ℕ) → (c ≡ d → ⊥) → (kds ds : List Deed) → deeds_below d (map (lower (c ∷ [])) kds ++ ds) ≡ deeds_below d ds
+pub below-elsewhere : (c d : ℕ) → (c ≡ d → ⊥) → (kds ds : List Deed) → deeds_below d (map (lower (c ∷ [])) kds ++ ds) ≡ deeds_below d ds
 below-elsewhere c d apart [] ds = refl
 below-elsewhere c d apart (Acts at e ∷ rest) ds = ap (λ b. deed_if b (Acts at e) (deeds_below d (map (lower (c ∷ [])) rest ++ ds))) (ne_eqb c d apart) ∙ below-elsewhere c d apart rest ds
 below-elsewhere c d apart (Fed at f inputs ∷ rest) ds = ap (λ b. deed_if b (Fed at f inputs) (deeds_below d (map (lower (c ∷ [])) rest ++ ds))) (ne_eqb c d apart) ∙ below-elsewhere c d apart rest ds

@@ -149,7 +149,7 @@ module _ (j : ℕ) where
     timed_visited context (StaticRepeat written count a) v i e = timed_there InStatic a v i e
     timed_visited context (Timed k) v i e = absurd i
 
-    timed_there : (context : Context) (s : PlainStatement) (v : Visited) → In (visit context s) v → v.form ≡ Timed j → In (timed_of s) j
+    pub timed_there : (context : Context) (s : PlainStatement) (v : Visited) → In (visit context s) v → v.form ≡ Timed j → In (timed_of s) j
     timed_there context (Placed form place) v (inl same) e = subst (λ x. In (timed_in x) j) (sym (ap (λ (y : Visited). y.form) same ∙ e)) (inl refl)
     timed_there context (Placed form place) v (inr i) e = timed_visited context form v i e
 

@@ -91,7 +91,7 @@ capture_lasts J f copy None (Placed form place) h = plus (form_length J (copied_
     plus a = omega arith
 capture_lasts J f copy (Some g) s h = ap (λ o. length_of J (copied_statement f copy s) + (or_zero o + 0)) (h g refl)
 
-capture_in : (o : Option ℕ) (s : PlainStatement) (g : ℕ) → In (groups_of s) g → In (groups_in (with_capture o s)) g
+pub capture_in : (o : Option ℕ) (s : PlainStatement) (g : ℕ) → In (groups_of s) g → In (groups_in (with_capture o s)) g
 capture_in None (Placed form place) g i = i
 capture_in (Some h) s g i = in_left (groups_of s) (h ∷ []) g i
 

@@ -1,13 +1,13 @@
 -- LIMITS: over the tree of the flat design there are as many instances, levels and words as are counted in that of the design; so the flat
 -- design keeps the limits on these and on cells.
-use Rattle.std.proofs.Common.{◌≡◌, ℕ, zero, suc, ◌+◌, ◌<◌, ◌≤◌, inl, inr, Bool, true, false, List, [], ◌∷◌, length, get_or, Option, Some, None, if◌then◌else◌, refl, sym, ap, ◌∙◌, subst, arith}
+use Rattle.std.proofs.Common.{◌≡◌, ℕ, zero, suc, ◌+◌, ◌<◌, ◌≤◌, inl, inr, List, [], ◌∷◌, length, Option, Some, None, refl, sym, ap, ◌∙◌, subst, arith}
 use Rattle.std.specs.Prelude.{max}
-use Rattle.std.proofs.lemmas.List.{length-map, get_or-map}
+use Rattle.std.proofs.lemmas.List.{length-map}
 use Rattle.cx_text.specs.declared.places.Place.{Place}
 use Rattle.cx_text.specs.declared.rules.Rule.TheVariants as rules
 use Rattle.cx_text.specs.declared.limits.TheConstants.{CELLS, INSTANCES, INSTANCE_DEPTH, MEMORY_WORDS}
 use Rattle.cx_prim.specs.Rows.{Row}
-use Rattle.cx_meaning.specs.Designs.{PlainKind, OfPrimitive, OfComponent, PlainCell, PlainComponent, PlainDesign, component_at, no_component}
+use Rattle.cx_meaning.specs.Designs.{PlainKind, OfPrimitive, OfComponent, PlainCell, PlainComponent, PlainDesign, component_at}
 use Rattle.cx_meaning.specs.Instances.{Instance, Node, Cells, no_cells, a_primitive, an_instance, part_of, cells_of, add_cell, cells_for, tree_within, tree_of}
 use Rattle.cx_meaning.specs.Sights.{In}
 use Rattle.cx_rules.specs.Accepted.{IsAccepted}
@@ -20,10 +20,11 @@ use Rattle.cx_rules.specs.LimitRule.{Limited, OnCells, OnInstances, OnDepth, OnW
 use Rattle.cx_rewrites.specs.FlatRules.{BreaksCells, BreaksInstances, BreaksDepth, BreaksWords}
 use Rattle.cx_flattening.specs.Embedded.{IsFlattened}
 use Rattle.cx_flattening.specs.Flattened.{flat_part}
-use Rattle.cx_flattening.specs.FlatDesign.{flat_of, is_reached, reached_from, renumbered_cell, renumbered_part, flat_design}
+use Rattle.cx_flattening.specs.FlatDesign.{renumbered_cell, flat_design}
 use Rattle.cx_flattening.proofs.CellLayout.{count_for}
 use Rattle.cx_flattening.proofs.TreeLevels.{IsWay, no_way, further, way_is_short}
 use Rattle.cx_flattening.proofs.FlatTrees.{flat_tree}
+use Rattle.cx_flattening.proofs.FlatNumbers.{made}
 use Rattle.cx_flattening.proofs.FlatSizes.{flat_count}
 use Rattle.cx_flattening.proofs.FlatFolds.{AllFit, FitBelow, flat_below}
 
@@ -99,17 +100,6 @@ fit_cells : (trees : ℕ → Instance) (cs : List PlainCell) → ((cell : PlainC
 fit_cells trees [] each = tt
 fit_cells trees (c ∷ cs) each = fit_kind trees c.kind (cells_for trees cs) (λ j e. each c j (inl refl) e) (fit_cells trees cs (λ cell j i e. each cell j (inr i) e))
 
--- numbers that are reached
-reached_less : (d : PlainDesign) (k n m : ℕ) → m < length (reached_from d k n) → get_or (reached_from d k n) m 0 < k + n
-reached_less d k zero m less = absurd (omega (arith, less))
-reached_less d k (suc n) m less = choice (is_reached d k) m less (λ x h. reached_less d (suc k) n x h)
-  where
-    choice : (b : Bool) (m : ℕ) → m < length (if b then k ∷ reached_from d (suc k) n else reached_from d (suc k) n) → ((x : ℕ) → x < length (reached_from d (suc k) n) → get_or (reached_from d (suc k) n) x 0 < suc k + n)
-        → get_or (if b then k ∷ reached_from d (suc k) n else reached_from d (suc k) n) m 0 < k + suc n
-    choice true zero there later = omega arith
-    choice true (suc x) there later = let h = later x (omega (arith, there)) in omega (arith, h)
-    choice false x there later = let h = later x there in omega (arith, h)
-
 module _ (d : PlainDesign) (design : IsDesign d) where
   fits : (m : ℕ) (path : List ℕ) (k : ℕ) → IsWay d design path k → length d.components ≤ m + length path → AllFit (tree_within d m k)
   fits zero path k way many = absurd (let short : length path < length d.components = way_is_short d design path k way in omega (arith, short, many))
@@ -153,19 +143,12 @@ module _ (d : PlainDesign) (design : IsDesign d) where
 
     pub keeps_cells : (spot : Spot) (place : Place) (name : List ℕ) → BreaksCells (flat_design d) spot place name → ⊥
     keeps_cells spot place name b =
-        accepted.limits rules.Limit (record { component = k; part = Itself (order_of OnCells) }) (component_at d k).place (word_of OnCells) refl
-        (inl (record { within = less; is = refl; exceeds = subst (λ n. CELLS < n) same b.exceeds; tells = (refl, refl) }))
-      where
-        there : spot.component < length (reached_from d 0 (length d.components))
-        there = subst (λ n. spot.component < n) (length-map (reached_from d 0 (length d.components)) (λ j. renumbered_part d (flat_of d j))) b.within
-
-        k : ℕ
-        k = get_or (reached_from d 0 (length d.components)) spot.component 0
-
-        less : k < length d.components
-        less = subst (λ n. k < n) (zero_plus (length d.components)) (reached_less d 0 (length d.components) spot.component there)
-
-        same : length (component_at (flat_design d) spot.component).cells ≡ counted_cells (component_of d k)
-        same =
-            ap (λ (p : PlainComponent). length p.cells) (get_or-map (λ j. renumbered_part d (flat_of d j)) (reached_from d 0 (length d.components)) spot.component 0 no_component there)
-            ∙ length-map (flat_part (component_of d k)).cells (renumbered_cell d) ∙ flat_count (component_of d k)
+        let m = made d design spot.component b.within in
+        accepted.limits rules.Limit (record { component = m.old; part = Itself (order_of OnCells) }) (component_at d m.old).place (word_of OnCells) refl
+        (inl (record {
+          within = m.less;
+          is = refl;
+          exceeds = subst (λ n. CELLS < n)
+              (ap (λ (p : PlainComponent). length p.cells) m.part ∙ length-map (flat_part (component_of d m.old)).cells (renumbered_cell d) ∙ flat_count (component_of d m.old)) b.exceeds;
+          tells = (refl, refl);
+        }))

@@ -47,7 +47,7 @@ mutual
   form_still (StaticRepeat length count a) = ap (StaticRepeat length count) (statement_still a)
   form_still (Timed k) = refl
 
-  statement_still : (s : PlainStatement) → copied_statement (λ q. q) (λ g. g) s ≡ s
+  pub statement_still : (s : PlainStatement) → copied_statement (λ q. q) (λ g. g) s ≡ s
   statement_still (Placed form place) = ap (λ x. Placed x place) (form_still form)
 
   statements_still : (ss : PlainStatements) → copied_statements (λ q. q) (λ g. g) ss ≡ ss

@@ -53,14 +53,14 @@ outputs_are : (i : Instance) → (flat_part i).outputs ≡ (part_of i).outputs
 outputs_are (Node part cells) = refl
 
 module _ (d : PlainDesign) (design : IsDesign d) where
-  abbrev IsThere : ℕ → Type 0
+  abbrev pub IsThere : ℕ → Type 0
   IsThere j = (j < length d.components) × (is_reached d j ≡ true)
 
   -- a component that the flat main reaches over those above it, none twice
-  record IsTop (ups : List ℕ) (k : ℕ) : Type 0 where
-    apart : Distinct (k ∷ ups)
-    there : (j : ℕ) → In (k ∷ ups) j → IsThere j
-    steps : leads_within d (length ups) k d.main ≡ true
+  pub record IsTop (ups : List ℕ) (k : ℕ) : Type 0 where
+    pub apart : Distinct (k ∷ ups)
+    pub there : (j : ℕ) → In (k ∷ ups) j → IsThere j
+    pub steps : leads_within d (length ups) k d.main ≡ true
 
   in_map : (ks : List ℕ) (n : ℕ) → In (map (reached_below d) ks) n → (j : ℕ) × In ks j × (reached_below d j ≡ n)
   in_map [] n i = absurd i
@@ -87,7 +87,7 @@ module _ (d : PlainDesign) (design : IsDesign d) where
       let size = length-map ups (reached_below d) in
       omega (arith, all, size)
 
-  further_top : (ups : List ℕ) (k j e : ℕ) → IsTop ups k → kind_at (flat_of d k).cells e ≡ Some (OfComponent j) → j < length d.components → (In (k ∷ ups) j → ⊥) → IsTop (k ∷ ups) j
+  pub further_top : (ups : List ℕ) (k j e : ℕ) → IsTop ups k → kind_at (flat_of d k).cells e ≡ Some (OfComponent j) → j < length d.components → (In (k ∷ ups) j → ⊥) → IsTop (k ∷ ups) j
   further_top ups k j e top is less fresh = record {
     apart = (fresh, top.apart);
     there = at;
@@ -111,17 +111,17 @@ module _ (d : PlainDesign) (design : IsDesign d) where
 
   -- component k, a way down from main, of which a dynamic one is the last that stands for itself; trees at the cells of its flat form
   -- have n levels
-  record IsBelow (m : ℕ) (path : List ℕ) (k n : ℕ) (ups : List ℕ) (top : ℕ) : Type 0 where
-    way : IsWay d design path k
-    many : length d.components ≤ m + length path
-    is_top : IsTop ups top
-    enough : length (flat_design d).components ≤ suc n + length ups
-    within : (x : ℕ) → In (top ∷ ups) x → In (k ∷ path) x
+  pub record IsBelow (m : ℕ) (path : List ℕ) (k n : ℕ) (ups : List ℕ) (top : ℕ) : Type 0 where
+    pub way : IsWay d design path k
+    pub many : length d.components ≤ m + length path
+    pub is_top : IsTop ups top
+    pub enough : length (flat_design d).components ≤ suc n + length ups
+    pub within : (x : ℕ) → In (top ∷ ups) x → In (k ∷ path) x
 
-  abbrev trees_at : ℕ → ℕ → Instance
+  abbrev pub trees_at : ℕ → ℕ → Instance
   trees_at n j = tree_within (flat_design d) n (reached_below d j)
 
-  abbrev Embeds : ℕ → Type 0
+  abbrev pub Embeds : ℕ → Type 0
   Embeds m = (path : List ℕ) (k n : ℕ) (ups : List ℕ) (top first : ℕ) (host : Cells) → IsBelow m path k n ups top
       → Holds (flat_part (tree_within d m k)).cells first (flat_of d top).cells → IsHost host (flat_of d top).cells (trees_at n) → IsEmbedded (tree_within d m k) first host
 
@@ -133,7 +133,7 @@ module _ (d : PlainDesign) (design : IsDesign d) where
       ∙ sym (levels d design (length d.components) (m + length d.components) path k way (omega arith) (omega arith)))
 
   -- A COMPONENT that is not static
-  flattened : (m : ℕ) → Embeds m → (path : List ℕ) (k n : ℕ) (ups : List ℕ) → IsWay d design path k → length d.components ≤ m + length path → IsTop ups k
+  pub flattened : (m : ℕ) → Embeds m → (path : List ℕ) (k n : ℕ) (ups : List ℕ) → IsWay d design path k → length d.components ≤ m + length path → IsTop ups k
       → length (flat_design d).components ≤ n + length ups → ((x : ℕ) → In ups x → In path x) → IsFlattened (tree_within d m k) (trees_at n k)
   flattened m embeds path k zero ups way many top enough within = let few = few_ups ups k top in absurd (omega (arith, few, enough))
   flattened m embeds path k (suc n) ups way many top enough within = (
@@ -243,11 +243,11 @@ module _ (d : PlainDesign) (design : IsDesign d) where
         embedded_by kids (component_at d k) first host cells 0
         (λ e. subst (λ c. CellAt c (cell_at cells e)) (sym (zero_plus e)) (subst (CellAt e) (sym (cell_for (tree_within d m) cs e)) (at_cell e (kind_at cs e) refl)))
 
-  embedded : (m : ℕ) → Embeds m
+  pub embedded : (m : ℕ) → Embeds m
   embedded zero path k n ups top first host below holds is = tt
   embedded (suc m) path k n ups top first host below holds is = all_cells m (embedded m) path k n ups top first host below holds is
 
-  main_top : IsTop [] d.main
+  pub main_top : IsTop [] d.main
   main_top = record {
     apart = (λ i. absurd i, tt);
     there = at;

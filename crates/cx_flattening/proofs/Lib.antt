@@ -1,8 +1,9 @@
-mod BareIslands
-mod BareRuns
-mod BareDesigns
+pub mod BareIslands
+pub mod BareRuns
+pub mod BareDesigns
 pub mod KnownInvokes
 pub mod KnownNested
+pub mod KnownRules
 mod Sorting
 mod MovedDrivers
 mod CopiedAssigns
@@ -71,6 +72,24 @@ mod FaultRuns
 pub mod FlatSizes
 pub mod FlatFolds
 pub mod FlatLimits
+pub mod FlatComponents
+mod FlatCircles
+pub mod FlatNumbers
+pub mod FlatStages
+pub mod FlatKeeps
+pub mod FlatRanges
+mod Typed
+mod FlatTyped
+mod TypedParts
+pub mod FlatWidths
+mod TypedTests
+mod FlatCounts
+pub mod FlatKinds
+pub mod FlatShapes
+pub mod FlatStands
+pub mod FlatLasts
+pub mod FlatAbsent
+pub mod FlatRepeats
 mod KeptRuns
 mod KnownFaults
 mod ToldRuns

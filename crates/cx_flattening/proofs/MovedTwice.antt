@@ -1,9 +1,9 @@
 -- Assignments that are moved twice are moved by both maps; and by the map that leaves ports as they are nothing is moved.
 use Rattle.std.proofs.Common.{◌≡◌, List, [], ◌∷◌, map, refl, ap, ◌∙◌}
 use Rattle.cx_meaning.specs.declared.ports.PortRef.{PortRef}
-use Rattle.cx_meaning.specs.Designs.{PlainGuard, Always, Atom, Negation, All, Any, Compared, Within, PlainGuards, no_guards, a_guard}
+use Rattle.cx_meaning.specs.Designs.{PlainGuard, Always, Atom, Negation, All, Any, Compared, Within, PlainGuards, no_guards, a_guard, PlainAssign}
 use Rattle.cx_meaning.specs.Active.{Acting}
-use Rattle.cx_rewrites.specs.Moving.{moved_guard, moved_guards, moved_acting}
+use Rattle.cx_rewrites.specs.Moving.{moved_guard, moved_guards, moved_assign, moved_acting}
 
 module _ (f g : PortRef → PortRef) where
   mutual
@@ -19,6 +19,10 @@ module _ (f g : PortRef → PortRef) where
     guards_twice : (xs : PlainGuards) → moved_guards f (moved_guards g xs) ≡ moved_guards (λ q. f (g q)) xs
     guards_twice no_guards = refl
     guards_twice (a_guard x xs) = ap (λ y. a_guard y (moved_guards f (moved_guards g xs))) (guard_twice x) ∙ ap (a_guard (moved_guard (λ q. f (g q)) x)) (guards_twice xs)
+
+  pub assign_twice : (a : PlainAssign) → moved_assign f (moved_assign g a) ≡ moved_assign (λ q. f (g q)) a
+  assign_twice a =
+      ap (λ x. record { target = f (g a.target); guard = x; source = record { port = f (g a.source.port); place = a.source.place }; place = a.place }) (guard_twice a.guard)
 
   acting_twice : (a : Acting) → moved_acting f (moved_acting g a) ≡ moved_acting (λ q. f (g q)) a
   acting_twice a =
@@ -48,3 +52,6 @@ moved_still [] = refl
 moved_still (a ∷ rest) =
     ap (λ x. record { offset = a.offset; assign = record { target = a.assign.target; guard = x; source = a.assign.source; place = a.assign.place } } ∷ map (moved_acting (λ q. q)) rest) (guard_still a.assign.guard)
     ∙ ap (λ l. a ∷ l) (moved_still rest)
+
+pub assign_still : (a : PlainAssign) → moved_assign (λ q. q) a ≡ a
+assign_still a = ap (λ x. record { target = a.target; guard = x; source = a.source; place = a.place }) (guard_still a.guard)

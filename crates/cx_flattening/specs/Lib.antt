@@ -24,3 +24,4 @@ pub mod Arms
 pub mod Asking
 pub mod Ends
 pub mod Faulty
+pub mod Forms

@@ -1,6 +1,6 @@
 //! Laws of static components and of flat instances: each function does nothing, and its clause is the law.
 
-ghost use Rattle.std.specs.Prelude.{◌≡◌, ℕ, List, [], Option, Some, length};
+ghost use Rattle.std.specs.Prelude.{◌≡◌, ◌⊎◌, ℕ, true, List, [], Option, Some, length};
 ghost use Rattle.cx_text.specs.declared.places.Place.{Place};
 ghost use Rattle.cx_meaning.specs.declared.ports.PortRef.{PortRef};
 ghost use Rattle.cx_meaning.specs.declared.ports.PortRef.TheVariants.{Input};
@@ -16,18 +16,23 @@ ghost use Rattle.cx_meaning.specs.Calls as calls;
 ghost use Rattle.cx_meaning.specs.Running.{Children, run_control, run_main};
 ghost use Rattle.cx_rules.specs.Counts.{counted_cells, counted_depth, counted_instances};
 ghost use Rattle.cx_rules.specs.Sizes.{depth_below, instances_below, words_below};
-ghost use Rattle.cx_rules.specs.Spots.{Spot};
+ghost use Rattle.cx_rules.specs.ShapeRules.{BreaksAlwaysEnable, BreaksCombEnable, BreaksInvokeLength, BreaksKept, BreaksLength, BreaksNoDone};
+ghost use Rattle.cx_rules.specs.ShapeRules.{BreaksPartLength, BreaksStaticControl, BreaksStaticGuard, GroupBreaksStaticShape};
+ghost use Rattle.cx_rules.specs.LimitRule.{count_in, is_too_many};
+ghost use Rattle.cx_rules.specs.InvokeShape.{BreaksInvoke, BreaksStaticCell};
+ghost use Rattle.cx_rules.specs.Spots.{OnAssign, OnGroup, OnStatement, Spot};
 ghost use Rattle.cx_rules.specs.Externals.{external_rows};
-ghost use Rattle.cx_rewrites.specs.FlatRules.{BreaksCells, BreaksDepth, BreaksInstances, BreaksWords};
+ghost use Rattle.cx_rewrites.specs.FlatRules.{BreaksCells, BreaksDepth, BreaksGroups, BreaksInstances, BreaksWords};
 ghost use Rattle.cx_rules.specs.Flat.{ArePlainNames, IsFlat};
-ghost use Rattle.cx_rules.specs.Accepted.{IsAccepted};
+ghost use Rattle.cx_rules.specs.Accepted.{IsAccepted, KeepsStage};
+ghost use Rattle.cx_rules.specs.Ports.{component_of};
 ghost use Rattle.cx_rules.specs.Wellformed.{IsDesign};
 ghost use Rattle.cx_rules.specs.Invokes.{form_lasts};
 ghost use Rattle.cx_flattening.specs.Events.{spot};
 ghost use Rattle.cx_flattening.specs.Deeds.{Deed, History, deeds_in, own_entries};
 ghost use Rattle.cx_flattening.specs.Whole.{call, group_turn, whole_control, whole_cycle, whole_island, whole_main};
 ghost use Rattle.cx_flattening.specs.Flattened.{flat_form, flat_kids, flat_part, kept_at};
-ghost use Rattle.cx_flattening.specs.FlatDesign.{flat_design};
+ghost use Rattle.cx_flattening.specs.FlatDesign.{flat_design, is_reached, reached_below};
 ghost use Rattle.cx_flattening.specs.Acting.{ActsAs};
 ghost use Rattle.cx_flattening.specs.Embedded.{IsFlattened, Stands};
 ghost use Rattle.cx_flattening.specs.Levels.{IsKnown, OutputsSeen, own_of};
@@ -40,6 +45,7 @@ ghost use Rattle.cx_flattening.specs.Controlled.{AllControlled};
 ghost use Rattle.cx_flattening.specs.FedOnce.{FedOnce};
 ghost use Rattle.cx_flattening.specs.Sampling.{AgreesAt};
 ghost use Rattle.cx_flattening.specs.Ends.{NoneNamesDone};
+ghost use Rattle.cx_flattening.specs.Forms.{HasForms};
 ghost use Rattle.cx_flattening.specs.Told.{KeepsRuns};
 ghost use Rattle.cx_flattening.specs.Lists.{IsIsland, IsStaticOf, island_events};
 ghost use Rattle.cx_flattening.specs.Runs.{AnswerAs};
@@ -49,7 +55,13 @@ ghost use Rattle.cx_flattening.specs.Asking.{TreeAsks};
 /// A design without static components means what it means without them: it ends in the same turn with the same state, has the
 /// same fault in the same turn, or needs more turns.
 pub fn means_the_same_without()
-    ensures { (d : PlainDesign) (words : List (List ℕ)) (n : ℕ) → IsDesign d → IsFlat d → whole_main d words n ≡ run_main d words n }
+    ensures { (d : PlainDesign) (words : List (List ℕ)) (n : ℕ)
+        → IsDesign d → IsFlat d → whole_main d words n ≡ run_main d words n }
+{}
+
+/// So does one in which what statements and cells name is there, as in that of each text, whatever its size.
+pub fn forms_mean_the_same_without()
+    ensures { (d : PlainDesign) (words : List (List ℕ)) (n : ℕ) → HasForms d → IsFlat d → whole_main d words n ≡ run_main d words n }
 {}
 
 /// Each output of an instance is seen, wherever its flat component stands and whatever acts there, as in the instance.
@@ -159,15 +171,63 @@ pub fn accepted_designs_keep_their_runs()
 /// are as many instances, levels and memory words as are counted in that of the design.
 pub fn flat_sizes_are_counted()
     ensures cells { (i : Instance) → length (flat_part i).cells ≡ counted_cells i }
-    ensures instances { (d : PlainDesign) → IsDesign d → instances_below (tree_of (flat_design d)) ≡ counted_instances (tree_of d) }
+    ensures instances { (d : PlainDesign)
+        → IsDesign d → instances_below (tree_of (flat_design d)) ≡ counted_instances (tree_of d) }
     ensures depth { (d : PlainDesign) → IsDesign d → depth_below (tree_of (flat_design d)) ≡ counted_depth (tree_of d) }
     ensures words { (d : PlainDesign) → IsDesign d → words_below (tree_of (flat_design d)) ≡ words_below (tree_of d) }
 {}
 
-/// The flat design of an accepted design exceeds no limit on cells, instances, levels and memory words.
+/// The flat design of an accepted design exceeds no limit on cells, instances, levels, memory words and rounds of a repeat; nor on
+/// groups, where nothing looks at the done of a static component's cell.
 pub fn flat_designs_keep_limits()
-    ensures cells { (d : PlainDesign) (at : Spot) (place : Place) (name : List ℕ) → IsDesign d → IsAccepted d → BreaksCells (flat_design d) at place name → ⊥ }
-    ensures instances { (d : PlainDesign) (at : Spot) (place : Place) (name : List ℕ) → IsDesign d → IsAccepted d → BreaksInstances (flat_design d) at place name → ⊥ }
-    ensures depth { (d : PlainDesign) (at : Spot) (place : Place) (name : List ℕ) → IsDesign d → IsAccepted d → BreaksDepth (flat_design d) at place name → ⊥ }
-    ensures words { (d : PlainDesign) (at : Spot) (place : Place) (name : List ℕ) → IsDesign d → IsAccepted d → BreaksWords (flat_design d) at place name → ⊥ }
+    ensures cells { (d : PlainDesign) (at : Spot) (place : Place) (name : List ℕ)
+        → IsDesign d → IsAccepted d → BreaksCells (flat_design d) at place name → ⊥ }
+    ensures instances { (d : PlainDesign) (at : Spot) (place : Place) (name : List ℕ)
+        → IsDesign d → IsAccepted d → BreaksInstances (flat_design d) at place name → ⊥ }
+    ensures depth { (d : PlainDesign) (at : Spot) (place : Place) (name : List ℕ)
+        → IsDesign d → IsAccepted d → BreaksDepth (flat_design d) at place name → ⊥ }
+    ensures words { (d : PlainDesign) (at : Spot) (place : Place) (name : List ℕ)
+        → IsDesign d → IsAccepted d → BreaksWords (flat_design d) at place name → ⊥ }
+    ensures groups { (d : PlainDesign) (at : Spot) (place : Place) (name : List ℕ)
+        → IsDesign d → IsAccepted d → NoneNamesDone d
+        → BreaksGroups (flat_design d) at place name → ⊥ }
+    ensures repeats { (d : PlainDesign) (at : Spot) (place : Place) (name : List ℕ) → IsDesign d → IsAccepted d
+        → OnStatement (λ i v told called. is_too_many (count_in v.form) ≡ true) (flat_design d) at place name → ⊥ }
+{}
+
+/// Each component of the flat design is the flat one of a component that the flat main reaches; and the flat design of an accepted
+/// design, in which nothing looks at the done of a static component's cell, keeps stage 3, of widths, literals, targets and sources,
+/// and stage 5, of combinational cycles; of stage 4 it keeps the rules on ranges in guards, on what is enabled continuously, on the
+/// done of plain groups, on what comb groups drive, on the shape of static groups, on what stands in static control, and on its
+/// lengths. Any flat design keeps the rules on static components and their invokes.
+pub fn flat_designs_keep_rules()
+    ensures components { (d : PlainDesign) (k : ℕ) → IsDesign d → is_reached d k ≡ true
+        → IsFlattened (component_of d k) (component_of (flat_design d) (reached_below d k)) }
+    ensures widths { (d : PlainDesign) → IsDesign d → IsAccepted d → NoneNamesDone d → KeepsStage 3 (flat_design d) }
+    ensures circles { (d : PlainDesign) → IsDesign d → IsAccepted d → NoneNamesDone d → KeepsStage 5 (flat_design d) }
+    ensures guards { (d : PlainDesign) (at : Spot) (place : Place) (name : List ℕ) → IsDesign d → IsAccepted d
+        → OnAssign BreaksStaticGuard (flat_design d) at place name → ⊥ }
+    ensures always { (d : PlainDesign) (at : Spot) (place : Place) (name : List ℕ)
+        → IsDesign d → IsAccepted d → NoneNamesDone d
+        → OnAssign BreaksAlwaysEnable (flat_design d) at place name → ⊥ }
+    ensures dones { (d : PlainDesign) (at : Spot) (place : Place) (name : List ℕ)
+        → IsDesign d → IsAccepted d → NoneNamesDone d
+        → OnGroup BreaksNoDone (flat_design d) at place name → ⊥ }
+    ensures combs { (d : PlainDesign) (at : Spot) (place : Place) (name : List ℕ)
+        → IsDesign d → IsAccepted d → NoneNamesDone d
+        → OnAssign BreaksCombEnable (flat_design d) at place name → ⊥ }
+    ensures shapes { (d : PlainDesign) (at : Spot) (place : Place) (name : List ℕ) → IsDesign d → IsAccepted d
+        → OnGroup GroupBreaksStaticShape (flat_design d) at place name → ⊥ }
+    ensures stands { (d : PlainDesign) (at : Spot) (place : Place) (name : List ℕ)
+        → IsDesign d → IsAccepted d → NoneNamesDone d
+        → OnStatement BreaksStaticControl (flat_design d) at place name → ⊥ }
+    ensures lengths { (d : PlainDesign) (at : Spot) (place : Place) (name : List ℕ)
+        → IsDesign d → IsAccepted d → NoneNamesDone d
+        → OnStatement BreaksLength (flat_design d) at place name → ⊥ }
+    ensures parts { (d : PlainDesign) (at : Spot) (place : Place) (name : List ℕ)
+        → OnStatement BreaksInvokeLength (flat_design d) at place name ⊎ BreaksPartLength (flat_design d) at place name → ⊥ }
+    ensures invokes { (d : PlainDesign) (at : Spot) (place : Place) (name : List ℕ)
+        → OnAssign BreaksStaticCell (flat_design d) at place name ⊎ OnStatement BreaksInvoke (flat_design d) at place name → ⊥ }
+    ensures kept { (d : PlainDesign) (at : Spot) (place : Place) (name : List ℕ)
+        → OnAssign BreaksKept (flat_design d) at place name → ⊥ }
 {}
