@@ -1,0 +1,16 @@
+pub mod StandLemmas
+pub mod ControlLemmas
+pub mod EnableLemmas
+pub mod GroupLemmas
+pub mod FlatLemmas
+pub mod ReachLemmas
+pub mod NumberLemmas
+pub mod KidLemmas
+pub mod OrderLemmas
+pub mod InvokeLemmas
+pub mod WalkLemmas
+pub mod EdgeLemmas
+pub mod DesignLemmas
+pub mod AlwaysLemmas
+pub mod MarkLemmas
+pub mod TableLemmas

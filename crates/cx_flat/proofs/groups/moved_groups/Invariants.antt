@@ -1,0 +1,10 @@
+use Rattle.std.proofs.Common.{◌≡◌, ◌++◌, drop, map}
+use Rattle.cx_design.specs.PlainForms.{plain_group}
+use Rattle.cx_rewrites.specs.Moving.{moved_group}
+use Rattle.cx_flat.specs.Maps.{map_by}
+use Rattle.cx_flat.proofs.groups.moved_groups.Given as goal
+
+-- the groups so far, and those that are left, are all
+abbrev pub invariant-loop-group : goal.invariant-loop-group
+invariant-loop-group l =
+    map plain_group l.all.items ++ map (moved_group (map_by l.moves)) (map plain_group (drop l.group-index l.groups)) ≡ map (moved_group (map_by l.moves)) (map plain_group l.groups)

@@ -1,0 +1,9 @@
+pub mod Tables
+pub mod Stands
+pub mod Maps
+pub mod Enabling
+pub mod Callers
+pub mod Controls
+pub mod Levels
+pub mod Reaching
+pub mod Flats
