@@ -12,7 +12,7 @@ use Rattle.cx_rules.specs.Externals.{sizes_in, numbers_of}
 use Rattle.cx_state.proofs.Shapes.{memory_shape}
 use Rattle.cx_vtree.specs.Plain.{PlainSource}
 use Rattle.cx_vtree.specs.InstanceTree.{Placed, decls_at}
-use Rattle.cx_vtree.specs.Meaning.{State, running, resetting}
+use Rattle.cx_vtree.specs.Meaning.{State, Moment, running, resetting}
 use Rattle.cx_vtree.specs.Edges.{state_after}
 use Rattle.cx_vtree.specs.SimRun as text
 use Rattle.cx_vtree.specs.SimRun.{Outcome, DoneAt, NotDone, instance_named, first_array, numbers_from, words_in, words_of, start_state, RunsFrom, SimRun}
@@ -91,38 +91,41 @@ module _ (net : PlainNet) (sound : is_sound (source_of net) ≡ true) (fit : IsF
           ∙ ap (λ w. w ∷ map (words_in the_tree kept) (lists_from cell_externals (suc b) cs)) first ∙ ap (λ l. cell_states.words_of (s.cell (b ∷ [])) ∷ l) rest
           ∙ sym (ap (λ e. map (λ c. cell_states.words_of (s.cell (c ∷ []))) (if_external e b (externals_from (suc b) cs))) is)
 
-    same_words : words_of the_source kept ≡ net_words (net_tree net) s
+    pub same_words : words_of the_source kept ≡ net_words (net_tree net) s
     same_words =
         ap (map (words_in the_tree kept)) (externals_are net sound fit)
         ∙ words_from cells 0 (λ t cell at is. let place : t ≡ 0 + t = omega arith in subst (λ n. words_in the_tree kept (external_of n cell) ≡ cell_states.words_of (s.cell (n ∷ []))) place (cell_words t cell at is cell.kind refl))
         ∙ sym (ap (λ (x : PlainNetComponent). map (λ c. cell_states.words_of (s.cell (c ∷ []))) (net_externals x)) (part-within net (length net.components) net.main))
 
-    -- done is the same
-    module _ (look : NetLook) (whole : IsWholeLook (net_tree net) true s look) where
-      seen : WholeText the_tree (running kept)
-      seen = whole_text net sound fit built (running kept) true s look stand refl whole
+  -- in a cycle in which states stand for each other done is the same
+  pub same_done : (now : Moment) (go : Bool) (s : NetState) (look : NetLook) (stand : StatesStand net net.main 0 s now.state) (goes : now.go ≡ (if go then 1 else 0)) → IsWholeLook (net_tree net) go s look
+      → (seen : WholeText the_tree now) → text.is_done seen.look ≡ nets.is_done look
+  same_done now go s look stand goes whole seen =
+      let x = main_situation net sound fit built now go s look stand goes whole in
+      let (v, known) = x.all [] net.main TheDone 1 refl refl in
+      let carried = x.looked [] net.main TheDone 1 v refl refl known in
+      let (b, bit) = bit_is v carried.1 in
+      ap (λ o. option_map_or (λ u. u.value == 1) o false) (whole_has the_source sound now seen.look seen.whole 0 (codes "done") v carried.0)
+      ∙ ap (λ (u : BitVector). u.value == 1) bit ∙ of_bit b ∙ sym (ap (λ o. option_map_or is_true o false) known ∙ ap is_true bit)
+    where
+      of_bit : (b : Bool) → ((truth_bit b).value == 1) ≡ is_true (truth_bit b)
+      of_bit true = refl
+      of_bit false = refl
 
-      same_done : text.is_done seen.look ≡ nets.is_done look
-      same_done =
-          let x = main_situation net sound fit built (running kept) true s look stand refl whole in
-          let (v, known) = x.all [] net.main TheDone 1 refl refl in
-          let carried = x.looked [] net.main TheDone 1 v refl refl known in
-          let (b, bit) = bit_is v carried.1 in
-          ap (λ o. option_map_or (λ u. u.value == 1) o false) (whole_has the_source sound (running kept) seen.look seen.whole 0 (codes "done") v carried.0)
-          ∙ ap (λ (u : BitVector). u.value == 1) bit ∙ of_bit b ∙ sym (ap (λ o. option_map_or is_true o false) known ∙ ap is_true bit)
-        where
-          of_bit : (b : Bool) → ((truth_bit b).value == 1) ≡ is_true (truth_bit b)
-          of_bit true = refl
-          of_bit false = refl
+  seen_whole : (s : NetState) (kept : State) → StatesStand net net.main 0 s kept → (look : NetLook) → IsWholeLook (net_tree net) true s look → WholeText the_tree (running kept)
+  seen_whole s kept stand look whole = whole_text net sound fit built (running kept) true s look stand refl whole
+
+  done_in : (s : NetState) (kept : State) (stand : StatesStand net net.main 0 s kept) (look : NetLook) (whole : IsWholeLook (net_tree net) true s look) → text.is_done (seen_whole s kept stand look whole).look ≡ nets.is_done look
+  done_in s kept stand look whole = same_done (running kept) true s look stand refl whole (seen_whole s kept stand look whole)
 
   runs_from : {s : NetState} {cycle left : ℕ} {o : Outcome} → NetRunsFrom (net_tree net) s cycle left o → (kept : State) → StatesStand net net.main 0 s kept → RunsFrom the_source kept cycle left o
   runs_from {s} {cycle} {left} (ends look whole done) kept stand =
-      let w = seen s kept stand look whole in
-      subst (λ ws. RunsFrom the_source kept cycle left (DoneAt cycle ws)) (same_words s kept stand) (text.ends w.look w.whole (same_done s kept stand look whole ∙ done))
-  runs_from {s} {cycle} (spent look whole done) kept stand = let w = seen s kept stand look whole in text.spent w.look w.whole (same_done s kept stand look whole ∙ done)
+      let w = seen_whole s kept stand look whole in
+      subst (λ ws. RunsFrom the_source kept cycle left (DoneAt cycle ws)) (same_words s kept stand) (text.ends w.look w.whole (done_in s kept stand look whole ∙ done))
+  runs_from {s} {cycle} (spent look whole done) kept stand = let w = seen_whole s kept stand look whole in text.spent w.look w.whole (done_in s kept stand look whole ∙ done)
   runs_from {s} {cycle} (goes_on look whole done rest) kept stand =
-      let w = seen s kept stand look whole in
-      text.goes_on w.look w.whole (same_done s kept stand look whole ∙ done)
+      let w = seen_whole s kept stand look whole in
+      text.goes_on w.look w.whole (done_in s kept stand look whole ∙ done)
       (runs_from rest (state_after the_tree (running kept) w.look) (edge_carries net sound fit built (running kept) w.look w.whole false true s look stand refl refl whole))
 
   runs_as : Runs net

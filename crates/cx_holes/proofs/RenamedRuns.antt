@@ -125,14 +125,14 @@ mutual
   back_at_below (a_child child rest) zero new path m h = back_at child new path m h
   back_at_below (a_child child rest) (suc c) new path m h = back_at_below rest c new path m h
 
-forth_done : (tree : NetInstance) (look : NetLook) → is_done (forth tree look) ≡ is_done look
+pub forth_done : (tree : NetInstance) (look : NetLook) → is_done (forth tree look) ≡ is_done look
 forth_done (NetNode part cells) look = refl
 
 back_done : (tree : NetInstance) (new : NetLook) → is_done (back tree new) ≡ is_done new
 back_done (NetNode part cells) new = refl
 
 module _ (tree : NetInstance) (names : TreeNames tree) where
-  whole_forth : (go : Bool) (s : NetState) (look : NetLook) → IsWholeLook tree go s look → IsWholeLook (inlined_tree tree) go s (forth tree look)
+  pub whole_forth : (go : Bool) (s : NetState) (look : NetLook) → IsWholeLook tree go s look → IsWholeLook (inlined_tree tree) go s (forth tree look)
   whole_forth go s look w = record {
     right = λ path n v e. let r = origin tree look path n v e in subst (λ m. NetHas (inlined_tree tree) go s path m v) r.1 (has_forth tree names go s path r.0 v (w.right path r.0 v r.2));
     whole = λ path n e. let r = source_of tree path n e in
@@ -236,7 +236,7 @@ cells_names : (child : ℕ → NetInstance) → ((k : ℕ) → TreeNames (child 
 cells_names child h [] = tt
 cells_names child h (c ∷ cs) = kind_names child h c.kind (net_cells_for child cs) (cells_names child h cs)
 
-within_names : (n : PlainNet) → NetNames n → (levels k : ℕ) → TreeNames (net_within n levels k)
+pub within_names : (n : PlainNet) → NetNames n → (levels k : ℕ) → TreeNames (net_within n levels k)
 within_names n h zero k = (part_names n.components k h, tt)
 within_names n h (suc levels) k = (part_names n.components k h, cells_names (net_within n levels) (within_names n h levels) (net_component_at n k).cells)
 
