@@ -21,9 +21,10 @@ use Rattle.cx_wiring.specs.InNet.{RealisesInNet}
 use Rattle.cx_commands.specs.declared.stops.Stop.{Stop}
 use Rattle.cx_commands.specs.declared.stops.Stop.TheVariants as stops
 use Rattle.cx_compiler.specs.Texts.{IsDesignOf}
-use Rattle.cx_compiler.specs.Interpreted.{told_of, loaded_result, design_result, IsInterpAnswer, IsInterpStop}
+use Rattle.cx_compiler.specs.Interpreted.{told_of, loaded_result, design_result, meant_result, IsInterpAnswer, IsInterpStop}
 use Rattle.cx_compiler.specs.Compiled.{IsCompileStop}
 use Rattle.cx_compiler.proofs.BelowLemmas.{loaded_fits}
+use Rattle.cx_compiler.proofs.MeantLemmas.{text_meant}
 use Rattle.cx_compiler.proofs.TextLayers.{text_rules}
 use Rattle.cx_compiler.proofs.TextLemmas.{one_design}
 use Rattle.cx_compile_tests.specs.Alike.{net_for, Loads, EndsAlike, WaitsAlike}
@@ -86,8 +87,8 @@ module _ (text json : List ℕ) (budget : ℕ) (d : PlainDesign) (stands : IsDes
   rules = text_rules text d stands within
 
   -- the text has no other design
-  of_it : (e : PlainDesign) → IsDesignOf text e → design_result e json budget ≡ design_result d json budget
-  of_it e other = ap (λ x. design_result x json budget) (one_design text e d other stands)
+  of_it : (e : PlainDesign) → IsDesignOf text e → meant_result e json budget ≡ design_result d json budget
+  of_it e other = text_meant text e other json budget ∙ ap (λ x. design_result x json budget) (one_design text e d other stands)
 
   ended : (dump : List ℕ) → IsInterpAnswer text json budget dump → EndsAlike text json budget dump
   ended dump (inl h) = ends_by text json budget d stands (machines d rules.0 rules.1 rules.2) (nets d rules.0 rules.1 rules.2) dump (load_of json (external_rows d)) refl (h.2 ∙ of_it h.0 h.1)

@@ -1,7 +1,8 @@
 -- What is answered of a text's net.
-use Rattle.std.proofs.Common.{◌≡◌, ◌⊎◌, List, ℕ, [], Result, Ok, Err, IfOk, IfErr, MatchResult, refl, sym, ◌∙◌, subst}
+use Rattle.std.proofs.Common.{◌≡◌, ◌⊎◌, ◌≤◌, List, ℕ, [], Result, Ok, Err, IfOk, IfErr, MatchResult, refl, sym, ◌∙◌, subst}
 use Rattle.cx_text.specs.declared.diagnostics.Diagnostic.{Diagnostic}
 use Rattle.cx_text.specs.Loading.{PlainRow}
+use Rattle.cx_text.specs.declared.limits.TheConstants.{COMPILE_SIZE}
 use Rattle.cx_meaning.specs.Designs.{PlainDesign}
 use Rattle.cx_rules.specs.Externals.{external_rows}
 use Rattle.cx_net.specs.Nets.{PlainNet}
@@ -9,8 +10,10 @@ use Rattle.cx_emit.specs.Emitted.{CanBeEmitted}
 use Rattle.cx_commands.specs.declared.stops.Stop.{Stop}
 use Rattle.cx_commands.specs.declared.stops.Stop.TheVariants as stops
 use Rattle.cx_compiler.specs.Texts.{IsDesignOf}
-use Rattle.cx_compiler.specs.Compiled.{CompileBreak, IsCompileStop, IsNetOfText, IsSizedNet, net_rows}
+use Rattle.cx_compiler.specs.Compiled.{CompileBreak, IsCompileStop, IsHolelessNetFor, IsNetOfText, IsSizedNet, net_rows}
 use Rattle.cx_compiler.proofs.CompileLemmas.{all_refused, compilable_once}
+use Rattle.cx_flat_texts.proofs.RunnableLemmas.{without_static}
+use Rattle.cx_compiler.proofs.CountedSizes.{counted_design_size-flat}
 use Rattle.cx_compiler.proofs.TextLayers.{text_rules}
 use Rattle.cx_compiler.proofs.WrittenNets.{text_emitted}
 
@@ -20,8 +23,8 @@ own_net text d net stands sized =
     record {
       design = d;
       stands = stands;
-      within = sized.0;
-      is = sized.2 rules.0 rules.1 rules.2;
+      within = subst (λ n. n ≤ COMPILE_SIZE) (sym (counted_design_size-flat d rules.1)) sized.0;
+      is = subst (λ (e : PlainDesign). IsHolelessNetFor e net) (sym (without_static d rules.1)) (sized.2 rules.0 rules.1 rules.2);
       emitted = subst CanBeEmitted (sym sized.1) (text_emitted text d stands sized.0);
     }
 

@@ -1,5 +1,5 @@
 -- The promise is kept by whatever `compile` writes.
-use Rattle.std.proofs.Common.{◌≡◌, ◌≢◌, inl, inr, ℕ, ◌≤◌, List, Option, Result, Ok, Err, refl, sym, ap, ◌∙◌, subst}
+use Rattle.std.proofs.Common.{◌≡◌, ◌≢◌, inl, inr, ℕ, ◌≤◌, List, Result, Ok, Err, refl, sym, ap, ◌∙◌, subst}
 use Rattle.cx_text.specs.Loading.{PlainMemory, FitsRows, words_loaded, with_words}
 use Rattle.cx_data.specs.Dump.{dump_text}
 use Rattle.cx_data.specs.Load.{load_of}
@@ -19,14 +19,15 @@ use Rattle.cx_vtree.proofs.Runs.{one_outcome}
 use Rattle.cx_power.specs.Resets.{IsReset}
 use Rattle.cx_scripts.specs.Always.{RealisesAlways}
 use Rattle.cx_compiler.specs.Texts.{IsDesignOf}
-use Rattle.cx_compiler.specs.Interpreted.{told_of, loaded_result, design_result, Interprets}
+use Rattle.cx_compiler.specs.Interpreted.{told_of, loaded_result, design_result, meant_result, Interprets}
 use Rattle.cx_commands.specs.declared.stops.Stop.TheVariants as stops
 use Rattle.cx_net.specs.Realises.{HasOutcome, comes, waits, Realises}
 use Rattle.cx_compiler.specs.Simulated.{IsVerilogOf, told_outcome, LoadedDoes, SourceDoes, Simulates, LoadedPowerDoes, DoesFromPower}
-use Rattle.cx_commands.specs.Commands.{compile}
 use Rattle.cx_compiler.specs.Promise.{a_fault, EndsOrFaults, ends_so, faults, IsRunIn, KeepsPromise, PromiseIsKept}
 use Rattle.cx_compiler.proofs.Once.{Told}
 use Rattle.cx_compiler.proofs.TextLemmas.{accepted_once, one_design, text_of_design}
+use Rattle.cx_flat_texts.specs.Runnable.{runnable}
+use Rattle.cx_compiler.proofs.MeantLemmas.{run_meant, text_meant}
 use Rattle.cx_compiler.proofs.OneSource.{one_source_of}
 use Rattle.cx_net.proofs.FollowLemmas.{never_loops}
 use Rattle.cx_compiler.proofs.BelowLemmas.{cycle_within, main_grows, loaded_fits}
@@ -43,6 +44,10 @@ end_not_more s t e = cc
 
 fault_not_more : (f : Fault) (t : ℕ) → ◌≡◌ {A = Answer State Fault} (answers.Fault f t) answers.More → ⊥
 fault_not_more f t e = cc
+
+-- a text does on a data file what this design does
+abbrev Speaks : List ℕ → List ℕ → PlainDesign → Type 0
+Speaks text json d = (budget : ℕ) (result : Told) → result ≡ design_result d json budget → Interprets text json budget result
 
 -- ONE DESIGN AND ITS SOURCE, with memories that fit
 module _ (d : PlainDesign) (source : PlainSource) (is : Realises d source) (ms : List PlainMemory) (fits : FitsRows (external_rows d) ms) where
@@ -73,17 +78,17 @@ module _ (d : PlainDesign) (source : PlainSource) (is : Realises d source) (ms :
   waits_of budget answers.More e told = waits_so budget e (is.runs.never_stuck ms budget fits)
 
   -- where `done` comes in cycle c, by what the run of main with budget c comes to
-  back : (text json : List ℕ) → IsDesignOf text d → load_of json (external_rows d) ≡ Ok ms → (budget c : ℕ) (left : List (List ℕ)) → SimRun source (words_loaded ms) budget (DoneAt c left)
+  back : (text json : List ℕ) → Speaks text json d → load_of json (external_rows d) ≡ Ok ms → (budget c : ℕ) (left : List (List ℕ)) → SimRun source (words_loaded ms) budget (DoneAt c left)
       → (a : Answer State Fault) → run c ≡ a → EndsOrFaults text json c (dump_text c (with_words ms left))
-  back text json stands ok budget c left r (answers.End after t) e =
+  back text json speaks ok budget c left r (answers.End after t) e =
       let g = grows c budget (cycle_within source (words_loaded ms) budget c left r) (answers.End after t) e in
       let same : DoneAt t (words_of (tree_of d) after) ≡ DoneAt c left = one_outcome (is.runs.ends ms budget t after fits g.1) r in
       let dumps : dump_text t (with_words ms (words_of (tree_of d) after)) ≡ dump_text c (with_words ms left) =
       ap (λ n. dump_text n (with_words ms (words_of (tree_of d) after))) (done_turns t c (words_of (tree_of d) after) left same)
       ∙ ap (λ ws. dump_text c (with_words ms ws)) (done_words t c (words_of (tree_of d) after) left same) in
-      ends_so (inl (d, stands, sym (ap (loaded_result d c) ok ∙ ap (told_of d ms c) e ∙ ap Ok dumps)))
-  back text json stands ok budget c left r (answers.Fault f t) e = faults _ (a_fault _ _ _) (inl (d, stands, sym (ap (loaded_result d c) ok ∙ ap (told_of d ms c) e)))
-  back text json stands ok budget c left r answers.More e = absurd (is.runs.ends_only ms budget c left fits r e)
+      ends_so (speaks c (Ok (dump_text c (with_words ms left))) (sym (ap (loaded_result d c) ok ∙ ap (told_of d ms c) e ∙ ap Ok dumps)))
+  back text json speaks ok budget c left r (answers.Fault f t) e = faults _ (a_fault _ _ _) (speaks c _ (sym (ap (loaded_result d c) ok ∙ ap (told_of d ms c) e)))
+  back text json speaks ok budget c left r answers.More e = absurd (is.runs.ends_only ms budget c left fits r e)
 
 -- BY WHAT LOADS
 module _ (d : PlainDesign) (source : PlainSource) (is : Realises d source) (json : List ℕ) (budget : ℕ) where
@@ -125,9 +130,9 @@ module _ (d : PlainDesign) (source : PlainSource) (is : Realises d source) (json
   no_loop_does net (Ok ms) ok does = loop_of net ms (loaded_fits json (external_rows d) ms ok) does.0 does.1 does.2
   no_loop_does net (Err fault) ok does = cc
 
-  dump_in : (text : List ℕ) → IsDesignOf text d → (dump : List ℕ) (ms : List PlainMemory) → load_of json (external_rows d) ≡ Ok ms → (o : Outcome) → SimRun source (words_loaded ms) budget o
+  dump_in : (text : List ℕ) → Speaks text json d → (dump : List ℕ) (ms : List PlainMemory) → load_of json (external_rows d) ≡ Ok ms → (o : Outcome) → SimRun source (words_loaded ms) budget o
       → Ok dump ≡ told_outcome source ms budget o → (cycle : ℕ) × IsRunIn text json budget cycle dump
-  dump_in text stands dump ms ok (DoneAt c left) r told =
+  dump_in text speaks dump ms ok (DoneAt c left) r told =
       let fits = loaded_fits json (external_rows d) ms ok in
       let is_dump : dump ≡ dump_text c (with_words ms left) = cc in (
         c,
@@ -135,16 +140,16 @@ module _ (d : PlainDesign) (source : PlainSource) (is : Realises d source) (json
           memories = with_words ms left;
           tells = is_dump;
           within = cycle_within source (words_loaded ms) budget c left r;
-          run = subst (EndsOrFaults text json c) (sym is_dump) (back d source is ms fits text json stands ok budget c left r (run_main d (words_loaded ms) c) refl);
+          run = subst (EndsOrFaults text json c) (sym is_dump) (back d source is ms fits text json speaks ok budget c left r (run_main d (words_loaded ms) c) refl);
         },
       )
-  dump_in text stands dump ms ok (LoopAt i k) r told = absurd (cc)
-  dump_in text stands dump ms ok NotDone r told = absurd (cc)
+  dump_in text speaks dump ms ok (LoopAt i k) r told = absurd (cc)
+  dump_in text speaks dump ms ok NotDone r told = absurd (cc)
 
-  other_dump : (text : List ℕ) → IsDesignOf text d → (dump : List ℕ) (loaded : Result (List PlainMemory) DataFault) → load_of json (external_rows d) ≡ loaded → LoadedDoes source budget loaded (Ok dump)
+  other_dump : (text : List ℕ) → Speaks text json d → (dump : List ℕ) (loaded : Result (List PlainMemory) DataFault) → load_of json (external_rows d) ≡ loaded → LoadedDoes source budget loaded (Ok dump)
       → (cycle : ℕ) × IsRunIn text json budget cycle dump
-  other_dump text stands dump (Ok ms) ok does = dump_in text stands dump ms ok does.0 does.1 does.2
-  other_dump text stands dump (Err fault) ok does = absurd (cc)
+  other_dump text speaks dump (Ok ms) ok does = dump_in text speaks dump ms ok does.0 does.1 does.2
+  other_dump text speaks dump (Err fault) ok does = absurd (cc)
 
   -- a second dump is the first
   one_dump : (dump other : List ℕ) (cycles : ℕ) (ms : List PlainMemory) → FitsRows (external_rows d) ms → (a : Answer State Fault) → run_main d (words_loaded ms) budget ≡ a → Ok dump ≡ told_of d ms budget a
@@ -185,10 +190,14 @@ module _ (d : PlainDesign) (source : PlainSource) (is : Realises d source) (json
   does_from_power reset result (Err fault) ok does = does
 
 -- OVER TEXTS
--- what an accepted text does is what its design does
+-- what an accepted text does is what its design means
+pub of_meant : (text : List ℕ) (d : PlainDesign) → IsDesignOf text d → (json : List ℕ) (budget : ℕ) (result : Told) → Interprets text json budget result → result ≡ meant_result d json budget
+of_meant text d stands json budget result (inl h) = h.2 ∙ ap (λ x. meant_result x json budget) (one_design text h.0 d h.1 stands)
+of_meant text d stands json budget result (inr h) = absurd (accepted_once text h.0 (text_of_design text d stands) h.1)
+
+-- which, as it has no static component, is what it does
 pub of_design : (text : List ℕ) (d : PlainDesign) → IsDesignOf text d → (json : List ℕ) (budget : ℕ) (result : Told) → Interprets text json budget result → result ≡ design_result d json budget
-of_design text d stands json budget result (inl h) = h.2 ∙ ap (λ x. design_result x json budget) (one_design text h.0 d h.1 stands)
-of_design text d stands json budget result (inr h) = absurd (accepted_once text h.0 (text_of_design text d stands) h.1)
+of_design text d stands json budget result h = of_meant text d stands json budget result h ∙ text_meant text d stands json budget
 
 -- and what a Verilog text does is what its source does
 of_source : (verilog : List ℕ) (source : PlainSource) → IsVerilogOf verilog source → (json : List ℕ) (budget : ℕ) (result : Told) → Simulates verilog json budget result
@@ -196,7 +205,15 @@ of_source : (verilog : List ℕ) (source : PlainSource) → IsVerilogOf verilog 
 of_source verilog source spelled json budget result (inl h) = subst (λ s. SourceDoes s json budget result) (one_source_of verilog h.0 source h.1 spelled) h.2
 of_source verilog source spelled json budget result (inr h) = absurd (h.1.no_source source spelled)
 
-module _ (text verilog : List ℕ) (d : PlainDesign) (source : PlainSource) (stands : IsDesignOf text d) (spelled : IsVerilogOf verilog source) (is : Realises d source) (reset : IsReset source) (always : RealisesAlways d source) where
+module _ (text verilog : List ℕ) (d own : PlainDesign) (source : PlainSource) (stands : IsDesignOf text own) (same : (json : List ℕ) (budget : ℕ) → meant_result own json budget ≡ design_result d json budget)
+    (run_is : d ≡ runnable own) (spelled : IsVerilogOf verilog source) (is : Realises d source) (reset : IsReset source) (always : RealisesAlways d source) where
+  -- the text does what the design that is run does
+  told_by : (json : List ℕ) (budget : ℕ) (result : Told) → Interprets text json budget result → result ≡ design_result d json budget
+  told_by json budget result h = of_meant text own stands json budget result h ∙ same json budget
+
+  speaks : (json : List ℕ) → Speaks text json d
+  speaks json budget result h = inl (own, stands, h ∙ sym (same json budget))
+
   -- the rows of the source are those of the design
   does : (json : List ℕ) (budget : ℕ) (result : Told) → LoadedDoes source budget (load_of json (external_rows d)) result → Simulates verilog json budget result
   does json budget result h = inl (source, spelled, subst (λ rows. LoadedDoes source budget (load_of json rows) result) (sym is.rows) h)
@@ -214,22 +231,23 @@ module _ (text verilog : List ℕ) (d : PlainDesign) (source : PlainSource) (sta
 
   kept_by : KeepsPromise text verilog
   kept_by = record {
-    same_dump = λ json budget dump h. does json budget (Ok dump) (does_dump d source is json budget dump (load_of json (external_rows d)) refl (of_design text d stands json budget (Ok dump) h));
-    no_other_dump = λ json budget dump h. other_dump d source is json budget text stands dump (load_of json (external_rows d)) refl (did json budget (Ok dump) h);
-    no_sooner = λ json budget h. does json budget (Err (stops.More budget)) (does_wait d source is json budget (load_of json (external_rows d)) refl (of_design text d stands json budget (Err (stops.More budget)) h));
+    same_dump = λ json budget dump h. does json budget (Ok dump) (does_dump d source is json budget dump (load_of json (external_rows d)) refl (told_by json budget (Ok dump) h));
+    no_other_dump = λ json budget dump h. other_dump d source is json budget text (speaks json) dump (load_of json (external_rows d)) refl (did json budget (Ok dump) h);
+    no_sooner = λ json budget h. does json budget (Err (stops.More budget)) (does_wait d source is json budget (load_of json (external_rows d)) refl (told_by json budget (Err (stops.More budget)) h));
     same_data = λ json budget fault. (
-      λ h. does json budget (Err (stops.Json fault)) (does_refuse d source is json budget fault (load_of json (external_rows d)) (of_design text d stands json budget (Err (stops.Json fault)) h)),
-      λ h. inl (d, stands, is_refused d source is json budget fault (load_of json (external_rows d)) (did json budget (Err (stops.Json fault)) h)),
+      λ h. does json budget (Err (stops.Json fault)) (does_refuse d source is json budget fault (load_of json (external_rows d)) (told_by json budget (Err (stops.Json fault)) h)),
+      λ h. speaks json budget (Err (stops.Json fault)) (is_refused d source is json budget fault (load_of json (external_rows d)) (did json budget (Err (stops.Json fault)) h)),
     );
     no_second_dump = λ json turns cycles dump other h k.
-        no_second d source is json turns dump other cycles (load_of json (external_rows d)) refl (of_design text d stands json turns (Ok dump) h) (did json cycles (Ok other) k);
+        no_second d source is json turns dump other cycles (load_of json (external_rows d)) refl (told_by json turns (Ok dump) h) (did json cycles (Ok other) k);
     quiet = λ json budget kind path turn h.
-        does json turn (Err (stops.More turn)) (does_nothing d source is json budget kind path turn (load_of json (external_rows d)) refl (of_design text d stands json budget (Err (stops.Fault kind path turn)) h));
+        does json turn (Err (stops.More turn)) (does_nothing d source is json budget kind path turn (load_of json (external_rows d)) refl (told_by json budget (Err (stops.Fault kind path turn)) h));
     from_power = does_so;
-    always = λ own text_source design spelling.
-        subst (λ x. RealisesAlways x text_source) (one_design text d own stands design) (subst (RealisesAlways d) (one_source_of verilog source text_source spelled spelling) always);
+    always = λ other text_source design spelling.
+        subst (λ x. RealisesAlways x text_source) (run_is ∙ ap runnable (one_design text own other stands design)) (subst (RealisesAlways d) (one_source_of verilog source text_source spelled spelling) always);
     no_loop = λ json budget net h. no_loop_does d source is json budget net (load_of json (external_rows d)) refl (did json budget (Err (stops.Loop net)) h);
   }
 
 pub promise_is_kept : PromiseIsKept
-promise_is_kept text verilog h = kept_by text verilog h.design h.written.source h.stands h.written.spelled h.written.realises h.written.reset h.written.always
+promise_is_kept text verilog h =
+    kept_by text verilog (runnable h.design) h.design h.written.source h.stands (λ json budget. run_meant text h.design h.stands json budget) refl h.written.spelled h.written.realises h.written.reset h.written.always

@@ -7,6 +7,7 @@ use Rattle.cx_ast.specs.PlainTree.{PlainTree}
 use Rattle.cx_meaning.specs.Designs.{PlainDesign, component_at}
 use Rattle.cx_rules.specs.Flat.{IsFlat}
 use Rattle.cx_rules.specs.Accepted.{IsAccepted}
+use Rattle.cx_rules.specs.Counts.{counted_design_size}
 use Rattle.cx_rules.specs.LimitRule.{OnWeight, word_of, order_of}
 use Rattle.cx_rules.specs.Sizes.{design_size, weight_of}
 use Rattle.cx_rules.specs.Spots.{Whole}
@@ -27,7 +28,10 @@ use Rattle.cx_compiler.specs.Texts.{IsDesignOf}
 use Rattle.cx_compiler.specs.Compiled.{IsShortWithin, written_net, written_source}
 use Rattle.cx_compiler.specs.Simulated.{IsVerilogOf}
 use Rattle.cx_compiler.proofs.TextDepth.{text_shallow}
-use Rattle.cx_compiler.proofs.TextLayers.{text_rules, tree_rules}
+use Rattle.cx_flat_texts.specs.Runnable.{runnable}
+use Rattle.cx_flat_texts.proofs.RunnableLemmas.{without_static}
+use Rattle.cx_compiler.proofs.CountedSizes.{counted_design_size-flat}
+use Rattle.cx_compiler.proofs.TextLayers.{text_flat, text_rules, tree_rules}
 use Rattle.cx_compiler.proofs.WrittenNets.{HasWords, design_parts, tree_emitted, written_sound}
 
 bytes_few : (text : List ℕ) (d : PlainDesign) → IsDesignOf text d → design_size d ≤ COMPILE_SIZE → length (text_of (written_source d)) ≤ 4096 * design_size d + 256 * weight_of d
@@ -69,9 +73,13 @@ written_short text d h within =
     let rules = text_rules text d h within in
     short d rules.0 rules.1 rules.2 within (design_parts h.0 d h.3) (text_shallow text d h) (written_sound text d h within)
 
-pub never_too_long : (text : List ℕ) (d : PlainDesign) → IsDesignOf text d → design_size d ≤ COMPILE_SIZE → (n : ℕ) → IsTooLong VERILOG_BYTES (text_of (written_source d)) (TooLong n) → ⊥
+pub never_too_long : (text : List ℕ) (d : PlainDesign) → IsDesignOf text d → counted_design_size d ≤ COMPILE_SIZE
+    → (n : ℕ) → IsTooLong VERILOG_BYTES (text_of (written_source (runnable d))) (TooLong n) → ⊥
 never_too_long text d h within n long =
-    let few : length (text_of (written_source d)) ≤ VERILOG_BYTES = written_short text d h within in
-    let own = long.0 in
-    let over = long.1 in
+    let flat = text_flat text d h in
+    let same : runnable d ≡ d = without_static d flat in
+    let few : length (text_of (written_source d)) ≤ VERILOG_BYTES = written_short text d h (subst (λ m. m ≤ COMPILE_SIZE) (counted_design_size-flat d flat) within) in
+    let is_long = subst (λ (e : PlainDesign). IsTooLong VERILOG_BYTES (text_of (written_source e)) (TooLong n)) same long in
+    let own = is_long.0 in
+    let over = is_long.1 in
     omega (arith, few, own, over)

@@ -1,5 +1,5 @@
 -- What `compile` writes of a text, and what a text is refused for.
-use Rattle.std.specs.Prelude.{◌≡◌, ◌⊎◌, ◌+◌, ◌*◌, ◌<◌, ◌≤◌, ℕ, List, Result, Ok, Err, decimal, length}
+use Rattle.std.specs.Prelude.{◌≡◌, ◌⊎◌, ◌+◌, ◌*◌, ◌^◌, ◌<◌, ◌≤◌, ℕ, List, Result, Ok, Err, decimal, length}
 use Rattle.cx_text.specs.declared.diagnostics.Diagnostic.{Diagnostic}
 use Rattle.cx_text.specs.declared.rules.Rule.TheVariants.{TooLarge}
 use Rattle.cx_text.specs.declared.limits.TheConstants.{COMPILE_SIZE, VERILOG_BYTES}
@@ -7,6 +7,7 @@ use Rattle.cx_text.specs.Loading.{PlainRow}
 use Rattle.cx_meaning.specs.Designs.{PlainDesign, no_place}
 use Rattle.cx_rules.specs.Flat.{IsFlat}
 use Rattle.cx_rules.specs.Accepted.{IsAccepted}
+use Rattle.cx_rules.specs.Counts.{counted_design_size}
 use Rattle.cx_rules.specs.Externals.{rows_of, external_rows}
 use Rattle.cx_rules.specs.Sizes.{design_size, weight_of}
 use Rattle.cx_rules.specs.Wellformed.{IsDesign}
@@ -25,6 +26,7 @@ use Rattle.cx_holes.specs.Inlining.{inlined}
 use Rattle.cx_emit.specs.Emitted.{CanBeEmitted}
 use Rattle.cx_emit.specs.Shapes.{IsShaped, HasOwnNames, HasFewNets}
 use Rattle.cx_emit.specs.Sources.{source_of}
+use Rattle.cx_flat_texts.specs.Runnable.{runnable}
 use Rattle.cx_commands.specs.Stopping.{TellsBreak}
 use Rattle.cx_commands.specs.declared.stops.Stop.{Stop}
 use Rattle.cx_commands.specs.declared.stops.Stop.TheVariants as stops
@@ -55,13 +57,15 @@ written_net d = inlined (net_of (lowered_of d))
 abbrev pub written_source : PlainDesign → PlainSource
 written_source d = source_of (written_net d)
 
--- WHAT compile WRITES of a text: it is accepted, its design is within the size that compile takes, and this is its text, to the byte
+-- WHAT compile WRITES of a text: it is accepted, 32 bits count the parts of its design, this is within the size that compile takes, and this is the text
+-- of the design that is run, to the byte
 pub record IsCompiled (text answer : List ℕ) : Type 0 where
   pub design : PlainDesign
   pub stands : IsDesignOf text design
-  pub within : design_size design ≤ COMPILE_SIZE
-  pub written : IsTextOf design answer
-  pub exact : answer ≡ text_of (written_source design)
+  pub few : design_size design < 2 ^ 32
+  pub within : counted_design_size design ≤ COMPILE_SIZE
+  pub written : IsTextOf (runnable design) answer
+  pub exact : answer ≡ text_of (written_source (runnable design))
 
 -- the external memories of a net
 abbrev pub net_rows : PlainNet → List PlainRow
@@ -86,26 +90,29 @@ IsRealised d = IsDesign d → IsFlat d → IsAccepted d → Realises d (written_
 abbrev pub IsSizedNet : PlainDesign → PlainNet → Type 0
 IsSizedNet d net = (design_size d ≤ COMPILE_SIZE) × (net ≡ written_net d) × HasItsNet d net
 
--- THE NET OF A TEXT: the text is accepted, its design is within the size that compile takes, and this is a net of the design, of which a text
+-- THE NET OF A TEXT: the text is accepted, its design is within the size that compile takes, and this is a net of the design that is run, of which a text
 -- can be written
 pub record IsNetOfText (text : List ℕ) (net : PlainNet) : Type 0 where
   pub design : PlainDesign
   pub stands : IsDesignOf text design
-  pub within : design_size design ≤ COMPILE_SIZE
-  pub is : IsHolelessNetFor design net
+  pub within : counted_design_size design ≤ COMPILE_SIZE
+  pub is : IsHolelessNetFor (runnable design) net
   pub emitted : CanBeEmitted net
 
--- the text is accepted, and its design is within the size
+-- the text is accepted, and its design is within the size, with static components counted where they are invoked
 abbrev pub IsCompilable : List ℕ → Type 0
-IsCompilable text = (d : PlainDesign) × IsDesignOf text d × (design_size d ≤ COMPILE_SIZE)
+IsCompilable text = (d : PlainDesign) × IsDesignOf text d × (counted_design_size d ≤ COMPILE_SIZE)
 
--- the rule on sizes: the size of the design is the name, and the place is the beginning of the text
+-- the rule on sizes: the size is the name, and the place is the beginning of the text
+abbrev pub size_break : ℕ → Diagnostic
+size_break size = record { rule = TooLarge; place = no_place; name = decimal size }
+
 abbrev pub too_large : PlainDesign → Diagnostic
-too_large d = record { rule = TooLarge; place = no_place; name = decimal (design_size d) }
+too_large d = size_break (design_size d)
 
 -- the text is accepted, and its design is over the size
 abbrev pub IsTooLarge : List ℕ → Diagnostic → Type 0
-IsTooLarge text told = (d : PlainDesign) × IsDesignOf text d × (COMPILE_SIZE < design_size d) × (told ≡ too_large d)
+IsTooLarge text told = (d : PlainDesign) × IsDesignOf text d × (COMPILE_SIZE < counted_design_size d) × (told ≡ size_break (counted_design_size d))
 
 -- REFUSED by compile: the text breaks a rule, or else that on sizes
 abbrev pub CompileBreak : List ℕ → Diagnostic → Type 0

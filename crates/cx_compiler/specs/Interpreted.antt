@@ -12,6 +12,9 @@ use Rattle.cx_meaning.specs.Instances.{State, tree_of, words_of}
 use Rattle.cx_meaning.specs.Running.{run_main}
 use Rattle.cx_rules.specs.Externals.{external_rows}
 use Rattle.cx_state.specs.Paths.{full_path}
+use Rattle.cx_flattening.specs.Told as tellings
+use Rattle.cx_flattening.specs.Told.{told}
+use Rattle.cx_flattening.specs.Whole.{whole_main}
 use Rattle.cx_compiler.specs.Texts.{IsDesignOf, TextBreak}
 use Rattle.cx_commands.specs.declared.stops.Stop.{Stop}
 use Rattle.cx_commands.specs.declared.stops.Stop.TheVariants as stops
@@ -39,7 +42,7 @@ dumped (Err stop) = Err stop
 abbrev pub told_of : PlainDesign → List PlainMemory → ℕ → answers.Answer State Fault → Result (List ℕ) Stop
 told_of d memories budget answer = dumped (left_of d memories budget answer)
 
--- THE RUN OF MAIN with these memories loaded
+-- THE RUN OF MAIN with these memories loaded, of a design without static components
 abbrev pub run_left : PlainDesign → List PlainMemory → ℕ → Result PlainLeft Stop
 run_left d memories budget = left_of d memories budget (run_main d (words_loaded memories) budget)
 
@@ -50,17 +53,36 @@ loaded_left d budget (Err fault) = Err (stops.Json fault)
 abbrev pub loaded_result : PlainDesign → ℕ → Result (List PlainMemory) DataFault → Result (List ℕ) Stop
 loaded_result d budget loaded = dumped (loaded_left d budget loaded)
 
--- WHAT A DESIGN DOES ON A DATA FILE: its run with the words of the file, or the first fault of the file
+-- WHAT SUCH A DESIGN DOES ON A DATA FILE: its run with the words of the file, or the first fault of the file
 abbrev pub design_left : PlainDesign → List ℕ → ℕ → Result PlainLeft Stop
 design_left d json budget = loaded_left d budget (load_of json (external_rows d))
 
 abbrev pub design_result : PlainDesign → List ℕ → ℕ → Result (List ℕ) Stop
 design_result d json budget = dumped (design_left d json budget)
 
--- WHAT A TEXT DOES ON A DATA FILE: it is accepted, and its design does this; or it breaks a rule, and that is told
+-- THE SAME BY A DESIGN'S OWN MEANING, with static components: what is left, by what the run of main tells
+abbrev pub left_told : List PlainMemory → ℕ → tellings.Told → Result PlainLeft Stop
+left_told memories budget (tellings.Ended turns words) = Ok (record { turns = turns; memories = with_words memories words })
+left_told memories budget (tellings.Faulted kind name turn) = Err (stops.Fault kind name turn)
+left_told memories budget tellings.GoesOn = Err (stops.More budget)
+
+abbrev pub meant_left : PlainDesign → List PlainMemory → ℕ → Result PlainLeft Stop
+meant_left d memories budget = left_told memories budget (told d (whole_main d (words_loaded memories) budget))
+
+abbrev pub loaded_meant : PlainDesign → ℕ → Result (List PlainMemory) DataFault → Result PlainLeft Stop
+loaded_meant d budget (Ok memories) = meant_left d memories budget
+loaded_meant d budget (Err fault) = Err (stops.Json fault)
+
+abbrev pub design_meant : PlainDesign → List ℕ → ℕ → Result PlainLeft Stop
+design_meant d json budget = loaded_meant d budget (load_of json (external_rows d))
+
+abbrev pub meant_result : PlainDesign → List ℕ → ℕ → Result (List ℕ) Stop
+meant_result d json budget = dumped (design_meant d json budget)
+
+-- WHAT A TEXT DOES ON A DATA FILE: it is accepted, and its design means this; or it breaks a rule, and that is told
 abbrev pub Interprets : List ℕ → List ℕ → ℕ → Result (List ℕ) Stop → Type 0
 Interprets text json budget result =
-    ((d : PlainDesign) × IsDesignOf text d × (result ≡ design_result d json budget))
+    ((d : PlainDesign) × IsDesignOf text d × (result ≡ meant_result d json budget))
     ⊎ ((told : Diagnostic) × TextBreak text told × (result ≡ Err (stops.Rule told)))
 
 -- what is written of a text

@@ -7,9 +7,10 @@ use Rattle.cx_meaning.specs.Designs.{PlainDesign}
 use Rattle.cx_meaning.specs.Instances.{State}
 use Rattle.cx_meaning.specs.Running.{run_main}
 use Rattle.cx_rules.specs.Accepted.{IsAccepted}
-use Rattle.cx_rules.specs.Sizes.{design_size}
+use Rattle.cx_rules.specs.Counts.{counted_design_size}
 use Rattle.cx_rules.specs.Wellformed.{IsDesign}
 use Rattle.cx_orders.specs.Woven.{Choices, Ends, woven}
+use Rattle.cx_flat_texts.specs.Runnable.{runnable}
 use Rattle.cx_vtree.specs.Plain.{PlainSource}
 use Rattle.cx_vtree.specs.Spelling.{text_of}
 use Rattle.cx_vwrite.specs.Refused.{IsTooLong}
@@ -22,9 +23,10 @@ use Rattle.cx_compiler.specs.Texts.{IsDesignOf}
 abbrev pub OneSource : Type 0
 OneSource = (text : List ℕ) (s t : PlainSource) → IsVerilogOf text s → IsVerilogOf text t → s ≡ t
 
--- the text of the source of an accepted text's design within the size is within the limit of a Verilog text
+-- the text of the source of what is run of an accepted text within the size is within the limit of a Verilog text
 abbrev pub NeverTooLong : Type 0
-NeverTooLong = (text : List ℕ) (d : PlainDesign) → IsDesignOf text d → design_size d ≤ COMPILE_SIZE → (n : ℕ) → IsTooLong VERILOG_BYTES (text_of (written_source d)) (TooLong n) → ⊥
+NeverTooLong = (text : List ℕ) (d : PlainDesign) → IsDesignOf text d → counted_design_size d ≤ COMPILE_SIZE
+    → (n : ℕ) → IsTooLong VERILOG_BYTES (text_of (written_source (runnable d))) (TooLong n) → ⊥
 
 -- in an accepted design, where the run of main has a fault, no order of the leaves ends
 abbrev pub NoneEnds : Type 0

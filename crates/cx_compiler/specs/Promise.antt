@@ -8,6 +8,7 @@ use Rattle.cx_meaning.specs.declared.sights.FaultKind.{FaultKind}
 use Rattle.cx_meaning.specs.Designs.{PlainDesign}
 use Rattle.cx_vtree.specs.Plain.{PlainSource}
 use Rattle.cx_scripts.specs.Always.{RealisesAlways}
+use Rattle.cx_flat_texts.specs.Runnable.{runnable}
 use Rattle.cx_commands.specs.Reads.{OfFile}
 use Rattle.cx_compiler.specs.Interpreted.{Interprets}
 use Rattle.cx_commands.specs.declared.stops.Stop.{Stop}
@@ -48,9 +49,9 @@ pub record KeepsPromise (text verilog : List ℕ) : Type 0 where
   pub quiet : (json : List ℕ) (budget : ℕ) (kind : FaultKind) (path : List ℕ) (turn : ℕ) → Interprets text json budget (Err (stops.Fault kind path turn)) → Simulates verilog json turn (Err (stops.More turn))
   -- FROM ANY POWER-UP STATE the text does what the simulator tells of it
   pub from_power : (json : List ℕ) (budget : ℕ) (result : Result (List ℕ) Stop) → Simulates verilog json budget result → DoesFromPower verilog json budget result
-  -- ALWAYS: from any power-up state, run after run with waits between, the source of the text does what the design of the text does, and each run is main
+  -- ALWAYS: from any power-up state, run after run with waits between, the source of the text does what the design that is run does, and each run is main
   -- from the state in which the run before ended
-  pub always : (d : PlainDesign) (source : PlainSource) → IsDesignOf text d → IsVerilogOf verilog source → RealisesAlways d source
+  pub always : (d : PlainDesign) (source : PlainSource) → IsDesignOf text d → IsVerilogOf verilog source → RealisesAlways (runnable d) source
   -- no net of the text is ever without a value
   pub no_loop : (json : List ℕ) (budget : ℕ) (net : List ℕ) → Simulates verilog json budget (Err (stops.Loop net)) → ⊥
 

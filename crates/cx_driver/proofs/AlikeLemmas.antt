@@ -1,28 +1,28 @@
 -- A text whose design runs as that of an accepted text is interpreted as that.
-use Rattle.std.proofs.Common.{◌≡◌, inl, inr, ℕ, List, Option, Result, Ok, Err, refl, sym, ap, ◌∙◌, subst}
+use Rattle.std.proofs.Common.{◌≡◌, inl, ℕ, List, Result, Ok, Err, refl, sym, ap, subst}
 use Rattle.cx_text.specs.Loading.{PlainMemory, words_loaded, with_words}
 use Rattle.cx_ast.specs.PlainTree.{PlainTree}
 use Rattle.cx_check.specs.Acceptance.{IsAcceptedTree}
 use Rattle.cx_data.specs.Dump.{dump_text}
 use Rattle.cx_data.specs.Load.{load_of}
 use Rattle.cx_data.specs.declared.faults.DataFault.{DataFault}
-use Rattle.cx_meaning.specs.Answers.{Answer, End, Fault, More}
+use Rattle.cx_meaning.specs.Answers.{Answer}
 use Rattle.cx_meaning.specs.Cycles as cycles
 use Rattle.cx_meaning.specs.Designs.{PlainDesign}
-use Rattle.cx_meaning.specs.Instances.{State, tree_of, words_of}
+use Rattle.cx_meaning.specs.Instances.{State, tree_of}
 use Rattle.cx_meaning.specs.Running.{run_main}
 use Rattle.cx_rules.specs.Externals.{external_rows}
 use Rattle.cx_numbering.specs.DesignOf.{design_of}
 use Rattle.cx_state.specs.Paths.{full_path}
 use Rattle.cx_commands.specs.Commands.{Asked, share}
 use Rattle.cx_commands.specs.Unread.{HasTree}
-use Rattle.cx_commands.specs.declared.stops.Stop.{Stop}
 use Rattle.cx_commands.specs.declared.stops.Stop.TheVariants as stops
-use Rattle.cx_compiler.specs.Interpreted.{told_of, run_left, loaded_result, design_result, Interprets}
+use Rattle.cx_compiler.specs.Interpreted.{told_of, loaded_result, design_result}
 use Rattle.cx_compiler.specs.Texts.{IsDesignOf}
+use Rattle.cx_compiler.proofs.MeantLemmas.{text_meant}
 use Rattle.cx_compiler.proofs.PromiseLemmas.{of_design}
 use Rattle.cx_rewritten.specs.Alike.{AreAlike, both_end, both_fault, both_go_on, RunAlike, RunsAs}
-use Rattle.cx_driver.specs.Alike.{StopsAlike, ToldAlike, InterpretsAlike, AlikeOfFile}
+use Rattle.cx_driver.specs.Alike.{ToldAlike, InterpretsAlike, AlikeOfFile}
 use Rattle.cx_driver.specs.Outcomes.{IsAnswer}
 use Rattle.cx_driver.proofs.ReadLemmas.{Held}
 use Rattle.cx_driver.specs.Sharing.{IsSharedTree}
@@ -54,7 +54,7 @@ interprets_alike text other tree has accepted runs =
       told = λ json budget result is.
           let same = of_design text (design_of tree) (tree, has, accepted, refl) json budget result is in (
             design_result (design_of runs.again) json budget,
-            inl (design_of runs.again, own, refl),
+            inl (design_of runs.again, own, sym (text_meant other (design_of runs.again) own json budget)),
             subst (λ r. ToldAlike r (design_result (design_of runs.again) json budget)) (sym same) (designs_alike (design_of tree) (design_of runs.again) runs.alike json budget),
           );
     }

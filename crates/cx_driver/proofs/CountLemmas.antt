@@ -1,5 +1,5 @@
 -- A text whose instrumented design keeps the limits is not refused, and what is told of one that is refused is one rule.
-use Rattle.std.proofs.Common.{◌≡◌, inl, inr, ℕ, ◌^◌, ◌<◌, List, Result, Ok, Err, IfErr, sym, subst, arith}
+use Rattle.std.proofs.Common.{◌≡◌, inl, inr, ℕ, ◌^◌, ◌<◌, List, sym, subst, arith}
 use Rattle.std.proofs.Math.Logic.{∥∥₁_elim}
 use denote.Struct.Props.{props}
 use Rattle.cx_text.specs.declared.diagnostics.Diagnostic.{Diagnostic}

@@ -1,5 +1,5 @@
 -- A DESIGN'S RUN, with its counts, by the run of its instrumented design.
-use Rattle.std.proofs.Common.{◌≡◌, ◌⊎◌, inl, inr, ℕ, zero, suc, ◌+◌, ◌*◌, ◌^◌, ◌%◌, ◌<◌, ◌≤◌, Bool, true, false, nat_eq, if◌then◌else◌, List, [], ◌∷◌, ◌++◌, length, map, slice_get, Option, Some, None, Ok, Err, refl, sym, ap, ap₂, ◌∙◌, subst, arith}
+use Rattle.std.proofs.Common.{◌≡◌, ◌⊎◌, inl, inr, ℕ, zero, suc, ◌+◌, ◌*◌, ◌^◌, ◌%◌, ◌<◌, ◌≤◌, Bool, true, false, nat_eq, if◌then◌else◌, List, [], ◌∷◌, ◌++◌, length, map, slice_get, Some, None, Ok, Err, refl, sym, ap, ap₂, ◌∙◌, subst, arith}
 use Rattle.std.proofs.lemmas.Bool.{eqb-true, eqb-false}
 use Rattle.std.proofs.lemmas.List.{length-map, map-append}
 use Rattle.std.proofs.Math.Nat.{mod-eq_of_lt}
@@ -12,7 +12,6 @@ use Rattle.cx_meaning.specs.Answers as answers
 use Rattle.cx_meaning.specs.Cycles as cycles
 use Rattle.cx_meaning.specs.Designs.{PlainCell, PlainDesign, component_at}
 use Rattle.cx_meaning.specs.Instances.{State, externals_from, externals_of, if_external, part_of, paths_of, tree_of, words_of}
-use Rattle.cx_meaning.specs.Instances as instances
 use Rattle.cx_meaning.specs.Running.{run_main}
 use Rattle.cx_meaning.specs.Sights.{In}
 use Rattle.cx_meaning.proofs.DesignsLemmas.{same_part}
@@ -39,12 +38,12 @@ use Rattle.cx_profiling.proofs.TallyWithin.{entry_within}
 use Rattle.cx_profiling.proofs.PathsKept.{paths_kept, rows_kept}
 use Rattle.cx_profile.specs.Profiles.{memory_place}
 use Rattle.cx_profile.specs.declared.instrumenting.Profiled.{Profiled}
-use Rattle.cx_compiler.specs.Interpreted.{PlainLeft, fault_stop, left_of, run_left}
+use Rattle.cx_compiler.specs.Interpreted.{PlainLeft, fault_stop, run_left}
 use Rattle.cx_commands.specs.declared.stops.Stop.{Stop}
 use Rattle.cx_commands.specs.declared.stops.Stop.TheVariants as stops
 use Rattle.cx_driver.specs.Counted.{CountsRun, HasRoom, IsAdded, IsCountedRun, IsProfiled, StopsRunCounted}
 use Rattle.cx_driver.specs.Counting.{CanCount}
-use Rattle.cx_driver.specs.Profiling.{PlainCounted, active_counts, counted_left, with_counts_of}
+use Rattle.cx_driver.specs.Profiling.{active_counts, with_counts_of}
 use Rattle.cx_driver.proofs.RanLemmas.{ended, fault_stops, faulted, more_stops, run_leaves, unfinished, words_of_loaded}
 use Rattle.cx_driver.proofs.ReadOffLemmas.{read_end, read_fault, read_more, same_front, with_last}
 

@@ -1,5 +1,5 @@
 -- What `instrument` does with a text is one thing.
-use Rattle.std.proofs.Common.{◌≡◌, ◌⊎◌, inl, inr, ℕ, ◌<◌, ◌≤◌, List, Result, Ok, Err, IfOk, IfErr, MatchResult, refl, sym, ap, ◌∙◌, subst, arith}
+use Rattle.std.proofs.Common.{◌≡◌, ◌⊎◌, inl, inr, ℕ, ◌≤◌, List, Result, Ok, Err, IfOk, IfErr, MatchResult, refl, sym, ap, ◌∙◌, subst, arith}
 use Rattle.cx_text.specs.declared.diagnostics.Diagnostic.{Diagnostic}
 use Rattle.cx_text.specs.declared.limits.TheConstants.{COMPILE_SIZE}
 use Rattle.cx_meaning.specs.Designs.{PlainDesign}
@@ -15,7 +15,7 @@ use Rattle.cx_commands.specs.declared.stops.Stop.TheVariants as stops
 use Rattle.cx_compiler.specs.Compiled.{EmitsWithin, IsDesignTooLarge, IsDesignWritten, IsRealised, IsShortWithin, too_large}
 use Rattle.cx_compiler.specs.Texts.{IsDesignOf, IsTextRefusal}
 use Rattle.cx_compiler.proofs.TextLemmas.{one_design}
-use Rattle.cx_driver.specs.Counting.{CanCount, IsLimitStop}
+use Rattle.cx_driver.specs.Counting.{CanCount}
 use Rattle.cx_driver.specs.Instrumenting.{InstrumentBreak, Instruments, IsInstrumentable, IsInstrumented, IsInstrumentedDesign, IsInstrumentedStop, IsInstrumentStop, IsTooLargeToCount}
 use Rattle.cx_driver.proofs.CountLemmas.{count_once, counted_once}
 

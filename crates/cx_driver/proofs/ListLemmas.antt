@@ -1,7 +1,6 @@
 -- Where the interpreter ends, every list of choices does, with enough of them.
-use Rattle.std.proofs.Common.{◌≡◌, ◌<◌, ◌≤◌, ◌^◌, inl, inr, ℕ, List, Result, Ok, Err, refl, sym, ap, ◌∙◌, subst}
+use Rattle.std.proofs.Common.{◌≡◌, ◌<◌, ◌^◌, inl, ℕ, List, Result, Ok, Err, refl, sym, ap, ◌∙◌, subst}
 use Rattle.cx_text.specs.Loading.{PlainMemory, words_loaded, with_words}
-use Rattle.cx_data.specs.Dump.{dump_text}
 use Rattle.cx_data.specs.Load.{load_of}
 use Rattle.cx_data.specs.declared.faults.DataFault.{DataFault}
 use Rattle.cx_meaning.specs.Answers as answers
@@ -22,7 +21,9 @@ use Rattle.cx_compiler.specs.Interpreted.{told_of, loaded_result}
 use Rattle.cx_compiler.specs.Texts.{IsDesignOf}
 use Rattle.cx_compiler.proofs.PromiseLemmas.{of_design}
 use Rattle.cx_compiler.proofs.TextLemmas.{accepted_rules, text_targets}
-use Rattle.cx_driver.specs.Weaving.{woven_text, told_woven, loaded_woven, design_woven, EveryListEnds, AllListsEnd}
+use Rattle.cx_compiler.proofs.TextLayers.{text_flat}
+use Rattle.cx_flat_texts.proofs.RunnableLemmas.{without_static}
+use Rattle.cx_driver.specs.Weaving.{told_woven, loaded_woven, design_woven, EveryListEnds, AllListsEnd}
 
 -- of a run of main that ends
 abbrev Law : Type 0
@@ -42,7 +43,7 @@ module _ (law : Law) (text json : List ℕ) (d : PlainDesign) (stands : IsDesign
         all.0,
         λ list steps enough.
             let r = all.1 (by_list list) steps enough in
-            (r.0, inl (d, stands, sym (ap (loaded_woven d list steps) loads ∙ ap (told_woven d ms steps) r.1))),
+            (r.0, inl (d, stands, sym (ap (λ (e : PlainDesign). design_woven e list json steps) (without_static d (text_flat text d stands)) ∙ ap (loaded_woven d list steps) loads ∙ ap (told_woven d ms steps) r.1))),
       )
     where
       same : {x y : List ℕ} → ◌≡◌ {A = Result (List ℕ) Stop} (Ok x) (Ok y) → x ≡ y

@@ -15,9 +15,9 @@ use Rattle.cx_rules.specs.Externals.{external_rows}
 use Rattle.cx_numbering.specs.DesignOf.{design_of}
 use Rattle.cx_commands.specs.Commands.{Asked, promote}
 use Rattle.cx_commands.specs.Unread.{HasTree}
-use Rattle.cx_commands.specs.declared.stops.Stop.{Stop}
-use Rattle.cx_compiler.specs.Interpreted.{told_of, loaded_result, design_result, Interprets}
+use Rattle.cx_compiler.specs.Interpreted.{told_of, loaded_result, design_result}
 use Rattle.cx_compiler.specs.Texts.{IsDesignOf}
+use Rattle.cx_compiler.proofs.MeantLemmas.{text_meant}
 use Rattle.cx_compiler.proofs.PromiseLemmas.{of_design}
 use Rattle.cx_promotion.specs.Made.{Quickens}
 use Rattle.cx_rewritten.specs.NoLater.{EndsNoLater}
@@ -59,7 +59,7 @@ interprets_no_later text other tree has accepted runs =
       told = λ json budget result is.
           let same = of_design text (design_of tree) (tree, has, accepted, refl) json budget result is in (
             design_result (design_of runs.again) json budget,
-            inl (design_of runs.again, own, refl),
+            inl (design_of runs.again, own, sym (text_meant other (design_of runs.again) own json budget)),
             subst (λ r. ToldNoLater r (design_result (design_of runs.again) json budget)) (sym same) (designs_no_later (design_of tree) (design_of runs.again) runs.quickens runs.words json budget),
           );
     }

@@ -1,5 +1,5 @@
 -- What a command that writes another design does with a text is to write a text, or to tell a rule, and not both.
-use Rattle.std.proofs.Common.{◌≡◌, ◌⊎◌, inl, inr, ℕ, List, Result, Ok, Err, IfOk, IfErr, MatchResult, refl, sym, ap, ◌∙◌, subst}
+use Rattle.std.proofs.Common.{◌≡◌, ◌⊎◌, inl, inr, ℕ, List, Result, Ok, Err, IfOk, IfErr, MatchResult, sym, ap, ◌∙◌, subst}
 use Rattle.cx_text.specs.declared.diagnostics.Diagnostic.{Diagnostic}
 use Rattle.cx_text.specs.declared.limits.TheConstants.{DESIGN_BYTES}
 use Rattle.cx_ast.specs.PlainTree.{PlainTree}

@@ -1,6 +1,6 @@
 -- In the design of a trial a place tells a port: no assignment has a guard, so each has one operand alone, and nothing is invoked. So the rule that it breaks is
 -- one, with its place and its name.
-use Rattle.std.proofs.Common.{◌≡◌, ◌⊎◌, inl, inr, ⊎_elim, ℕ, zero, suc, ◌+◌, ◌*◌, ◌%◌, Bool, true, false, if◌then◌else◌, List, [], ◌∷◌, ◌++◌, map, Some, None, slice_get, refl, sym, ap, ◌∙◌, subst, codes}
+use Rattle.std.proofs.Common.{◌≡◌, inl, inr, ⊎_elim, ℕ, zero, suc, ◌+◌, ◌*◌, ◌%◌, Bool, true, false, if◌then◌else◌, List, [], ◌∷◌, ◌++◌, map, Some, None, slice_get, refl, sym, ap, ◌∙◌, subst, codes}
 use Rattle.std.specs.Prelude.{nat_eq, flat_map}
 use Rattle.std.proofs.lemmas.List.{append-nil}
 use Rattle.cx_text.specs.declared.diagnostics.Diagnostic.{Diagnostic}

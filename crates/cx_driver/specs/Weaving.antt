@@ -12,6 +12,7 @@ use Rattle.cx_rules.specs.Sizes.{design_size}
 use Rattle.cx_orders.specs.Woven as woven
 use Rattle.cx_orders.specs.Woven.{Woven, by_list, woven}
 use Rattle.cx_meaning.specs.declared.sights.FaultKind.{FaultKind}
+use Rattle.cx_flat_texts.specs.Runnable.{runnable}
 use Rattle.cx_compiler.specs.Interpreted.{fault_stop, Interprets, IsInterpAnswer}
 use Rattle.cx_compiler.specs.Texts.{IsDesignOf, TextBreak}
 use Rattle.cx_commands.specs.declared.stops.Stop.{Stop}
@@ -39,10 +40,10 @@ loaded_woven d list steps (Err fault) = Err (stops.Json fault)
 abbrev pub design_woven : PlainDesign → List ℕ → List ℕ → ℕ → Result (List ℕ) Stop
 design_woven d list json steps = loaded_woven d list steps (load_of json (external_rows d))
 
--- WHAT A TEXT DOES ON A DATA FILE by choices: it is accepted, and its design does this; or it breaks a rule, and that is told
+-- WHAT A TEXT DOES ON A DATA FILE by choices: it is accepted, and the design that is run does this; or it breaks a rule, and that is told
 abbrev pub Weaves : List ℕ → List ℕ → ℕ → List ℕ → Result (List ℕ) Stop → Type 0
 Weaves text json steps list result =
-    ((d : PlainDesign) × IsDesignOf text d × (result ≡ design_woven d list json steps))
+    ((d : PlainDesign) × IsDesignOf text d × (result ≡ design_woven (runnable d) list json steps))
     ⊎ ((told : Diagnostic) × TextBreak text told × (result ≡ Err (stops.Rule told)))
 
 -- what is written of a text, and why there is nothing to write
