@@ -10,3 +10,4 @@ pub mod FitsLemmas
 pub mod PartLemmas
 pub mod EvenLemmas
 pub mod TablesLemmas
+pub mod FoundLemmas

@@ -4,6 +4,7 @@
 mod bases;
 mod changes;
 mod coding;
+mod finding;
 mod laws;
 mod parts;
 mod paths;

@@ -1,14 +1,16 @@
 //! The instances below some, each before those that it holds.
 
-ghost use Rattle.std.specs.Prelude.{◌≡◌, ◌<◌, List, ◌∷◌, ◌++◌, map, reverse, length, option_map, IfOk, OnOk};
+ghost use Rattle.std.specs.Prelude.{◌≡◌, ◌<◌, List, ◌∷◌, ◌++◌, map, reverse, length, IfOk, OnOk};
 ghost use Rattle.cx_vtree.specs.InstanceTree.{below, tree_from};
 ghost use Rattle.cx_vtree.specs.PlainParts.{plain_instance, plain_modules};
-ghost use Rattle.cx_velab.specs.Trees.{trees, work, found_from};
-ghost use Rattle.cx_velab.specs.Rows.{placed_of, plain_pending, plain_found};
+ghost use Rattle.cx_velab.specs.Trees.{trees, work};
+ghost use Rattle.cx_velab.specs.Rows.{placed_of, plain_pending, HasLast};
 
-use cx_text::{Memory, Name};
+use crate::finding::{find, last_numbers};
+use cx_text::Memory;
 use cx_vtree::{Instance, Module};
 use std::alloc::Global;
+use std::collections::BTreeMap;
 
 /// An instance of the tree: its module, how it stands in the module around it, and the number of the instance that holds
 /// it.
@@ -19,36 +21,25 @@ pub struct Row<'a> {
     pub holder: usize,
 }
 
-/// Instances that are still to be listed: what stands in an instance, and the modules that ended before its own.
+/// Instances that are still to be listed: what stands in an instance, and how many modules ended before its own.
 #[derive(Clone, Copy)]
 struct Pending<'a> {
-    before: &'a [Module],
+    before: usize,
     instances: &'a [Instance],
     holder: usize,
 }
 
-/// The last module of a name, and those before it.
-fn find<'a>(modules: &'a [Module], kind: &Name) -> Option<(&'a Module, &'a [Module])>
-    ensures { option_map plain_found result ≡ found_from (reverse (plain_modules modules.now)) kind.now }
-{
-    let mut before = modules;
-    while let Some((last, rest)) = before.split_last() {
-        if last.name.bytes() == kind.bytes() {
-            return Some((last, rest));
-        }
-        before = rest;
-    }
-    None
-}
-
 /// Lists the first of the instances on top, and leaves those below it and the others to be listed.
 fn step<'a>(
+    last: &BTreeMap<&'a [u8], usize>,
+    modules: &'a [Module],
     rows: &mut Vec<Row<'a>>,
     pending: &mut Vec<Pending<'a>>,
     top: Pending<'a>,
 ) -> Result<(), Memory>
-    ensures tree { OnOk result (map placed_of rows.new.items ++ trees (reverse (map plain_pending pending.new.items)) (length rows.new.items) ≡ map placed_of rows.old.items ++ trees (plain_pending top.entry ∷ reverse (map plain_pending pending.old.items)) (length rows.old.items)) }
-    ensures less { OnOk result (work (reverse (map plain_pending pending.new.items)) < work (plain_pending top.entry ∷ reverse (map plain_pending pending.old.items))) }
+    requires { HasLast last.now (plain_modules modules.now) }
+    ensures tree { OnOk result (map placed_of rows.new.items ++ trees (reverse (map (plain_pending (plain_modules modules.now)) pending.new.items)) (length rows.new.items) ≡ map placed_of rows.old.items ++ trees (plain_pending (plain_modules modules.now) top.entry ∷ reverse (map (plain_pending (plain_modules modules.now)) pending.old.items)) (length rows.old.items)) }
+    ensures less { OnOk result (work (reverse (map (plain_pending (plain_modules modules.now)) pending.new.items)) < work (plain_pending (plain_modules modules.now) top.entry ∷ reverse (map (plain_pending (plain_modules modules.now)) pending.old.items))) }
 {
     if let Some((instance, rest)) = top.instances.split_first() {
         pending.push(Pending {
@@ -56,7 +47,7 @@ fn step<'a>(
             instances: rest,
             holder: top.holder,
         })?;
-        if let Some((module, before)) = find(top.before, &instance.module) {
+        if let Some((module, before)) = find(last, modules, top.before, &instance.module) {
             let holder = rows.len();
             rows.push(Row {
                 module,
@@ -82,15 +73,16 @@ pub fn rows<'a>(
 ) -> Result<Vec<Row<'a>>, Memory>
     ensures { IfOk result (λ rows. map placed_of rows.items ≡ below (tree_from (reverse (plain_modules modules.now))) 0 0 (map plain_instance instances.now)) }
 {
+    let last = last_numbers(alloc, modules)?;
     let mut rows = Vec::new(alloc);
     let mut pending = Vec::new(alloc);
     pending.push(Pending {
-        before: modules,
+        before: modules.len(),
         instances,
         holder: 0,
     })?;
     while let Some(top) = pending.pop() {
-        step(&mut rows, &mut pending, top)?;
+        step(&last, modules, &mut rows, &mut pending, top)?;
     }
     Ok(rows)
 }

@@ -2,3 +2,4 @@ pub mod Overs
 pub mod Memories
 pub mod ModuleSteps
 pub mod Limbs
+pub mod FirstLemmas

@@ -36,3 +36,8 @@ modules_next ms i x s t counts counts' seen own is_main before lt at is_before i
     ∙ ap (λ o. over (over s (lines_faults (length rest == 0) here o (draft_module x))) (modules_faults (here ++ draft_module x ∷ []) (counts ++ o ∷ []) rest)) own_here
     ∙ sym (over_append s (lines_faults (length rest == 0) here (module_counts here counts (draft_module x)) (draft_module x)) (modules_faults (here ++ draft_module x ∷ []) (counts ++ module_counts here counts (draft_module x) ∷ []) rest))
     ∙ ap (λ d. over s (modules_faults here counts (draft_modules d))) (sym (drop_here ms i x lt at))
+
+-- one module more is seen
+pub seen_next : (ms : List DraftModule) (i : ℕ) (x : DraftModule) (before next : List DraftModule)
+    → i < length ms → x ≡ get_or ms i x → before ≡ take i ms → next ≡ before ++ x ∷ [] → next ≡ take (i + 1) ms
+seen_next ms i x before next lt at is_before is_next = is_next ∙ ap (λ b. b ++ x ∷ []) is_before ∙ sym (take_here ms i x lt at)

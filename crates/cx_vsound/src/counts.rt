@@ -6,8 +6,9 @@ ghost use Rattle.cx_vscope.specs.Drafts.{draft_decl, draft_module, draft_modules
 ghost use Rattle.cx_vtree.specs.Sound as sound;
 ghost use Rattle.cx_vsound.specs.Parts.{counts_in};
 
+use crate::earlier::Earlier;
 use cx_text::{MEMORY_WORDS, Name, VERILOG_INSTANCES, VERILOG_NETS};
-use cx_vscope::{DraftDecl, DraftModule, Numeral, same};
+use cx_vscope::{DraftDecl, DraftModule, Numeral};
 use cx_vtree::Instance;
 
 /// Counts over a tree of instances. They stop at 2^64 - 1.
@@ -69,34 +70,24 @@ fn decls_counts(start: Sums, decls: &[DraftDecl]) -> Sums
 }
 
 /// The counts of the module of a name, among those before.
-fn counts_named(before: &[DraftModule], counts: &[Sums], name: &Name) -> Sums
+fn counts_named(before: &Earlier, counts: &[Sums], name: &Name) -> Sums
     ensures { counts_in result ≡ sound.counts_named (draft_modules before.now) (map counts_in counts.now) name.now }
 {
-    let mut modules = before;
-    let mut counts = counts;
-    while let Some((m, more_modules)) = modules.split_first() {
-        let Some((c, more_counts)) = counts.split_first() else {
-            break;
-        };
-        if same(&m.name, name) {
-            return *c;
-        }
-        modules = more_modules;
-        counts = more_counts;
-    }
-    Sums {
+    let none = Sums {
         nets: 0,
         instances: 0,
         words: 0,
+    };
+    let Some(number) = before.number(name) else {
+        return none;
+    };
+    match counts.get(number) {
+        None => none,
+        Some(sums) => *sums,
     }
 }
 
-fn instances_counts(
-    before: &[DraftModule],
-    counts: &[Sums],
-    start: Sums,
-    instances: &[Instance],
-) -> Sums
+fn instances_counts(before: &Earlier, counts: &[Sums], start: Sums, instances: &[Instance]) -> Sums
     ensures { counts_in result ≡ sound.instances_counts (draft_modules before.now) (map counts_in counts.now) (counts_in start) (map plain_instance instances.now) }
 {
     let mut sums = start;
@@ -107,7 +98,7 @@ fn instances_counts(
 }
 
 /// The counts of a module, with those of its instances.
-pub fn module_counts(before: &[DraftModule], counts: &[Sums], m: &DraftModule) -> Sums
+pub fn module_counts(before: &Earlier, counts: &[Sums], m: &DraftModule) -> Sums
     ensures { counts_in result ≡ sound.module_counts (draft_modules before.now) (map counts_in counts.now) (draft_module m.now) }
 {
     let own = Sums {

@@ -7,14 +7,15 @@ ghost use Rattle.cx_vtree.specs.PlainParts.{plain_instance};
 ghost use Rattle.cx_vscope.specs.Drafts.{draft_decl, draft_module, draft_modules, draft_sizes, draft_external, draft_externals};
 ghost use Rattle.cx_vtree.specs.Sound as sound;
 ghost use Rattle.cx_vsound.specs.Arrays.{arrays_among, one_more, other_length, other_width, seen};
+ghost use Rattle.cx_vsound.specs.Firsts.{main_instances};
 ghost use Rattle.cx_vsound.specs.Parts.{external_faults_by};
 ghost use Rattle.cx_vsound.specs.Search.{faults_in, over};
 
-use crate::nets::module_named;
+use crate::earlier::{Earlier, Instances, all_modules};
 use crate::products::ends_at;
 use crate::search::{LineFaults, Search, after};
-use cx_text::{DATA_WORD_BITS, Memory, Name};
-use cx_vscope::{DraftDecl, DraftExternal, DraftModule, Names, Numeral, same};
+use cx_text::{DATA_WORD_BITS, Memory};
+use cx_vscope::{DraftDecl, DraftExternal, DraftModule, Names, Numeral};
 use cx_vtree::Instance;
 use std::alloc::Global;
 
@@ -60,31 +61,37 @@ fn main_module(modules: &[DraftModule]) -> Option<&DraftModule>
     found
 }
 
-fn instance_kind<'a>(instances: &'a [Instance], name: &Name) -> Option<&'a Name>
-    ensures { option_copied result ≡ sound.instance_kind (map plain_instance instances.now) name.now }
+/// The instances of `main`; none where there is no such module.
+fn main_instances(modules: &[DraftModule]) -> &[Instance]
+    ensures { map plain_instance result.now ≡ main_instances (draft_modules modules.now) }
 {
-    for i in instances {
-        if same(&i.name, name) {
-            return Some(&i.module);
-        }
+    match main_module(modules) {
+        None => &[],
+        Some(m) => &m.instances,
     }
-    None
 }
 
-/// The module of an external memory's instance.
-fn memory_module<'a>(modules: &'a [DraftModule], e: &DraftExternal) -> Option<&'a DraftModule>
+/// The module of an external memory's instance, one of those of `main`.
+fn memory_module<'a>(
+    modules: &Earlier<'a>,
+    instances: &Instances,
+    e: &DraftExternal,
+) -> Option<&'a DraftModule>
+    requires { instances.now ≡ main_instances (draft_modules modules.now) }
     ensures { option_map draft_module (option_copied result) ≡ sound.memory_module (draft_modules modules.now) (draft_external e.now) }
 {
-    let main = main_module(modules)?;
-    let kind = instance_kind(&main.instances, &e.instance)?;
-    module_named(modules, kind)
+    match instances.kind(&e.instance) {
+        None => None,
+        Some(kind) => modules.named(kind),
+    }
 }
 
 /// The arrays of the module of an external memory's instance.
-fn memory_arrays<'a>(modules: &'a [DraftModule], e: &DraftExternal) -> Arrays<'a>
+fn memory_arrays<'a>(modules: &Earlier<'a>, instances: &Instances, e: &DraftExternal) -> Arrays<'a>
+    requires { instances.now ≡ main_instances (draft_modules modules.now) }
     ensures { seen result ≡ arrays_among (sound.memory_arrays (draft_modules modules.now) (draft_external e.now)) }
 {
-    match memory_module(modules, e) {
+    match memory_module(modules, instances, e) {
         None => Arrays::Empty,
         Some(m) => arrays_in(&m.decls),
     }
@@ -127,17 +134,42 @@ fn faults_by(
 
 fn external_faults(
     alloc: Global,
-    modules: &[DraftModule],
+    modules: &Earlier,
+    instances: &Instances,
     names: &Names,
-    instances: &Names,
+    taken: &Names,
     e: &DraftExternal,
 ) -> Result<LineFaults, Memory>
-    ensures { IfOk result (λ f. faults_in f ≡ sound.external_faults (draft_modules modules.now) names.now instances.now (draft_external e.now)) }
+    requires { instances.now ≡ main_instances (draft_modules modules.now) }
+    ensures { IfOk result (λ f. faults_in f ≡ sound.external_faults (draft_modules modules.now) names.now taken.now (draft_external e.now)) }
 {
-    let arrays = memory_arrays(modules, e);
+    let arrays = memory_arrays(modules, instances, e);
     let other_length = is_other_length(alloc, arrays, &e.sizes)?;
     let other_width = is_other_width(arrays, e.width);
-    Ok(faults_by(names, instances, e, other_length, other_width))
+    Ok(faults_by(names, taken, e, other_length, other_width))
+}
+
+/// Goes on past the lines of external memories, where the instances of `main` are known.
+fn external_lines(
+    alloc: Global,
+    search: Search,
+    modules: &Earlier,
+    instances: &Instances,
+    externals: &[DraftExternal],
+) -> Result<Search, Memory>
+    requires { instances.now ≡ main_instances (draft_modules modules.now) }
+    ensures { IfOk result (λ s. s ≡ over search (sound.externals_faults (draft_modules modules.now) [] [] (draft_externals externals.now))) }
+{
+    let mut search = search;
+    let mut names = Names::new(alloc);
+    let mut taken = Names::new(alloc);
+    for e in externals {
+        let faults = external_faults(alloc, modules, instances, &names, &taken, e)?;
+        search = after(search, faults);
+        names.push(&e.name)?;
+        taken.push(&e.instance)?;
+    }
+    Ok(search)
 }
 
 /// Goes on past the lines of external memories.
@@ -149,14 +181,7 @@ pub fn externals(
 ) -> Result<Search, Memory>
     ensures { IfOk result (λ s. s ≡ over search (sound.externals_faults (draft_modules modules.now) [] [] (draft_externals externals.now))) }
 {
-    let mut search = search;
-    let mut names = Names::new(alloc);
-    let mut instances = Names::new(alloc);
-    for e in externals {
-        let faults = external_faults(alloc, modules, &names, &instances, e)?;
-        search = after(search, faults);
-        names.push(&e.name)?;
-        instances.push(&e.instance)?;
-    }
-    Ok(search)
+    let all = all_modules(alloc, modules)?;
+    let instances = Instances::new(alloc, main_instances(modules))?;
+    external_lines(alloc, search, &all, &instances, externals)
 }

@@ -8,10 +8,11 @@ ghost use Rattle.cx_vscope.specs.ScopeValues.{scope_by};
 ghost use Rattle.cx_vsound.specs.Parts.{instance_faults_by};
 ghost use Rattle.cx_vsound.specs.Search.{faults_in, noted, over};
 
-use crate::nets::{add_driven, module_named, ports_of};
+use crate::earlier::Earlier;
+use crate::nets::{add_driven, ports_of};
 use crate::search::{LineFaults, Search, after};
 use cx_text::Memory;
-use cx_vscope::{DraftModule, ModuleScope, Names, is_source, is_wire, same, width_of};
+use cx_vscope::{ModuleScope, Names, is_source, is_wire, same, width_of};
 use cx_vtree::{Conn, Instance, ModulePort};
 
 /// Whether a port is connected to a net that it may not be connected to, or another port stands in its place.
@@ -68,7 +69,7 @@ fn misfits(scope: &ModuleScope, ports: &[ModulePort], conns: &[Conn]) -> bool
 }
 
 fn instance_faults(
-    before: &[DraftModule],
+    before: &Earlier,
     scope: &ModuleScope,
     earlier: &Names,
     doubled: bool,
@@ -79,7 +80,7 @@ fn instance_faults(
     let ports = ports_of(before, &i.module);
     LineFaults {
         name: earlier.has(&i.name)
-            || module_named(before, &i.module).is_none()
+            || before.named(&i.module).is_none()
             || misconnects(scope, ports, &i.conns)
             || doubled,
         width: misfits(scope, ports, &i.conns),
@@ -90,7 +91,7 @@ fn instance_faults(
 /// Goes on past the line of an instance. `earlier` has the names before, and `driven` the nets that are driven before.
 fn instance<'a>(
     search: Search,
-    before: &[DraftModule],
+    before: &Earlier,
     scope: &ModuleScope,
     earlier: &mut Names<'a>,
     driven: &mut Names<'a>,
@@ -109,7 +110,7 @@ fn instance<'a>(
 /// Goes on past the lines of instances.
 pub fn instances<'a>(
     search: Search,
-    before: &[DraftModule],
+    before: &Earlier,
     scope: &ModuleScope,
     earlier: &mut Names<'a>,
     driven: &mut Names<'a>,

@@ -3,6 +3,7 @@
 
 mod checking;
 mod counts;
+mod earlier;
 mod edges;
 mod externals;
 mod instances;

@@ -8,17 +8,18 @@ ghost use Rattle.cx_vsound.specs.Parts.{counts_in, signature_faults, body_faults
 ghost use Rattle.cx_vsound.specs.Search.{faults_in, over};
 
 use crate::counts::{Sums, module_counts, too_large};
+use crate::earlier::Earlier;
 use crate::edges::edge;
 use crate::instances::instances;
 use crate::nets::drivers;
 use crate::parts::{assigns, decls, ports};
 use crate::search::{LineFaults, Search, after, clean};
 use cx_text::{Memory, Name};
-use cx_vscope::{DraftModule, ModuleScope, Names, same};
+use cx_vscope::{DraftModule, ModuleScope, Names};
 use cx_vtree::{ModulePort, NetAssign};
 use std::alloc::Global;
 
-fn module_faults(is_main: bool, before: &[DraftModule], own: Sums, m: &DraftModule) -> LineFaults
+fn module_faults(is_main: bool, before: &Earlier, own: Sums, m: &DraftModule) -> LineFaults
     ensures { faults_in result ≡ sound.module_faults is_main (draft_modules before.now) (counts_in own) (draft_module m.now) }
 {
     let fewest = if is_main { 4usize } else { 2usize };
@@ -32,15 +33,10 @@ fn module_faults(is_main: bool, before: &[DraftModule], own: Sums, m: &DraftModu
 }
 
 /// Whether a module of this name is among some.
-fn has_module(modules: &[DraftModule], name: &Name) -> bool
+fn has_module(modules: &Earlier, name: &Name) -> bool
     ensures { result ≡ sound.has_name (map (λ m. m.name) (draft_modules modules.now)) name.now }
 {
-    for m in modules {
-        if same(&m.name, name) {
-            return true;
-        }
-    }
-    false
+    modules.number(name).is_some()
 }
 
 /// The names of ports.
@@ -70,7 +66,7 @@ fn signature<'a>(
     alloc: Global,
     search: Search,
     is_main: bool,
-    before: &[DraftModule],
+    before: &Earlier,
     own: Sums,
     names: &mut Names<'a>,
     m: &'a DraftModule,
@@ -90,7 +86,7 @@ fn signature<'a>(
 fn body<'a>(
     alloc: Global,
     search: Search,
-    before: &[DraftModule],
+    before: &Earlier,
     names: &mut Names<'a>,
     m: &'a DraftModule,
 ) -> Result<Search, Memory>
@@ -110,7 +106,7 @@ fn module_lines(
     alloc: Global,
     search: Search,
     is_main: bool,
-    before: &[DraftModule],
+    before: &Earlier,
     own: Sums,
     m: &DraftModule,
 ) -> Result<Search, Memory>
@@ -128,12 +124,13 @@ pub fn modules(alloc: Global, search: Search, modules: &[DraftModule]) -> Result
 {
     let mut search = search;
     let mut counts = Vec::new(alloc);
+    let mut before = Earlier::new(alloc);
     for i in 0..modules.len() {
-        let before = &modules[..i];
         let m = &modules[i];
-        let own = module_counts(before, &counts, m);
+        let own = module_counts(&before, &counts, m);
         let is_main = modules[i + 1..].is_empty();
-        search = module_lines(alloc, search, is_main, before, own, m)?;
+        search = module_lines(alloc, search, is_main, &before, own, m)?;
+        before.push(m)?;
         counts.push(own)?;
     }
     Ok(search)

@@ -6,6 +6,7 @@ ghost use Rattle.cx_vtree.specs.PlainParts.{plain_port, plain_conn};
 ghost use Rattle.cx_vscope.specs.Drafts.{draft_module, draft_modules};
 ghost use Rattle.cx_vtree.specs.Sound as sound;
 
+use crate::earlier::Earlier;
 use cx_text::{Memory, Name};
 use cx_vscope::{DraftModule, Names, same};
 use cx_vtree::{Conn, ModulePort};
@@ -23,23 +24,11 @@ pub fn has_output(ports: &[ModulePort], name: &Name) -> bool
     false
 }
 
-/// The module of a name, among some.
-pub fn module_named<'a>(modules: &'a [DraftModule], name: &Name) -> Option<&'a DraftModule>
-    ensures { option_map draft_module (option_copied result) ≡ sound.module_named (draft_modules modules.now) name.now }
-{
-    for m in modules {
-        if same(&m.name, name) {
-            return Some(m);
-        }
-    }
-    None
-}
-
 /// The ports of the module of a name; none where there is no such module.
-pub fn ports_of<'a>(modules: &'a [DraftModule], name: &Name) -> &'a [ModulePort]
+pub fn ports_of<'a>(modules: &Earlier<'a>, name: &Name) -> &'a [ModulePort]
     ensures { map plain_port result.now ≡ sound.ports_of (draft_modules modules.now) name.now }
 {
-    match module_named(modules, name) {
+    match modules.named(name) {
         None => &[],
         Some(m) => &m.ports,
     }
@@ -75,11 +64,7 @@ pub fn add_driven<'a>(
 }
 
 /// The nets that a module drives.
-pub fn drivers<'a>(
-    alloc: Global,
-    before: &[DraftModule],
-    m: &'a DraftModule,
-) -> Result<Names<'a>, Memory>
+pub fn drivers<'a>(alloc: Global, before: &Earlier, m: &'a DraftModule) -> Result<Names<'a>, Memory>
     ensures { IfOk result (λ names. names ≡ sound.drivers_in (draft_modules before.now) (draft_module m.now)) }
 {
     let mut names = Names::new(alloc);

@@ -17,5 +17,5 @@ returns c =
     let width : c.is_other_width-other_width.result ≡ sound.not_this_width arrays e =
     c.is_other_width-other_width.ensures ∙ ap (λ a. other_width a e.width) c.memory_arrays-arrays.ensures ∙ other_width_is arrays e in
     c.faults_by.ensures
-    ∙ ap (λ b. external_faults_by b c.is_other_width-other_width.result c.args.names.now c.args.instances.now e) length
-    ∙ ap (λ b. external_faults_by (sound.not_this_memory arrays e) b c.args.names.now c.args.instances.now e) width
+    ∙ ap (λ b. external_faults_by b c.is_other_width-other_width.result c.args.names.now c.args.taken.now e) length
+    ∙ ap (λ b. external_faults_by (sound.not_this_memory arrays e) b c.args.names.now c.args.taken.now e) width
