@@ -1,5 +1,5 @@
 #!/usr/bin/env python3
-"""Runs cases in which `compile` is called, and compares what is told.
+"""Runs cases in which `compile` or `instrument` is called, and compares what is told.
 
     bench/compile_cases.py PROGRAM [CASES..]
 
@@ -7,7 +7,7 @@ PROGRAM is the built calyx_cli (or a command of several words in one argument). 
 form), all of crates/cx_cases/data where none is named. The files of a case are put into a folder of its own, where each step runs; `save` names the file that takes
 standard output. Cases in which the outside fails or a file is cut are left out.
 
-Of each text that `compile` writes the names are looked at too: but for `main`, `clk`, `reset`, `go` and `done`, each begins with `cx_`.
+Of each text that they write the names are looked at too: but for `main`, `clk`, `reset`, `go` and `done`, each begins with `cx_`.
 Where `iverilog` is installed the text has to be read by it without a word (`-g2005 -Wall -t null`).
 The last line is 'N passed, M failed'; the status is 1 where one failed or none was run.
 """
@@ -28,6 +28,7 @@ IN_MEMORY = {'reads', 'writes', 'lines', 'cut'}
 KEYWORDS = set('module input output wire reg assign always posedge begin end if else endmodule'.split())
 OWN = {'main', 'clk', 'reset', 'go', 'done'}
 SECONDS = 60
+WRITERS = ('compile', 'instrument')
 
 
 def content_of(value):
@@ -64,7 +65,7 @@ def complaints(path):
 
 
 def faults_of_text(text, folder):
-    """What is wrong with a text that `compile` wrote."""
+    """What is wrong with a text that was written."""
     foreign = foreign_names(text)
     if foreign:
         return f'names {" ".join(foreign[:5])}'
@@ -89,7 +90,7 @@ def fault_of_step(program, step, folder):
     for key, got in (('stdout', ran.stdout), ('stderr', ran.stderr)):
         if key in step and got != content_of(step[key]):
             return f'{key} {got[:200]!r}'
-    if step['words'][:1] == ['compile'] and ran.returncode == 0:
+    if step['words'][:1] and step['words'][0] in WRITERS and ran.returncode == 0:
         return faults_of_text(ran.stdout, folder)
     return ''
 
@@ -117,13 +118,13 @@ def cases_of(paths):
 
 
 def main():
-    parser = argparse.ArgumentParser(description='Runs cases in which compile is called.')
+    parser = argparse.ArgumentParser(description='Runs cases in which compile or instrument is called.')
     parser.add_argument('program')
     parser.add_argument('cases', nargs='*')
     parser.add_argument('--jobs', type=int, default=os.cpu_count() or 1)
     options = parser.parse_args()
     program = [os.path.abspath(word) if os.path.exists(word) else word for word in shlex.split(options.program)]
-    cases = [case for case in cases_of(options.cases) if any(step['words'][:1] == ['compile'] for step in case['steps'])]
+    cases = [case for case in cases_of(options.cases) if any(step['words'][:1] and step['words'][0] in WRITERS for step in case['steps'])]
     failed = 0
     with concurrent.futures.ThreadPoolExecutor(options.jobs) as pool:
         for case, fault in zip(cases, pool.map(lambda case: fault_of_case(program, case), cases)):

@@ -7,6 +7,7 @@ PROGRAM is the built calyx_cli. Icarus Verilog is installed where it is not ther
 timed. Both have to end in the same cycle with the same words, which is asserted. Printed are the cycles, the best time of three in
 seconds, that of `vvp`, and how many times as long `sim` takes. The time of a run that ends in cycle 1 is left out of both. Then come texts that
 `compile` writes: of these all of a run is timed, and `vvp` without `iverilog`. Last texts of 5, 20 and 80 MB are read and looked at for a cycle: printed are the seconds, and the peak of memory in MiB and for each byte of the text.
+Then come texts of 1,000 to 8,000 modules, each with an instance in `main`.
 """
 import json
 import os
@@ -231,9 +232,18 @@ def long_text(size):
     return MAIN + wires + "  assign done = 1'h0;\n  assign w1 = 32'h0;\n" + assigns + 'endmodule\n'
 
 
-def read(program, folder, size):
+def many_modules(count):
+    """So many modules of a register, and an instance of each in `main`, one behind the other."""
+    ports = '  input wire [31:0] d,\n  output wire [31:0] q\n);\n  reg [31:0] v;\n  assign q = v;\n'
+    body = ports + always(['      v <= d;'], ["      v <= 32'h0;"]) + 'endmodule\n'
+    modules = ''.join(f'module cx_m{k}' + PORTS + body for k in range(1, count + 1))
+    wires = ''.join(f'  wire [31:0] w{k};\n' for k in range(count + 1))
+    instances = ''.join(f'  cx_m{k} i{k}(.clk(clk), .reset(reset), .d(w{k - 1}), .q(w{k}));\n' for k in range(1, count + 1))
+    return modules + MAIN + wires + "  assign done = 1'h0;\n  assign w0 = 32'h1;\n" + instances + 'endmodule\n'
+
+
+def read(program, folder, text):
     """The bytes of a text, the seconds in which it is read and looked at for a cycle, and the peak of memory in bytes."""
-    text = long_text(size)
     with open(folder + '/v.v', 'w', encoding='ascii') as file:
         file.write(text)
     with open(folder + '/v.json', 'w', encoding='ascii') as file:
@@ -273,8 +283,11 @@ def main():
             cycles, seconds, other = compiled(program, folder, *make(count), compares and count <= LONGEST)
             print(f'{name:28} {cycles:9} cycles {seconds:8.3f} s' + (f' {other:8.3f} s {seconds / other:6.2f}' if other else ''))
         for size in (5_000_000, 20_000_000, 80_000_000):
-            length, seconds, peak = read(program, folder, size)
+            length, seconds, peak = read(program, folder, long_text(size))
             print(f'a text of {length:11,} bytes {seconds:8.3f} s {peak / 2**20:6.0f} MiB {peak / length:6.1f}')
+        for count in (1_000, 2_000, 4_000, 8_000):
+            length, seconds, _ = read(program, folder, many_modules(count))
+            print(f'{count:6,} modules, {length:11,} bytes {seconds:8.3f} s')
 
 
 if __name__ == '__main__':

@@ -34,7 +34,7 @@ def rules():
         name = re.fullmatch(r'`([a-z-]+)`', row[0])
         if name and len(row) == 4:
             found[name.group(1)] = row[1:]
-    stage = re.search(r'`too-large` is a rule of `compile` alone, (.*?)\n\n', page(), flags=re.S)
+    stage = re.search(r'`too-large` is a rule of `compile` and `instrument` alone, (.*?)\n\n', page(), flags=re.S)
     found['too-large'] = [' '.join(stage.group(1).split()), '', '']
     return found
 
@@ -67,7 +67,7 @@ def told(name):
     """What a rule, a kind of fault or a fault of a data file is, in lines; nothing of what is none."""
     if name in rules():
         when, smallest, where = rules()[name]
-        lines = [f'{name}: a design breaks this rule where {plain(when)}.' if name != 'too-large' else f'{name}: a rule of `compile` alone, {when}']
+        lines = [f'{name}: a design breaks this rule where {plain(when)}.' if name != 'too-large' else f'{name}: a rule of `compile` and `instrument` alone, {when}']
         if smallest:
             lines.append(f'  smallest: {smallest}')
             lines.append(f'  told: {where}')
