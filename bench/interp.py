@@ -155,14 +155,20 @@ def best(words, status):
     return ran.stdout, min(times)
 
 
-def seconds(program, folder, shape):
-    """The best time of a few runs without the best of a few that may take no turn."""
-    with open(folder + '/d.futil', 'w', encoding='ascii') as file:
+def written(folder, shape):
+    """The files of a design and of its data, written to a folder."""
+    design, data = folder + '/d.futil', folder + '/d.json'
+    with open(design, 'w', encoding='ascii') as file:
         file.write(shape.text)
     form = {'numeric_type': 'bitnum', 'is_signed': False, 'width': 32}
-    with open(folder + '/d.json', 'w', encoding='ascii') as file:
+    with open(data, 'w', encoding='ascii') as file:
         json.dump({name: {'data': words, 'format': form} for name, words in shape.before.items()}, file)
-    call = [program, 'interp', folder + '/d.futil', folder + '/d.json']
+    return design, data
+
+
+def seconds(program, folder, shape):
+    """The best time of a few runs without the best of a few that may take no turn."""
+    call = [program, 'interp', *written(folder, shape)]
     out, took = best([*call, str(BUDGET)], 0)
     assert json.loads(out) == {'cycles': shape.cycles, 'memories': shape.after}, out[:200]
     return took - best([*call, '0'], 3)[1]

@@ -7,7 +7,6 @@ PROGRAM is the built calyx_cli. The first line that `profile` writes has to be t
 Printed are the user seconds of both, the least of five runs taken in turn, without those of a run that may take no turn, and how many times as long `profile` takes;
 runs of less than a twentieth of a second are too short for that.
 """
-import json
 import os
 import re
 import resource
@@ -30,12 +29,8 @@ def user(words, status):
 
 def seconds(program, folder, shape):
     """The user seconds of `interp` and of `profile`."""
-    with open(folder + '/d.futil', 'w', encoding='ascii') as file:
-        file.write(shape.text)
-    form = {'numeric_type': 'bitnum', 'is_signed': False, 'width': 32}
-    with open(folder + '/d.json', 'w', encoding='ascii') as file:
-        json.dump({name: {'data': words, 'format': form} for name, words in shape.before.items()}, file)
-    calls = [[program, command, folder + '/d.futil', folder + '/d.json'] for command in ('interp', 'profile')]
+    files = runs.written(folder, shape)
+    calls = [[program, command, *files] for command in ('interp', 'profile')]
     took, idle = [[], []], [[], []]
     for _ in range(ROUNDS):
         told = []
