@@ -201,6 +201,7 @@ module _ (tree : PlainTree) (k : ℕ) (part : ast.PlainComponent) (at : slice_ge
             record {
               there = subst (λ p. g < length p.groups) (sym same) (subst (λ m. m < length (component_of tree part).groups) (sym of.0) stands.0);
               one_cycle = ap (λ p. (group_at p g).kind) same ∙ ap (λ x. x.kind) here;
+              unnamed = ap (λ p. (group_at p g).name) same ∙ ap (λ x. x.name) here;
               not_enabled = λ j. not_enabled g high (ap (λ x. x.kind) here) (subst (λ p. In (groups_of p.control) g) same j);
               assigns = λ a j. capture_is tree k part at w kept_own cells_kept a (subst (λ x. In x.assigns a) (ap (λ p. group_at p g) same ∙ here) j);
             });

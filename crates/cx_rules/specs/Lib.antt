@@ -1,4 +1,5 @@
 pub mod Ports
+pub mod FullPaths
 pub mod Items
 pub mod Footprints
 pub mod StaticControl

@@ -90,7 +90,7 @@ pub record IsBind (i : Instance) (c : ℕ) (a : PlainAssign) : Type 0 where
   pub source : IsThere i a.source.port
   pub no_hole : is_hole a.source.port ≡ false
 
--- the group that captures takes ports of the cell into registers and enables them, in one cycle, and no statement enables it
+-- the group that captures takes ports of the cell into registers and enables them, in one cycle; it has no name, and no statement enables it
 pub data IsCapture (i : Instance) (c : ℕ) (a : PlainAssign) : Type 0 where
   takes : (r q : ℕ) → is_register (part_of i) r ≡ true → a.target ≡ ports.Cell r 0 → a.guard ≡ Always → a.source.port ≡ ports.Cell c q → IsCapture i c a
   enables : (r : ℕ) → is_register (part_of i) r ≡ true → a.target ≡ write_en_of r → a.guard ≡ Always → a.source.port ≡ one → IsCapture i c a
@@ -98,6 +98,7 @@ pub data IsCapture (i : Instance) (c : ℕ) (a : PlainAssign) : Type 0 where
 pub record IsCapturing (i : Instance) (c g : ℕ) : Type 0 where
   pub there : g < length (part_of i).groups
   pub one_cycle : (group_at (part_of i) g).kind ≡ kinds.Timed 1
+  pub unnamed : (group_at (part_of i) g).name ≡ []
   pub not_enabled : In (groups_of (part_of i).control) g → ⊥
   pub assigns : (a : PlainAssign) → In (group_at (part_of i) g).assigns a → IsCapture i c a
 

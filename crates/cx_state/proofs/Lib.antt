@@ -1,6 +1,7 @@
 pub mod TreeLemmas
 mod StepLemmas
 mod WayLemmas
+mod WireLemmas
 pub mod PreOrder
 pub mod FillLemmas
 pub mod TableLemmas

@@ -1,19 +1,15 @@
 -- Loaded words that fit the external memories are taken by them.
-use Rattle.std.proofs.Common.{◌≡◌, ℕ, ◌^◌, ◌<◌, ◌≤◌, Bool, true, false, inl, inr, List, [], ◌∷◌, map, All, Some, None, refl, sym, ap, ◌∙◌, subst}
-use Rattle.std.proofs.Math.Logic.{∥∥₁_elim}
+use Rattle.std.proofs.Common.{◌≡◌, ℕ, ◌^◌, ◌<◌, Bool, true, false, inl, inr, List, [], ◌∷◌, map, All, Some, None, refl, sym, ap, ◌∙◌, subst}
 use Rattle.std.proofs.lemmas.List.Elements.{All-head, All-tail}
-use denote.Struct.Props.{props}
 use Rattle.cx_text.specs.Loading.{PlainMemory, FitsShape, FitsRows, word_count, plain_memory}
 use Rattle.cx_text.specs.declared.loading.LoadedMemory.{LoadedMemory}
-use Rattle.cx_prim.specs.CellStates.{StateShape, AreWords, TakesWords}
 use Rattle.cx_prim.specs.Table.{row_of}
 use Rattle.cx_meaning.specs.Designs.{PlainKind, OfPrimitive, OfComponent, PlainCell, PlainDesign, component_at}
-use Rattle.cx_meaning.specs.Sights.{In}
 use Rattle.cx_rules.specs.Wellformed.{IsDesign, IsExternal, first_number}
 use Rattle.cx_rules.specs.Externals.{sizes_in, numbers_of, row_for, if_external, rows_of, external_rows}
 use Rattle.cx_state.specs.States.{words_in}
 use Rattle.cx_state.specs.Starts.{words_for, words_past, KindTakes, TakeWords}
-use Rattle.cx_state.proofs.Shapes.{IsMemoryOf, memory_shape}
+use Rattle.cx_state.proofs.Shapes.{memory_shape}
 use Rattle.cx_state.proofs.MainLemmas.{takes_shape, AreExternal, external_kind}
 
 -- without words nothing is taken

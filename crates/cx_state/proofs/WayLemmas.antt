@@ -6,14 +6,14 @@ use Rattle.cx_meaning.specs.declared.ports.PortRef.{PortRef}
 use Rattle.cx_meaning.specs.Designs.{OfComponent, PlainCell, PlainDesign, component_at}
 use Rattle.cx_meaning.specs.Instances.{Instance, Node, Path, cells_for, tree_of, paths_of, instance_at}
 use Rattle.cx_meaning.specs.Sights.{In}
-use Rattle.cx_rules.specs.Ports.{component_of, cell_name, path_of}
+use Rattle.cx_rules.specs.Ports.{component_of, cell_name}
 use Rattle.cx_design.specs.declared.cells.Cell.{Cell}
 use Rattle.cx_design.specs.PlainForms.{plain_cell}
 use Rattle.cx_design_sizes.specs.declared.tallies.LimitTally.{LimitTally}
 use Rattle.cx_design_sizes.specs.Orders.{IsChildrenFirst}
 use Rattle.cx_design_sizes.specs.Tallies.{AreTallied}
 use Rattle.cx_state.specs.declared.steps.Step.{Step}
-use Rattle.cx_state.specs.Paths.{names_along, full_path}
+use Rattle.cx_rules.specs.FullPaths.{own_path, names_along, full_path}
 use Rattle.cx_state.specs.Steps.{step_below, next_step}
 use Rattle.cx_state.proofs.TreeLemmas.{child_in, tree_is, child_is}
 use Rattle.cx_state.proofs.StepLemmas.{IsStepOf, found}
@@ -43,10 +43,10 @@ way_begins d order port instance path first small at = record {
 through : (d : PlainDesign) (k c j : ℕ) (cell : PlainCell) (rest : Path) (port : PortRef) → slice_get (component_at d k).cells c ≡ Some cell → cell.kind ≡ OfComponent j
     → full_path (Node (component_at d k) (cells_for (component_of d) (component_at d k).cells)) (c ∷ rest) port ≡ (cell_name (component_at d k).cells c ++ codes ".") ++ full_path (component_of d j) rest port
 through d k c j cell rest port at is =
-    ap (λ i. (cell_name (component_at d k).cells c ++ codes "." ++ names_along (instance_at tree (c ∷ [])) rest) ++ path_of i port) (child_is (component_of d) (component_at d k).cells c j cell rest at is)
-    ∙ ap (λ i. (cell_name (component_at d k).cells c ++ codes "." ++ names_along i rest) ++ path_of (instance_at (component_of d j) rest) port)
+    ap (λ i. (cell_name (component_at d k).cells c ++ codes "." ++ names_along (instance_at tree (c ∷ [])) rest) ++ own_path i port) (child_is (component_of d) (component_at d k).cells c j cell rest at is)
+    ∙ ap (λ i. (cell_name (component_at d k).cells c ++ codes "." ++ names_along i rest) ++ own_path (instance_at (component_of d j) rest) port)
     (child_is (component_of d) (component_at d k).cells c j cell [] at is ∙ instance_self (component_of d j))
-    ∙ joined (cell_name (component_at d k).cells c) (codes ".") (names_along (component_of d j) rest) (path_of (instance_at (component_of d j) rest) port)
+    ∙ joined (cell_name (component_at d k).cells c) (codes ".") (names_along (component_of d j) rest) (own_path (instance_at (component_of d j) rest) port)
   where
     tree : Instance
     tree = Node (component_at d k) (cells_for (component_of d) (component_at d k).cells)
@@ -61,7 +61,7 @@ pub record IsTurn (d : PlainDesign) (order : List ℕ) (port : PortRef) (whole :
   pub within : step.cell < length (component_at d k).cells
 
 abbrev IsTurnOf : PlainDesign → List ℕ → PortRef → List ℕ → ℕ → ℕ → List ℕ → Option Step → Type 0
-IsTurnOf d order port whole k left text None = text ++ path_of (component_of d k) port ≡ whole
+IsTurnOf d order port whole k left text None = text ++ own_path (component_of d k) port ≡ whole
 IsTurnOf d order port whole k left text (Some step) = IsTurn d order port whole k left text step
 
 turn_of : (d : PlainDesign) (order : List ℕ) (tallies : List LimitTally) (port : PortRef) (whole : List ℕ) (k left : ℕ) (text : List ℕ) → IsChildrenFirst d order → AreTallied d (length order) tallies order
@@ -71,8 +71,8 @@ turn_of d order tallies port whole k left text first known way = by left way.sma
     tree : component_of d k ≡ Node (component_at d k) (cells_for (component_of d) (component_at d k).cells)
     tree = tree_is d order k first way.here
 
-    own : [] ≡ way.path → text ++ path_of (component_of d k) port ≡ whole
-    own e = ap (λ i. text ++ path_of i port) (sym (instance_self (component_of d k))) ∙ ap (λ path. text ++ full_path (component_of d k) path port) e ∙ way.told
+    own : [] ≡ way.path → text ++ own_path (component_of d k) port ≡ whole
+    own e = ap (λ i. text ++ own_path i port) (sym (instance_self (component_of d k))) ∙ ap (λ path. text ++ full_path (component_of d k) path port) e ∙ way.told
 
     entered : (r : ℕ) (next : Option Step) → suc r < 2 ^ 64 - 1 → IsStepOf (component_of d) (component_at d k).cells 0 r way.path next → IsTurnOf d order port whole k (suc r) text next
     entered r None small h = absurd h
@@ -115,7 +115,7 @@ pub turn : (d : PlainDesign) (order : List ℕ) (tallies : List LimitTally) (por
 turn d order tallies port whole k left text step first known way e = subst (IsTurnOf d order port whole k left text) e (turn_of d order tallies port whole k left text first known way)
 
 pub way_ends : (d : PlainDesign) (order : List ℕ) (tallies : List LimitTally) (port : PortRef) (whole : List ℕ) (k left : ℕ) (text : List ℕ) → IsChildrenFirst d order → AreTallied d (length order) tallies order
-    → IsOnWay d order port whole k left text → next_step tallies (component_at d k).cells left ≡ None → text ++ path_of (component_of d k) port ≡ whole
+    → IsOnWay d order port whole k left text → next_step tallies (component_at d k).cells left ≡ None → text ++ own_path (component_of d k) port ≡ whole
 way_ends d order tallies port whole k left text first known way e = subst (IsTurnOf d order port whole k left text) e (turn_of d order tallies port whole k left text first known way)
 
 -- the name of a cell

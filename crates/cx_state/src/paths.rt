@@ -1,8 +1,10 @@
 //! A port as messages name it, from main on.
 
-ghost use Rattle.std.specs.Prelude.{◌≡◌, ◌++◌, ◌<◌, IfOk, codes, length};
-ghost use Rattle.cx_meaning.specs.Instances.{paths_of, tree_of};
-ghost use Rattle.cx_rules.specs.Ports.{cell_name};
+ghost use Rattle.std.specs.Prelude.{◌≡◌, ◌++◌, ◌<◌, IfNone, IfOk, IfSome, codes, false, length, true};
+ghost use Rattle.cx_meaning.specs.Instances.{Instance, part_of, paths_of, tree_of};
+ghost use Rattle.cx_rules.specs.FullPaths as full_paths;
+ghost use Rattle.cx_rules.specs.FullPaths.{but_last, ends_in_point};
+ghost use Rattle.cx_rules.specs.Ports.{cell_name, component_of, path_of};
 ghost use Rattle.cx_design.specs.PlainForms.{plain_component};
 ghost use Rattle.cx_design.specs.PlainDesigns.{plain_design};
 ghost use Rattle.cx_design_sizes.specs.Orders.{IsChildrenFirst};
@@ -24,6 +26,42 @@ fn append_cell(text: &mut Vec<u8>, part: &Component, cell: usize) -> Result<(), 
     text.extend_from_slice(part.cells.as_slice()[cell].name.bytes())?;
     text.push(b'.')?;
     Ok(())
+}
+
+/// The name of an output by that of its wire, which has a point behind it.
+fn without_point(name: &[u8]) -> Option<&[u8]>
+    ensures none { IfNone result (ends_in_point name.now ≡ false) }
+    ensures some { IfSome result (λ output. (ends_in_point name.now ≡ true) × (output.now ≡ but_last name.now)) }
+{
+    let (last, front) = name.split_last()?;
+    if *last == b'.' { Some(front) } else { None }
+}
+
+/// The name of an output of a static component, where a port is one of its wire.
+fn output_of_wire(part: &Component, port: PortRef) -> Option<&[u8]>
+    ensures none { IfNone result ((i : Instance) → part_of i ≡ plain_component part.now → full_paths.own_path i port ≡ path_of i port) }
+    ensures some { IfSome result (λ name. (i : Instance) → part_of i ≡ plain_component part.now → full_paths.own_path i port ≡ name.now) }
+{
+    match port {
+        PortRef::Cell(cell, _) => {
+            match part.cells.as_slice().get(cell as usize) {
+                Some(cell) => without_point(cell.name.bytes()),
+                None => None,
+            }
+        }
+        _ => None,
+    }
+}
+
+/// A port by its own name in its component, the wire of an output by that of the output.
+fn own_path(alloc: Global, design: &Design, component: usize, port: PortRef) -> Result<Name, Memory>
+    requires within { component < length design.now.components.items }
+    ensures value { IfOk result (λ name. name ≡ full_paths.own_path (component_of (plain_design design.now) component) port) }
+{
+    match output_of_wire(&design.components.as_slice()[component], port) {
+        Some(name) => Name::from_bytes(alloc, name),
+        None => path(alloc, design, component, port),
+    }
 }
 
 /// The names of the cells that lead from main to an instance, each with a point behind it, and that of a port there.
@@ -53,7 +91,7 @@ fn port_text(
         component = step.component;
         left = step.left;
     }
-    let own = path(alloc, design, component as usize, port)?;
+    let own = own_path(alloc, design, component as usize, port)?;
     text.extend_from_slice(own.bytes())?;
     Ok(text)
 }

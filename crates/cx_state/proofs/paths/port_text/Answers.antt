@@ -8,7 +8,7 @@ use Rattle.cx_rules.specs.Ports.{cell_name}
 use Rattle.cx_design.specs.PlainForms.{plain_cell}
 use Rattle.cx_design.specs.PlainDesigns.{plain_design}
 use Rattle.cx_design_sizes.proofs.WayLemmas.{own_cells}
-use Rattle.cx_state.specs.Paths.{full_path}
+use Rattle.cx_rules.specs.FullPaths.{full_path}
 use Rattle.cx_state.specs.Steps.{next_step}
 use Rattle.cx_state.proofs.WayLemmas.{IsOnWay, IsTurn, turn, way_ends}
 use Rattle.cx_state.proofs.paths.port_text.Goals as goal

@@ -1,7 +1,7 @@
 use Rattle.std.proofs.Common.{[], get_or}
 use Rattle.cx_meaning.specs.Instances.{tree_of, paths_of}
 use Rattle.cx_design.specs.PlainDesigns.{plain_design}
-use Rattle.cx_state.specs.Paths.{full_path}
+use Rattle.cx_rules.specs.FullPaths.{full_path}
 use Rattle.cx_state.proofs.WayLemmas.{IsOnWay}
 use Rattle.cx_state.proofs.paths.port_text.Given as goal
 
