@@ -1,5 +1,5 @@
 -- A TREE THAT KEEPS THE RULES keeps all that is asked of it, statement by statement.
-use Rattle.std.proofs.Common.{◌≡◌, ℕ, zero, suc, ◌+◌, ◌<◌, inl, inr, ⊎_elim, ◌⊎◌, Bool, true, false, List, [], ◌∷◌, length, get_or, Option, Some, None, refl, sym, ap, ◌∙◌, subst, arith}
+use Rattle.std.proofs.Common.{◌≡◌, ℕ, zero, suc, ◌+◌, ◌<◌, inl, inr, List, [], ◌∷◌, length, get_or, Option, Some, None, refl, sym, ap, ◌∙◌, subst, arith}
 use Rattle.std.specs.Prelude.{is_some, slice_get}
 use Rattle.cx_prim.specs.Rows.{Row, IsLawful}
 use Rattle.cx_text.specs.declared.places.Place.{Place}
@@ -11,22 +11,21 @@ use Rattle.cx_meaning.specs.declared.kinds.GroupKind.{GroupKind}
 use Rattle.cx_meaning.specs.declared.kinds.GroupKind.TheVariants as kinds
 use Rattle.cx_meaning.specs.Designs.{PlainAssign, PlainGroup, PlainComponent, group_at, no_group, PlainForm, Empty, Enable, Seq, Par, If, While, Repeat, StaticSeq, StaticPar, StaticIf, StaticRepeat, Timed, PlainStatement, Placed, form_of, PlainStatements, no_statements, a_statement, list_of}
 use Rattle.cx_meaning.specs.Instances.{Instance, Node, Cells, no_cells, a_primitive, an_instance, At, Nothing, OfRow, OfInstance, part_of, cells_of, cell_at}
-use Rattle.cx_meaning.specs.Active.{comb, capture}
+use Rattle.cx_meaning.specs.Active.{comb}
 use Rattle.cx_meaning.specs.Calls.{if_instance, called_by, called_in, called}
-use Rattle.cx_meaning.specs.Control.{groups_in, groups_of}
+use Rattle.cx_meaning.specs.Control.{groups_of}
 use Rattle.cx_meaning.specs.Islands.{kind_length}
 use Rattle.cx_meaning.specs.Sights.{In}
 use Rattle.cx_meaning.proofs.InstancesLemmas.{instance_is}
 use Rattle.cx_meaning.proofs.SightsLaws.{in_left, in_right}
-use Rattle.cx_rules.specs.Items.{Dynamic, InStatic, Visited, visit, visit_parts, visit_all, statements_in, test_in}
+use Rattle.cx_rules.specs.Items.{Dynamic, Visited, visit, visit_parts, visit_all, statements_in}
 use Rattle.cx_rules.specs.Circles.{AreAcyclic, AcyclicBelow}
 use Rattle.cx_rules.specs.RaceRule.{IsShared}
 use Rattle.cx_rules.specs.InvokeShape.{latency_at, is_static_port}
 use Rattle.cx_rules.specs.Wellformed.{IsForm, IsWith}
 use Rattle.cx_frames.proofs.CircleFrames.{capture_acyclic}
 use Rattle.cx_flattening.specs.Events.{the_invoke}
-use Rattle.cx_flattening.specs.Copies.{copied_form, copied_statement}
-use Rattle.cx_flattening.specs.Whole.{is_static}
+use Rattle.cx_flattening.specs.Copies.{copied_statement}
 use Rattle.cx_flattening.specs.Flattened.{kid_at, flat_kids, flat_part, kept_at, invoke_port, copy_of, with_capture, inlined}
 use Rattle.cx_flattening.specs.Embedded.{AreEmbedded, IsFlattened}
 use Rattle.cx_flattening.specs.Levels.{IsKnown}
@@ -36,9 +35,8 @@ use Rattle.cx_flattening.specs.Seeing.{NoCircle}
 use Rattle.cx_flattening.specs.Turning.{IsGroupBeside}
 use Rattle.cx_flattening.specs.Lists.{IsIsland, island_events}
 use Rattle.cx_flattening.specs.Deeds.{deeds_in}
-use Rattle.cx_flattening.specs.Calling.{IsCallBeside}
-use Rattle.cx_flattening.specs.Arms.{DrivesAlike, IsApart}
-use Rattle.cx_flattening.specs.Asking.{IsStaticForm, CallAsks, KindAsks, TestAsks, FormAsks, Asks, AllAsk, ArmsAsk, RunAsks, TreeAsks, ChildrenAsk}
+use Rattle.cx_flattening.specs.Arms.{DrivesAlike}
+use Rattle.cx_flattening.specs.Asking.{IsStaticForm, CallAsks, KindAsks, FormAsks, Asks, AllAsk, ArmsAsk, RunAsks, TreeAsks, ChildrenAsk}
 use Rattle.cx_flattening.proofs.FlatGroups.{in_one_of, copy-length}
 use Rattle.cx_flattening.proofs.LevelSights.{kid-static}
 use Rattle.cx_flattening.proofs.FlatDeeper.{still_circle, none_below}
@@ -49,7 +47,7 @@ use Rattle.cx_flattening.proofs.DeedsOnce.{fed_once, deeds_circle}
 use Rattle.cx_flattening.proofs.ArmsAlike.{drives_alike, arm_apart}
 use Rattle.cx_flattening.proofs.StaticControls.{form_copied, kids_static}
 use Rattle.cx_flattening.proofs.Ruled.{IsRuled, AllRuled, AllRuledBelow}
-use Rattle.cx_flattening.proofs.FairParts.{HasCells, AllHave, AllHaveBelow, named, groups_there, invokes_there, tests_named}
+use Rattle.cx_flattening.proofs.FairParts.{AllHave, AllHaveBelow, named, groups_there, invokes_there, tests_named}
 
 known_of : (i : Instance) (q : PortRef) → IsNamed i q → IsKnown i q
 known_of i (ports.Cell c p) h = h

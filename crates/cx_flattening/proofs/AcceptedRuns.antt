@@ -1,6 +1,6 @@
 -- THE RUN OF AN ACCEPTED DESIGN is that of its flat design.
 use Rattle.std.proofs.Common.{ℕ, zero, suc, List, [], ◌∷◌}
-use Rattle.cx_prim.specs.Rows.{Row, IsLawful}
+use Rattle.cx_prim.specs.Rows.{IsLawful}
 use Rattle.cx_prim.proofs.TableLaws.{row_of_lawful}
 use Rattle.cx_meaning.specs.Laws.{AllRows, AllRowsBelow}
 use Rattle.cx_meaning.specs.Designs.{PlainKind, OfPrimitive, OfComponent, PlainCell, PlainDesign, component_at}

@@ -1,12 +1,10 @@
 -- THE TREE OF AN ACCEPTED DESIGN is fair and controlled, at every depth.
-use Rattle.std.proofs.Common.{◌≡◌, ℕ, zero, suc, ◌+◌, ◌<◌, ◌≤◌, inl, inr, ⊎_elim, ◌⊎◌, Bool, true, false, List, [], ◌∷◌, length, Option, Some, None, refl, sym, ap, ◌∙◌, subst, arith}
+use Rattle.std.proofs.Common.{◌≡◌, ℕ, zero, suc, ◌+◌, ◌<◌, ◌≤◌, inl, Bool, true, false, List, [], ◌∷◌, length, Option, Some, None, refl, sym, ap, ◌∙◌, subst, arith}
 use Rattle.cx_prim.specs.Rows.{Row}
 use Rattle.cx_prim.specs.Table.{row_of}
 use Rattle.cx_meaning.specs.Designs.{PlainKind, OfPrimitive, OfComponent, PlainCell, PlainComponent, PlainDesign, component_at}
-use Rattle.cx_meaning.specs.Instances.{Instance, Node, Cells, no_cells, a_primitive, an_instance, At, Nothing, OfRow, OfInstance, part_of, cells_of, cell_at, cells_for, tree_within, tree_of}
-use Rattle.cx_meaning.specs.Sights.{In}
+use Rattle.cx_meaning.specs.Instances.{Instance, Node, Cells, no_cells, a_primitive, an_instance, Nothing, OfRow, OfInstance, part_of, cell_at, cells_for, tree_within, tree_of}
 use Rattle.cx_meaning.proofs.InstancesLemmas.{instance_is, row_is}
-use Rattle.cx_rules.specs.Ports.{component_of}
 use Rattle.cx_rules.specs.Invokes.{lasts}
 use Rattle.cx_rules.specs.Accepted.{IsAccepted}
 use Rattle.cx_rules.specs.Circles.{AreAcyclic, AcyclicBelow}
@@ -14,7 +12,7 @@ use Rattle.cx_rules.specs.Wellformed.{IsDesign}
 use Rattle.cx_flattening.specs.Whole.{is_static}
 use Rattle.cx_flattening.specs.Flattened.{kid_at, kid_if, flat_part, flat_kids}
 use Rattle.cx_flattening.specs.Targets.{IsBlock}
-use Rattle.cx_flattening.specs.Fair.{IsFair, AllFair, AllFairBelow}
+use Rattle.cx_flattening.specs.Fair.{AllFair, AllFairBelow}
 use Rattle.cx_flattening.specs.Controlled.{AllControlled, AllControlledBelow}
 use Rattle.cx_flattening.specs.Ends.{NoneNamesDone}
 use Rattle.cx_flattening.proofs.CellLayout.{kind_at, at_kind, cell_for, count_for, kind_there, kind_in}

@@ -1,17 +1,17 @@
 -- THE ARMS OF A PAR drive in the flat instance what they drive in the tree; and of two arms neither drives what the other does.
-use Rattle.std.proofs.Common.{◌≡◌, ℕ, zero, suc, ◌+◌, ◌<◌, ◌≤◌, ◌⊎◌, inl, inr, ⊎_elim, Bool, true, false, ◌||◌, nat_eq, List, [], ◌∷◌, ◌++◌, length, map, get_or, Option, Some, None, refl, sym, ap, ◌∙◌, subst, arith}
+use Rattle.std.proofs.Common.{◌≡◌, ℕ, zero, suc, ◌+◌, ◌<◌, inl, inr, ⊎_elim, Bool, true, false, ◌||◌, List, [], ◌∷◌, length, map, get_or, Some, None, refl, sym, ap, ◌∙◌, subst, arith}
 use Rattle.std.specs.Prelude.{flat_map, slice_get}
 use Rattle.std.proofs.lemmas.Bool.{cases_eq, eq-eqb, eqb-true}
 use Rattle.std.proofs.lemmas.List.{get_or_append_left, get_or-map, length-map}
 use Rattle.cx_meaning.specs.declared.ports.PortRef.{PortRef}
 use Rattle.cx_meaning.specs.declared.ports.PortRef.TheVariants as ports
-use Rattle.cx_meaning.specs.Designs.{PlainAssign, PlainGroup, PlainComponent, group_at, no_group, PlainForm, Par, Timed, PlainStatement, Placed, form_of, PlainStatements, no_statements, a_statement, list_of}
-use Rattle.cx_meaning.specs.Instances.{Instance, Node, Cells, part_of, cells_of}
+use Rattle.cx_meaning.specs.Designs.{PlainAssign, PlainGroup, PlainComponent, group_at, no_group, PlainStatement, Placed, form_of, PlainStatements, no_statements, a_statement, list_of}
+use Rattle.cx_meaning.specs.Instances.{Instance, Node, Cells, part_of}
 use Rattle.cx_meaning.specs.Control.{groups_in, groups_of, assigns_drive, group_drives, groups_drive, drives}
 use Rattle.cx_meaning.specs.Sights.{In}
-use Rattle.cx_meaning.proofs.SightsLaws.{in_right, in_image, image_in}
+use Rattle.cx_meaning.proofs.SightsLaws.{in_image, image_in}
 use Rattle.cx_meaning.proofs.ControlLaws.{groups_drive_in, driver}
-use Rattle.cx_rules.specs.RaceRule.{Arms, IsShared}
+use Rattle.cx_rules.specs.RaceRule.{IsShared}
 use Rattle.cx_rules.specs.Invokes.{invokes_of, captures_of, invokes_cell, drives_all, driven}
 use Rattle.cx_rules.specs.Counts.{is_one_of}
 use Rattle.cx_rules.proofs.ForeignLemmas.{assigns_drive_in}
@@ -19,14 +19,14 @@ use Rattle.cx_text.proofs.BoolLaws.{or_either}
 use Rattle.cx_rewrites.specs.Moving.{moved_assign, moved_group}
 use Rattle.cx_flattening.specs.Events.{the_invoke, source_to}
 use Rattle.cx_flattening.specs.Copies.{copied_statement}
-use Rattle.cx_flattening.specs.Flattened.{Kids, kid_at, kept, kept_at, block_at, block_size, start_of, own_port, invoke_port, copies, copy_of, with_capture, inlined, flat_kids, flat_part, flat_statement}
+use Rattle.cx_flattening.specs.Flattened.{Kids, kid_at, kept_at, block_size, start_of, own_port, invoke_port, copies, copy_of, with_capture, inlined, flat_kids, flat_part, flat_statement}
 use Rattle.cx_flattening.specs.Targets.{OwnTarget, BlockTarget}
 use Rattle.cx_flattening.specs.Embedded.{IsFlattened}
-use Rattle.cx_flattening.specs.Arms.{flat_of, DrivesAlike, NoneDrive, IsApart}
+use Rattle.cx_flattening.specs.Arms.{DrivesAlike, NoneDrive, IsApart}
 use Rattle.cx_flattening.specs.Fair.{IsFair}
 use Rattle.cx_flattening.specs.Controlled.{timed_in, timed_of, IsControlled}
 use Rattle.cx_flattening.proofs.Placing.{kept_less, kept_apart, blocks_apart}
-use Rattle.cx_flattening.proofs.PortLemmas.{own-kept, InBlock, in_block}
+use Rattle.cx_flattening.proofs.PortLemmas.{own-kept, in_block}
 use Rattle.cx_flattening.proofs.FlatGroups.{in_one_of, copy-is}
 use Rattle.cx_flattening.proofs.LevelSights.{kid-static}
 use Rattle.cx_flattening.proofs.FlatLengths.{AllThere, captures_in_it}

@@ -1,6 +1,6 @@
 -- WHERE THE DEEDS OF A STATEMENT COME FROM: in one cycle those of one part of a static seq, of one branch, of one round; those of all arms; and
 -- of an invoke the feed with what the child's control does, or the group that captures.
-use Rattle.std.proofs.Common.{◌≡◌, ℕ, zero, suc, ◌+◌, ◌*◌, ◌-◌, ◌<◌, ◌≤◌, ◌⊎◌, inl, inr, ⊎_elim, Bool, true, false, ◌&&◌, List, [], ◌∷◌, ◌++◌, length, map, Option, Some, None, refl, sym, ap, ◌∙◌, subst, arith}
+use Rattle.std.proofs.Common.{◌≡◌, ℕ, zero, suc, ◌+◌, ◌*◌, ◌-◌, ◌<◌, ◌⊎◌, inl, inr, Bool, true, false, ◌&&◌, List, [], ◌∷◌, ◌++◌, length, map, Option, Some, None, refl, sym, ap, ◌∙◌, subst, arith}
 use Rattle.std.proofs.lemmas.List.{map-append, append-nil, append_assoc}
 use Rattle.cx_meaning.specs.declared.ports.PlacedPort.{PlacedPort}
 use Rattle.cx_meaning.specs.Designs.{PlainInvoke, PlainComponent, PlainForm, Empty, Enable, Seq, Par, If, While, Repeat, StaticSeq, StaticPar, StaticIf, StaticRepeat, Timed, PlainStatement, Placed, form_of, PlainStatements, no_statements, a_statement, list_of}
@@ -9,13 +9,13 @@ use Rattle.cx_meaning.specs.Active.{Entry}
 use Rattle.cx_meaning.specs.Islands.{group_length, or_zero, is_wanted}
 use Rattle.cx_meaning.specs.Sights.{In}
 use Rattle.cx_rules.specs.Invokes.{lasts, sum_lasts}
-use Rattle.cx_flattening.specs.Events.{the_invoke, Spot, spot, Event, Feeds, Beginning, Events, later_by, also_if, group_events, capture_events, rounds_events, bound_below, invoke_events, form_events, events, seq_events, par_events, control_events, events_below}
+use Rattle.cx_flattening.specs.Events.{the_invoke, Spot, spot, Event, Beginning, Events, later_by, also_if, group_events, capture_events, rounds_events, bound_below, invoke_events, form_events, events, seq_events, par_events, control_events, events_below}
 use Rattle.cx_flattening.specs.Deeds.{History, hold, Deed, Acts, Fed, deed_if, is_now, deeds_in}
 use Rattle.cx_flattening.specs.Whole.{is_static}
 use Rattle.cx_flattening.specs.Controlled.{timed_in, timed_of, timed_all, IsInvoked, IsControlled, AllControlled, AllControlledBelow}
 use Rattle.cx_flattening.specs.Lists.{island_events}
 use Rattle.cx_flattening.proofs.FlatLengths.{AllThere, there_left, there_right}
-use Rattle.cx_flattening.proofs.Windows.{deeds-both, events-child, InWindow, window_now, now_is, Within, rounds_within, one_within, seq_within, ControlWithin, kids_within}
+use Rattle.cx_flattening.proofs.Windows.{deeds-both, events-child, window_now, now_is, Within, rounds_within, one_within, seq_within, ControlWithin, kids_within}
 use Rattle.cx_flattening.proofs.FlatDeeds.{lower}
 
 mutual

@@ -1,36 +1,28 @@
 -- WHAT IS DONE AT ONCE IS APART: no static child is fed twice, and no group looks at what another drives, since such deeds are of two arms.
-use Rattle.std.proofs.Common.{◌≡◌, ◌≢◌, ℕ, zero, suc, ◌+◌, ◌<◌, ◌≤◌, ◌⊎◌, inl, inr, ⊎_elim, Bool, true, false, ◌||◌, nat_eq, List, [], ◌∷◌, ◌++◌, length, map, Option, Some, None, refl, sym, ap, ◌∙◌, subst, arith}
-use Rattle.std.specs.Prelude.{flat_map, slice_get}
-use Rattle.std.proofs.lemmas.Bool.{cases_eq, eq-eqb, ne_eqb}
-use Rattle.std.proofs.lemmas.List.{append-nil}
+use Rattle.std.proofs.Common.{◌≡◌, ℕ, ◌+◌, ◌<◌, ◌⊎◌, inl, inr, Bool, true, false, ◌||◌, nat_eq, List, [], ◌∷◌, ◌++◌, length, map, Option, Some, refl, sym, ap, ◌∙◌, subst, arith}
+use Rattle.std.specs.Prelude.{flat_map}
+use Rattle.std.proofs.lemmas.Bool.{eq-eqb, ne_eqb}
 use Rattle.std.proofs.lemmas.Option.{slice_get-get_or}
-use Rattle.cx_meaning.specs.declared.ports.PortRef.TheVariants as ports
 use Rattle.cx_meaning.specs.declared.ports.PlacedPort.{PlacedPort}
 use Rattle.cx_text.specs.declared.places.Place.{Place}
-use Rattle.cx_meaning.specs.Designs.{PlainAssign, PlainInvoke, PlainComponent, group_at, PlainForm, Enable, StaticSeq, StaticPar, StaticIf, StaticRepeat, Timed, PlainStatement, Placed, form_of, PlainStatements, no_statements, a_statement, list_of}
-use Rattle.cx_meaning.specs.Instances.{Instance, Node, Cells, no_cells, a_primitive, an_instance, OfInstance, part_of, cells_of, cell_at}
-use Rattle.cx_meaning.specs.Active.{Active, Entry, entries}
+use Rattle.cx_meaning.specs.Designs.{PlainComponent, PlainForm, StaticSeq, StaticPar, StaticIf, StaticRepeat, Timed, PlainStatement, Placed, form_of, PlainStatements, no_statements, a_statement, list_of}
 use Rattle.cx_meaning.specs.Control.{groups_in, groups_of, groups_in_all, group_drives, groups_drive, drives}
 use Rattle.cx_meaning.specs.Sights.{In}
-use Rattle.cx_meaning.proofs.SightsLaws.{in_either, in_left, in_right}
-use Rattle.cx_meaning.proofs.ControlLaws.{groups_drive_in, driver}
-use Rattle.cx_rules.specs.Items.{Context, Dynamic, InStatic, Branch, Visited, visit, visit_parts, visit_all, statements_in, option_list}
+use Rattle.cx_meaning.proofs.SightsLaws.{in_left, in_right}
+use Rattle.cx_meaning.proofs.ControlLaws.{groups_drive_in}
+use Rattle.cx_rules.specs.Items.{Context, Dynamic, InStatic, Branch, Visited, visit, visit_all, statements_in, option_list}
 use Rattle.cx_rules.specs.Footprints.{AssignNames, Reads}
 use Rattle.cx_rules.specs.Footprints as plain
-use Rattle.cx_rules.specs.RaceRule.{Arms, arms_of, IsShared}
 use Rattle.cx_rules.specs.Invokes.{invoke_at, invoke_in, invokes_of, capture_of, captures_of, is_cell_of, invokes_cell, drives_all, ReadsAll, driven, named, captured, through}
 use Rattle.cx_rules.proofs.InvokesLemmas.{drives_more}
 use Rattle.cx_text.proofs.BoolLaws.{or_left, or_right}
 use Rattle.cx_laws.proofs.EdgeLemmas.{enabled}
 use Rattle.cx_flattening.specs.Events.{no_invoke, the_invoke}
 use Rattle.cx_flattening.specs.Deeds.{Deed, Acts, Fed, deed_if, own_entries, deeds_below}
-use Rattle.cx_flattening.specs.Whole.{is_static}
 use Rattle.cx_flattening.specs.Controlled.{timed_in, timed_of, timed_all}
 use Rattle.cx_flattening.specs.FedOnce.{one_more, count_fed}
 use Rattle.cx_flattening.proofs.Statements.{timed_one}
 use Rattle.cx_flattening.proofs.FlatDeeds.{lower}
-use Rattle.cx_flattening.proofs.DeedSources.{Does, rests, a_group, a_part, all_arms, one_branch, other_branch, a_round, an_invoke, a_capture, DoesArms, no_arms, an_arm}
-use Rattle.cx_flattening.proofs.Ruled.{IsRuled}
 
 -- lists of deeds
 pub own-both : (xs ys : List Deed) → own_entries (xs ++ ys) ≡ own_entries xs ++ own_entries ys
@@ -152,7 +144,7 @@ module _ (part : PlainComponent) where
   fed_more form s c timed (j, i, less, e) = (j, timed j (timed_same s j i), less, e)
 
   -- the static invokes of a statement, as the rules number them
-  invoke_among : (s : PlainStatement) (j : ℕ) → In (timed_of s) j → In (invokes_of s) j
+  pub invoke_among : (s : PlainStatement) (j : ℕ) → In (timed_of s) j → In (invokes_of s) j
   invoke_among s j i = let r = timed_one j Dynamic s i in numbered (visit Dynamic s) r.0 r.1 r.2
     where
       numbered : (vs : List Visited) (v : Visited) → In vs v → v.form ≡ Timed j → In (flat_map (λ (x : Visited). invoke_in x.form) vs) j
@@ -161,7 +153,7 @@ module _ (part : PlainComponent) where
           in_left (invoke_in x.form) (flat_map (λ (y : Visited). invoke_in y.form) xs) j (subst (λ form. In (invoke_in form) j) (sym (ap (λ (y : Visited). y.form) same ∙ e)) (inl refl))
       numbered (x ∷ xs) v (inr k) e = in_right (invoke_in x.form) (flat_map (λ (y : Visited). invoke_in y.form) xs) j (numbered xs v k e)
 
-  at_number : (j : ℕ) → j < length part.invokes → invoke_at part j ≡ Some (the_invoke part j)
+  pub at_number : (j : ℕ) → j < length part.invokes → invoke_at part j ≡ Some (the_invoke part j)
   at_number j less = slice_get-get_or part.invokes j no_invoke less
 
   capture_among : (ks : List ℕ) (j g : ℕ) → In ks j → j < length part.invokes → (the_invoke part j).captures ≡ Some g → In (captures_of part ks) g

@@ -1,27 +1,24 @@
 -- NO STATIC CHILD IS FED TWICE AT ONCE, and nothing leads in a circle under what is done at once: in a tree that keeps the rules.
-use Rattle.std.proofs.Common.{◌≡◌, ℕ, zero, suc, ◌+◌, ◌<◌, ◌≤◌, ◌⊎◌, inl, inr, ⊎_elim, Bool, true, false, List, [], ◌∷◌, ◌++◌, length, map, Option, Some, None, refl, sym, ap, ◌∙◌, subst, arith}
+use Rattle.std.proofs.Common.{◌≡◌, ℕ, zero, suc, ◌+◌, ◌≤◌, ◌⊎◌, inl, inr, ⊎_elim, Bool, true, false, List, [], ◌∷◌, ◌++◌, map, Option, Some, refl, sym, ap, ◌∙◌, subst, arith}
 use Rattle.std.specs.Prelude.{nat_eq, slice_get}
-use Rattle.std.proofs.lemmas.Bool.{cases_eq, eq-eqb, ne_eqb, eqb-true}
+use Rattle.std.proofs.lemmas.Bool.{cases_eq, eq-eqb, eqb-true}
 use Rattle.std.proofs.lemmas.List.{append-nil}
-use Rattle.cx_meaning.specs.declared.ports.PlacedPort.{PlacedPort}
-use Rattle.cx_meaning.specs.Designs.{PlainComponent, group_at, PlainForm, Enable, StaticSeq, StaticPar, StaticIf, StaticRepeat, Timed, PlainStatement, Placed, form_of, PlainStatements, no_statements, a_statement, list_of}
-use Rattle.cx_meaning.specs.Instances.{Instance, Node, Cells, no_cells, a_primitive, an_instance, OfInstance, part_of, cells_of, cell_at}
-use Rattle.cx_meaning.specs.Active.{Active, nothing, Entry, entries}
-use Rattle.cx_meaning.specs.Control.{groups_in, groups_of, groups_in_all, group_drives}
+use Rattle.cx_meaning.specs.Designs.{PlainComponent, PlainForm, StaticSeq, StaticPar, StaticIf, StaticRepeat, PlainStatement, form_of, PlainStatements, list_of}
+use Rattle.cx_meaning.specs.Instances.{Instance, Node, Cells, no_cells, a_primitive, an_instance, OfInstance, part_of, cell_at}
+use Rattle.cx_meaning.specs.Active.{Entry, entries}
+use Rattle.cx_meaning.specs.Control.{groups_of, group_drives}
 use Rattle.cx_meaning.specs.Sights.{In}
 use Rattle.cx_meaning.proofs.SightsLaws.{in_either, in_left, in_right}
 use Rattle.cx_meaning.proofs.ActiveLemmas.{entry_of}
 use Rattle.cx_meaning.proofs.InstancesLemmas.{instance_is}
-use Rattle.cx_rules.specs.Items.{Visited}
 use Rattle.cx_rules.specs.Circles.{IsAcyclic, AreAcyclic, AcyclicBelow}
 use Rattle.cx_rules.specs.Footprints.{Reads}
-use Rattle.cx_rules.specs.RaceRule.{Arms, arms_of, IsShared}
-use Rattle.cx_rules.specs.Invokes.{drives_all, ReadsAll, driven}
-use Rattle.cx_laws.proofs.EdgeLemmas.{IsActive, enabled, StandApart, no_shared_circle}
+use Rattle.cx_rules.specs.RaceRule.{Arms, IsShared}
+use Rattle.cx_rules.specs.Invokes.{drives_all, driven}
+use Rattle.cx_laws.proofs.EdgeLemmas.{enabled, StandApart, no_shared_circle}
 use Rattle.cx_flattening.specs.Events.{the_invoke}
-use Rattle.cx_flattening.specs.Deeds.{Deed, Acts, Fed, own_entries, deeds_below}
-use Rattle.cx_flattening.specs.Whole.{is_static}
-use Rattle.cx_flattening.specs.Controlled.{timed_in, timed_of, timed_all}
+use Rattle.cx_flattening.specs.Deeds.{Deed, own_entries, deeds_below}
+use Rattle.cx_flattening.specs.Controlled.{timed_of}
 use Rattle.cx_flattening.specs.FedOnce.{one_more, count_fed, FedOnce, FedOnceBelow}
 use Rattle.cx_flattening.specs.Seeing.{NoCircle, NoneBelow}
 use Rattle.cx_flattening.proofs.FlatDeeds.{lower}

@@ -1,25 +1,22 @@
 -- A COMPONENT that keeps the rules is fair, but for what its static children drive: its ports, its assignments, its invokes.
-use Rattle.std.proofs.Common.{◌≡◌, ℕ, zero, suc, ◌+◌, ◌<◌, ◌⊎◌, inl, inr, ⊎_elim, Bool, true, false, List, [], ◌∷◌, ◌++◌, length, get_or, Option, Some, None, refl, sym, ap, ◌∙◌, subst, arith}
-use Rattle.std.specs.Prelude.{◌&&◌, ◌||◌, not, is_some, if◌then◌else◌}
+use Rattle.std.proofs.Common.{◌≡◌, ℕ, zero, suc, ◌<◌, ◌⊎◌, inl, inr, ⊎_elim, Bool, true, false, List, [], ◌∷◌, ◌++◌, length, get_or, Option, Some, None, refl, sym, ap, ◌∙◌, subst, arith}
+use Rattle.std.specs.Prelude.{◌&&◌, not, is_some, if◌then◌else◌}
 use Rattle.std.proofs.lemmas.Option.{slice_get-get_or}
 use Rattle.cx_prim.specs.Rows.{Row}
 use Rattle.cx_meaning.specs.declared.ports.PortRef.{PortRef}
 use Rattle.cx_meaning.specs.declared.ports.PortRef.TheVariants as ports
-use Rattle.cx_meaning.specs.declared.ports.PlacedPort.{PlacedPort}
-use Rattle.cx_meaning.specs.Designs.{PlainAssign, PlainGroup, PlainInvoke, PlainComponent, group_at, no_group, PlainForm, Empty, Enable, Seq, Par, If, While, Repeat, StaticSeq, StaticPar, StaticIf, StaticRepeat, Timed, PlainStatement, Placed, form_of, PlainStatements, no_statements, a_statement}
-use Rattle.cx_meaning.specs.Instances.{Instance, Node, Cells, no_cells, a_primitive, an_instance, At, Nothing, OfRow, OfInstance, part_of, cells_of, cell_at, cell_count}
+use Rattle.cx_meaning.specs.Designs.{PlainAssign, PlainGroup, PlainInvoke, PlainComponent, no_group, PlainForm, Empty, Enable, Seq, Par, If, While, Repeat, StaticSeq, StaticPar, StaticIf, StaticRepeat, Timed, PlainStatement, Placed, form_of, PlainStatements, no_statements, a_statement}
+use Rattle.cx_meaning.specs.Instances.{Instance, Node, Cells, no_cells, a_primitive, an_instance, At, Nothing, OfRow, OfInstance, part_of, cell_at, cell_count}
 use Rattle.cx_meaning.specs.Active.{same_port}
 use Rattle.cx_meaning.specs.Control.{groups_in, groups_of, groups_in_all}
-use Rattle.cx_meaning.specs.Islands.{group_length, kind_length, or_zero}
+use Rattle.cx_meaning.specs.Islands.{group_length, kind_length}
 use Rattle.cx_meaning.specs.Sights.{In, PartPort, Go, AnInput, AnOutput, ItsDone, part_port}
 use Rattle.cx_meaning.proofs.SightsLaws.{in_at, in_either, in_left, in_right}
 use Rattle.cx_meaning.proofs.PortsLemmas.{same_self}
-use Rattle.cx_meaning.proofs.DesignsLemmas.{there_below}
-use Rattle.cx_rules.specs.Ports.{is_part_output, is_cell_output, is_source_only, is_target_only}
-use Rattle.cx_rules.specs.Items.{Context, Dynamic, InStatic, Branch, Visited, visit, visit_parts, visit_all, statements_in, test_in, is_comb}
-use Rattle.cx_rules.specs.Footprints.{AssignNames}
-use Rattle.cx_rules.specs.ShapeRules.{is_hole, some_target}
-use Rattle.cx_rules.specs.StaticControl.{is_branch, is_in_static, is_written, is_timed, may_stand, form_has_length, has_length, all_have_length}
+use Rattle.cx_rules.specs.Ports.{is_part_output, is_cell_output, is_source_only}
+use Rattle.cx_rules.specs.Items.{Context, Dynamic, InStatic, Branch, Visited, visit, visit_parts, visit_all, statements_in}
+use Rattle.cx_rules.specs.ShapeRules.{some_target}
+use Rattle.cx_rules.specs.StaticControl.{is_in_static, is_written, is_timed, may_stand, form_has_length, has_length, all_have_length}
 use Rattle.cx_rules.specs.Invokes.{invoke_at, lasts}
 use Rattle.cx_rules.specs.InvokeShape.{latency_at, is_static_port, input_port, InvokeBreak, another_kind, unbound}
 use Rattle.cx_rules.specs.Wellformed.{IsThere, StandsIn, IsForm, IsWith}
@@ -29,14 +26,14 @@ use Rattle.cx_text.proofs.BoolLaws.{or_either, and_true, and_first, and_second}
 use Rattle.cx_flattening.specs.Events.{no_invoke, the_invoke, source_in, source_to}
 use Rattle.cx_flattening.specs.Whole.{is_static}
 use Rattle.cx_flattening.specs.Flattened.{Kids, kid_at, flat_kids}
-use Rattle.cx_flattening.specs.Targets.{OwnTarget, IsBlock, HasTargets}
+use Rattle.cx_flattening.specs.Targets.{OwnTarget, IsBlock}
 use Rattle.cx_flattening.specs.Fair.{IsAssignOf, IsNamed, IsFair}
 use Rattle.cx_flattening.specs.Controlled.{timed_of, tested_of, IsInvoked, IsControlled}
-use Rattle.cx_flattening.specs.Ends.{is_done, is_done_at, is_static_done}
+use Rattle.cx_flattening.specs.Ends.{is_done, is_done_at}
 use Rattle.cx_flattening.proofs.LevelSights.{kid-row, kid-dynamic}
 use Rattle.cx_flattening.proofs.RowReads.{ReadsPlain}
-use Rattle.cx_flattening.proofs.Ruled.{not_so, owner_is, IsSource, IsRuled}
-use Rattle.cx_flattening.proofs.Statements.{Among, NamesGroup, comb_of, group_one, timed_one, test_one}
+use Rattle.cx_flattening.proofs.Ruled.{owner_is, IsSource, IsRuled}
+use Rattle.cx_flattening.proofs.Statements.{Among, NamesGroup, group_one, timed_one, test_one}
 
 -- the cells of an instance are those of its component
 pub record HasCells (part : PlainComponent) (cells : Cells) : Type 0 where
@@ -71,7 +68,7 @@ pub in_invokes : (xs : List PlainInvoke) (n : ℕ) → n < length xs → In xs (
 in_invokes xs n less = in_at xs n (get_or xs n no_invoke) (slice_get-get_or xs n no_invoke less)
 
 -- a source that is bound
-bound_source : (P : PortRef → Type 0) (c : ℕ) (q : PortRef) (inputs : List PlainAssign) → some_target (same_port q) inputs ≡ true → ((a : PlainAssign) → In inputs a → P a.source.port) → P (source_in c inputs q)
+pub bound_source : (P : PortRef → Type 0) (c : ℕ) (q : PortRef) (inputs : List PlainAssign) → some_target (same_port q) inputs ≡ true → ((a : PlainAssign) → In inputs a → P a.source.port) → P (source_in c inputs q)
 bound_source P c q [] bound each = absurd (let e : false ≡ true = bound in cc)
 bound_source P c q (a ∷ rest) bound each = by (same_port a.target q) refl (λ e. bound_source P c q rest e (λ b i. each b (inr i)))
   where
@@ -144,7 +141,7 @@ module _ (part : PlainComponent) (cells : Cells) (ruled : IsRuled part (Node par
   pub invoke_there : (j : ℕ) → j < length part.invokes → In part.invokes (the_invoke part j)
   invoke_there j less = in_invokes part.invokes j less
 
-  unbroken : (j : ℕ) → j < length part.invokes → InvokeBreak i (the_invoke part j) → ⊥
+  pub unbroken : (j : ℕ) → j < length part.invokes → InvokeBreak i (the_invoke part j) → ⊥
   unbroken j less broken =
       let s = ruled.enabled j less in
       ruled.invoked s.0 j (the_invoke part j) s.1 s.2 (slice_get-get_or part.invokes j no_invoke less) broken

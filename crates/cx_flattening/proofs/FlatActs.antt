@@ -122,13 +122,13 @@ module _ (kids : Kids) (part : PlainComponent) where
       zero_plus a = omega arith
 
   -- so copies for different invokes are apart
-  invokes_apart : (j m g n : ℕ) (kid other : PlainComponent) → j < m → j < length part.invokes → kid_at kids (the_invoke part j).cell ≡ Some kid → IsUsed kid g → g < length kid.groups → copy_of kids part kid j g ≢ copy_of kids part other m n
+  pub invokes_apart : (j m g n : ℕ) (kid other : PlainComponent) → j < m → j < length part.invokes → kid_at kids (the_invoke part j).cell ≡ Some kid → IsUsed kid g → g < length kid.groups → copy_of kids part kid j g ≢ copy_of kids part other m n
   invokes_apart j m g n kid other less there its used inside same =
       let before = copies_before part.invokes j m less there in
       let within = copy_within j g kid its used inside in
       omega (arith, before, within, same)
 
-  copy_apart : (kid : PlainComponent) (j g h : ℕ) → IsUsed kid g → IsUsed kid h → nat_eq (copy_of kids part kid j g) (copy_of kids part kid j h) ≡ nat_eq g h
+  pub copy_apart : (kid : PlainComponent) (j g h : ℕ) → IsUsed kid g → IsUsed kid h → nat_eq (copy_of kids part kid j g) (copy_of kids part kid j h) ≡ nat_eq g h
   copy_apart kid j g h u w = choice (cases_eq g h)
     where
       choice : (g ≡ h) ⊎ (g ≡ h → ⊥) → nat_eq (copy_of kids part kid j g) (copy_of kids part kid j h) ≡ nat_eq g h

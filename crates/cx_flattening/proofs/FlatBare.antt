@@ -1,5 +1,5 @@
 -- NO CONTINUOUS ASSIGNMENT OF A FLAT INSTANCE ENABLES ANYTHING, where none of the tree does.
-use Rattle.std.proofs.Common.{◌≡◌, ℕ, zero, suc, ◌+◌, ◌<◌, ⊎_elim, Bool, true, false, List, [], length, Some, None, refl, sym, ap, ◌∙◌, subst, arith}
+use Rattle.std.proofs.Common.{◌≡◌, ℕ, zero, suc, ◌+◌, ◌<◌, ⊎_elim, Bool, true, false, length, Some, None, refl, sym, ap, ◌∙◌, subst, arith}
 use Rattle.cx_meaning.specs.declared.ports.PortRef.{PortRef}
 use Rattle.cx_meaning.specs.declared.ports.PortRef.TheVariants as ports
 use Rattle.cx_meaning.specs.Designs.{PlainAssign, PlainComponent}
@@ -13,11 +13,11 @@ use Rattle.cx_rewrites.specs.Moving.{moved_assign}
 use Rattle.cx_flattening.specs.Whole.{is_static}
 use Rattle.cx_flattening.specs.Flattened.{Kids, kid_at, kept_at, start_of, wire_at, own_port, child_port, always_from, flat_part, flat_kids}
 use Rattle.cx_flattening.specs.Targets.{OwnTarget, BlockTarget}
-use Rattle.cx_flattening.specs.Embedded.{wire_row, HasWires, IsEmbedded, AreEmbedded, IsFlattened}
+use Rattle.cx_flattening.specs.Embedded.{HasWires, IsEmbedded, AreEmbedded, IsFlattened}
 use Rattle.cx_flattening.specs.Sampling.{placed}
 use Rattle.cx_flattening.specs.Fair.{AllFair, AllFairBelow}
 use Rattle.cx_flattening.proofs.PortLemmas.{own-kept}
-use Rattle.cx_flattening.proofs.Standing.{TwinAt, embedded_row, embedded_static, embedded_dynamic, wire_there, within_child}
+use Rattle.cx_flattening.proofs.Standing.{TwinAt, embedded_row, embedded_static, embedded_dynamic, wire_there}
 use Rattle.cx_flattening.proofs.LevelSights.{kid-static, flat-outputs}
 use Rattle.cx_flattening.proofs.RestingPorts.{OfOne, owner_of}
 use Rattle.cx_flattening.proofs.FlatBlocks.{IsAlways, kid_always}

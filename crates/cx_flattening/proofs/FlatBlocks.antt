@@ -1,11 +1,11 @@
 -- A STATIC COMPONENT THAT KEEPS THE RULES, flat, drives its own cells and outputs alone.
-use Rattle.std.proofs.Common.{◌≡◌, ℕ, zero, suc, ◌+◌, ◌<◌, ◌≤◌, ◌⊎◌, inl, inr, ⊎_elim, Bool, true, false, List, [], ◌∷◌, ◌++◌, length, map, get_or, Option, Some, None, refl, sym, ap, ◌∙◌, subst, arith}
+use Rattle.std.proofs.Common.{◌≡◌, ℕ, zero, suc, ◌+◌, ◌<◌, ◌≤◌, inl, inr, ⊎_elim, Bool, true, false, List, [], ◌∷◌, length, map, get_or, Option, Some, None, refl, sym, ap, ◌∙◌, subst, arith}
 use Rattle.std.specs.Prelude.{◌-◌, ◌||◌, flat_map}
 use Rattle.std.proofs.lemmas.Bool.{cases_lt}
 use Rattle.std.proofs.lemmas.List.{get_or_append_left, get_or-append-add, get_or-map, length-map, length-append}
 use Rattle.cx_meaning.specs.declared.ports.PortRef.{PortRef}
 use Rattle.cx_meaning.specs.declared.ports.PortRef.TheVariants as ports
-use Rattle.cx_meaning.specs.Designs.{PlainAssign, PlainGroup, PlainInvoke, PlainComponent, group_at, no_group}
+use Rattle.cx_meaning.specs.Designs.{PlainAssign, PlainGroup, PlainComponent, group_at, no_group}
 use Rattle.cx_meaning.specs.Instances.{Node, Cells, no_cells, a_primitive, an_instance, Nothing, cell_at}
 use Rattle.cx_meaning.specs.Control.{groups_of}
 use Rattle.cx_meaning.specs.Islands.{group_length}
@@ -16,13 +16,13 @@ use Rattle.cx_rules.specs.ShapeRules.{is_hole, some_target}
 use Rattle.cx_rules.specs.CallShape.{write_en_of}
 use Rattle.cx_rules.specs.Items.{InStatic}
 use Rattle.cx_rules.specs.Counts.{is_one_of}
-use Rattle.cx_rules.specs.Wellformed.{IsThere, StandsIn, IsCapture, takes, enables}
+use Rattle.cx_rules.specs.Wellformed.{IsThere, IsCapture, takes, enables}
 use Rattle.cx_text.proofs.BoolLaws.{or_left}
 use Rattle.cx_rewrites.specs.Moving.{moved_assign, moved_group}
 use Rattle.cx_rewrites.proofs.ReflectLemmas.{names_back}
 use Rattle.cx_flattening.specs.Events.{the_invoke, source_to}
-use Rattle.cx_flattening.specs.Flattened.{Kids, kid_at, kept_at, block_size, start_of, port_if, own_port, child_port, invoke_port, always_if, always_from, copies, flat_groups, flat_component, copy_of, flat_statement, flat_kids, flat_cells}
-use Rattle.cx_flattening.specs.Targets.{OwnTarget, BlockTarget, AllUsed, IsBlock, HasTargets}
+use Rattle.cx_flattening.specs.Flattened.{Kids, kid_at, port_if, own_port, child_port, always_if, always_from, copies, flat_component, flat_kids}
+use Rattle.cx_flattening.specs.Targets.{OwnTarget, BlockTarget, AllUsed, IsBlock}
 use Rattle.cx_flattening.specs.Fair.{IsFair}
 use Rattle.cx_flattening.specs.Controlled.{timed_of}
 use Rattle.cx_flattening.proofs.CellLayout.{kept_inside}
@@ -32,7 +32,7 @@ use Rattle.cx_flattening.proofs.StillPorts.{IsCopied, all_copied}
 use Rattle.cx_flattening.proofs.FlatGroups.{in_one_of, one_of_in}
 use Rattle.cx_flattening.proofs.FlatOrigins.{Origin, of_own, capturing, copied, origin, copy_there, own_there}
 use Rattle.cx_flattening.proofs.Ruled.{IsRuled}
-use Rattle.cx_flattening.proofs.FairParts.{HasCells, fair_part, drives_own, group_own, invoke_there, group_there, timed_there, control_long, one_timed, some_of}
+use Rattle.cx_flattening.proofs.FairParts.{HasCells, fair_part, drives_own, invoke_there, group_there, timed_there, control_long, one_timed, some_of}
 
 -- a continuous assignment of a static child among those of all
 pub record IsAlways (kids : Kids) (part : PlainComponent) (first : ℕ) (ks : Kids) (a : PlainAssign) : Type 0 where

@@ -1,10 +1,10 @@
 -- NO CIRCLE in a flat component, under its continuous assignments alone or with one of its groups: a copy acts as what a static child does.
-use Rattle.std.proofs.Common.{◌≡◌, ℕ, zero, suc, ◌+◌, ◌-◌, ◌<◌, ◌≤◌, ◌⊎◌, inl, inr, ⊎_elim, Bool, true, false, List, [], ◌∷◌, ◌++◌, length, map, get_or, Option, Some, None, nat_eq, refl, sym, ap, ◌∙◌, subst, arith}
+use Rattle.std.proofs.Common.{◌≡◌, ℕ, zero, suc, ◌+◌, ◌-◌, ◌<◌, ◌≤◌, ◌⊎◌, inl, inr, ⊎_elim, Bool, true, false, List, [], ◌∷◌, ◌++◌, length, map, get_or, nat_eq, refl, sym, ap, ◌∙◌, subst, arith}
 use Rattle.std.specs.Prelude.{flat_map, take}
 use Rattle.std.proofs.lemmas.Bool.{cases_eq, cases_lt}
 use Rattle.std.proofs.lemmas.List.{append-nil, length-append, length-map}
 use Rattle.cx_meaning.specs.Designs.{PlainGroup, PlainInvoke, PlainComponent}
-use Rattle.cx_meaning.specs.Instances.{Instance, Node, Cells, no_cells, a_primitive, an_instance, OfInstance, part_of, cells_of, cell_at}
+use Rattle.cx_meaning.specs.Instances.{Instance, Node, Cells, no_cells, a_primitive, an_instance, OfInstance, cell_at}
 use Rattle.cx_meaning.specs.Active.{nothing, group, Entry, entries}
 use Rattle.cx_meaning.specs.Control.{groups_of}
 use Rattle.cx_meaning.specs.Sights.{In}
@@ -15,16 +15,16 @@ use Rattle.cx_flattening.specs.Events.{no_invoke, the_invoke}
 use Rattle.cx_flattening.specs.Deeds.{Deed, Acts, Fed, own_entries, deeds_below}
 use Rattle.cx_flattening.specs.Whole.{is_static}
 use Rattle.cx_flattening.specs.Copies.{count_if, enabled_below, enabled_groups}
-use Rattle.cx_flattening.specs.Flattened.{Kids, kid_at, flat_kids, flat_part, copies, copy_of, own_port, invoke_port}
+use Rattle.cx_flattening.specs.Flattened.{Kids, flat_kids, flat_part, copies, copy_of, own_port}
 use Rattle.cx_flattening.specs.Acting.{IsUsed}
 use Rattle.cx_flattening.specs.Embedded.{IsFlattened}
-use Rattle.cx_flattening.specs.Fair.{AllFair, AllFairBelow}
+use Rattle.cx_flattening.specs.Fair.{AllFair}
 use Rattle.cx_flattening.specs.Controlled.{IsControlled, AllControlled, AllControlledBelow}
 use Rattle.cx_flattening.specs.FedOnce.{one_more, count_fed, FedOnce, FedOnceBelow}
 use Rattle.cx_flattening.specs.Seeing.{NoCircle, NoneBelow}
 use Rattle.cx_flattening.proofs.LevelSights.{kid-static}
 use Rattle.cx_flattening.proofs.FlatGroups.{copies_flat}
-use Rattle.cx_flattening.proofs.FlatDeeds.{lower, entry_by, Pairs, none_done, own_group, an_invoke}
+use Rattle.cx_flattening.proofs.FlatDeeds.{lower, Pairs, none_done, own_group, an_invoke}
 use Rattle.cx_flattening.proofs.FlatActs.{own-below, count-below, below-there, below-elsewhere, acts_of}
 use Rattle.cx_flattening.proofs.FlatDeeper.{still_circle, still_entries}
 use Rattle.cx_flattening.proofs.StillActs.{still_tops}

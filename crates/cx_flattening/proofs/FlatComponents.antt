@@ -1,9 +1,9 @@
 -- EACH COMPONENT that the flat main reaches, with what is below it, is flattened in the flat design.
-use Rattle.std.proofs.Common.{◌≡◌, ℕ, zero, suc, ◌+◌, ◌<◌, ◌≤◌, ◌⊎◌, inl, inr, ⊎_elim, Bool, true, false, ◌||◌, nat_eq, List, [], ◌∷◌, ◌++◌, length, map, Option, Some, None, refl, sym, ap, ◌∙◌, subst, arith}
+use Rattle.std.proofs.Common.{◌≡◌, ℕ, zero, suc, ◌+◌, ◌<◌, ◌≤◌, ◌⊎◌, inl, inr, ⊎_elim, Bool, true, false, ◌||◌, nat_eq, List, [], ◌∷◌, ◌++◌, length, map, Some, None, refl, ap, ◌∙◌, subst, arith}
 use Rattle.std.proofs.lemmas.Bool.{eqb-true}
 use Rattle.cx_meaning.specs.declared.kinds.PortDecl.{PortDecl}
 use Rattle.cx_meaning.specs.Designs.{PlainKind, OfPrimitive, OfComponent, PlainCell, PlainComponent, PlainDesign, component_at}
-use Rattle.cx_meaning.specs.Instances.{Instance, Node, Cells, add_cell, cells_for, tree_within}
+use Rattle.cx_meaning.specs.Instances.{Instance, add_cell, cells_for, tree_within}
 use Rattle.cx_meaning.specs.Sights.{In}
 use Rattle.cx_meaning.proofs.SightsLaws.{in_either}
 use Rattle.cx_rules.specs.Ports.{component_of}
@@ -14,13 +14,13 @@ use Rattle.cx_flattening.specs.Embedded.{IsFlattened}
 use Rattle.cx_flattening.specs.FlatDesign.{kind_of, any_of, flat_of, leads_within, is_reached, reached_below, flat_design}
 use Rattle.cx_flattening.proofs.CellLayout.{kind_at, kind_in}
 use Rattle.cx_flattening.proofs.TreeLevels.{IsWay, no_way, further, way_is_short}
-use Rattle.cx_flattening.proofs.FlatTrees.{IsThere, IsTop, further_top, flattened, embedded, main_top}
+use Rattle.cx_flattening.proofs.FlatTrees.{IsTop, further_top, flattened, embedded, main_top}
 
 -- a cell of component x
-abbrev HasCell : List PlainCell → ℕ → Type 0
+abbrev pub HasCell : List PlainCell → ℕ → Type 0
 HasCell cs x = (cell : PlainCell) × In cs cell × (cell.kind ≡ OfComponent x)
 
-kept_from : (kids : Kids) (cs : List PlainCell) (cell : PlainCell) → In (kept kids cs) cell → In cs cell
+pub kept_from : (kids : Kids) (cs : List PlainCell) (cell : PlainCell) → In (kept kids cs) cell → In cs cell
 kept_from [] cs cell i = i
 kept_from (k ∷ ks) [] cell i = absurd i
 kept_from (None ∷ ks) (c ∷ cs) cell (inl e) = inl e
@@ -38,14 +38,14 @@ no_wire c (o ∷ os) cell x (inl same) e = let clash : (wire_of c o).kind ≡ Of
 no_wire c (o ∷ os) cell x (inr i) e = no_wire c os cell x i e
 
 -- of a static child in a block
-abbrev FromChild : (ℕ → Instance) → List PlainCell → ℕ → Type 0
+abbrev pub FromChild : (ℕ → Instance) → List PlainCell → ℕ → Type 0
 FromChild trees cs x = (y : ℕ) × HasCell cs y × HasCell (flat_part (trees y)).cells x
 
 block_from : (child : PlainComponent) (c : PlainCell) (cell : PlainCell) (x : ℕ) → In (block (Some child) c) cell → cell.kind ≡ OfComponent x → HasCell child.cells x
 block_from child c cell x i e =
     ⊎_elim (λ j. inner_from c child.cells cell x j e) (λ j. absurd (no_wire c child.outputs cell x j e)) (in_either (map (inner_cell c) child.cells) (map (wire_of c) child.outputs) cell i)
 
-blocks_from : (trees : ℕ → Instance) (cs : List PlainCell) (cell : PlainCell) (x : ℕ) → In (blocks (flat_kids (cells_for trees cs)) cs) cell → cell.kind ≡ OfComponent x → FromChild trees cs x
+pub blocks_from : (trees : ℕ → Instance) (cs : List PlainCell) (cell : PlainCell) (x : ℕ) → In (blocks (flat_kids (cells_for trees cs)) cs) cell → cell.kind ≡ OfComponent x → FromChild trees cs x
 blocks_from trees [] cell x i e = absurd i
 blocks_from trees (c ∷ cs) cell x i e = by c.kind refl i (λ j. let r = blocks_from trees cs cell x j e in let h = r.1 in (r.0, (h.0, inr h.1, h.2), r.2))
   where
@@ -60,10 +60,10 @@ blocks_from trees (c ∷ cs) cell x i e = by c.kind refl i (λ j. let r = blocks
     by (OfPrimitive p) is j later = later j
     by (OfComponent y) is j later = of_child y is (is_static (trees y)) j later
 
-abbrev HasOne : (ℕ → Bool) → List PlainCell → Type 0
+abbrev pub HasOne : (ℕ → Bool) → List PlainCell → Type 0
 HasOne property cs = (e : ℕ) × (x : ℕ) × (kind_at cs e ≡ Some (OfComponent x)) × (property x ≡ true)
 
-any_from : (property : ℕ → Bool) (cs : List PlainCell) → any_of property cs ≡ true → HasOne property cs
+pub any_from : (property : ℕ → Bool) (cs : List PlainCell) → any_of property cs ≡ true → HasOne property cs
 any_from property [] h = absurd (cc)
 any_from property (c ∷ cs) h = by c.kind refl h (λ g. let r = any_from property cs g in (suc r.0, r.1, r.2, r.3))
   where
@@ -74,6 +74,12 @@ any_from property (c ∷ cs) h = by c.kind refl h (λ g. let r = any_from proper
     by : (kind : PlainKind) → c.kind ≡ kind → kind_of property kind || any_of property cs ≡ true → (any_of property cs ≡ true → HasOne property (c ∷ cs)) → HasOne property (c ∷ cs)
     by (OfPrimitive p) is g later = later g
     by (OfComponent k) is g later = own k (property k) is refl g later
+
+-- where such a cell is
+cell_number : (cs : List PlainCell) (x : ℕ) → HasCell cs x → (e : ℕ) × (kind_at cs e ≡ Some (OfComponent x))
+cell_number [] x h = absurd h.1
+cell_number (c ∷ cs) x (cell, inl same, e) = (0, ap Some (ap (λ (k : PlainCell). k.kind) same ∙ e))
+cell_number (c ∷ cs) x (cell, inr i, e) = let r = cell_number cs x (cell, i, e) in (suc r.0, r.1)
 
 module _ (d : PlainDesign) (design : IsDesign d) where
   -- a way on, to the component of a cell
@@ -101,12 +107,12 @@ module _ (d : PlainDesign) (design : IsDesign d) where
       kids = flat_kids (cells_for (tree_within d m) cs)
 
   -- how a component is reached
-  record IsFound (k : ℕ) : Type 0 where
-    path : List ℕ
-    ups : List ℕ
-    way : IsWay d design path k
-    top : IsTop d design ups k
-    within : (x : ℕ) → In ups x → In path x
+  pub record IsFound (k : ℕ) : Type 0 where
+    pub path : List ℕ
+    pub ups : List ℕ
+    pub way : IsWay d design path k
+    pub top : IsTop d design ups k
+    pub within : (x : ℕ) → In ups x → In path x
 
   either : (a b : Bool) → a || b ≡ true → (a ≡ true) ⊎ (b ≡ true)
   either true b e = inl refl
@@ -129,7 +135,7 @@ module _ (d : PlainDesign) (design : IsDesign d) where
       inside on x further_within y (inl e) = further_within y (inl e)
       inside on x further_within y (inr i) = further_within y (inr (within y i))
 
-  found : (k : ℕ) → is_reached d k ≡ true → IsFound k
+  pub found : (k : ℕ) → is_reached d k ≡ true → IsFound k
   found k reached = walk (length d.components) [] d.main [] (no_way d design d.main design.main_there) (main_top d design) (λ x i. absurd i) k reached
 
   -- EACH OF THEM
@@ -137,3 +143,15 @@ module _ (d : PlainDesign) (design : IsDesign d) where
   flat_component k reached =
       let f = found k reached in
       flattened d design (length d.components) (embedded d design (length d.components)) f.path k (length (flat_design d).components) f.ups f.way (omega arith) f.top (omega arith) f.within
+
+  -- what is of a cell of its flat form is reached as well
+  pub also_reached : (k x : ℕ) → is_reached d k ≡ true → HasCell (flat_of d k).cells x → (x < length d.components) × (is_reached d x ≡ true)
+  also_reached k x reached h =
+      let f = found k reached in
+      let g = flat_cell (length d.components) f.path k f.way (omega arith) x h in
+      let at = cell_number (flat_of d k).cells x h in
+      (further_top d design f.ups k x at.0 f.top at.1 (g.way.there x (inl refl)) (λ i. g.way.apart.0 (inside f.path f.ups f.within g.on g.within x i))).there x (inl refl)
+    where
+      inside : (path ups : List ℕ) → ((y : ℕ) → In ups y → In path y) → (on : List ℕ) → ((y : ℕ) → In (k ∷ path) y → In on y) → (y : ℕ) → In (k ∷ ups) y → In on y
+      inside path ups within on further_within y (inl e) = further_within y (inl e)
+      inside path ups within on further_within y (inr i) = further_within y (inr (within y i))

@@ -1,18 +1,18 @@
 -- GROUPS: the flat component has as many groups as are counted with static invokes written out.
-use Rattle.std.proofs.Common.{◌≡◌, ℕ, zero, suc, ◌+◌, ◌-◌, ◌<◌, ◌≤◌, inl, inr, ⊎_elim, Bool, true, false, is_some, List, [], ◌∷◌, ◌++◌, length, map, get_or, Option, Some, None, refl, sym, ap, ◌∙◌, subst, arith}
-use Rattle.std.specs.Prelude.{flat_map, slice_get}
+use Rattle.std.proofs.Common.{◌≡◌, ℕ, zero, suc, ◌+◌, ◌<◌, inl, inr, ⊎_elim, Bool, true, false, is_some, List, [], ◌∷◌, ◌++◌, length, map, get_or, Option, Some, None, refl, sym, ap, ◌∙◌, subst, arith}
+use Rattle.std.specs.Prelude.{flat_map}
 use Rattle.std.proofs.lemmas.List.{length-append, length-map}
 use Rattle.std.proofs.lemmas.Option.{slice_get-get_or}
 use Rattle.cx_text.specs.declared.places.Place.{Place}
 use Rattle.cx_text.specs.declared.rules.Rule.TheVariants as rules
 use Rattle.cx_text.specs.declared.limits.TheConstants.{GROUPS}
-use Rattle.cx_meaning.specs.Designs.{PlainGroup, PlainInvoke, PlainForm, Timed, PlainStatement, PlainComponent, PlainDesign, component_at}
-use Rattle.cx_meaning.specs.Instances.{Instance, Node, Cells, no_cells, a_primitive, an_instance, OfInstance, part_of, cell_at}
+use Rattle.cx_meaning.specs.Designs.{PlainGroup, PlainInvoke, PlainComponent, PlainDesign, component_at}
+use Rattle.cx_meaning.specs.Instances.{Instance, Node, Cells, no_cells, a_primitive, an_instance, OfInstance, cell_at}
 use Rattle.cx_meaning.specs.Control.{groups_in, groups_of}
 use Rattle.cx_meaning.specs.Sights.{In}
 use Rattle.cx_meaning.proofs.SightsLaws.{in_either, in_left, in_right}
-use Rattle.cx_rules.specs.Items.{Dynamic, Visited, visit, option_list}
-use Rattle.cx_rules.specs.Counts.{Inner, Inners, needed, needed_from, needed_groups, is_one_of, group_if, joined, inner_at, group_count_of, groups_for, inner, if_static, inners_of, counted_groups}
+use Rattle.cx_rules.specs.Items.{Dynamic, visit, option_list}
+use Rattle.cx_rules.specs.Counts.{Inner, needed, needed_from, needed_groups, is_one_of, group_if, inner_at, group_count_of, groups_for, inner, if_static, inners_of, counted_groups}
 use Rattle.cx_rules.specs.Invokes.{invoke_at, invoke_in, invokes_of, capture_of, captures_of}
 use Rattle.cx_rules.specs.Accepted.{IsAccepted}
 use Rattle.cx_rules.specs.LimitRule.{OnGroups, order_of, word_of}
@@ -45,7 +45,7 @@ zero_plus a = omega arith
 next : (a b : ℕ) → suc a + b ≡ a + suc b
 next a b = omega arith
 
-bools_same : (a b : Bool) → (a ≡ true → b ≡ true) → (b ≡ true → a ≡ true) → a ≡ b
+pub bools_same : (a b : Bool) → (a ≡ true → b ≡ true) → (b ≡ true → a ≡ true) → a ≡ b
 bools_same true b one other = sym (one refl)
 bools_same false true one other = other refl
 bools_same false false one other = refl
@@ -55,7 +55,7 @@ in_flat f [] x y i j = absurd i
 in_flat f (z ∷ xs) x y (inl e) j = in_left (f z) (flat_map f xs) y (subst (λ w. In (f w) y) (sym e) j)
 in_flat f (z ∷ xs) x y (inr i) j = in_right (f z) (flat_map f xs) y (in_flat f xs x y i j)
 
-from_flat : {A B : Type 0} (f : A → List B) (xs : List A) (y : B) → In (flat_map f xs) y → (x : A) × In xs x × In (f x) y
+pub from_flat : {A B : Type 0} (f : A → List B) (xs : List A) (y : B) → In (flat_map f xs) y → (x : A) × In xs x × In (f x) y
 from_flat f [] y i = absurd i
 from_flat f (x ∷ xs) y i = ⊎_elim (λ j. (x, inl refl, j)) (λ j. let r = from_flat f xs y j in (r.0, inr r.1, r.2)) (in_either (f x) (flat_map f xs) y i)
 
@@ -88,7 +88,7 @@ enabled_same used gs f g (x ∷ xs) same =
     (needed_from gs (1 + g) xs) x (ap (λ k. length (needed_from gs k xs)) (let z : 1 + g ≡ suc g = omega arith in z))
 
 -- what is counted of a static child
-inner_there : (cells : Cells) (c : ℕ) (part : PlainComponent) (below : Cells) → cell_at cells c ≡ OfInstance (Node part below) → is_some part.latency ≡ true → inner_at (inners_of cells) c ≡ Some (inner part (inners_of below))
+pub inner_there : (cells : Cells) (c : ℕ) (part : PlainComponent) (below : Cells) → cell_at cells c ≡ OfInstance (Node part below) → is_some part.latency ≡ true → inner_at (inners_of cells) c ≡ Some (inner part (inners_of below))
 inner_there no_cells c part below at static = absurd (cc)
 inner_there (a_primitive row rest) zero part below at static = absurd (cc)
 inner_there (a_primitive row rest) (suc c) part below at static = inner_there rest c part below at static
@@ -105,10 +105,10 @@ inner_there (an_instance (Node p cs) rest) (suc c) part below at static = inner_
 abbrev pub enabled_count : Instance → ℕ
 enabled_count i = length (enabled_groups (groups_of (flat_part i).control) 0 (flat_part i).groups)
 
-abbrev needed_count : Instance → ℕ
+abbrev pub needed_count : Instance → ℕ
 needed_count (Node part cells) = length (needed_groups part) + groups_for (inners_of cells) part.invokes
 
-abbrev CountsAlike : Instance → Type 0
+abbrev pub CountsAlike : Instance → Type 0
 CountsAlike i = enabled_count i ≡ needed_count i
 
 module _ (part : PlainComponent) (cells : Cells) (ruled : IsRuled part (Node part cells)) (controlled : IsControlled (Node part cells)) (below : (c : ℕ) (child : Instance) → cell_at cells c ≡ OfInstance child → CountsAlike child) where
@@ -132,7 +132,7 @@ module _ (part : PlainComponent) (cells : Cells) (ruled : IsRuled part (Node par
   invoke_used j g less i = timed_single kids part g j (subst (λ k. In (groups_in (inlined kids part k j (the_invoke part j))) g) (sym (kid_of j less)) i) part.control (in_control j less)
 
   -- OWN GROUPS are enabled where they are needed
-  own_needed : (g : ℕ) → g < length part.groups → In used g → In (needed part) g
+  pub own_needed : (g : ℕ) → g < length part.groups → In used g → In (needed part) g
   own_needed g less i = by (origin kids part g part.control i)
     where
       by : Origin kids part g (groups_of part.control) (timed_of part.control) → In (needed part) g
@@ -145,7 +145,7 @@ module _ (part : PlainComponent) (cells : Cells) (ruled : IsRuled part (Node par
           (subst (λ o. In (capture_of o) g) (sym (invoke_is j (controlled.timed j t))) (subst (λ o. In (option_list o) g) (sym e) (inl refl))))
       by (copied j h child t its k e) = absurd (omega (arith, less, e))
 
-  own_used : (g : ℕ) → In (needed part) g → In used g
+  pub own_used : (g : ℕ) → In (needed part) g → In used g
   own_used g i =
       ⊎_elim (own_one kids part g part.control)
       (λ j.
@@ -168,7 +168,7 @@ module _ (part : PlainComponent) (cells : Cells) (ruled : IsRuled part (Node par
           by (Some h) e (inr l) = absurd l
 
   -- COPIES are all enabled
-  copy_used : (n : ℕ) → n < length (flat_map (copies kids part) part.invokes) → In used (length part.groups + n)
+  pub copy_used : (n : ℕ) → n < length (flat_map (copies kids part) part.invokes) → In used (length part.groups + n)
   copy_used n less =
       let r = invoke_back kids part part.invokes n less in
       let kid = flat_part (controlled.invokes r.0 r.2).child in
@@ -199,7 +199,7 @@ module _ (part : PlainComponent) (cells : Cells) (ruled : IsRuled part (Node par
           ap length (copies_flat kids part (the_invoke part j) kid (kid_of j less)) ∙ length-map (enabled_groups (groups_of kid.control) 0 kid.groups) _
           ∙ of_child (the_invoke part j).cell w.child w.stands w.static (below (the_invoke part j).cell w.child w.stands)
 
-  numbered : (vs : List PlainInvoke) (v : PlainInvoke) → In vs v → (j : ℕ) × (j < length vs) × (get_or vs j no_invoke ≡ v)
+  pub numbered : (vs : List PlainInvoke) (v : PlainInvoke) → In vs v → (j : ℕ) × (j < length vs) × (get_or vs j no_invoke ≡ v)
   numbered [] v i = absurd i
   numbered (x ∷ xs) v (inl e) = (0, omega arith, e)
   numbered (x ∷ xs) v (inr i) = let r = numbered xs v i in (suc r.0, (let h = r.1 in omega (arith, h)), r.2)
@@ -225,7 +225,7 @@ mutual
   pub counts_alike : (i : Instance) → AllRuled i → AllControlled i → CountsAlike i
   counts_alike (Node part cells) ruled controlled = node_count part cells ruled.0 controlled.0 (λ c child at. counts_below cells ruled.1 controlled.1 c child at)
 
-  counts_below : (cells : Cells) → AllRuledBelow cells → AllControlledBelow cells → (c : ℕ) (child : Instance) → cell_at cells c ≡ OfInstance child → CountsAlike child
+  pub counts_below : (cells : Cells) → AllRuledBelow cells → AllControlledBelow cells → (c : ℕ) (child : Instance) → cell_at cells c ≡ OfInstance child → CountsAlike child
   counts_below no_cells ruled controlled c child at = absurd (cc)
   counts_below (a_primitive row rest) ruled controlled zero child at = absurd (cc)
   counts_below (a_primitive row rest) ruled controlled (suc c) child at = counts_below rest ruled controlled c child at

@@ -8,7 +8,7 @@ use Rattle.cx_meaning.proofs.InstancesLemmas.{row_instance, instance_is}
 use Rattle.cx_rules.specs.Circles.{AreAcyclic, AcyclicBelow}
 use Rattle.cx_flattening.specs.Deeds.{Deed}
 use Rattle.cx_flattening.specs.Whole.{is_static}
-use Rattle.cx_flattening.specs.Flattened.{kept, block_size, block_at, kept_at, start_of, wire_at, flat_part, flat_kids}
+use Rattle.cx_flattening.specs.Flattened.{block_size, kept_at, start_of, wire_at, flat_part, flat_kids}
 use Rattle.cx_flattening.specs.Embedded.{wire_row, HasWires, IsEmbedded, AreEmbedded, IsFlattened}
 use Rattle.cx_flattening.specs.Seeing.{NoCircle, NoneBelow}
 use Rattle.cx_flattening.specs.Fair.{AllFair, AllFairBelow}

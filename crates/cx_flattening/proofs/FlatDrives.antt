@@ -1,42 +1,24 @@
 -- WHAT A FLAT STATEMENT DRIVES: a cell that is kept where the statement drives it, and of a static child's cells those alone that it invokes.
-use Rattle.std.proofs.Common.{◌≡◌, ◌≢◌, ℕ, zero, suc, ◌+◌, ◌<◌, ◌≤◌, ◌⊎◌, inl, inr, ⊎_elim, Bool, true, false, ◌||◌, nat_eq, List, [], ◌∷◌, ◌++◌, length, map, get_or, Option, Some, None, refl, sym, ap, ◌∙◌, subst, arith}
-use Rattle.std.specs.Prelude.{flat_map, slice_get}
-use Rattle.std.proofs.lemmas.Bool.{cases_eq, eq-eqb, eqb-true}
+use Rattle.std.proofs.Common.{◌≡◌, ℕ, zero, suc, ◌+◌, ◌<◌, inl, inr, ⊎_elim, true, false, List, [], ◌∷◌, ◌++◌, length, get_or, Option, Some, None, refl, sym, ap, ◌∙◌, subst, arith}
+use Rattle.std.proofs.lemmas.Bool.{eqb-true}
 use Rattle.std.proofs.lemmas.Option.{get_or_from_slice_get}
-use Rattle.std.proofs.lemmas.List.{get_or_append_left, get_or-map, length-map}
 use Rattle.cx_meaning.specs.declared.ports.PortRef.{PortRef}
 use Rattle.cx_meaning.specs.declared.ports.PortRef.TheVariants as ports
-use Rattle.cx_meaning.specs.Designs.{PlainAssign, PlainGroup, PlainInvoke, PlainComponent, group_at, no_group, PlainForm, Empty, Enable, Seq, Par, If, While, Repeat, StaticSeq, StaticPar, StaticIf, StaticRepeat, Timed, PlainStatement, Placed, PlainStatements, no_statements, a_statement, list_of}
-use Rattle.cx_meaning.specs.Instances.{Instance, Node, Cells, part_of, cells_of, cell_at, just}
-use Rattle.cx_meaning.specs.Control.{with_comb, groups_in, groups_of, groups_in_all, targets_cell, assigns_drive, group_drives, groups_drive, drives}
+use Rattle.cx_meaning.specs.Designs.{PlainAssign, PlainGroup, PlainInvoke, PlainComponent, no_group, PlainForm, Empty, Enable, Seq, Par, If, While, Repeat, StaticSeq, StaticPar, StaticIf, StaticRepeat, Timed, PlainStatement, Placed, PlainStatements, no_statements, a_statement}
+use Rattle.cx_meaning.specs.Control.{with_comb, groups_in, groups_of, groups_in_all, targets_cell, assigns_drive}
 use Rattle.cx_meaning.specs.Sights.{In}
-use Rattle.cx_meaning.proofs.SightsLaws.{in_either, in_left, in_right, in_image}
-use Rattle.cx_meaning.proofs.ControlLaws.{groups_drive_in, driver}
-use Rattle.cx_meaning.proofs.InstancesLemmas.{just_true, just_same}
+use Rattle.cx_meaning.proofs.SightsLaws.{in_either, in_left, in_right}
+use Rattle.cx_meaning.proofs.InstancesLemmas.{just_true}
 use Rattle.cx_rules.specs.Counts.{is_one_of}
 use Rattle.cx_rules.specs.Items.{Context, Dynamic, InStatic, Branch, below_dynamic, Visited, visit, visit_parts, visit_all, option_list}
-use Rattle.cx_rules.specs.RaceRule.{Arms, arms_of, IsShared}
-use Rattle.cx_rules.specs.Invokes.{invoke_at, invoke_in, invokes_of, capture_of, captures_of, is_cell_of, invokes_cell, drives_all, driven}
-use Rattle.cx_rules.proofs.ForeignLemmas.{assigns_drive_in}
+use Rattle.cx_rules.specs.Invokes.{invoke_at, invokes_of, capture_of, captures_of, is_cell_of, invokes_cell}
 use Rattle.cx_text.proofs.ListLaws.{there_below}
-use Rattle.cx_text.proofs.BoolLaws.{or_either, or_left, or_right}
-use Rattle.cx_rewrites.specs.Moving.{moved_assign, moved_group}
+use Rattle.cx_text.proofs.BoolLaws.{or_either}
 use Rattle.cx_flattening.specs.Events.{no_invoke, the_invoke}
-use Rattle.cx_flattening.specs.Copies.{copied_form, copied_statement, copied_group}
-use Rattle.cx_flattening.specs.Flattened.{Kids, kid_at, kept_at, block_at, block_size, start_of, own_port, invoke_port, copies, flat_groups, copy_of, with_capture, inlined, flat_kids, flat_part, flat_form, flat_statement, flat_statements}
-use Rattle.cx_flattening.specs.Targets.{OwnTarget, BlockTarget, AllUsed, HasTargets}
-use Rattle.cx_flattening.specs.Embedded.{IsFlattened}
-use Rattle.cx_flattening.specs.Arms.{flat_of, DrivesAlike, NoneDrive, IsApart}
-use Rattle.cx_flattening.specs.Fair.{IsFair}
-use Rattle.cx_flattening.specs.Controlled.{timed_in, timed_of, timed_all, IsControlled}
-use Rattle.cx_flattening.proofs.Placing.{kept_less, kept_apart, blocks_apart}
-use Rattle.cx_flattening.proofs.PortLemmas.{own-kept, InBlock, in_block}
-use Rattle.cx_flattening.proofs.FlatGroups.{in_one_of, copy-is}
-use Rattle.cx_flattening.proofs.LevelSights.{kid-static}
-use Rattle.cx_flattening.proofs.FlatLengths.{AllThere}
-use Rattle.cx_flattening.proofs.FlatOrigins.{Origin, of_own, capturing, copied, origin}
+use Rattle.cx_flattening.specs.Flattened.{Kids, flat_form, flat_statement, flat_statements}
+use Rattle.cx_flattening.specs.Targets.{AllUsed}
+use Rattle.cx_flattening.specs.Controlled.{timed_in, timed_of, timed_all}
 use Rattle.cx_flattening.proofs.Ruled.{invoke_found}
-use Rattle.cx_flattening.proofs.DeedsApart.{IsOwned, IsFedBy, owned_drives, fed_drives}
 
 -- an assignment that drives a cell
 pub driving : (list : List PlainAssign) (c : ℕ) → assigns_drive list c ≡ true → (a : PlainAssign) × (p : ℕ) × In list a × (a.target ≡ ports.Cell c p)

@@ -1,14 +1,14 @@
 -- COUNTS OVER TREES: what is put together of all that stands below a flat instance is that of all below the instance, where static
 -- components have nothing of their own.
-use Rattle.std.proofs.Common.{◌≡◌, ◌≢◌, ℕ, zero, suc, ◌+◌, ◌<◌, ◌≤◌, Bool, true, false, is_some, if◌then◌else◌, List, [], ◌∷◌, ◌++◌, length, map, Option, Some, None, refl, sym, ap, ◌∙◌, subst, arith}
+use Rattle.std.proofs.Common.{◌≡◌, ℕ, zero, suc, ◌+◌, Bool, true, false, is_some, List, [], ◌∷◌, length, map, Option, Some, None, refl, sym, ap, ◌∙◌, subst, arith}
 use Rattle.std.proofs.lemmas.List.{length-append, length-map}
 use Rattle.cx_prim.specs.Rows.{Row}
 use Rattle.cx_meaning.specs.declared.kinds.PortDecl.{PortDecl}
 use Rattle.cx_meaning.specs.Designs.{PlainCell, PlainComponent}
 use Rattle.cx_meaning.specs.Instances.{Instance, Node, Cells, no_cells, a_primitive, an_instance, At, Nothing, OfRow, OfInstance, part_of, cells_of, cell_at, cell_count}
 use Rattle.cx_flattening.specs.Whole.{is_static}
-use Rattle.cx_flattening.specs.Flattened.{Kids, kid_at, kid_if, kept, block, blocks, block_size, block_at, inner_cell, wire_of, flat_part, flat_kids, kept_at, start_of, wire_at}
-use Rattle.cx_flattening.specs.Embedded.{IsLike, wire_row, HasWires, IsEmbedded, IsFlattened}
+use Rattle.cx_flattening.specs.Flattened.{Kids, kid_if, kept, block, blocks, block_at, inner_cell, wire_of, flat_part, flat_kids, kept_at, start_of, wire_at}
+use Rattle.cx_flattening.specs.Embedded.{wire_row, HasWires, IsEmbedded, IsFlattened}
 use Rattle.cx_flattening.proofs.Standing.{TwinAt, embedded_row, embedded_static, embedded_dynamic}
 
 -- as many cells as the component says, at every depth

@@ -1,5 +1,5 @@
 -- WHAT EACH ASSIGNMENT OF A TREE KEEPS, however its ports are moved, each assignment of the flat component keeps.
-use Rattle.std.proofs.Common.{◌≡◌, ℕ, zero, suc, ◌+◌, ◌<◌, inl, inr, ⊎_elim, Bool, true, false, List, [], ◌∷◌, ◌++◌, length, map, get_or, Option, Some, None, refl, sym, ap, ◌∙◌, subst, arith}
+use Rattle.std.proofs.Common.{◌≡◌, ℕ, zero, suc, inl, inr, ⊎_elim, Bool, true, false, List, [], ◌∷◌, map, Option, Some, None, refl, subst}
 use Rattle.std.specs.Prelude.{flat_map}
 use Rattle.cx_meaning.specs.declared.ports.PortRef.{PortRef}
 use Rattle.cx_meaning.specs.declared.kinds.GroupKind.{GroupKind}
@@ -12,7 +12,7 @@ use Rattle.cx_rules.specs.Counts.{is_one_of, group_if}
 use Rattle.cx_rewrites.specs.Moving.{moved_assign, moved_group}
 use Rattle.cx_flattening.specs.Copies.{copied_group, enabled_groups}
 use Rattle.cx_flattening.specs.Flattened.{Kids, kid_at, own_port, invoke_port, always_from, copies_if, copies, flat_kids, flat_part}
-use Rattle.cx_flattening.proofs.FlatBlocks.{IsAlways, kid_always}
+use Rattle.cx_flattening.proofs.FlatBlocks.{kid_always}
 use Rattle.cx_flattening.proofs.FlatSafe.{kid_from}
 
 -- the enabled ones are groups

@@ -25,18 +25,17 @@ use Rattle.cx_rules.specs.ShapeRules.{is_hole, is_hole_of, some_target, BreaksNo
 use Rattle.cx_rules.specs.Spots.{AnAssign, AGroup, Spot, OnAssign, OnGroup}
 use Rattle.cx_rules.specs.Wellformed.{IsDesign}
 use Rattle.cx_rewrites.specs.Moving.{moved_assign, moved_group}
-use Rattle.cx_flattening.specs.Events.{the_invoke}
 use Rattle.cx_flattening.specs.Whole.{is_static}
 use Rattle.cx_flattening.specs.Copies.{copied_group, enabled_groups}
-use Rattle.cx_flattening.specs.Flattened.{Kids, kid_at, kept_at, port_if, own_port, invoke_port, copies_if, copies, copy_of, flat_component, flat_kids, flat_part}
+use Rattle.cx_flattening.specs.Flattened.{Kids, kid_at, kept_at, port_if, own_port, invoke_port, copies_if, copies, flat_kids, flat_part}
 use Rattle.cx_flattening.specs.FlatDesign.{flat_design}
 use Rattle.cx_flattening.specs.Targets.{OwnTarget}
-use Rattle.cx_flattening.specs.Embedded.{IsFlattened, AreEmbedded}
+use Rattle.cx_flattening.specs.Embedded.{IsFlattened}
 use Rattle.cx_flattening.specs.Fair.{IsFair, AllFair}
 use Rattle.cx_flattening.specs.Controlled.{timed_of, IsControlled, AllControlled, AllControlledBelow}
 use Rattle.cx_flattening.specs.Ends.{NoneNamesDone}
 use Rattle.cx_flattening.proofs.PortLemmas.{own-kept}
-use Rattle.cx_flattening.proofs.Standing.{TwinAt, embedded_row, embedded_dynamic}
+use Rattle.cx_flattening.proofs.Standing.{embedded_row, embedded_dynamic}
 use Rattle.cx_flattening.proofs.LevelSights.{kid-static}
 use Rattle.cx_flattening.proofs.RestingPorts.{OfOne, owner_of}
 use Rattle.cx_flattening.proofs.FlatGroups.{one_of_in, own-length}
@@ -85,7 +84,7 @@ in_groups [] n less = absurd (omega (arith, less))
 in_groups (x ∷ xs) zero less = inl refl
 in_groups (x ∷ xs) (suc n) less = inr (in_groups xs n (omega (arith, less)))
 
-first_or_second : (xs ys : List PlainGroup) (n : ℕ) → n < length (xs ++ ys) → (n < length xs) ⊎ In ys (get_or (xs ++ ys) n no_group)
+pub first_or_second : (xs ys : List PlainGroup) (n : ℕ) → n < length (xs ++ ys) → (n < length xs) ⊎ In ys (get_or (xs ++ ys) n no_group)
 first_or_second [] ys n less = inr (in_groups ys n less)
 first_or_second (x ∷ xs) ys zero less = inl (omega arith)
 first_or_second (x ∷ xs) ys (suc n) less = ⊎_elim (λ h. inl (omega (arith, h))) (λ h. inr h) (first_or_second xs ys n (omega (arith, less)))
@@ -158,7 +157,7 @@ own_or_timed (Node part cells) ruled has controlled g less =
     (λ h. inr (copies_timed part cells ruled.0 has.0 controlled.0 (λ c child at is. timed_below cells ruled.1 has.1 controlled.1 c child at is) (group_at (flat_part (Node part cells)) g) h))
     (first_or_second (map (moved_group (own_port kids part)) part.groups) (flat_map (copies kids part) part.invokes) g less)
 
-plain_untimed : (kind : GroupKind) → is_plain kind ≡ true → is_some (kind_length kind) ≡ true → ⊥
+pub plain_untimed : (kind : GroupKind) → is_plain kind ≡ true → is_some (kind_length kind) ≡ true → ⊥
 plain_untimed kinds.Plain e f = absurd (let clash : false ≡ true = f in cc)
 plain_untimed kinds.Comb e f = absurd (let clash : false ≡ true = f in cc)
 plain_untimed (kinds.Timed n) e f = absurd (let clash : false ≡ true = e in cc)
@@ -216,7 +215,7 @@ enables_alike (Node part cells) flat flattened fair (ports.Literal w v) own = ab
 pub top_fair : (i : Instance) → AllFair i → IsFair i
 top_fair (Node part cells) h = h.0
 
-assigned_less : (xs : List PlainGroup) (n : ℕ) (a : PlainAssign) → In (get_or xs n no_group).assigns a → n < length xs
+pub assigned_less : (xs : List PlainGroup) (n : ℕ) (a : PlainAssign) → In (get_or xs n no_group).assigns a → n < length xs
 assigned_less [] n a i = absurd i
 assigned_less (x ∷ xs) zero a i = omega arith
 assigned_less (x ∷ xs) (suc n) a i = let h = assigned_less xs n a i in omega (arith, h)

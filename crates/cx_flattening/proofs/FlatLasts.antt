@@ -1,5 +1,5 @@
 -- LENGTHS WRITTEN in flat control are those that it has, and none is 0, where that is so in the control of the tree.
-use Rattle.std.proofs.Common.{◌≡◌, ℕ, zero, suc, ◌+◌, ◌*◌, ◌<◌, ◌≤◌, max, ◌⊎◌, inl, inr, ⊎_elim, Bool, true, false, List, [], ◌∷◌, ◌++◌, length, Option, Some, None, refl, sym, ap, ◌∙◌, subst, arith}
+use Rattle.std.proofs.Common.{◌≡◌, ℕ, zero, suc, ◌+◌, ◌*◌, ◌<◌, ◌≤◌, max, ◌⊎◌, inl, inr, ⊎_elim, true, false, List, [], ◌∷◌, ◌++◌, length, Option, Some, None, refl, sym, ap, ◌∙◌, subst, arith}
 use Rattle.std.specs.Prelude.{◌≢◌, slice_get}
 use Rattle.cx_text.specs.declared.places.Place.{Place}
 use Rattle.cx_text.specs.declared.rules.Rule.TheVariants as rules
@@ -7,7 +7,7 @@ use Rattle.cx_text.proofs.NumberLaws.{same_or_not}
 use Rattle.cx_meaning.specs.declared.ports.PortRef.{PortRef}
 use Rattle.cx_meaning.specs.Designs.{OfComponent, PlainForm, Empty, Enable, Seq, Par, If, While, Repeat, StaticSeq, StaticPar, StaticIf, StaticRepeat, Timed, PlainStatement, Placed, PlainStatements, no_statements, a_statement, PlainComponent, PlainDesign, component_at, no_place}
 use Rattle.cx_meaning.specs.Instances.{Instance, Node, Cells, no_cells, a_primitive, an_instance, OfInstance, part_of, cell_at, cells_for, tree_within}
-use Rattle.cx_meaning.specs.Control.{with_comb, groups_in, groups_of, groups_in_all}
+use Rattle.cx_meaning.specs.Control.{groups_in, groups_of, groups_in_all}
 use Rattle.cx_meaning.specs.Islands.{group_length, or_zero, form_length, length_of, sum_length, max_length}
 use Rattle.cx_meaning.specs.Sights.{In}
 use Rattle.cx_meaning.proofs.SightsLaws.{number_in, in_either, in_left, in_right}
@@ -22,7 +22,6 @@ use Rattle.cx_rules.specs.StaticControl.{may_stand, form_has_length, written_len
 use Rattle.cx_rules.specs.StaticControl as control
 use Rattle.cx_rules.specs.Wellformed.{IsDesign}
 use Rattle.cx_flattening.specs.Events.{the_invoke}
-use Rattle.cx_flattening.specs.Whole.{is_static}
 use Rattle.cx_flattening.specs.Copies.{copied_form, copied_statement, copied_statements}
 use Rattle.cx_flattening.specs.Flattened.{Kids, kid_at, invoke_port, copy_of, with_capture, inlined, flat_form, flat_statement, flat_statements, flat_kids, flat_part}
 use Rattle.cx_flattening.specs.FlatDesign.{flat_design}
@@ -38,7 +37,7 @@ use Rattle.cx_flattening.proofs.FlatLists.{statement_still}
 use Rattle.cx_flattening.proofs.FlatRows.{flat_design_flat}
 use Rattle.cx_flattening.proofs.FlatStands.{with_in}
 use Rattle.cx_flattening.proofs.LevelSights.{kid-static}
-use Rattle.cx_flattening.proofs.FairParts.{HasCells, Lengthy, form_lengthy, lengthy_whole}
+use Rattle.cx_flattening.proofs.FairParts.{HasCells, form_lengthy, lengthy_whole}
 use Rattle.cx_flattening.proofs.AcceptedTrees.{child_kind, has_cells, ruled_tree}
 use Rattle.cx_flattening.proofs.FlatNumbers.{IsMade, made}
 use Rattle.cx_flattening.proofs.FlatRanges.{slice_in}

@@ -1,6 +1,6 @@
 -- LIMITS: over the tree of the flat design there are as many instances, levels and words as are counted in that of the design; so the flat
 -- design keeps the limits on these and on cells.
-use Rattle.std.proofs.Common.{◌≡◌, ℕ, zero, suc, ◌+◌, ◌<◌, ◌≤◌, inl, inr, List, [], ◌∷◌, length, Option, Some, None, refl, sym, ap, ◌∙◌, subst, arith}
+use Rattle.std.proofs.Common.{◌≡◌, ℕ, zero, suc, ◌+◌, ◌<◌, ◌≤◌, inl, inr, List, [], ◌∷◌, length, refl, sym, ap, ◌∙◌, subst, arith}
 use Rattle.std.specs.Prelude.{max}
 use Rattle.std.proofs.lemmas.List.{length-map}
 use Rattle.cx_text.specs.declared.places.Place.{Place}
@@ -8,15 +8,15 @@ use Rattle.cx_text.specs.declared.rules.Rule.TheVariants as rules
 use Rattle.cx_text.specs.declared.limits.TheConstants.{CELLS, INSTANCES, INSTANCE_DEPTH, MEMORY_WORDS}
 use Rattle.cx_prim.specs.Rows.{Row}
 use Rattle.cx_meaning.specs.Designs.{PlainKind, OfPrimitive, OfComponent, PlainCell, PlainComponent, PlainDesign, component_at}
-use Rattle.cx_meaning.specs.Instances.{Instance, Node, Cells, no_cells, a_primitive, an_instance, part_of, cells_of, add_cell, cells_for, tree_within, tree_of}
+use Rattle.cx_meaning.specs.Instances.{Instance, Node, Cells, cells_of, add_cell, cells_for, tree_within, tree_of}
 use Rattle.cx_meaning.specs.Sights.{In}
 use Rattle.cx_rules.specs.Accepted.{IsAccepted}
 use Rattle.cx_rules.specs.Wellformed.{IsDesign}
 use Rattle.cx_rules.specs.Ports.{component_of}
-use Rattle.cx_rules.specs.Counts.{unless_static, instances_within, depth_within, counted_cells, counted_instances, counted_depth}
+use Rattle.cx_rules.specs.Counts.{unless_static, instances_within, depth_within, counted_instances, counted_depth}
 use Rattle.cx_rules.specs.Sizes.{instances_below, instances_in, depth_below, depth_in, shape_words, words_below, words_in}
 use Rattle.cx_rules.specs.Spots.{Itself, Whole, Spot}
-use Rattle.cx_rules.specs.LimitRule.{Limited, OnCells, OnInstances, OnDepth, OnWords, order_of, word_of, BreaksPart, BreaksTree}
+use Rattle.cx_rules.specs.LimitRule.{Limited, OnCells, OnInstances, OnDepth, OnWords, order_of, word_of, BreaksTree}
 use Rattle.cx_rewrites.specs.FlatRules.{BreaksCells, BreaksInstances, BreaksDepth, BreaksWords}
 use Rattle.cx_flattening.specs.Embedded.{IsFlattened}
 use Rattle.cx_flattening.specs.Flattened.{flat_part}
@@ -29,13 +29,13 @@ use Rattle.cx_flattening.proofs.FlatSizes.{flat_count}
 use Rattle.cx_flattening.proofs.FlatFolds.{AllFit, FitBelow, flat_below}
 
 -- SUMS AND GREATEST ONES
-zero_plus : (a : ℕ) → 0 + a ≡ a
+pub zero_plus : (a : ℕ) → 0 + a ≡ a
 zero_plus a = omega arith
 
-plus_comm : (a b : ℕ) → a + b ≡ b + a
+pub plus_comm : (a b : ℕ) → a + b ≡ b + a
 plus_comm a b = omega arith
 
-plus_assoc : (a b c : ℕ) → a + b + c ≡ a + (b + c)
+pub plus_assoc : (a b c : ℕ) → a + b + c ≡ a + (b + c)
 plus_assoc a b c = omega arith
 
 max_zero : (a : ℕ) → max 0 a ≡ a
@@ -56,7 +56,7 @@ as_much i n = n
 abbrev row_words : Row → ℕ
 row_words row = shape_words row.shape
 
-abbrev nothing_of : Row → ℕ
+abbrev pub nothing_of : Row → ℕ
 nothing_of row = 0
 
 cells_below : (i : Instance) → 1 + instances_within (cells_of i) ≡ counted_instances i
@@ -108,7 +108,7 @@ module _ (d : PlainDesign) (design : IsDesign d) where
     fit_cells (tree_within d m) (component_at d k).cells (λ cell j i e. fits m (k ∷ path) j (further d design path k j cell way i e) (omega (arith, many))),
   )
 
-  tree_fits : AllFit (tree_of d)
+  pub tree_fits : AllFit (tree_of d)
   tree_fits = fits (length d.components) [] d.main (no_way d design d.main design.main_there) (omega arith)
 
   pub design_instances : instances_below (tree_of (flat_design d)) ≡ counted_instances (tree_of d)
@@ -122,7 +122,7 @@ module _ (d : PlainDesign) (design : IsDesign d) where
 
   -- THE LIMITS of an accepted design
   module _ (accepted : IsAccepted d) where
-    keeps_tree : (limited : Limited) (count limit many : ℕ) (spot : Spot) (place : Place) (name : List ℕ) → many ≡ count → BreaksTree (flat_design d) limited many limit spot place name
+    pub keeps_tree : (limited : Limited) (count limit many : ℕ) (spot : Spot) (place : Place) (name : List ℕ) → many ≡ count → BreaksTree (flat_design d) limited many limit spot place name
         → BreaksTree d limited count limit (record { component = d.main; part = Whole (order_of limited) }) (component_at d d.main).place (word_of limited)
     keeps_tree limited count limit many spot place name same b = record { at_main = refl; is = refl; exceeds = subst (λ n. limit < n) same b.exceeds; tells = (refl, refl) }
 

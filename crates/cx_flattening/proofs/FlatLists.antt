@@ -31,7 +31,7 @@ comb_still None = refl
 comb_still (Some g) = refl
 
 mutual
-  form_still : (form : PlainForm) → copied_form (λ q. q) (λ g. g) form ≡ form
+  pub form_still : (form : PlainForm) → copied_form (λ q. q) (λ g. g) form ≡ form
   form_still Empty = refl
   form_still (Enable g) = refl
   form_still (Seq parts) = ap Seq (statements_still parts)

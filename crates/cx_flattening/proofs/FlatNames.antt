@@ -1,15 +1,14 @@
 -- NAMES OF FLAT CELLS: a cell that is kept has its own; in a block stand those of the child, behind the child's cell and a point.
-use Rattle.std.proofs.Common.{◌≡◌, ◌≢◌, ℕ, zero, suc, ◌+◌, ◌<◌, inl, inr, true, false, nat_eq, List, [], ◌∷◌, ◌++◌, length, map, Option, Some, None, refl, sym, ap, ◌∙◌, subst, arith}
-use Rattle.std.specs.Prelude.{codes}
+use Rattle.std.proofs.Common.{◌≡◌, ℕ, zero, suc, ◌+◌, ◌<◌, inl, inr, true, false, List, [], ◌∷◌, ◌++◌, length, map, Some, None, refl, sym, ap, ◌∙◌, arith}
 use Rattle.std.proofs.lemmas.Bool.{ne_eqb}
-use Rattle.std.proofs.lemmas.List.{append_assoc, length-append, length-map}
+use Rattle.std.proofs.lemmas.List.{length-map}
 use Rattle.cx_meaning.specs.declared.kinds.PortDecl.{PortDecl}
 use Rattle.cx_meaning.specs.Designs.{PlainCell, PlainComponent}
 use Rattle.cx_meaning.specs.Sights.{In}
 use Rattle.cx_rules.specs.Ports.{declared_name, cell_name}
 use Rattle.cx_rules.specs.Flat.{IsPlainName}
 use Rattle.cx_flattening.specs.Flattened.{point, inner_cell, wire_of, Kids, kid_at, kept, kept_at, block, blocks, block_size, block_at, flat_cells, start_of, wire_at}
-use Rattle.cx_flattening.specs.Told.{ends_in_point, but_last}
+use Rattle.cx_rules.specs.FullPaths.{ends_in_point, but_last}
 use Rattle.cx_flattening.proofs.Placing.{kept_less}
 use Rattle.cx_flattening.proofs.Standing.{length-block}
 

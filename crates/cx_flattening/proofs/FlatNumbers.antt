@@ -1,7 +1,7 @@
 -- EACH COMPONENT of the flat design is one that the flat main reaches, flattened.
-use Rattle.std.proofs.Common.{◌≡◌, ℕ, zero, suc, ◌+◌, ◌<◌, Bool, true, false, List, [], ◌∷◌, length, get_or, if◌then◌else◌, refl, sym, ap, ◌∙◌, subst, arith}
+use Rattle.std.proofs.Common.{◌≡◌, ℕ, zero, suc, ◌+◌, ◌<◌, Bool, true, false, ◌∷◌, length, get_or, if◌then◌else◌, refl, sym, ap, ◌∙◌, subst, arith}
 use Rattle.std.proofs.lemmas.List.{length-map}
-use Rattle.cx_meaning.specs.Designs.{PlainComponent, PlainDesign, component_at}
+use Rattle.cx_meaning.specs.Designs.{PlainDesign, component_at}
 use Rattle.cx_rules.specs.Ports.{component_of}
 use Rattle.cx_rules.specs.Wellformed.{IsDesign}
 use Rattle.cx_flattening.specs.Copies.{count_if}
@@ -38,6 +38,8 @@ placed d k (suc n) m less = choice (is_reached d k) refl m less (λ x h. placed 
 pub record IsMade (d : PlainDesign) (n : ℕ) : Type 0 where
   pub old : ℕ
   pub less : old < length d.components
+  pub reached : is_reached d old ≡ true
+  pub number : reached_below d old ≡ n
   pub part : component_at (flat_design d) n ≡ renumbered_part d (flat_of d old)
   pub flattened : IsFlattened (component_of d old) (component_of (flat_design d) n)
 
@@ -45,6 +47,8 @@ pub made : (d : PlainDesign) → IsDesign d → (n : ℕ) → n < length (flat_d
 made d design n there = record {
   old = k;
   less = less;
+  reached = p.1;
+  number = number;
   part = ap (component_at (flat_design d)) (sym number) ∙ flat_component_is d k less p.1;
   flattened = subst (λ m. IsFlattened (component_of d k) (component_of (flat_design d) m)) number (flat_component d design k p.1);
 }

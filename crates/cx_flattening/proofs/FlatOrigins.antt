@@ -1,5 +1,5 @@
 -- THE GROUPS OF FLAT CONTROL: each is one that the statement enables, one that captures for an invoke in it, or a copy for one.
-use Rattle.std.proofs.Common.{◌≡◌, ℕ, zero, suc, ◌+◌, ◌<◌, ◌≤◌, ◌⊎◌, inl, inr, ⊎_elim, List, [], ◌∷◌, ◌++◌, length, map, Option, Some, None, refl, sym, ap, ◌∙◌, subst, arith}
+use Rattle.std.proofs.Common.{◌≡◌, ℕ, ◌<◌, ◌⊎◌, inl, inr, ⊎_elim, List, [], ◌∷◌, ◌++◌, length, map, Option, Some, None, refl, ap, arith}
 use Rattle.std.specs.Prelude.{flat_map, take}
 use Rattle.std.proofs.lemmas.List.{length-append, length-map}
 use Rattle.cx_meaning.specs.declared.ports.PortRef.{PortRef}
@@ -10,7 +10,7 @@ use Rattle.cx_meaning.proofs.SightsLaws.{in_either, in_left, in_right}
 use Rattle.cx_rewrites.specs.Moving.{moved_group}
 use Rattle.cx_flattening.specs.Events.{the_invoke}
 use Rattle.cx_flattening.specs.Copies.{copied_comb, copied_form, copied_statement, copied_statements}
-use Rattle.cx_flattening.specs.Flattened.{Kids, kid_at, own_port, invoke_port, copies, flat_groups, first_copy, copy_of, with_capture, inlined, flat_form, flat_statement, flat_statements}
+use Rattle.cx_flattening.specs.Flattened.{Kids, kid_at, own_port, invoke_port, copies, flat_groups, copy_of, with_capture, inlined, flat_form, flat_statement, flat_statements}
 use Rattle.cx_flattening.specs.Controlled.{timed_in, timed_of, timed_all}
 use Rattle.cx_flattening.proofs.FlatGroups.{in_one_of}
 use Rattle.cx_flattening.proofs.FlatActs.{copies_before, copy_within}

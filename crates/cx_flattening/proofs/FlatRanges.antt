@@ -1,5 +1,5 @@
 -- GUARDS AND CONTINUOUS ASSIGNMENTS of the flat design: ranges stand in static groups, within their lengths; nothing continuous enables.
-use Rattle.std.proofs.Common.{◌≡◌, ℕ, zero, suc, ◌+◌, ◌<◌, ◌≤◌, inl, inr, ⊎_elim, Bool, true, false, List, [], ◌∷◌, ◌++◌, length, get_or, Option, Some, None, refl, sym, ap, ◌∙◌, subst, arith}
+use Rattle.std.proofs.Common.{◌≡◌, ℕ, zero, suc, ◌<◌, ◌≤◌, inl, inr, ⊎_elim, true, false, List, [], ◌∷◌, ◌++◌, length, get_or, Option, Some, None, refl, sym, ap, ◌∙◌, subst, arith}
 use Rattle.std.specs.Prelude.{slice_get}
 use Rattle.std.proofs.lemmas.Bool.{cases_lt}
 use Rattle.std.proofs.lemmas.List.{get_or_past}
@@ -8,8 +8,7 @@ use Rattle.cx_text.specs.declared.rules.Rule.TheVariants as rules
 use Rattle.cx_meaning.specs.declared.ports.PortRef.{PortRef}
 use Rattle.cx_meaning.specs.declared.kinds.GroupKind.{GroupKind}
 use Rattle.cx_meaning.specs.Designs.{PlainGuard, Always, Atom, Negation, All, Any, Compared, Within, PlainGuards, no_guards, a_guard, PlainAssign, PlainGroup, PlainComponent, PlainDesign, component_at, no_component, group_at, no_group}
-use Rattle.cx_meaning.specs.Instances.{part_of}
-use Rattle.cx_meaning.specs.Active.{Owned, source_order}
+use Rattle.cx_meaning.specs.Active.{source_order}
 use Rattle.cx_meaning.specs.Islands.{kind_length}
 use Rattle.cx_meaning.specs.Sights.{In}
 use Rattle.cx_meaning.proofs.SightsLaws.{number_in}
@@ -22,12 +21,11 @@ use Rattle.cx_rules.specs.Spots.{AnAssign, Spot, OnAssign}
 use Rattle.cx_rules.specs.Wellformed.{StandsIn, IsDesign}
 use Rattle.cx_rewrites.specs.Moving.{moved_guard, moved_guards, moved_assign}
 use Rattle.cx_flattening.specs.Ends.{NoneNamesDone}
-use Rattle.cx_flattening.specs.Flattened.{flat_part}
-use Rattle.cx_flattening.specs.FlatDesign.{flat_of, renumbered_part, flat_design}
+use Rattle.cx_flattening.specs.FlatDesign.{flat_design}
 use Rattle.cx_flattening.proofs.Ruled.{in_order}
 use Rattle.cx_flattening.proofs.RestingPorts.{OfOne, owner_of}
 use Rattle.cx_flattening.proofs.FlatBare.{flat_bare}
-use Rattle.cx_flattening.proofs.FlatKeeps.{Keeps, AllKeep, flat_keeps, keep_within}
+use Rattle.cx_flattening.proofs.FlatKeeps.{Keeps, flat_keeps, keep_within}
 use Rattle.cx_flattening.proofs.FlatNumbers.{made}
 use Rattle.cx_flattening.proofs.FlatStages.{good_component}
 

@@ -1,30 +1,26 @@
 -- REPEATS of flat control: none is of too many rounds, where none of the tree is.
-use Rattle.std.proofs.Common.{◌≡◌, ℕ, zero, suc, ◌+◌, ◌<◌, ◌≤◌, inl, inr, ⊎_elim, Bool, true, false, ◌&&◌, if◌then◌else◌, List, [], ◌∷◌, ◌++◌, length, Option, Some, None, refl, sym, ap, ◌∙◌, subst, arith}
-use Rattle.std.specs.Prelude.{nat_lt, nat_le}
+use Rattle.std.proofs.Common.{◌≡◌, ℕ, zero, suc, ◌<◌, inl, inr, ⊎_elim, Bool, true, false, if◌then◌else◌, List, [], ◌∷◌, length, Option, Some, None, refl, sym, ◌∙◌, subst}
 use Rattle.std.proofs.lemmas.Bool.{cases_lt}
 use Rattle.std.proofs.lemmas.List.{get_or_past}
 use Rattle.cx_text.specs.declared.places.Place.{Place}
 use Rattle.cx_text.specs.declared.rules.Rule.TheVariants as rules
-use Rattle.cx_text.specs.declared.limits.TheConstants.{OCCURRENCES, REPETITIONS}
 use Rattle.cx_meaning.specs.declared.ports.PortRef.{PortRef}
 use Rattle.cx_meaning.specs.Designs.{PlainKind, OfPrimitive, OfComponent, PlainCell, PlainForm, Empty, Enable, Seq, Par, If, While, Repeat, StaticSeq, StaticPar, StaticIf, StaticRepeat, Timed, PlainStatement, Placed, PlainStatements, no_statements, a_statement, PlainComponent, PlainDesign, component_at, no_component, no_place}
-use Rattle.cx_meaning.specs.Instances.{Instance, Node, Cells, no_cells, a_primitive, an_instance, OfInstance, part_of, cell_at, add_cell, cells_for, tree_within}
+use Rattle.cx_meaning.specs.Instances.{Instance, Node, Cells, no_cells, a_primitive, an_instance, OfInstance, cell_at, add_cell, cells_for, tree_within}
 use Rattle.cx_meaning.specs.Sights.{In}
-use Rattle.cx_meaning.proofs.SightsLaws.{number_in, in_either, in_left, in_right}
+use Rattle.cx_meaning.proofs.SightsLaws.{number_in, in_left, in_right}
 use Rattle.cx_rules.specs.Accepted.{IsAccepted}
-use Rattle.cx_rules.specs.Counts.{is_any_island, occurrences_at}
-use Rattle.cx_rules.specs.Invokes.{form_lasts}
 use Rattle.cx_rules.specs.Items.{Context, Dynamic, InStatic, Branch, below_dynamic, Visited, visit, visit_parts, visit_all, statements_in}
-use Rattle.cx_rules.specs.LimitRule.{Limited, OnRepeat, OnOccurrences, OnLatency, word_of, count_in, is_too_many, statement_limit}
+use Rattle.cx_rules.specs.LimitRule.{Limited, OnRepeat, word_of, count_in, is_too_many}
 use Rattle.cx_rules.specs.Ports.{component_of}
-use Rattle.cx_rules.specs.Spots.{AStatement, Spot, OnStatement, StatementRule, Tells}
+use Rattle.cx_rules.specs.Spots.{AStatement, Spot, OnStatement}
 use Rattle.cx_rules.specs.Wellformed.{IsDesign}
 use Rattle.cx_flattening.specs.Events.{the_invoke}
 use Rattle.cx_flattening.specs.Copies.{copied_form, copied_statement, copied_statements}
 use Rattle.cx_flattening.specs.Flattened.{Kids, kid_at, invoke_port, copy_of, with_capture, inlined, flat_form, flat_statement, flat_statements, flat_kids, flat_part}
 use Rattle.cx_flattening.specs.FlatDesign.{flat_design}
 use Rattle.cx_flattening.proofs.FlatLasts.{Forms, both_forms, headed, one_other, parts_other}
-use Rattle.cx_flattening.proofs.FlatNumbers.{IsMade, made}
+use Rattle.cx_flattening.proofs.FlatNumbers.{made}
 use Rattle.cx_flattening.proofs.FlatRanges.{slice_in}
 use Rattle.cx_flattening.proofs.FlatSafe.{kid_from}
 use Rattle.cx_flattening.proofs.Ruled.{not_so}

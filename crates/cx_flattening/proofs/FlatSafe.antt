@@ -1,18 +1,17 @@
 -- NOTHING LEADS IN A CIRCLE in a flat instance, where nothing does so in the tree.
-use Rattle.std.proofs.Common.{◌≡◌, ℕ, zero, suc, ◌+◌, ◌-◌, ◌<◌, ◌≤◌, ◌⊎◌, inl, inr, ⊎_elim, Bool, true, false, List, [], ◌∷◌, ◌++◌, length, map, Option, Some, None, refl, sym, ap, ◌∙◌, subst, arith}
+use Rattle.std.proofs.Common.{◌≡◌, ℕ, zero, suc, ◌+◌, ◌-◌, ◌<◌, ◌≤◌, ⊎_elim, Bool, true, false, List, [], ◌∷◌, length, map, Some, None, refl, sym, ap, ◌∙◌, subst, arith}
 use Rattle.std.proofs.lemmas.Bool.{cases_lt}
 use Rattle.std.proofs.lemmas.List.{length-append}
-use Rattle.cx_prim.specs.Rows.{Row}
 use Rattle.cx_meaning.specs.declared.ports.PortRef.{PortRef}
 use Rattle.cx_meaning.specs.declared.ports.PortRef.TheVariants as ports
-use Rattle.cx_meaning.specs.Designs.{PlainAssign, PlainCell, PlainInvoke, PlainComponent}
-use Rattle.cx_meaning.specs.Instances.{Instance, Node, Cells, no_cells, a_primitive, an_instance, At, Nothing, OfRow, OfInstance, part_of, cells_of, cell_at, cell_count}
-use Rattle.cx_meaning.specs.Active.{Active, nothing, entries, Owned, source_order, offset_of, drivers}
+use Rattle.cx_meaning.specs.Designs.{PlainCell, PlainInvoke, PlainComponent}
+use Rattle.cx_meaning.specs.Instances.{Instance, Node, Cells, no_cells, a_primitive, an_instance, Nothing, OfInstance, part_of, cells_of, cell_at, cell_count}
+use Rattle.cx_meaning.specs.Active.{Active, entries, Owned, source_order, offset_of, drivers}
 use Rattle.cx_meaning.specs.Sights.{In}
 use Rattle.cx_meaning.proofs.InstancesLemmas.{row_instance}
 use Rattle.cx_meaning.proofs.DesignsLemmas.{group_there}
 use Rattle.cx_rules.specs.Footprints.{AssignNames, Mentions, CellLeads, Leads}
-use Rattle.cx_rules.specs.Circles.{IsAcyclic, AreAcyclic, AcyclicBelow}
+use Rattle.cx_rules.specs.Circles.{IsAcyclic}
 use Rattle.cx_rewrites.specs.Moving.{moved_acting}
 use Rattle.cx_rewrites.proofs.ClosedLemmas.{is_closed}
 use Rattle.cx_flattening.specs.Events.{the_invoke, source_to}
@@ -20,9 +19,9 @@ use Rattle.cx_flattening.specs.Deeds.{Deed, own_entries, deeds_below}
 use Rattle.cx_flattening.specs.Whole.{is_static}
 use Rattle.cx_flattening.specs.Flattened.{Kids, kid_at, kid_if, kept, block, blocks, block_size, block_at, kept_at, start_of, wire_at, flat_part, flat_kids, flat_cells, own_port, child_port, invoke_port}
 use Rattle.cx_flattening.specs.Targets.{OwnTarget, BlockTarget}
-use Rattle.cx_flattening.specs.Acting.{fed_by, IsIdle, IsFed, ActsAs, AllActAs}
+use Rattle.cx_flattening.specs.Acting.{IsIdle, IsFed, ActsAs, AllActAs}
 use Rattle.cx_flattening.specs.Embedded.{IsEmbedded, IsFlattened}
-use Rattle.cx_flattening.specs.Levels.{IsKnown, own_of, InFlat, Asked, IsStill, OutputsSeen}
+use Rattle.cx_flattening.specs.Levels.{IsKnown, InFlat, Asked}
 use Rattle.cx_flattening.specs.Seeing.{NoCircle, NoneBelow}
 use Rattle.cx_flattening.specs.Fair.{IsNamed, IsFair, AllFair, AllFairBelow}
 use Rattle.cx_flattening.proofs.MovedTwice.{moved_twice, moved_still}
@@ -31,7 +30,7 @@ use Rattle.cx_flattening.proofs.CellLayout.{kept_inside}
 use Rattle.cx_flattening.proofs.Standing.{in_flat_cells, within_child, length-block, fair_own}
 use Rattle.cx_flattening.proofs.FlatDrivers.{own_drivers, fed_drivers, idle_drivers}
 use Rattle.cx_flattening.proofs.RestingPorts.{OfOne, owner_of}
-use Rattle.cx_flattening.proofs.LevelSights.{kid-row, kid-static, kid-dynamic, flat-outputs}
+use Rattle.cx_flattening.proofs.LevelSights.{kid-static, flat-outputs}
 use Rattle.cx_flattening.proofs.FlatOutputs.{drivers_like}
 use Rattle.cx_flattening.proofs.FlatSights.{still_drivers, assign_of}
 use Rattle.cx_flattening.proofs.FlatChildren.{own_acts}

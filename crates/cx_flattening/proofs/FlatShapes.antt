@@ -1,5 +1,5 @@
 -- STATIC GROUPS of a flat component take a cycle at least and drive no done, where those of the tree do.
-use Rattle.std.proofs.Common.{◌≡◌, ℕ, zero, suc, ◌+◌, ◌<◌, ◌≤◌, inl, inr, ⊎_elim, Bool, true, false, ◌||◌, nat_eq, List, [], ◌∷◌, ◌++◌, length, map, Option, Some, None, refl, sym, ap, ◌∙◌, subst, arith}
+use Rattle.std.proofs.Common.{◌≡◌, ℕ, zero, suc, ◌<◌, inl, inr, ⊎_elim, true, false, ◌||◌, nat_eq, List, [], ◌∷◌, length, map, Option, Some, None, refl, sym, ap, ◌∙◌, subst}
 use Rattle.std.specs.Prelude.{flat_map}
 use Rattle.std.proofs.lemmas.Bool.{cases_lt}
 use Rattle.std.proofs.lemmas.List.{get_or_past}
@@ -12,7 +12,7 @@ use Rattle.cx_meaning.specs.Designs.{PlainKind, OfPrimitive, OfComponent, PlainC
 use Rattle.cx_meaning.specs.Instances.{Instance, Node, Cells, no_cells, a_primitive, an_instance, OfInstance, part_of, cell_at, add_cell, cells_for, tree_within}
 use Rattle.cx_meaning.specs.Active.{Owned, source_order}
 use Rattle.cx_meaning.specs.Control.{groups_of}
-use Rattle.cx_meaning.specs.Islands.{kind_length, group_length}
+use Rattle.cx_meaning.specs.Islands.{kind_length}
 use Rattle.cx_meaning.specs.Sights.{In}
 use Rattle.cx_meaning.proofs.SightsLaws.{number_in, in_either, image_in}
 use Rattle.cx_meaning.proofs.DesignsLemmas.{same_part}

@@ -1,10 +1,10 @@
 -- SIZES: the flat component has as many cells as are counted with static components written out.
-use Rattle.std.proofs.Common.{◌≡◌, ℕ, zero, suc, ◌+◌, ◌<◌, ◌≤◌, Bool, true, false, is_some, List, [], ◌∷◌, ◌++◌, length, map, Option, Some, None, refl, sym, ap, ◌∙◌, subst, arith}
+use Rattle.std.proofs.Common.{◌≡◌, ℕ, suc, ◌+◌, is_some, List, [], ◌∷◌, length, map, Option, Some, None, refl, ap, ◌∙◌, arith}
 use Rattle.std.proofs.lemmas.List.{length-append, length-map}
 use Rattle.cx_meaning.specs.Designs.{PlainCell, PlainComponent}
-use Rattle.cx_meaning.specs.Instances.{Instance, Node, Cells, no_cells, a_primitive, an_instance, part_of, cells_of}
-use Rattle.cx_rules.specs.Counts.{Inner, Inners, cell_count_of, cells_in, inner, if_static, inners_of, counted_cells}
-use Rattle.cx_flattening.specs.Flattened.{Kids, kid_if, kept, block, blocks, inner_cell, wire_of, flat_part, flat_kids}
+use Rattle.cx_meaning.specs.Instances.{Instance, Node, Cells, no_cells, a_primitive, an_instance, part_of}
+use Rattle.cx_rules.specs.Counts.{cell_count_of, cells_in, inner, if_static, inners_of, counted_cells}
+use Rattle.cx_flattening.specs.Flattened.{kid_if, kept, block, blocks, inner_cell, wire_of, flat_part, flat_kids}
 
 one_more : (a b n : ℕ) → a + b ≡ n → suc a + b ≡ 1 + n
 one_more a b n e = omega (arith, e)

@@ -1,9 +1,9 @@
 -- STAGES: the flat design of an accepted design keeps rules of a stage.
-use Rattle.std.proofs.Common.{◌≡◌, ℕ, ◌+◌, ◌<◌, ◌≤◌, inl, inr, List, [], length, refl, sym, ap, ◌∙◌, subst, arith}
+use Rattle.std.proofs.Common.{◌≡◌, ℕ, ◌<◌, inl, inr, List, [], length, subst, arith}
 use Rattle.cx_text.specs.declared.places.Place.{Place}
 use Rattle.cx_text.specs.declared.rules.Rule.{Rule}
 use Rattle.cx_text.specs.declared.rules.Rule.TheVariants as rules
-use Rattle.cx_meaning.specs.Designs.{PlainComponent, PlainDesign, component_at}
+use Rattle.cx_meaning.specs.Designs.{PlainComponent, PlainDesign}
 use Rattle.cx_rules.specs.Accepted.{IsAccepted, stage_of, Breaks, KeepsStage}
 use Rattle.cx_rules.specs.Ports.{component_of}
 use Rattle.cx_rules.specs.Spots.{Spot}
@@ -12,7 +12,7 @@ use Rattle.cx_flattening.specs.Ends.{NoneNamesDone}
 use Rattle.cx_flattening.specs.FlatDesign.{flat_design}
 use Rattle.cx_flattening.proofs.TreeLevels.{no_way}
 use Rattle.cx_flattening.proofs.AcceptedTrees.{IsGood, good_tree}
-use Rattle.cx_flattening.proofs.FlatNumbers.{IsMade, made}
+use Rattle.cx_flattening.proofs.FlatNumbers.{made}
 use Rattle.cx_flattening.proofs.FlatCircles.{flat_calm, flat_group_calm}
 
 module _ (d : PlainDesign) (design : IsDesign d) (accepted : IsAccepted d) (undone : NoneNamesDone d) where

@@ -1,9 +1,9 @@
 -- STATIC CONTROL of a flat component: nothing stands in it that may not, where nothing does in that of the tree.
-use Rattle.std.proofs.Common.{◌≡◌, ℕ, zero, suc, ◌<◌, inl, inr, ⊎_elim, Bool, true, false, List, [], ◌∷◌, ◌++◌, length, get_or, Option, Some, None, refl, sym, ap, ◌∙◌, subst}
+use Rattle.std.proofs.Common.{◌≡◌, ℕ, zero, suc, ◌<◌, inl, inr, ⊎_elim, Bool, true, false, List, ◌++◌, length, get_or, Option, Some, None, refl, sym, ap, ◌∙◌, subst}
 use Rattle.std.specs.Prelude.{is_some, slice_get}
 use Rattle.cx_text.specs.declared.places.Place.{Place}
 use Rattle.cx_meaning.specs.declared.ports.PortRef.{PortRef}
-use Rattle.cx_meaning.specs.Designs.{PlainInvoke, PlainForm, Empty, Enable, Seq, Par, If, While, Repeat, StaticSeq, StaticPar, StaticIf, StaticRepeat, Timed, PlainStatement, Placed, PlainStatements, no_statements, a_statement, PlainComponent, PlainDesign, component_at, PlainGroup, no_group, form_of, no_place}
+use Rattle.cx_meaning.specs.Designs.{PlainForm, Empty, Enable, Seq, Par, If, While, Repeat, StaticSeq, StaticPar, StaticIf, StaticRepeat, Timed, PlainStatement, Placed, PlainStatements, no_statements, a_statement, PlainComponent, PlainDesign, component_at, PlainGroup, no_group, form_of, no_place}
 use Rattle.cx_meaning.specs.Instances.{Instance, Node, Cells, no_cells, a_primitive, an_instance, OfInstance, part_of, cell_at}
 use Rattle.cx_meaning.specs.Control.{with_comb, groups_in, groups_of, groups_in_all}
 use Rattle.cx_meaning.specs.Islands.{kind_length, group_length}
@@ -37,7 +37,7 @@ use Rattle.cx_flattening.proofs.FlatStages.{good_component}
 use Rattle.cx_flattening.proofs.Ruled.{IsRuled, AllRuled, AllRuledBelow}
 
 -- what is in static control may stand there
-abbrev May : PlainComponent → List Visited → Type 0
+abbrev pub May : PlainComponent → List Visited → Type 0
 May J vs = (v : Visited) → In vs v → is_in_static v.context ≡ true → may_stand J v.context v.form ≡ true
 
 may_both : (J : PlainComponent) (xs ys : List Visited) → May J xs → May J ys → May J (xs ++ ys)
@@ -47,7 +47,7 @@ headed : (J : PlainComponent) (context : Context) (form : PlainForm) (place : Pl
 headed J context form place head parts v (inl same) s = subst (λ (x : Visited). may_stand J x.context x.form ≡ true) same (head (ap (λ (x : Visited). is_in_static x.context) same ∙ s))
 headed J context form place head parts v (inr i) s = parts v i s
 
-head_may : (J : PlainComponent) (context : Context) (form : PlainForm) (place : Place) → May J (visit context (Placed form place)) → is_in_static context ≡ true → may_stand J context form ≡ true
+pub head_may : (J : PlainComponent) (context : Context) (form : PlainForm) (place : Place) → May J (visit context (Placed form place)) → is_in_static context ≡ true → may_stand J context form ≡ true
 head_may J context form place h s = h (record { context = context; form = form; place = place }) (inl refl) s
 
 -- in any context
@@ -98,7 +98,7 @@ with_in None list g i = i
 with_in (Some h) list g i = inr i
 
 -- what is claimed of a static component: of each copy of its control
-abbrev StaticMay : Instance → Type 0
+abbrev pub StaticMay : Instance → Type 0
 StaticMay i = (J : PlainComponent) (f : PortRef → PortRef) (copy : ℕ → ℕ) → Lasting J (flat_part i) copy (groups_of (flat_part i).control) → May J (visit InStatic (copied_statement f copy (flat_part i).control))
 
 module _ (part : PlainComponent) (cells : Cells) (ruled : IsRuled part (Node part cells)) (fair : IsFair (Node part cells)) (controlled : IsControlled (Node part cells))
@@ -226,7 +226,7 @@ mutual
       let n = some_of part.latency static in
       part_may part cells ruled.0 fair.0 controlled.0 (kids_last cells fair.1 controlled.1) (λ c child at is. kids_may cells ruled.1 fair.1 controlled.1 c child at is) n.0 n.1
 
-  kids_may : (cells : Cells) → AllRuledBelow cells → AllFairBelow cells → AllControlledBelow cells → (c : ℕ) (child : Instance) → cell_at cells c ≡ OfInstance child → is_static child ≡ true → StaticMay child
+  pub kids_may : (cells : Cells) → AllRuledBelow cells → AllFairBelow cells → AllControlledBelow cells → (c : ℕ) (child : Instance) → cell_at cells c ≡ OfInstance child → is_static child ≡ true → StaticMay child
   kids_may no_cells ruled fair controlled c child at static = absurd (cc)
   kids_may (a_primitive row rest) ruled fair controlled zero child at static = absurd (cc)
   kids_may (a_primitive row rest) ruled fair controlled (suc c) child at static = kids_may rest ruled fair controlled c child at static

@@ -79,7 +79,7 @@ module _ (d : PlainDesign) (design : IsDesign d) where
   )
 
   -- as many as the flat design has components, and no more
-  few_ups : (ups : List ℕ) (k : ℕ) → IsTop ups k → length ups < length (flat_design d).components
+  pub few_ups : (ups : List ℕ) (k : ℕ) → IsTop ups k → length ups < length (flat_design d).components
   few_ups ups k top =
       let all : suc (length (map (reached_below d) ups)) ≤ length (flat_design d).components =
       few_below (map (reached_below d) (k ∷ ups)) (length (flat_design d).components) (apart_map (k ∷ ups) top.apart top.there)
@@ -144,6 +144,7 @@ module _ (d : PlainDesign) (design : IsDesign d) where
       always = ap (λ (p : PlainComponent). p.always) part_is ∙ ap (λ (p : PlainComponent). p.always) same;
       control = ap (λ (p : PlainComponent). p.control) part_is ∙ ap (λ (p : PlainComponent). p.control) same;
       names = λ e. ap (λ (p : PlainComponent). cell_name p.cells e) part_is ∙ renumbered_name d (flat_of d k).cells e ∙ ap (λ (p : PlainComponent). cell_name p.cells e) same;
+      count = ap (λ (p : PlainComponent). length p.cells) part_is ∙ length-map (flat_of d k).cells (renumbered_cell d) ∙ ap (λ (p : PlainComponent). length p.cells) same;
     },
     embeds path k n ups k 0 (cells_for (tree_within (flat_design d) n) (component_at (flat_design d) (reached_below d k)).cells)
         (record { way = way; many = many; is_top = top; enough = enough; within = inside })

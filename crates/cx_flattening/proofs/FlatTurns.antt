@@ -1,22 +1,16 @@
 -- TURNS OF GROUPS: while a group acts no static child does, and the flat instance makes the turn that the tree makes.
-use Rattle.std.proofs.Common.{◌≡◌, ℕ, suc, ◌<◌, inl, [], length, Some, None, refl, ap, ◌∙◌, arith}
-use Rattle.std.specs.Prelude.{if◌then◌else◌}
-use Rattle.std.proofs.lemmas.Bool.{ne_eqb}
+use Rattle.std.proofs.Common.{◌≡◌, ℕ, ◌<◌, [], length, refl, ap, ◌∙◌}
 use Rattle.cx_meaning.specs.declared.ports.PortRef.TheVariants as ports
-use Rattle.cx_meaning.specs.Designs.{PlainComponent}
-use Rattle.cx_meaning.specs.Instances.{Instance, Node, Cells, no_cells, a_primitive, an_instance, part_of, cells_of, State}
+use Rattle.cx_meaning.specs.Instances.{Instance, Node, part_of, State}
 use Rattle.cx_meaning.specs.Truths.{Truth, truth_of}
 use Rattle.cx_meaning.specs.Truths as truths
-use Rattle.cx_meaning.specs.Active.{Active, nothing, group, capture, only_at, entries}
+use Rattle.cx_meaning.specs.Active.{group}
 use Rattle.cx_meaning.specs.Sights.{Held, seen}
 use Rattle.cx_meaning.specs.Cycles.{Ended, Goes, Faults, cycle}
 use Rattle.cx_meaning.specs.Islands.{turn_of}
 use Rattle.cx_meaning.specs.Calls.{hole_turn}
 use Rattle.cx_meaning.specs.Calls as calls
-use Rattle.cx_rules.specs.Circles.{IsAcyclic, AcyclicBelow}
 use Rattle.cx_flattening.specs.Whole.{whole_cycle, group_turn}
-use Rattle.cx_flattening.specs.Flattened.{Kids, flat_kids, flat_part, copy_of}
-use Rattle.cx_flattening.specs.Acting.{IsUsed, IsOf, ActsAs, AllActAs}
 use Rattle.cx_flattening.specs.Embedded.{IsFlattened, Stands}
 use Rattle.cx_flattening.specs.Fair.{AllFair}
 use Rattle.cx_flattening.specs.Seeing.{NoCircle}

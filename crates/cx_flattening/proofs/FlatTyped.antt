@@ -1,8 +1,7 @@
 -- TYPED IN THE FLAT COMPONENT: where each assignment of a tree is typed, and each source of an invoke as wide as its input, so is each of
 -- the flat component, in any host in which it stands.
-use Rattle.std.proofs.Common.{◌≡◌, ℕ, zero, suc, ◌+◌, ◌-◌, ◌<◌, inl, inr, ⊎_elim, Bool, true, false, List, [], ◌∷◌, ◌++◌, length, map, Option, Some, None, refl, sym, ap, ◌∙◌, subst, arith}
+use Rattle.std.proofs.Common.{◌≡◌, ℕ, zero, suc, ◌+◌, ◌-◌, ◌<◌, inl, inr, ⊎_elim, Bool, true, false, List, [], ◌∷◌, length, map, Option, Some, None, refl, sym, ap, ◌∙◌, subst, arith}
 use Rattle.std.specs.Prelude.{flat_map, not}
-use Rattle.cx_prim.specs.Rows.{Row}
 use Rattle.cx_meaning.specs.declared.kinds.PortDecl.{PortDecl}
 use Rattle.cx_meaning.specs.declared.ports.PortRef.{PortRef}
 use Rattle.cx_meaning.specs.declared.ports.PortRef.TheVariants as ports
@@ -11,8 +10,7 @@ use Rattle.cx_meaning.specs.Instances.{Instance, Node, Cells, no_cells, a_primit
 use Rattle.cx_meaning.specs.Control.{groups_of}
 use Rattle.cx_meaning.specs.Sights.{In, PartPort, Go, AnInput, AnOutput, ItsDone, part_port}
 use Rattle.cx_meaning.proofs.SightsLaws.{in_either, image_in}
-use Rattle.cx_laws.proofs.TreeLemmas.{output_there}
-use Rattle.cx_rules.specs.Ports.{declared_width, part_width, cell_width, width_of, is_part_output, is_cell_output, is_source_only, is_target_only}
+use Rattle.cx_rules.specs.Ports.{declared_width, part_width, cell_width, is_part_output, is_cell_output}
 use Rattle.cx_rewrites.specs.Moving.{moved_assign, moved_group}
 use Rattle.cx_flattening.specs.Events.{source_to}
 use Rattle.cx_flattening.specs.Whole.{is_static}

@@ -1,5 +1,5 @@
 -- STAGE 3 in the flat design: its assignments keep the rules on widths, literals, targets and sources.
-use Rattle.std.proofs.Common.{◌≡◌, ℕ, ◌+◌, ◌<◌, ◌≤◌, inl, inr, ⊎_elim, true, false, List, [], length, Option, Some, None, refl, sym, ap, ◌∙◌, subst, arith}
+use Rattle.std.proofs.Common.{◌≡◌, ℕ, inl, inr, ⊎_elim, true, false, List, [], length, Option, Some, None, sym, ap, ◌∙◌, subst, arith}
 use Rattle.std.specs.Prelude.{slice_get, flat_map}
 use Rattle.cx_text.specs.declared.places.Place.{Place}
 use Rattle.cx_text.specs.declared.rules.Rule.{Rule}
@@ -7,7 +7,7 @@ use Rattle.cx_text.specs.declared.rules.Rule.TheVariants as rules
 use Rattle.cx_meaning.specs.declared.ports.PortRef.{PortRef}
 use Rattle.cx_meaning.specs.declared.ports.PlacedPort.{PlacedPort}
 use Rattle.cx_meaning.specs.Designs.{PlainAssign, PlainInvoke, PlainComponent, PlainDesign, component_at, group_at}
-use Rattle.cx_meaning.specs.Active.{Owned, source_order}
+use Rattle.cx_meaning.specs.Active.{source_order}
 use Rattle.cx_meaning.specs.Sights.{In}
 use Rattle.cx_rules.specs.Accepted.{IsAccepted, stage_of, Breaks, KeepsStage}
 use Rattle.cx_rules.specs.Items.{Dynamic, statements_in, test_in}

@@ -1,12 +1,12 @@
 -- WHAT A RUN TELLS is kept: its turns, the words of the external memories, and the kind, the name and the turn of its fault.
-use Rattle.std.proofs.Common.{◌≡◌, ℕ, zero, suc, ◌+◌, ◌<◌, ◌≤◌, inl, inr, ⊎_elim, Bool, true, false, List, [], ◌∷◌, length, map, Option, Some, None, refl, sym, ap, ◌∙◌, subst, arith}
+use Rattle.std.proofs.Common.{◌≡◌, ℕ, zero, suc, ◌+◌, ◌≤◌, inl, inr, ⊎_elim, Bool, true, false, List, [], ◌∷◌, length, map, Some, None, refl, sym, ap, ◌∙◌, subst, arith}
 use Rattle.std.proofs.lemmas.Bool.{cases_lt}
 use Rattle.std.proofs.lemmas.List.{get_or_past}
 use Rattle.cx_prim.specs.Rows.{Row}
 use Rattle.cx_prim.specs.CellStates as cell_states
 use Rattle.cx_prim.specs.Table.{row_of}
-use Rattle.cx_meaning.specs.Designs.{PlainKind, OfPrimitive, OfComponent, PlainCell, PlainComponent, PlainDesign, component_at, no_component}
-use Rattle.cx_meaning.specs.Instances.{Instance, Node, Cells, no_cells, OfRow, part_of, cells_of, cell_at, add_cell, cells_for, tree_within, tree_of, instance_at, State, if_external, externals_from, words_of, start}
+use Rattle.cx_meaning.specs.Designs.{PlainKind, OfPrimitive, OfComponent, PlainCell, PlainDesign, component_at, no_component}
+use Rattle.cx_meaning.specs.Instances.{Instance, Node, OfRow, part_of, cells_of, cell_at, add_cell, cells_for, tree_within, tree_of, State, if_external, externals_from, words_of, start}
 use Rattle.cx_meaning.specs.Cycles.{Fault}
 use Rattle.cx_meaning.specs.Answers.{Answer, End, More}
 use Rattle.cx_meaning.specs.Answers as answers

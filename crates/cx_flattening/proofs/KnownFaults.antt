@@ -7,26 +7,19 @@ use Rattle.cx_meaning.specs.declared.ports.PortRef.TheVariants as ports
 use Rattle.cx_meaning.specs.declared.sights.FaultKind.{FaultKind}
 use Rattle.cx_meaning.specs.declared.sights.Seen.{Seen}
 use Rattle.cx_meaning.specs.declared.sights.Seen.TheVariants as sights
-use Rattle.cx_meaning.specs.declared.kinds.GroupKind.{GroupKind}
-use Rattle.cx_meaning.specs.declared.kinds.GroupKind.TheVariants as kinds
-use Rattle.cx_meaning.specs.Designs.{PlainInvoke, PlainComponent, group_at, PlainForm, Empty, Enable, Seq, Par, If, While, Repeat, StaticSeq, StaticPar, StaticIf, StaticRepeat, Timed, PlainStatement, Placed, PlainStatements, no_statements, a_statement}
-use Rattle.cx_meaning.specs.Instances.{Instance, Node, Cells, no_cells, a_primitive, an_instance, At, Nothing, OfRow, OfInstance, part_of, cells_of, cell_at, cell_count, Path, State, under, idle}
-use Rattle.cx_meaning.specs.Truths.{Truth, truth_of}
-use Rattle.cx_meaning.specs.Truths as truths
-use Rattle.cx_meaning.specs.Active.{Active, nothing, group, capture, entries}
+use Rattle.cx_meaning.specs.Designs.{PlainInvoke, PlainComponent, PlainForm, Empty, Enable, Seq, Par, If, While, Repeat, StaticSeq, StaticPar, StaticIf, StaticRepeat, Timed, PlainStatement, Placed, PlainStatements, no_statements, a_statement}
+use Rattle.cx_meaning.specs.Instances.{Instance, Node, Cells, no_cells, a_primitive, an_instance, At, Nothing, OfRow, OfInstance, cells_of, cell_at, cell_count, Path, State, under, idle}
+use Rattle.cx_meaning.specs.Active.{Active, nothing, entries}
 use Rattle.cx_meaning.specs.Sights.{Look, Held, unheld, In, seen}
 use Rattle.cx_meaning.specs.Cycles.{Fault, fault_at, Outcome, Next, Stops, outcome_at, outcome_of, every_cell, first_of, first_fault, state_after, unless_fault, Ended, Goes, Faults, cycle}
-use Rattle.cx_meaning.specs.Answers.{Answer, End, More, Turn, idle_turn, one_turn, turns_of, turn_then}
-use Rattle.cx_meaning.specs.Answers as answers
 use Rattle.cx_meaning.specs.Islands.{group_length, fault_of, turn_of, unless_unclear}
-use Rattle.cx_meaning.specs.Calls.{hole_turn, test, test_of, called, captures, fault_below, lift_answer, inputs_of_call}
-use Rattle.cx_meaning.specs.Running.{Children}
+use Rattle.cx_meaning.specs.Calls.{test, fault_below}
 use Rattle.cx_meaning.proofs.InstancesLemmas.{row_instance, literal_is}
 use Rattle.cx_meaning.proofs.SightsLaws.{in_left, in_right}
 use Rattle.cx_rules.specs.Invokes.{form_lasts, lasts}
 use Rattle.cx_flattening.specs.Events.{the_invoke, Spot, spot, Event, Runs, Feeds, Looks, Beginning, Events, later_by, also_if, group_events, capture_events, rounds_events, source_to, bound_below, invoke_events, form_events, events, seq_events, par_events, control_events, events_below}
 use Rattle.cx_flattening.specs.Deeds.{History, no_history, hold, Deed, deeds_in, spot_if, looked_in, own_entries, deeds_below, held_below, and_now, fault_in, or_later, first_unclear}
-use Rattle.cx_flattening.specs.Whole.{with_child, is_static, child_if, whole_cycle, cycles_below, look_below, look_at, whole_turn, whole_from, whole_island, after_child, call, group_turn, call_or_turns, enable_kind, whole_leaves, whole_control, whole_below}
+use Rattle.cx_flattening.specs.Whole.{with_child, is_static, child_if, whole_cycle, cycles_below, look_below, look_at, whole_turn, whole_from, whole_island}
 use Rattle.cx_flattening.specs.Levels.{IsKnown}
 use Rattle.cx_flattening.specs.Fair.{IsNamed, IsFair, AllFair, AllFairBelow}
 use Rattle.cx_flattening.specs.Controlled.{timed_in, timed_of, timed_all, tested_in, tested_of, tested_all, IsInvoked, IsControlled, AllControlled, AllControlledBelow}
@@ -35,7 +28,7 @@ use Rattle.cx_flattening.specs.Lists.{IsStaticOf}
 use Rattle.cx_flattening.proofs.Standing.{within_row}
 use Rattle.cx_flattening.proofs.FlatLengths.{AllThere, there_left, there_right}
 use Rattle.cx_flattening.proofs.Windows.{events-child}
-use Rattle.cx_flattening.proofs.FaultRuns.{Told, TurnTold, TestTold, then_told, idle_told, turn_told, turns_told, FormTells, Tells, AllTell, run_told}
+use Rattle.cx_flattening.proofs.FaultRuns.{Told, TurnTold, idle_told, turn_told}
 
 -- a fault of an instance
 abbrev pub Known : Bool → Instance → Fault → Type 0

@@ -27,7 +27,7 @@ mod CopiedControl
 mod FlatGroups
 mod FlatLengths
 mod FlatTurns
-mod Windows
+pub mod Windows
 mod FlatDeeds
 mod FlatActs
 mod FlatLists
@@ -47,24 +47,28 @@ mod FlatArms
 mod FlatStatements
 mod FlatRuns
 mod RowReads
-mod Ruled
+pub mod Ruled
 mod Statements
 mod FairParts
 mod FlatOrigins
 mod FlatBlocks
-mod AcceptedTrees
+pub mod AcceptedTrees
 mod Safe
 mod SafeLevels
 mod SafeOutputs
 mod FlatSafe
-mod FlatDeeper
+pub mod FlatDeeper
 mod StillActs
-mod DeedSources
-mod DeedsApart
-mod DeedsOnce
+pub mod DeedSources
+pub mod DeedsApart
+pub mod DeedsOnce
 mod FlatDrives
 mod ArmsAlike
 mod FlatBare
+mod MovedCalls
+mod FlatCaptures
+mod FlatDepends
+mod FlatCallees
 mod StaticControls
 mod AcceptedAsks
 mod AcceptedRuns
@@ -89,9 +93,39 @@ pub mod FlatShapes
 pub mod FlatStands
 pub mod FlatLasts
 pub mod FlatAbsent
+pub mod CallsKept
 pub mod FlatRepeats
+mod FlatForms
+mod FlatInside
+mod FlatReads
+mod CopyReads
+mod FlatOnce
+pub mod FlatRaces
+mod CopiedSizes
+mod FlatVisits
+mod FlatCopies
+mod FlatOccurrences
+pub mod FlatWeights
+mod FlatIslandLimits
+pub mod FlatDesignSizes
+pub mod FlatStageSeven
+mod RestingSeats
+mod RestingTests
+mod DryPorts
+pub mod FlatRests
 mod KeptRuns
 mod KnownFaults
 mod ToldRuns
 mod FlatNames
 mod ToldNames
+pub mod RunnableLemmas
+mod KeptForms
+mod FlatPorts
+mod FlatOwners
+mod FlatApart
+mod FlatLeads
+mod FlatWeighs
+mod FlatSound
+mod FlatCells
+mod FlatWellformed
+pub mod FlatAccepted

@@ -1,18 +1,17 @@
 -- WHAT THE RULES KEEP OF A COMPONENT with what is below it, as far as flattening asks for it.
 use Rattle.std.proofs.Common.{◌≡◌, ℕ, zero, suc, ◌+◌, ◌<◌, ◌⊎◌, inl, inr, ⊎_elim, Bool, true, false, List, [], ◌∷◌, ◌++◌, length, get_or, Option, Some, None, refl, sym, ap, ◌∙◌, subst, arith}
 use Rattle.std.specs.Prelude.{flat_map, nat_eq, slice_get}
-use Rattle.cx_text.specs.declared.places.Place.{Place}
 use Rattle.cx_text.specs.declared.rules.Rule.TheVariants.{NotATarget, NotASource, AlwaysEnable, StaticShape, CallShape, OutputNotState}
 use Rattle.cx_meaning.specs.declared.ports.PortRef.{PortRef}
 use Rattle.cx_meaning.specs.declared.ports.PortRef.TheVariants as ports
 use Rattle.cx_meaning.specs.declared.ports.PlacedPort.{PlacedPort}
 use Rattle.cx_meaning.specs.Designs.{PlainAssign, PlainGroup, PlainInvoke, PlainComponent, PlainDesign, component_at, group_at, no_group, PlainForm, Empty, Enable, Seq, Par, If, While, Repeat, StaticSeq, StaticPar, StaticIf, StaticRepeat, Timed, PlainStatement}
-use Rattle.cx_meaning.specs.Instances.{Instance, Node, Cells, no_cells, a_primitive, an_instance, OfInstance, part_of, cells_of, cell_at}
-use Rattle.cx_meaning.specs.Active.{nothing, group, Owned, owned, owned_by_groups, placed_in, by_place, source_order, same_port}
+use Rattle.cx_meaning.specs.Instances.{Instance, Node, Cells, no_cells, a_primitive, an_instance, part_of}
+use Rattle.cx_meaning.specs.Active.{nothing, group, Owned, owned, owned_by_groups, by_place, source_order}
 use Rattle.cx_meaning.specs.Islands.{group_length}
 use Rattle.cx_meaning.specs.Sights.{In}
 use Rattle.cx_meaning.proofs.SightsLaws.{number_in, in_either, in_left, in_right}
-use Rattle.cx_meaning.proofs.DesignsLemmas.{same_part, owned_has, there_below}
+use Rattle.cx_meaning.proofs.DesignsLemmas.{same_part, owned_has}
 use Rattle.cx_meaning.proofs.ActiveLemmas.{placed_first, placed_still}
 use Rattle.cx_rules.specs.Ports.{component_of, path_of, is_source_only, is_target_only, is_primitive_enable, cell_name}
 use Rattle.cx_rules.specs.Items.{Visited, statements_in, test_in, sources_of}
@@ -20,8 +19,8 @@ use Rattle.cx_rules.specs.Footprints.{AssignNames, Rests}
 use Rattle.cx_rules.specs.ShapeRules.{is_hole, some_target, LeadsToInput, IsWrongControl, enabled_name}
 use Rattle.cx_rules.specs.StaticControl.{may_stand, is_in_static}
 use Rattle.cx_rules.specs.Invokes.{invoke_at, invoke_in}
-use Rattle.cx_rules.specs.InvokeShape.{is_static_port, input_port, LeadsToCell, InvokeBreak, another_kind, unbound, restless, fed_back}
-use Rattle.cx_rules.specs.Spots.{Itself, ABind, AnAssign, AStatement, AGroup, Spot, binds_in}
+use Rattle.cx_rules.specs.InvokeShape.{is_static_port, InvokeBreak}
+use Rattle.cx_rules.specs.Spots.{Itself, ABind, AnAssign, AStatement, AGroup, binds_in}
 use Rattle.cx_rules.specs.Accepted.{IsAccepted}
 use Rattle.cx_rules.specs.Wellformed.{IsThere, StandsIn, IsAssign, IsStatement, IsInvoke, IsDesign}
 use Rattle.cx_rules.specs.Circles.{IsAcyclic}
@@ -33,7 +32,7 @@ use Rattle.cx_laws.proofs.RaceLemmas.{unshared}
 use Rattle.cx_laws.proofs.SourceLemmas.{source_in, fit_source}
 use Rattle.cx_text.proofs.BoolLaws.{or_left}
 use Rattle.cx_flattening.specs.Fair.{IsAssignOf}
-use Rattle.cx_flattening.specs.Ends.{is_static_done, NamesNoDone, NoneNamesDone}
+use Rattle.cx_flattening.specs.Ends.{is_static_done, NoneNamesDone}
 
 pub not_so : (b : Bool) → (b ≡ true → ⊥) → b ≡ false
 not_so true none = absurd (none refl)

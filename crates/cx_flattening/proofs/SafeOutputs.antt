@@ -1,8 +1,6 @@
 -- The outputs of an instance are safe wherever its flat component stands and whatever acts there, and so are their wires.
-use Rattle.std.proofs.Common.{◌≡◌, ℕ, zero, suc, ◌+◌, ◌<◌, ◌≤◌, inl, true, false, List, [], ◌∷◌, length, map, Some, None, refl, sym, ap, ◌∙◌, subst, arith}
+use Rattle.std.proofs.Common.{◌≡◌, ℕ, zero, suc, ◌+◌, ◌<◌, true, false, [], length, map, Some, refl, sym, ap, ◌∙◌, subst, arith}
 use Rattle.std.proofs.lemmas.Bool.{ltb-true}
-use Rattle.std.proofs.lemmas.List.{length-append}
-use Rattle.cx_prim.specs.declared.ports.Side.TheVariants as sides
 use Rattle.cx_prim.specs.Rows.{Row}
 use Rattle.cx_meaning.specs.declared.ports.PortRef.{PortRef}
 use Rattle.cx_meaning.specs.declared.ports.PortRef.TheVariants as ports
@@ -15,13 +13,13 @@ use Rattle.cx_rules.specs.Circles.{AreAcyclic, AcyclicBelow}
 use Rattle.cx_rules.proofs.CirclesLemmas.{own_acyclic}
 use Rattle.cx_rewrites.specs.Moving.{moved_acting}
 use Rattle.cx_flattening.specs.Whole.{is_static}
-use Rattle.cx_flattening.specs.Flattened.{Kids, kid_at, kept, blocks, kept_at, start_of, wire_at, flat_part, flat_kids, own_port, child_port}
-use Rattle.cx_flattening.specs.Targets.{OwnTarget, BlockTarget}
+use Rattle.cx_flattening.specs.Flattened.{Kids, kid_at, kept_at, start_of, wire_at, flat_part, flat_kids, own_port, child_port}
+use Rattle.cx_flattening.specs.Targets.{BlockTarget}
 use Rattle.cx_flattening.specs.Embedded.{wire_row, HasWires, IsEmbedded}
 use Rattle.cx_flattening.specs.Levels.{IsStill, OutputsSeen}
 use Rattle.cx_flattening.specs.Fair.{IsFair, AllFair, AllFairBelow}
 use Rattle.cx_flattening.proofs.MovedTwice.{moved_twice}
-use Rattle.cx_flattening.proofs.Standing.{in_flat_cells, within_child, TwinAt, embedded_row, embedded_static, embedded_dynamic, wire_there, acyclic_child}
+use Rattle.cx_flattening.proofs.Standing.{in_flat_cells, within_child, TwinAt, embedded_row, embedded_static, embedded_dynamic, wire_there}
 use Rattle.cx_flattening.proofs.FlatDrivers.{own_drivers, idle_drivers}
 use Rattle.cx_flattening.proofs.StillPorts.{own_still, block_still}
 use Rattle.cx_flattening.proofs.RestingPorts.{Resting, an_output, none_drives, resting_closed}

@@ -1,25 +1,24 @@
 -- A FAULT IS TOLD BY ONE NAME: that of its port in the tree is that of the port that stands for it in the flat instance.
-use Rattle.std.proofs.Common.{◌≡◌, ◌≢◌, ℕ, zero, suc, ◌+◌, ◌-◌, ◌<◌, ◌≤◌, inl, inr, ⊎_elim, Bool, true, false, List, [], ◌∷◌, ◌++◌, length, map, get_or, Option, Some, None, if◌then◌else◌, refl, sym, ap, ◌∙◌, subst, arith}
+use Rattle.std.proofs.Common.{◌≡◌, ℕ, zero, suc, ◌+◌, ◌-◌, ◌<◌, inl, inr, Bool, true, false, List, [], ◌∷◌, ◌++◌, length, map, get_or, Some, None, if◌then◌else◌, refl, sym, ap, ◌∙◌, subst, arith}
 use Rattle.std.specs.Prelude.{codes, flat_map}
 use Rattle.std.proofs.lemmas.List.{append_assoc, get_or_append_left, get_or-map, length-map}
-use Rattle.cx_prim.specs.Rows.{Row}
 use Rattle.cx_meaning.specs.declared.ports.PortRef.{PortRef}
 use Rattle.cx_meaning.specs.declared.ports.PortRef.TheVariants as ports
 use Rattle.cx_meaning.specs.Designs.{PlainGroup, PlainCell, PlainComponent, group_at, no_group}
-use Rattle.cx_meaning.specs.Instances.{Instance, Node, Cells, no_cells, a_primitive, an_instance, At, Nothing, OfRow, OfInstance, part_of, cells_of, cell_at, Path, instance_at}
+use Rattle.cx_meaning.specs.Instances.{Instance, Node, Cells, At, Nothing, OfRow, OfInstance, part_of, cells_of, cell_at, Path, instance_at}
 use Rattle.cx_meaning.specs.Sights.{In, PartPort, Go, AnInput, AnOutput, ItsDone, part_port}
 use Rattle.cx_meaning.proofs.InstancesLemmas.{here}
-use Rattle.cx_rules.specs.Ports.{declared_name, part_port_name, row_port_name, cell_port_name, cell_name, path_of}
+use Rattle.cx_rules.specs.Ports.{declared_name, part_port_name, cell_port_name, cell_name, path_of}
 use Rattle.cx_rules.specs.Flat.{IsPlainName, HasPlainNames}
 use Rattle.cx_laws.proofs.TreeLemmas.{into_child, output_there}
 use Rattle.cx_rewrites.specs.Moving.{moved_group}
-use Rattle.cx_flattening.specs.Events.{Spot, spot}
+use Rattle.cx_flattening.specs.Events.{Spot}
 use Rattle.cx_flattening.specs.Whole.{is_static}
 use Rattle.cx_flattening.specs.Flattened.{point, Kids, kid_at, kept_at, start_of, wire_at, port_if, own_port, copies, flat_kids, flat_part}
-use Rattle.cx_flattening.specs.Embedded.{IsLike, IsEmbedded, wire_row, HasWires}
+use Rattle.cx_flattening.specs.Embedded.{IsLike, IsEmbedded, HasWires}
 use Rattle.cx_flattening.specs.Sampling.{placed}
-use Rattle.cx_flattening.specs.FlatFaults.{flat_spot, spot_in, spot_if}
-use Rattle.cx_flattening.specs.Told.{ends_in_point, but_last, cell_path, own_path, names_along, full_path}
+use Rattle.cx_flattening.specs.FlatFaults.{flat_spot}
+use Rattle.cx_rules.specs.FullPaths.{but_last, cell_path, own_path, names_along, full_path}
 use Rattle.cx_flattening.specs.Fair.{AllFair}
 use Rattle.cx_flattening.specs.Faulty.{IsFaulty, FaultAt}
 use Rattle.cx_flattening.proofs.CellLayout.{kept_inside}

@@ -1,5 +1,5 @@
 -- A RUN OF A TREE THAT KEEPS THE RULES faults at ports that may be looked at.
-use Rattle.std.proofs.Common.{◌≡◌, ℕ, zero, suc, ◌+◌, ◌<◌, inl, inr, Bool, true, false, List, [], ◌∷◌, length, Option, Some, None, refl, sym, ap, ◌∙◌, subst, arith}
+use Rattle.std.proofs.Common.{◌≡◌, ℕ, zero, suc, ◌<◌, inl, inr, Bool, true, false, [], length, Option, Some, None, refl, sym, ap, ◌∙◌, subst}
 use Rattle.std.specs.Prelude.{is_some}
 use Rattle.cx_text.specs.declared.places.Place.{Place}
 use Rattle.cx_meaning.specs.declared.ports.PortRef.{PortRef}
@@ -7,12 +7,12 @@ use Rattle.cx_meaning.specs.declared.ports.PortRef.TheVariants as ports
 use Rattle.cx_meaning.specs.declared.kinds.GroupKind.{GroupKind}
 use Rattle.cx_meaning.specs.declared.kinds.GroupKind.TheVariants as kinds
 use Rattle.cx_meaning.specs.Designs.{PlainComponent, group_at, PlainForm, Empty, Enable, Seq, Par, If, While, Repeat, StaticSeq, StaticPar, StaticIf, StaticRepeat, Timed, PlainStatement, Placed, PlainStatements, no_statements, a_statement}
-use Rattle.cx_meaning.specs.Instances.{Instance, Node, Cells, no_cells, a_primitive, an_instance, OfInstance, part_of, cells_of, cell_at, State, under, idle}
+use Rattle.cx_meaning.specs.Instances.{Instance, Node, Cells, no_cells, a_primitive, an_instance, OfInstance, cell_at, State, under, idle}
 use Rattle.cx_meaning.specs.Truths.{Truth, truth_of}
 use Rattle.cx_meaning.specs.Truths as truths
 use Rattle.cx_meaning.specs.Active.{group, capture, comb}
 use Rattle.cx_meaning.specs.Sights.{Held, In, seen}
-use Rattle.cx_meaning.specs.Cycles.{Fault, fault_at, Ended, Goes, Faults}
+use Rattle.cx_meaning.specs.Cycles.{Fault, Ended}
 use Rattle.cx_meaning.specs.Answers.{Answer, End, More, turns_of, idle_turn, one_turn}
 use Rattle.cx_meaning.specs.Answers as answers
 use Rattle.cx_meaning.specs.Control.{run}
@@ -20,19 +20,18 @@ use Rattle.cx_meaning.specs.Islands.{turn_of}
 use Rattle.cx_meaning.specs.Calls.{hole_turn, test, test_of, called, captures, lift_answer, inputs_of_call}
 use Rattle.cx_meaning.specs.Running.{Children}
 use Rattle.cx_meaning.proofs.SightsLaws.{in_left, in_right}
-use Rattle.cx_rules.specs.Items.{Dynamic, Visited, visit, visit_parts, visit_all, statements_in}
+use Rattle.cx_rules.specs.Items.{Dynamic, Visited, visit, visit_all, statements_in}
 use Rattle.cx_rules.specs.InvokeShape.{latency_at, is_static_port}
 use Rattle.cx_rules.specs.Wellformed.{IsForm}
-use Rattle.cx_flattening.specs.Whole.{is_static, whole_cycle, whole_island, after_child, call, group_turn, call_or_turns, enable_kind, enable, whole_leaves, whole_control, whole_below}
+use Rattle.cx_flattening.specs.Whole.{is_static, whole_cycle, whole_island, after_child, group_turn, call_or_turns, enable_kind, whole_leaves, whole_control, whole_below}
 use Rattle.cx_flattening.specs.Fair.{IsNamed, AllFair, AllFairBelow}
 use Rattle.cx_flattening.specs.Controlled.{AllControlled, AllControlledBelow}
-use Rattle.cx_flattening.specs.Lists.{IsStaticOf}
-use Rattle.cx_flattening.specs.Faulty.{IsFaulty, FaultAt}
+use Rattle.cx_flattening.specs.Faulty.{FaultAt}
 use Rattle.cx_flattening.proofs.FaultRuns.{Told, TurnTold, TestTold, then_told, idle_told, turn_told, turns_told, FormTells, Tells, AllTell, run_told}
 use Rattle.cx_flattening.proofs.KnownFaults.{Known, EndedTold, turn_ended, whole_told, top_named, island_told}
 use Rattle.cx_flattening.proofs.Ruled.{IsRuled, AllRuled, AllRuledBelow}
 use Rattle.cx_flattening.proofs.FairParts.{AllHave, AllHaveBelow, named, groups_there, invokes_there, tests_named}
-use Rattle.cx_flattening.proofs.AcceptedAsks.{IsCalled, called_is}
+use Rattle.cx_flattening.proofs.AcceptedAsks.{called_is}
 
 -- a run of the child at a cell, where it is dynamic
 abbrev ChildTold : Cells → Children → Type 0

@@ -1,6 +1,5 @@
 -- TYPED COMPONENTS: each assignment and each bound input of an accepted design is.
 use Rattle.std.proofs.Common.{◌≡◌, ℕ, zero, suc, ◌+◌, ◌-◌, ◌<◌, ◌≤◌, inl, inr, ⊎_elim, Bool, true, false, List, [], ◌∷◌, length, get_or, Option, Some, None, if◌then◌else◌, refl, sym, ap, ◌∙◌, subst, arith}
-use Rattle.std.specs.Prelude.{slice_get, nat_lt}
 use Rattle.std.proofs.lemmas.Bool.{lt-ltb}
 use Rattle.cx_text.specs.declared.rules.Rule.TheVariants as rules
 use Rattle.cx_text.proofs.BoolLaws.{or_either}
@@ -8,10 +7,10 @@ use Rattle.cx_meaning.specs.declared.kinds.PortDecl.{PortDecl}
 use Rattle.cx_meaning.specs.declared.ports.PortRef.{PortRef}
 use Rattle.cx_meaning.specs.declared.ports.PortRef.TheVariants as ports
 use Rattle.cx_meaning.specs.declared.ports.PlacedPort.{PlacedPort}
-use Rattle.cx_meaning.specs.Designs.{OfComponent, PlainAssign, PlainGroup, PlainInvoke, PlainComponent, PlainDesign, component_at}
+use Rattle.cx_meaning.specs.Designs.{OfComponent, PlainAssign, PlainInvoke, PlainComponent, PlainDesign, component_at}
 use Rattle.cx_meaning.specs.Instances.{Instance, Node, Cells, no_cells, a_primitive, an_instance, OfInstance, part_of, cells_of, cell_at, cells_for, tree_within}
-use Rattle.cx_meaning.specs.Active.{same_port, Owned, source_order}
-use Rattle.cx_meaning.specs.Sights.{In, PartPort, AnInput, part_port, output_port}
+use Rattle.cx_meaning.specs.Active.{same_port, source_order}
+use Rattle.cx_meaning.specs.Sights.{In, AnInput, part_port, output_port}
 use Rattle.cx_meaning.proofs.SightsLaws.{number_in}
 use Rattle.cx_meaning.proofs.PortsLemmas.{same_self}
 use Rattle.cx_laws.proofs.SourceLemmas as laws
@@ -19,17 +18,17 @@ use Rattle.cx_laws.proofs.TreeLemmas.{cell_there, declared_there}
 use Rattle.cx_rules.specs.Accepted.{IsAccepted}
 use Rattle.cx_rules.specs.Footprints.{AssignNames}
 use Rattle.cx_rules.specs.Items.{atoms_of, comparisons_of, sources_of, Dynamic, Visited, statements_in, test_in}
-use Rattle.cx_rules.specs.Ports.{component_of, path_of, keeps_literal, declared_width, part_width, cell_width, width_of, is_source_only}
+use Rattle.cx_rules.specs.Ports.{component_of, path_of, keeps_literal, declared_width, part_width, cell_width, width_of}
 use Rattle.cx_rules.specs.ShapeRules.{some_target}
 use Rattle.cx_rules.specs.InvokeShape.{input_port}
 use Rattle.cx_rules.specs.Spots.{ABind, AnAssign, AStatement, binds_in}
 use Rattle.cx_rules.specs.Wellformed.{IsThere, StandsIn, IsDesign}
 use Rattle.cx_rules.specs.WidthRules.{pairs_of, first_unequal, is_wide, first_wide, IsBadLiteral}
 use Rattle.cx_rules.proofs.FoundLemmas.{same_is}
-use Rattle.cx_flattening.specs.Events.{no_invoke, the_invoke, source_in, source_to}
+use Rattle.cx_flattening.specs.Events.{no_invoke, source_in, source_to}
 use Rattle.cx_flattening.specs.Whole.{is_static}
 use Rattle.cx_flattening.specs.Ends.{NoneNamesDone}
-use Rattle.cx_flattening.specs.Fair.{IsFair, IsAssignOf}
+use Rattle.cx_flattening.specs.Fair.{IsFair}
 use Rattle.cx_flattening.proofs.CellLayout.{kind_at, cell_for, kind_in}
 use Rattle.cx_flattening.proofs.TreeLevels.{IsWay, further, way_is_short, levels}
 use Rattle.cx_flattening.proofs.Ruled.{not_so, owner_is, in_order, bind_in, IsSource, IsRuled}
@@ -128,7 +127,7 @@ bound_to P c q (a ∷ rest) bound each = by (same_port a.target q) refl (λ e. b
     by true e next = each a (inl refl) (same_is a.target q e)
     by false e next = next (later e)
 
-invoke_number : (xs : List PlainInvoke) (v : PlainInvoke) → In xs v → (j : ℕ) × (j < length xs) × (get_or xs j no_invoke ≡ v)
+pub invoke_number : (xs : List PlainInvoke) (v : PlainInvoke) → In xs v → (j : ℕ) × (j < length xs) × (get_or xs j no_invoke ≡ v)
 invoke_number [] v i = absurd i
 invoke_number (x ∷ xs) v (inl e) = (0, omega arith, e)
 invoke_number (x ∷ xs) v (inr i) = let r = invoke_number xs v i in (suc r.0, (let h = r.1 in omega (arith, h)), r.2)

@@ -1,13 +1,12 @@
 -- CONDITIONS of flat control are one bit wide and may be looked at, where those of the tree are.
-use Rattle.std.proofs.Common.{◌≡◌, ℕ, zero, suc, ◌+◌, ◌<◌, ◌≤◌, inl, inr, ⊎_elim, Bool, true, false, List, [], ◌∷◌, ◌++◌, length, Option, Some, None, refl, sym, ap, ◌∙◌, subst, arith}
+use Rattle.std.proofs.Common.{◌≡◌, ℕ, zero, suc, ◌+◌, ◌<◌, inl, inr, ⊎_elim, true, List, ◌++◌, length, Option, Some, None, refl, sym, ap, ◌∙◌, subst}
 use Rattle.cx_meaning.specs.declared.ports.PortRef.{PortRef}
-use Rattle.cx_meaning.specs.declared.ports.PortRef.TheVariants as ports
 use Rattle.cx_meaning.specs.declared.ports.PlacedPort.{PlacedPort}
-use Rattle.cx_meaning.specs.Designs.{PlainInvoke, PlainForm, Empty, Enable, Seq, Par, If, While, Repeat, StaticSeq, StaticPar, StaticIf, StaticRepeat, Timed, PlainStatement, Placed, PlainStatements, no_statements, a_statement, PlainComponent}
+use Rattle.cx_meaning.specs.Designs.{PlainForm, Empty, Enable, Seq, Par, If, While, Repeat, StaticSeq, StaticPar, StaticIf, StaticRepeat, Timed, PlainStatement, Placed, PlainStatements, no_statements, a_statement, PlainComponent}
 use Rattle.cx_meaning.specs.Instances.{Instance, Node, Cells, no_cells, a_primitive, an_instance, OfInstance, part_of, cells_of, cell_at}
 use Rattle.cx_meaning.specs.Sights.{In}
 use Rattle.cx_meaning.proofs.SightsLaws.{in_either, in_left, in_right}
-use Rattle.cx_rules.specs.Items.{Context, Dynamic, InStatic, Branch, below_dynamic, Visited, visit, visit_parts, visit_all, statements_in, test_in}
+use Rattle.cx_rules.specs.Items.{Context, InStatic, Branch, below_dynamic, Visited, visit, visit_parts, visit_all, test_in}
 use Rattle.cx_flattening.specs.Events.{the_invoke, source_to}
 use Rattle.cx_flattening.specs.Whole.{is_static}
 use Rattle.cx_flattening.specs.Copies.{copied_form, copied_statement, copied_statements}
@@ -143,7 +142,7 @@ module _ (P : PortRef → Type 0) (f : PortRef → PortRef) (copy : ℕ → ℕ)
     all_copied no_statements h = tt
     all_copied (a_statement s ss) h = (tests_copied s h.0, all_copied ss h.1)
 
-captured : (P : PortRef → Type 0) (o : Option ℕ) (s : PlainStatement) → Tests P s → FormTests P (with_capture o s)
+pub captured : (P : PortRef → Type 0) (o : Option ℕ) (s : PlainStatement) → Tests P s → FormTests P (with_capture o s)
 captured P None (Placed form place) h = h
 captured P (Some g) s h = (h, (tt, tt))
 

@@ -5,7 +5,6 @@ use Rattle.cx_meaning.specs.Active.{capture}
 use Rattle.cx_meaning.specs.Sights.{Held}
 use Rattle.cx_meaning.specs.Running.{Children}
 use Rattle.cx_flattening.specs.Whole.{is_static}
-use Rattle.cx_flattening.specs.Flattened.{flat_kids, kept_at}
 use Rattle.cx_flattening.specs.Embedded.{Stands}
 use Rattle.cx_flattening.specs.Seeing.{NoCircle}
 use Rattle.cx_flattening.specs.Turning.{IsGroupBeside}

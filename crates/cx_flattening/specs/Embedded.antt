@@ -9,7 +9,7 @@ use Rattle.cx_rules.specs.Ports.{cell_name}
 use Rattle.cx_flattening.specs.Whole.{is_static}
 use Rattle.cx_flattening.specs.Flattened.{Kids, flat_part, flat_kids, kept_at, start_of, wire_at}
 
--- a component that is the flat one in all that a run knows and tells of it
+-- a component that is the flat one in all that a run knows and tells of it, and has as many cells
 pub record IsLike (one other : PlainComponent) : Type 0 where
   pub inputs : one.inputs ≡ other.inputs
   pub outputs : one.outputs ≡ other.outputs
@@ -17,6 +17,7 @@ pub record IsLike (one other : PlainComponent) : Type 0 where
   pub always : one.always ≡ other.always
   pub control : one.control ≡ other.control
   pub names : (e : ℕ) → cell_name one.cells e ≡ cell_name other.cells e
+  pub count : length one.cells ≡ length other.cells
 
 -- the row of the wire of an output, which gives what it is given
 abbrev pub wire_row : ℕ → Row

@@ -1,5 +1,5 @@
 -- WHERE A RUN MAY FAULT: at an instance of the tree, and there at a port that may be looked at.
-use Rattle.std.specs.Prelude.{◌≡◌, ℕ, ◌<◌, Bool, false, [], ◌∷◌, length}
+use Rattle.std.specs.Prelude.{◌≡◌, ◌<◌, Bool, false, [], ◌∷◌, length}
 use Rattle.cx_meaning.specs.declared.ports.PortRef.{PortRef}
 use Rattle.cx_meaning.specs.declared.ports.PortRef.TheVariants as ports
 use Rattle.cx_meaning.specs.Instances.{Instance, OfInstance, Path, part_of, cells_of, cell_at}

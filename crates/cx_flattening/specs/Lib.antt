@@ -25,3 +25,4 @@ pub mod Asking
 pub mod Ends
 pub mod Faulty
 pub mod Forms
+pub mod Runnable

@@ -5,12 +5,9 @@ use Rattle.cx_meaning.specs.Designs.{PlainForm}
 use Rattle.cx_meaning.specs.Instances.{Instance, part_of, cells_of}
 use Rattle.cx_meaning.specs.Active.{nothing, entries}
 use Rattle.cx_meaning.specs.Control.{groups_in}
-use Rattle.cx_meaning.specs.Islands.{active_in, form_flat}
-use Rattle.cx_meaning.specs.Islands as islands
 use Rattle.cx_meaning.specs.Sights.{In}
 use Rattle.cx_flattening.specs.Events.{Event, spot, form_events, events_below}
 use Rattle.cx_flattening.specs.Deeds.{History, deeds_in, own_entries}
-use Rattle.cx_flattening.specs.Flattened.{flat_form, flat_kids}
 use Rattle.cx_flattening.specs.Embedded.{IsFlattened}
 use Rattle.cx_flattening.specs.Fair.{IsNamed, AllFair}
 use Rattle.cx_flattening.specs.Seeing.{NoCircle}

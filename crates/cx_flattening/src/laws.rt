@@ -1,6 +1,6 @@
 //! Laws of static components and of flat instances: each function does nothing, and its clause is the law.
 
-ghost use Rattle.std.specs.Prelude.{◌≡◌, ◌⊎◌, ℕ, true, List, [], Option, Some, length};
+ghost use Rattle.std.specs.Prelude.{◌≡◌, ◌⊎◌, ◌≤◌, ℕ, true, List, [], Option, Some, length};
 ghost use Rattle.cx_text.specs.declared.places.Place.{Place};
 ghost use Rattle.cx_meaning.specs.declared.ports.PortRef.{PortRef};
 ghost use Rattle.cx_meaning.specs.declared.ports.PortRef.TheVariants.{Input};
@@ -14,15 +14,19 @@ ghost use Rattle.cx_meaning.specs.Islands.{active_in, form_flat, form_length};
 ghost use Rattle.cx_meaning.specs.Islands as islands;
 ghost use Rattle.cx_meaning.specs.Calls as calls;
 ghost use Rattle.cx_meaning.specs.Running.{Children, run_control, run_main};
-ghost use Rattle.cx_rules.specs.Counts.{counted_cells, counted_depth, counted_instances};
-ghost use Rattle.cx_rules.specs.Sizes.{depth_below, instances_below, words_below};
-ghost use Rattle.cx_rules.specs.ShapeRules.{BreaksAlwaysEnable, BreaksCombEnable, BreaksInvokeLength, BreaksKept, BreaksLength, BreaksNoDone};
+ghost use Rattle.cx_rules.specs.Counts.{counted_cells, counted_depth, counted_design_size, counted_instances, counted_weight};
+ghost use Rattle.cx_rules.specs.Sizes.{depth_below, design_size, instances_below, weight_below, weight_of, words_below};
+ghost use Rattle.cx_rules.specs.ShapeRules.{BreaksAlwaysEnable, BreaksCombEnable, BreaksDoneNotState, BreaksInvokeLength, BreaksKept};
+ghost use Rattle.cx_rules.specs.ShapeRules.{BreaksLength, BreaksNoDone, BreaksOutputNotState, BreaksStaticTest};
 ghost use Rattle.cx_rules.specs.ShapeRules.{BreaksPartLength, BreaksStaticControl, BreaksStaticGuard, GroupBreaksStaticShape};
 ghost use Rattle.cx_rules.specs.LimitRule.{count_in, is_too_many};
+ghost use Rattle.cx_rules.specs.CallShape.{BreaksCallShape, GroupBreaksCallShape};
 ghost use Rattle.cx_rules.specs.InvokeShape.{BreaksInvoke, BreaksStaticCell};
 ghost use Rattle.cx_rules.specs.Spots.{OnAssign, OnGroup, OnStatement, Spot};
 ghost use Rattle.cx_rules.specs.Externals.{external_rows};
 ghost use Rattle.cx_rewrites.specs.FlatRules.{BreaksCells, BreaksDepth, BreaksGroups, BreaksInstances, BreaksWords};
+ghost use Rattle.cx_rewrites.specs.FlatRules.{BreaksStatement, BreaksWeight};
+ghost use Rattle.cx_rewrites.specs.FlatRules as flat_rules;
 ghost use Rattle.cx_rules.specs.Flat.{ArePlainNames, IsFlat};
 ghost use Rattle.cx_rules.specs.Accepted.{IsAccepted, KeepsStage};
 ghost use Rattle.cx_rules.specs.Ports.{component_of};
@@ -137,6 +141,16 @@ pub fn flat_trees_are_flattened()
         → Stands (tree_of d) 0 (start (tree_of d) words) (start (tree_of (flat_design d)) words) }
 {}
 
+/// The flat design of an accepted design with plain names, in which nothing looks at the done of a static component's cell, is a
+/// design: its numbers name its own parts, its names are apart, and no cell leads back to its component. Its size is at most its
+/// weight, since each of its components stands in its tree.
+pub fn flat_designs_are_designs()
+    ensures parts { (d : PlainDesign)
+        → IsDesign d → design_size (flat_design d) ≤ weight_below (tree_of (flat_design d)) }
+    ensures design { (d : PlainDesign) → IsDesign d → IsAccepted d → NoneNamesDone d → ArePlainNames d
+        → IsDesign (flat_design d) }
+{}
+
 /// The control of a tree runs in its flat instance as in the tree, with what is asked of each of its statements: it ends in as many
 /// turns in a state of the same cells, has the fault in the same turn, or needs more turns where that does.
 pub fn flat_runs_are_those_of_the_tree()
@@ -195,6 +209,20 @@ pub fn flat_designs_keep_limits()
         → OnStatement (λ i v told called. is_too_many (count_in v.form) ≡ true) (flat_design d) at place name → ⊥ }
 {}
 
+/// The flat design of an accepted design, in which nothing looks at the done of a static component's cell, weighs what is counted of the
+/// design with its static components written out, and is no larger than what is counted: it exceeds no limit.
+pub fn flat_designs_keep_weights()
+    ensures counted { (d : PlainDesign) → IsDesign d → IsAccepted d → NoneNamesDone d → weight_of (flat_design d) ≡ counted_weight (tree_of d) }
+    ensures weight { (d : PlainDesign) (at : Spot) (place : Place) (name : List ℕ)
+        → IsDesign d → IsAccepted d → NoneNamesDone d
+        → BreaksWeight (flat_design d) at place name → ⊥ }
+    ensures statements { (d : PlainDesign) (at : Spot) (place : Place) (name : List ℕ)
+        → IsDesign d → IsAccepted d → NoneNamesDone d
+        → OnStatement BreaksStatement (flat_design d) at place name → ⊥ }
+    ensures size { (d : PlainDesign) → IsDesign d → IsAccepted d → NoneNamesDone d → design_size (flat_design d) ≤ counted_design_size d }
+    ensures limits { (d : PlainDesign) → IsDesign d → IsAccepted d → NoneNamesDone d → flat_rules.KeepsStage 7 (flat_design d) }
+{}
+
 /// Each component of the flat design is the flat one of a component that the flat main reaches; and the flat design of an accepted
 /// design, in which nothing looks at the done of a static component's cell, keeps stage 3, of widths, literals, targets and sources,
 /// and stage 5, of combinational cycles; of stage 4 it keeps the rules on ranges in guards, on what is enabled continuously, on the
@@ -230,4 +258,42 @@ pub fn flat_designs_keep_rules()
         → OnAssign BreaksStaticCell (flat_design d) at place name ⊎ OnStatement BreaksInvoke (flat_design d) at place name → ⊥ }
     ensures kept { (d : PlainDesign) (at : Spot) (place : Place) (name : List ℕ)
         → OnAssign BreaksKept (flat_design d) at place name → ⊥ }
+{}
+
+/// The flat design of an accepted design, in which nothing looks at the done of a static component's cell, keeps the rule on calls: a plain
+/// group alone drives ports of a component cell, of one cell, with its go, its done and the enables of its registers as the rule says.
+pub fn flat_designs_keep_calls()
+    ensures calls { (d : PlainDesign) (at : Spot) (place : Place) (name : List ℕ)
+        → IsDesign d → IsAccepted d → NoneNamesDone d
+        → OnAssign BreaksCallShape (flat_design d) at place name → ⊥ }
+    ensures call_groups { (d : PlainDesign) (at : Spot) (place : Place) (name : List ℕ)
+        → IsDesign d → IsAccepted d → NoneNamesDone d
+        → OnGroup GroupBreaksCallShape (flat_design d) at place name → ⊥ }
+{}
+
+/// State at rest: the flat design of an accepted design, in which nothing looks at the done of a static component's cell, keeps the rule
+/// on done assignments, that on the conditions of static ifs, and that on what the outputs of a component rest on.
+pub fn flat_designs_rest()
+    ensures done_states { (d : PlainDesign) (at : Spot) (place : Place) (name : List ℕ)
+        → IsDesign d → IsAccepted d → NoneNamesDone d
+        → OnAssign BreaksDoneNotState (flat_design d) at place name → ⊥ }
+    ensures tests { (d : PlainDesign) (at : Spot) (place : Place) (name : List ℕ)
+        → IsDesign d → IsAccepted d → NoneNamesDone d
+        → OnStatement BreaksStaticTest (flat_design d) at place name → ⊥ }
+    ensures outputs { (d : PlainDesign) (at : Spot) (place : Place) (name : List ℕ)
+        → IsDesign d → IsAccepted d → NoneNamesDone d
+        → OnAssign BreaksOutputNotState (flat_design d) at place name → ⊥ }
+{}
+
+/// The flat design of an accepted design, in which nothing looks at the done of a static component's cell, keeps stage 6, of races:
+/// of the arms of each par and static par none reads what another drives, and none enables a group that another enables.
+pub fn flat_designs_are_without_races()
+    ensures races { (d : PlainDesign) → IsDesign d → IsAccepted d → NoneNamesDone d → KeepsStage 6 (flat_design d) }
+{}
+
+/// The flat design of an accepted design, in which nothing looks at the done of a static component's cell, is accepted: it breaks no rule
+/// of any stage, neither as the rules are nor as they come to in a design without static components.
+pub fn flat_designs_are_accepted()
+    ensures flat { (d : PlainDesign) → IsDesign d → IsAccepted d → NoneNamesDone d → flat_rules.IsAccepted (flat_design d) }
+    ensures whole { (d : PlainDesign) → IsDesign d → IsAccepted d → NoneNamesDone d → IsAccepted (flat_design d) }
 {}
