@@ -1,7 +1,8 @@
 //! The module of a component.
 
 ghost use Rattle.std.specs.Prelude.{◌≡◌, ◌++◌, ◌∷◌, [], IfOk, OnOk, Some, map, slice_get};
-ghost use Rattle.cx_net.specs.PlainNets.{plain_net, plain_net_component};
+ghost use Rattle.cx_net.specs.NetsAsData.{plain_net};
+ghost use Rattle.cx_net.specs.PlainNets.{plain_net_component};
 ghost use Rattle.cx_vtree.specs.PlainParts.{plain_assign, plain_decl, plain_module, plain_modules};
 ghost use Rattle.cx_emit.specs.Emitted.{CanBeEmitted, PartFits};
 ghost use Rattle.cx_emit.specs.Numbered.{lists_from, with_numbers};

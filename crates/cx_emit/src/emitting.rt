@@ -3,7 +3,7 @@
 ghost use Rattle.std.specs.Prelude.{◌≡◌, IfOk};
 ghost use Rattle.cx_rules.specs.Externals.{rows_of};
 ghost use Rattle.cx_net.specs.NetTree.{net_component_at};
-ghost use Rattle.cx_net.specs.PlainNets.{plain_net};
+ghost use Rattle.cx_net.specs.NetsAsData.{plain_net};
 ghost use Rattle.cx_vtree.specs.PlainParts as text;
 ghost use Rattle.cx_vtree.specs.PlainParts.{plain_modules};
 ghost use Rattle.cx_emit.specs.Emitted.{CanBeEmitted};

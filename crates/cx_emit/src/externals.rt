@@ -2,7 +2,7 @@
 
 ghost use Rattle.std.specs.Prelude.{◌≡◌, IfOk, map, slice_get};
 ghost use Rattle.cx_design.specs.PlainForms.{plain_cell};
-ghost use Rattle.cx_net.specs.PlainNets.{plain_net};
+ghost use Rattle.cx_net.specs.NetsAsData.{plain_net};
 ghost use Rattle.cx_rules.specs.Externals.{numbers_of};
 ghost use Rattle.cx_vtree.specs.PlainParts.{plain_external, plain_externals};
 ghost use Rattle.cx_emit.specs.Emitted.{CanBeEmitted, ExternalsHaveWords, HasWords};

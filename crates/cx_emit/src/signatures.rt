@@ -2,7 +2,8 @@
 
 ghost use Rattle.std.specs.Prelude.{◌≡◌, ◌++◌, ◌∷◌, [], IfOk, OnOk, map, drop, codes, slice_get};
 ghost use Rattle.cx_design.specs.PlainForms.{plain_cell};
-ghost use Rattle.cx_net.specs.PlainNets.{plain_net, plain_net_component};
+ghost use Rattle.cx_net.specs.NetsAsData.{plain_net};
+ghost use Rattle.cx_net.specs.PlainNets.{plain_net_component};
 ghost use Rattle.cx_vmods.specs.Modules.{module_of};
 ghost use Rattle.cx_vtree.specs.PlainParts.{plain_modules, plain_port};
 ghost use Rattle.cx_emit.specs.Numbered.{lists_from, with_numbers};

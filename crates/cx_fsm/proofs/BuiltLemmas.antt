@@ -1,10 +1,12 @@
 -- The net of what an accepted design is lowered to, by the laws of its definition.
-use Rattle.std.proofs.Common.{◌≡◌, ◌∙◌, Result, Ok, Err, IfOk, ap, sym, subst}
+use Rattle.std.proofs.Common.{◌≡◌, ◌∙◌, ℕ, List, Result, Ok, Err, IfOk, ap, ap₂, sym, subst}
+use Rattle.std.proofs.lemmas.Grind.{merely}
 use Rattle.cx_meaning.specs.Designs.{PlainDesign}
 use Rattle.cx_rules.specs.Accepted.{IsAccepted}
 use Rattle.cx_rules.specs.Flat.{IsFlat}
 use Rattle.cx_rules.specs.Wellformed.{IsDesign}
-use Rattle.cx_net.specs.Nets.{PlainNet}
+use Rattle.cx_net.specs.Nets.{PlainNetComponent, PlainNet}
+use Rattle.cx_net.specs.NetFits.{IsNet}
 use Rattle.cx_net.specs.NetLimits.{IsWritable}
 use Rattle.cx_net.specs.NetTree.{net_tree}
 use Rattle.cx_static.specs.Islands.{PlainLowereds}
@@ -15,7 +17,17 @@ use Rattle.cx_wiring.proofs.FitNets.{net_fits}
 use Rattle.cx_wiring.proofs.FitTargets.{targets_there}
 use Rattle.cx_wiring.proofs.MainLaws.{rows_of-net_of}
 use Rattle.cx_wiring.proofs.WritableNets.{CanBeWritten, net_writable}
-use Rattle.cx_fsm.specs.Built.{IsNetFor}
+use Rattle.cx_fsm.specs.Built.{IsLowered, IsNetFor}
+
+abbrev net_in : List PlainNetComponent → ℕ → PlainNet
+net_in components main = record { components = components; main = main }
+
+-- the net of a lowered design is a net
+pub made_net : (lowered : PlainLowereds) → IsLowered lowered → (components : List PlainNetComponent) (main : ℕ) → components ≡ (net_of lowered).components → main ≡ (net_of lowered).main → ∥ IsNet (net_in components main) ∥₁
+made_net lowered own components main same there =
+    let d = own.design in
+    let net : IsNet (net_of (lowered_of d)) = record { fits = net_fits d own.rules own.flat own.accepted; targets = targets_there d own.rules own.flat own.accepted } in
+    merely (subst IsNet (sym (ap₂ net_in same there ∙ ap net_of own.is)) net)
 
 net_owes : (d : PlainDesign) → IsDesign d → IsFlat d → IsAccepted d → RealisesInNet d (net_tree (net_of (lowered_of d))) → IsNetFor d (net_of (lowered_of d))
 net_owes d rules flat accepted realises = record {

@@ -6,13 +6,14 @@ ghost use Rattle.cx_rules.specs.Accepted.{IsAccepted};
 ghost use Rattle.cx_rules.specs.Flat.{IsFlat};
 ghost use Rattle.cx_rules.specs.Wellformed.{IsDesign};
 ghost use Rattle.cx_net.specs.NetLimits.{IsWritable};
-ghost use Rattle.cx_net.specs.PlainNets.{plain_net, plain_net_component};
+ghost use Rattle.cx_net.specs.NetsAsData.{plain_net};
+ghost use Rattle.cx_net.specs.PlainNets.{plain_net_component};
 ghost use Rattle.cx_static.specs.Lowering.{lowered_of};
 ghost use Rattle.cx_static.specs.PlainLowered.{plain_lowereds};
 ghost use Rattle.cx_wiring.specs.Reached as reached;
 ghost use Rattle.cx_wiring.specs.Wiring.{net_component, net_of};
 ghost use Rattle.cx_wiring.proofs.WritableNets.{CanBeWritten};
-ghost use Rattle.cx_fsm.specs.Built.{IsNetFor};
+ghost use Rattle.cx_fsm.specs.Built.{IsLowered, IsNetFor};
 
 use crate::components::net_component;
 use crate::ordering::{ordered, place_in};
@@ -25,6 +26,7 @@ use std::alloc::Global;
 /// The net of a design: of the components that `main` reaches, each behind those of its cells. It has for each group two
 /// holes, that it is done and, behind those of all groups, that it goes.
 pub fn build(alloc: Global, design: &Lowered) -> Result<Net, Memory>
+    requires lowered { IsLowered (plain_lowereds design.now) }
     ensures value { IfOk result (λ net. plain_net net ≡ net_of (plain_lowereds design.now)) }
 
     // The net of what an accepted design without static components is lowered to does what that design means, from reset and for all words and budgets.
@@ -41,6 +43,7 @@ pub fn build(alloc: Global, design: &Lowered) -> Result<Net, Memory>
 
 /// The net of the components that `main` reaches.
 fn reached_net(alloc: Global, design: &Lowered) -> Result<Net, Memory>
+    requires lowered { IsLowered (plain_lowereds design.now) }
     ensures value { IfOk result (λ net. plain_net net ≡ net_of (plain_lowereds design.now)) }
 {
     let order = ordered(alloc, design)?;

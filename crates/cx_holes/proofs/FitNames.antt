@@ -4,8 +4,8 @@ use Rattle.std.proofs.lemmas.Bool.{ltb-true}
 use Rattle.std.proofs.lemmas.Option.{slice_get_within}
 use Rattle.cx_net.specs.Nets.{PlainNetExpr, OfPort, OfRegister, OfWire, OfHole, OfGo, Fixed, Inverse, AllOf, AnyOf, Sum, Compares, PlainNetExprs, no_exprs, an_expr, PlainNetTarget, ToPort, ToRegister, ToWire, ToHole, ToDone, PlainNetDriver, PlainNetComponent, PlainNet}
 use Rattle.cx_net.specs.NetTree.{no_net_component, net_component_at}
-use Rattle.cx_net.specs.NetFits.{HasWidth, AreBits, target_width, IsFitDriver, IsFit}
-use Rattle.cx_holes.specs.Names.{ExprNames, ExprsName, TargetNames, DriverNames, DriversName, ComponentNames, ComponentsName, NetNames, HasTargets}
+use Rattle.cx_net.specs.NetFits.{HasWidth, AreBits, target_width, IsFitDriver, IsFit, HasTargets}
+use Rattle.cx_holes.specs.Names.{ExprNames, ExprsName, TargetNames, DriverNames, DriversName, ComponentNames, ComponentsName, NetNames}
 use Rattle.cx_text.proofs.OptionLaws.{some_value}
 
 hole_within : (n holes : ℕ) → IsSome {T = ℕ} (if nat_lt n holes then Some 1 else None) → n < holes

@@ -9,9 +9,9 @@ use Rattle.cx_meaning.specs.declared.ports.PortRef.TheVariants as ports
 use Rattle.cx_meaning.specs.Designs.{PlainKind, OfPrimitive, OfComponent, PlainCell}
 use Rattle.cx_net.specs.Nets.{PlainNetExpr, OfPort, OfRegister, OfWire, OfHole, OfGo, Fixed, Inverse, AllOf, AnyOf, Sum, Compares, PlainNetExprs, no_exprs, an_expr, PlainNetTarget, ToPort, ToRegister, ToWire, ToHole, ToDone, PlainNetDriver, PlainNetComponent, PlainNet}
 use Rattle.cx_net.specs.NetTree.{net_component_at}
-use Rattle.cx_net.specs.NetFits.{signature_widths, kind_width, port_width, HasPortWidth, HasWidth, AreBits, target_width, IsFitDriver, IsFitKind, IsFitComponent, IsExternalKind, IsFit, HasNoHoles}
+use Rattle.cx_net.specs.NetFits.{signature_widths, kind_width, port_width, HasPortWidth, HasWidth, AreBits, target_width, IsFitDriver, IsFitKind, IsFitComponent, IsExternalKind, IsFit, HasNoHoles, HasTargets}
 use Rattle.cx_holes.specs.Inlining.{inlined_expr, inlined_exprs, inlined_target, inlined_driver, inlined_component, inlined}
-use Rattle.cx_holes.specs.Names.{TargetNames, DriverNames, DriversName, ComponentNames, NetNames, HasTargets}
+use Rattle.cx_holes.specs.Names.{TargetNames, DriverNames, DriversName, ComponentNames, NetNames}
 use Rattle.cx_holes.proofs.CellLemmas.{cells-inlined}
 use Rattle.cx_holes.proofs.RenamedNodes.{own_wire, hole_wire}
 use Rattle.cx_holes.proofs.RenamedRuns.{part_same, part_names}

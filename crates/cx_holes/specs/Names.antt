@@ -1,8 +1,7 @@
 -- Nets whose expressions and drivers name wires and holes that are there.
-use Rattle.std.specs.Prelude.{◌≡◌, ℕ, ◌+◌, ◌^◌, ◌<◌, List, [], ◌∷◌, length, Some, IsSome, slice_get}
+use Rattle.std.specs.Prelude.{ℕ, ◌+◌, ◌^◌, ◌<◌, List, [], ◌∷◌, length}
 use Rattle.cx_net.specs.Nets.{PlainNetExpr, OfPort, OfRegister, OfWire, OfHole, OfGo, Fixed, Inverse, AllOf, AnyOf, Sum, Compares, PlainNetExprs, no_exprs, an_expr, PlainNetTarget, ToPort, ToRegister, ToWire, ToHole, ToDone, PlainNetDriver, PlainNetComponent, PlainNet}
 use Rattle.cx_net.specs.NetTree.{net_component_at}
-use Rattle.cx_net.specs.NetFits.{target_width}
 
 -- so many wires and holes
 module _ (wires holes : ℕ) where
@@ -50,10 +49,6 @@ ComponentsName (c ∷ cs) = ComponentNames c × ComponentsName cs
 -- in each component of a net
 abbrev pub NetNames : PlainNet → Type 0
 NetNames n = ComponentsName n.components
-
--- of each driver the target is there
-abbrev pub HasTargets : PlainNet → Type 0
-HasTargets n = (k : ℕ) → k < length n.components → (m : ℕ) (d : PlainNetDriver) → slice_get (net_component_at n k).drivers m ≡ Some d → IsSome (target_width n (net_component_at n k) d.target)
 
 -- the wires and holes of each component have numbers of 64 bits
 abbrev pub HasFewWires : PlainNet → Type 0

@@ -1,11 +1,11 @@
 //! Nets without holes.
 
 ghost use Rattle.std.specs.Prelude.{◌≡◌, ◌++◌, IfOk, OnOk, map, replicate};
-ghost use Rattle.cx_net.specs.NetFits.{IsFit};
-ghost use Rattle.cx_net.specs.PlainNets.{plain_net, plain_net_component, plain_net_driver, plain_net_target};
+ghost use Rattle.cx_net.specs.NetFits.{HasTargets, IsFit};
+ghost use Rattle.cx_net.specs.NetsAsData.{plain_net};
+ghost use Rattle.cx_net.specs.PlainNets.{plain_net_component, plain_net_driver, plain_net_target};
 ghost use Rattle.cx_holes.specs.Inlining.{inlined, inlined_component, inlined_driver, inlined_target};
 ghost use Rattle.cx_holes.specs.Kept.{DoesWithoutHoles};
-ghost use Rattle.cx_holes.specs.Names.{HasTargets};
 
 use crate::exprs::{hole_wire, without_holes};
 use cx_net::{Net, NetComponent, NetDriver, NetTarget};

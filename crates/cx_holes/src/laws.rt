@@ -2,14 +2,14 @@
 
 ghost use Rattle.std.specs.Prelude.{◌↔◌, ◌≤◌, ℕ, List};
 ghost use Rattle.cx_meaning.specs.Designs.{PlainDesign};
-ghost use Rattle.cx_net.specs.NetFits.{HasNoHoles, IsFit};
+ghost use Rattle.cx_net.specs.NetFits.{HasNoHoles, HasTargets, IsFit};
 ghost use Rattle.cx_net.specs.NetLimits.{IsWritable, nets_below};
 ghost use Rattle.cx_net.specs.NetRuns.{AreWords, IsGrounded, NetRun};
 ghost use Rattle.cx_net.specs.NetTree.{net_tree};
 ghost use Rattle.cx_net.specs.Nets.{PlainNet};
 ghost use Rattle.cx_vtree.specs.SimRun.{Outcome};
 ghost use Rattle.cx_holes.specs.Inlining.{inlined};
-ghost use Rattle.cx_holes.specs.Names.{HasFewWires, HasTargets, NetNames};
+ghost use Rattle.cx_holes.specs.Names.{HasFewWires, NetNames};
 
 /// The net without holes comes to what the net comes to, where this names wires and holes that are there.
 pub fn inlining_keeps_runs()

@@ -7,3 +7,4 @@ pub mod HoldLaws
 pub mod NetMeaningLemmas
 pub mod NetTreeLemmas
 pub mod NetsLemmas
+pub mod PathLemmas

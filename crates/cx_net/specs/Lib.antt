@@ -5,6 +5,7 @@ pub mod NetMeaning
 pub mod NetEdges
 pub mod NetRuns
 pub mod PlainNets
+pub mod NetsAsData
 pub mod NetFits
 pub mod NetLimits
 pub mod NetPaths

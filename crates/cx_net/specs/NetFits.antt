@@ -1,6 +1,6 @@
 -- WHICH NETS FIT: numbers name parts, widths agree, a component comes behind those of its cells, its primitives have rows, and
 -- external cells of main are memories.
-use Rattle.std.specs.Prelude.{◌≡◌, ℕ, ◌<◌, nat_lt, true, List, [], ◌∷◌, ◌++◌, length, map, Option, Some, None, option_map, option_and_then, slice_get, if◌then◌else◌}
+use Rattle.std.specs.Prelude.{◌≡◌, ℕ, ◌<◌, nat_lt, true, List, [], ◌∷◌, ◌++◌, length, map, Option, Some, None, IsSome, option_map, option_and_then, slice_get, if◌then◌else◌}
 use Rattle.cx_prim.specs.Rows.{IsOfWidth}
 use Rattle.cx_prim.specs.Table.{HasRow, row_of}
 use Rattle.cx_meaning.specs.declared.ports.PortRef.{PortRef}
@@ -88,3 +88,13 @@ pub record IsFit (net : PlainNet) : Type 0 where
 -- what is left where holes are wires
 abbrev pub HasNoHoles : PlainNet → Type 0
 HasNoHoles net = (k : ℕ) → (net_component_at net k).holes ≡ 0
+
+-- of each driver the target is there
+abbrev pub HasTargets : PlainNet → Type 0
+HasTargets n = (k : ℕ) → k < length n.components → (m : ℕ) (d : PlainNetDriver) → slice_get (net_component_at n k).drivers m ≡ Some d → IsSome (target_width n (net_component_at n k) d.target)
+
+-- WHAT EVERY NET KEEPS: its numbers name parts of it, its widths agree, and each component comes behind those of its cells, so that no cell
+-- leads back to its own component; and what its drivers drive is there
+pub record IsNet (net : PlainNet) : Type 0 where
+  pub fits : IsFit net
+  pub targets : HasTargets net

@@ -1,4 +1,4 @@
--- What the types of a net stand for, as plain data. An expression is told by its fold.
+-- What the parts of a net stand for, as plain data. An expression is told by its fold.
 use Rattle.std.specs.Prelude.{ℕ, List, map}
 use Rattle.cx_design.specs.PlainForms.{plain_cell}
 use Rattle.cx_net.specs.Nets.{PlainNetExpr, OfPort, OfRegister, OfWire, OfHole, OfGo, Fixed, Inverse, AllOf, AnyOf, Sum, Compares, exprs_of, PlainNetTarget, ToPort, ToRegister, ToWire, ToHole, ToDone, PlainNetDriver, PlainNetComponent, PlainNet}
@@ -8,7 +8,6 @@ use Rattle.cx_net.specs.declared.drivers.NetTarget.{NetTarget}
 use Rattle.cx_net.specs.declared.drivers.NetTarget.TheVariants as targets
 use Rattle.cx_net.specs.declared.drivers.NetDriver.{NetDriver}
 use Rattle.cx_net.specs.declared.components.NetComponent.{NetComponent}
-use Rattle.cx_net.specs.declared.nets.Net.{Net}
 
 abbrev pub net_expr_step : NetExpr-F PlainNetExpr → PlainNetExpr
 net_expr_step (open_expr.Port p) = OfPort p
@@ -58,6 +57,3 @@ plain_net_component c = record {
 -- the net of these components and this main
 abbrev pub net_of_parts : List NetComponent → ℕ → PlainNet
 net_of_parts components main = record { components = map plain_net_component components; main = main }
-
-abbrev pub plain_net : Net → PlainNet
-plain_net n = net_of_parts n.components.items n.main

@@ -4,9 +4,11 @@
 mod components;
 mod drivers;
 mod exprs;
+mod laws;
 mod nets;
 
 pub use components::NetComponent;
 pub use drivers::{NetDriver, NetTarget};
 pub use exprs::NetExpr;
+pub use laws::no_cell_leads_back;
 pub use nets::Net;

@@ -8,7 +8,7 @@ ghost use Rattle.cx_net.specs.NetMeaning.{NetLook, NetState as StateOf};
 ghost use Rattle.cx_net.specs.NetRuns.{IsWholeLook, is_done, net_start};
 ghost use Rattle.cx_net.specs.NetTree.{net_component_at, net_tree};
 ghost use Rattle.cx_net.specs.Nets.{PlainNet};
-ghost use Rattle.cx_net.specs.PlainNets.{plain_net};
+ghost use Rattle.cx_net.specs.NetsAsData.{plain_net};
 ghost use Rattle.cx_vnets.specs.Runs.{IsReady};
 ghost use Rattle.cx_emit.specs.Emitted.{CanBeEmitted};
 ghost use Rattle.cx_net_runs.specs.Standing.{StandsIn};

@@ -1,6 +1,7 @@
 use Rattle.std.proofs.Common.{◌∙◌, ap, map, subst, sym}
 use Rattle.cx_design.specs.PlainForms.{plain_cell}
-use Rattle.cx_net.specs.PlainNets.{plain_net, plain_net_component}
+use Rattle.cx_net.specs.NetsAsData.{plain_net}
+use Rattle.cx_net.specs.PlainNets.{plain_net_component}
 use Rattle.cx_emit.specs.Emitted.{PartFits}
 use Rattle.cx_emit.specs.Numbered.{with_numbers}
 use Rattle.cx_emit.specs.PlainForms.{plain_cell_ports}

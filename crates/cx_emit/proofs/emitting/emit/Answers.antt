@@ -1,5 +1,5 @@
 use Rattle.std.proofs.Common.{◌≡◌, ◌∙◌, true, List, ap, ap₂, subst, sym}
-use Rattle.cx_net.specs.PlainNets.{plain_net}
+use Rattle.cx_net.specs.NetsAsData.{plain_net}
 use Rattle.cx_vtree.specs.Plain.{PlainExternal, PlainModule, PlainSource}
 use Rattle.cx_vtree.specs.PlainParts as text
 use Rattle.cx_vtree.specs.Sound.{is_sound}

@@ -2,7 +2,8 @@ use Rattle.std.proofs.Common.{◌≡◌, List, Some, slice_get, map, subst, sym}
 use Rattle.cx_design.specs.PlainForms.{plain_cell}
 use Rattle.cx_net.specs.declared.components.NetComponent.{NetComponent}
 use Rattle.cx_net.specs.Nets.{PlainNetComponent, PlainNet}
-use Rattle.cx_net.specs.PlainNets.{plain_net, plain_net_component}
+use Rattle.cx_net.specs.NetsAsData.{plain_net}
+use Rattle.cx_net.specs.PlainNets.{plain_net_component}
 use Rattle.cx_emit.specs.Emitted.{ExternalsHaveWords}
 use Rattle.cx_emit.proofs.EmittedParts.{main_has_words}
 use Rattle.cx_text.proofs.ListLaws.{item_at}

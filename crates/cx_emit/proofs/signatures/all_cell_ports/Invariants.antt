@@ -1,6 +1,6 @@
 use Rattle.std.proofs.Common.{◌≡◌, ◌++◌, drop, map}
 use Rattle.cx_design.specs.PlainForms.{plain_cell}
-use Rattle.cx_net.specs.PlainNets.{plain_net}
+use Rattle.cx_net.specs.NetsAsData.{plain_net}
 use Rattle.cx_vtree.specs.PlainParts.{plain_modules}
 use Rattle.cx_emit.specs.Numbered.{lists_from, numbered_from}
 use Rattle.cx_emit.specs.PlainForms.{plain_cell_ports}

@@ -1,4 +1,4 @@
-use Rattle.cx_net.specs.PlainNets.{plain_net}
+use Rattle.cx_net.specs.NetsAsData.{plain_net}
 use Rattle.cx_static.specs.PlainLowered.{plain_lowereds}
 use Rattle.cx_fsm.proofs.BuiltLemmas.{built_owes, built_writable}
 use Rattle.cx_fsm.proofs.building.build.Goals as goal

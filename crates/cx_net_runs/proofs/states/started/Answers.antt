@@ -1,6 +1,6 @@
 use Rattle.std.proofs.Common.{ℕ, List, ap, sym, ◌∙◌, subst}
 use Rattle.cx_text.specs.Loading.{FitsRows, plain_loaded, words_loaded}
-use Rattle.cx_net.specs.PlainNets.{plain_net}
+use Rattle.cx_net.specs.NetsAsData.{plain_net}
 use Rattle.cx_vtree.specs.declared.sources.Source.{Source}
 use Rattle.cx_vtree.specs.PlainParts.{rows_of}
 use Rattle.cx_vtree.specs.PlainSources.{plain_source}

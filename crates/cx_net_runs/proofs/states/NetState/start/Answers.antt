@@ -1,7 +1,7 @@
 use Rattle.cx_text.specs.Loading.{plain_loaded, words_loaded}
 use Rattle.cx_net.specs.NetRuns.{net_start}
 use Rattle.cx_net.specs.NetTree.{net_tree}
-use Rattle.cx_net.specs.PlainNets.{plain_net}
+use Rattle.cx_net.specs.NetsAsData.{plain_net}
 use Rattle.cx_net_runs.proofs.states.NetState.start.Goals as goal
 
 pub returns-clause-value : goal.returns-clause-value
