@@ -4,12 +4,14 @@ use Rattle.std.specs.List.{list_any}
 use Rattle.std.specs.Cmp.Lexicographic.{pointwise}
 use Rattle.cx_outside.specs.Counts.{raised}
 
--- files in memory: names with what they hold, the numbers of the calls that fail, and how many calls and faults there were
+-- files in memory: names with what they hold, the numbers of the calls that fail, how many calls and faults there were, and the names of the
+-- reads that failed
 pub record MemoryFiles : Type 0 where
   pub entries : List (List ℕ × List ℕ)
   pub fails : List ℕ
   pub calls : ℕ
   pub faults : ℕ
+  pub failures : List (List ℕ)
 
 -- a sink in memory: the most bytes of a call, the numbers of the calls that fail, the bytes of its room, what it has taken,
 -- and how many calls and faults there were

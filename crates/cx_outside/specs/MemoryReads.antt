@@ -1,6 +1,7 @@
 -- What a read of files in memory answers.
 use Rattle.std.specs.Prelude.{ℕ, List, Option, Some, None, Result, Ok, Err, length, nat_lt, if◌then◌else◌}
 use Rattle.cx_outside.specs.Counts.{raised}
+use Rattle.cx_outside.specs.Failures.{failed_by}
 use Rattle.cx_outside.specs.InMemory.{MemoryFiles, fails_next, held_in}
 use Rattle.cx_outside.specs.declared.reading.FileAnswer.{FileAnswer}
 use Rattle.cx_outside.specs.declared.reading.FileAnswer.TheVariants.{Failed, TooLong}
@@ -21,3 +22,7 @@ after_read m =
       calls = raised m.calls;
       faults = if fails_next m.fails m.calls then raised m.faults else m.faults;
     }
+
+-- and the name of a read that failed is kept
+abbrev pub after_answer : FileAnswer → List ℕ → MemoryFiles → MemoryFiles
+after_answer answer name m = record (after_read m) { failures = failed_by answer name m.failures }

@@ -7,6 +7,7 @@ mod memory_sink;
 mod reading;
 mod real_files;
 mod real_sink;
+mod unread;
 mod words;
 mod writing;
 

@@ -1,7 +1,8 @@
 //! Files that are read whole by their names.
 
-ghost use Rattle.std.specs.Prelude.{◌≡◌, ◌⊎◌, ◌≤◌, ◌<◌, ℕ, List, Option, length, IfOk, IsErrOf};
+ghost use Rattle.std.specs.Prelude.{◌≡◌, ◌⊎◌, ◌≤◌, ◌<◌, ℕ, List, Option, length, IfOk, IsErrOf, MatchResult};
 ghost use Rattle.cx_outside.specs.Counts.{HasRisen};
+ghost use Rattle.cx_outside.specs.Failures.{failed_by};
 ghost use Rattle.cx_outside.specs.Reading.{Holds, IsAbsent, IsHeld, HasLength};
 
 use std::alloc::{AllocError, Global};
@@ -28,13 +29,16 @@ impl From<AllocError> for FileAnswer {
     }
 }
 
-/// Files by name. What they hold is told or not told; their faults are counted, and the count never falls.
+/// Files by name. What they hold is told or not told; their faults are counted, and the count never falls; which reads failed is always told.
 pub trait Files {
     /// Where it is told: for each name the bytes that it holds, or none.
     ghost held: { Self → Option (List ℕ → Option (List ℕ)) };
 
     /// How often the outside has failed, at most 2^64 - 1.
     ghost faults: { Self → ℕ };
+
+    /// The names of the reads that failed, in order.
+    ghost failures: { Self → List (List ℕ) };
 
     /// Reads all bytes of a file, of which there may be `limit` at most.
     fn read_file(&mut self, alloc: Global, name: &[u8], limit: usize) -> Result<Vec<u8>, FileAnswer>
@@ -47,6 +51,8 @@ pub trait Files {
             (limit < seen) × HasLength (held self.old) name.now seen }
         ensures over { (bytes : List ℕ) → IsHeld (held self.old) name.now bytes → limit < length bytes →
             IsErrOf result (FileAnswer.TooLong (length bytes)) ⊎ (IsErrOf result FileAnswer.Failed ⊎ IsErrOf result FileAnswer.Memory) }
+
+        ensures names { MatchResult result (λ _. failures self.new ≡ failures self.old) (λ e. failures self.new ≡ failed_by e name.now (failures self.old)) }
 
         ensures kept { held self.new ≡ held self.old }
         ensures count { faults self.old ≤ faults self.new };

@@ -1,10 +1,11 @@
 //! The files of the system: the trusted edge of what is read.
 
-ghost use Rattle.std.specs.Prelude.{◌≡◌, ◌≤◌, ◌<◌, ℕ, None, length, IfOk, IfSome, IsErrOf, MatchResult};
-ghost use Rattle.cx_outside.specs.Edge.{count_after};
+ghost use Rattle.std.specs.Prelude.{◌≡◌, ◌≤◌, ◌<◌, [], ℕ, None, length, IfOk, IfSome, IsErrOf, MatchResult};
+ghost use Rattle.cx_outside.specs.Edge.{reads_after};
 
 use crate::counts::raise;
 use crate::reading::{FileAnswer, Files};
+use crate::unread::Unread;
 use std::alloc::Global;
 use std::fs;
 use std::io::Read;
@@ -14,45 +15,58 @@ use std::rt::Files as System;
 /// Bytes of one read.
 const CHUNK: usize = 32_768;
 
-/// Files of the system. They tell no content; contracts see them as their count of faults.
+/// Files of the system. They tell no content; contracts see them as their count of faults and the names of the
+/// reads that failed.
 #[derive(Drop)]
 pub struct RealFiles<R> {
     system: R,
     faults: u64,
+    failures: Unread,
 }
 
 impl<R> Model for RealFiles<R> {
-    ghost use Rattle.std.specs.Prelude.{ℕ};
+    ghost use Rattle.cx_outside.specs.Edge.{Reads};
 
-    ghost Value = { ℕ };
+    ghost Value = { Reads };
 
-    ghost view = { λ f. f.faults };
+    ghost view = { λ f. record { faults = f.faults; failures = f.failures } };
 }
 
 impl<R: System> RealFiles<R> {
     /// Files of this runtime, which may be lent.
     pub fn new(system: R) -> RealFiles<R>
-        ensures value { result ≡ 0 }
+        ensures value { result ≡ record { faults = 0; failures = [] } }
     {
-        RealFiles { system, faults: 0 }
+        RealFiles {
+            system,
+            faults: 0,
+            failures: Unread::none(),
+        }
     }
 }
 
 impl<R: System> Files for RealFiles<R> {
     ghost held = { λ _. None };
 
-    ghost faults = { λ count. count };
+    ghost faults = { λ r. r.faults };
 
-    /// Each failure of the system, a name that no file has and one that is no UTF-8 among them, raises the count.
+    ghost failures = { λ r. r.failures };
+
+    /// Each failure of the system, a name that no file has and one that is no UTF-8 among them, raises the count, unless there is no memory
+    /// for its name.
     fn read_file(&mut self, alloc: Global, name: &[u8], limit: usize) -> Result<Vec<u8>, FileAnswer>
         ensures within { IfOk result (λ bytes. length bytes.items ≤ limit) }
         ensures too_long { (seen : ℕ) → IsErrOf result (FileAnswer.TooLong seen) → limit < seen }
-        ensures after { MatchResult result (λ _. self.new ≡ self.old) (λ e. self.new ≡ count_after e self.old) }
-        ensures count { self.old ≤ self.new }
+        ensures after { MatchResult result (λ _. self.new ≡ self.old) (λ e. self.new ≡ reads_after e name.now self.old) }
+        ensures count { self.old.faults ≤ self.new.faults }
     {
         let answer = read_named(&self.system, alloc, name, limit);
         if let Err(FileAnswer::Failed) = &answer {
-            self.faults = raise(self.faults);
+            let told = self.failures.add(alloc, name);
+            if let FileAnswer::Failed = told {
+                self.faults = raise(self.faults);
+            }
+            return Err(told);
         }
         answer
     }
