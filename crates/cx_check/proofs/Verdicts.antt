@@ -12,12 +12,11 @@ use Rattle.cx_rules.specs.Accepted.{Breaks, FirstBreak, IsAccepted}
 use Rattle.cx_rules.proofs.OneBreak.{one_break, one_break_name}
 use Rattle.cx_numbering.specs.DesignOf.{design_of}
 use Rattle.cx_numbering.specs.NameRules.{names_break}
-use Rattle.cx_check.specs.Unbuilt.{first_unbuilt}
 use Rattle.cx_design.specs.declared.refusals.Refusal.{Refusal}
 use Rattle.cx_design.specs.declared.refusals.Refusal.TheVariants as refusals
 use Rattle.cx_check.specs.Verdicts.{IsRefusal, IsSame, TellsAs}
 use Rattle.cx_names.specs.Refused.{IfRule}
-use Rattle.cx_check.specs.Acceptance.{IsAcceptedTree, left_out, TreeBreak, IsTreeRefusal, IsLeftOut}
+use Rattle.cx_check.specs.Acceptance.{IsAcceptedTree, TreeBreak, IsTreeRefusal}
 use Rattle.cx_text.proofs.OptionLaws.{one_value}
 
 -- THE FIRST BREAK of a design is one
@@ -72,27 +71,17 @@ not_both : {A : Type 0} (o : Option A) (x : A) → o ≡ None → o ≡ Some x �
 not_both o x e f = cc
 
 pub accepted_once : (tree : PlainTree) (told : Diagnostic) → IsAcceptedTree tree → TreeBreak tree told → ⊥
-accepted_once tree told h (inl b) = not_both (first_unbuilt tree) b.0 h.built b.1
-accepted_once tree told h (inr (inl b)) = not_both (names_break tree) told h.named b.1
-accepted_once tree told h (inr (inr b)) = none_first (design_of tree) told h.accepted b.2
-
-abbrev some_or : {A : Type 0} → A → Option A → A
-some_or y None = y
-some_or y (Some x) = x
+accepted_once tree told h (inl b) = not_both (names_break tree) told h.named b
+accepted_once tree told h (inr b) = none_first (design_of tree) told h.accepted b.1
 
 as_one : (d : PlainDesign) (a b : Diagnostic) → a ≡ b → IsSame d a b
 as_one d a b e = record { rule = ap (λ t. t.rule) e; place = ap (λ t. t.place) e; name = λ placed. ap (λ t. t.name) e }
 
 pub refused_once : (tree : PlainTree) (a b : Diagnostic) → TreeBreak tree a → TreeBreak tree b → IsSame (design_of tree) a b
-refused_once tree a b (inl h) (inl k) = as_one (design_of tree) a b (h.2 ∙ ap left_out (one_value (first_unbuilt tree) h.0 k.0 h.1 k.1) ∙ sym k.2)
-refused_once tree a b (inl h) (inr (inl k)) = absurd (not_both (first_unbuilt tree) h.0 k.0 h.1)
-refused_once tree a b (inl h) (inr (inr k)) = absurd (not_both (first_unbuilt tree) h.0 k.0 h.1)
-refused_once tree a b (inr (inl h)) (inl k) = absurd (not_both (first_unbuilt tree) k.0 h.0 k.1)
-refused_once tree a b (inr (inl h)) (inr (inl k)) = as_one (design_of tree) a b (one_value (names_break tree) a b h.1 k.1)
-refused_once tree a b (inr (inl h)) (inr (inr k)) = absurd (not_both (names_break tree) a k.1 h.1)
-refused_once tree a b (inr (inr h)) (inl k) = absurd (not_both (first_unbuilt tree) k.0 h.0 k.1)
-refused_once tree a b (inr (inr h)) (inr (inl k)) = absurd (not_both (names_break tree) b h.1 k.1)
-refused_once tree a b (inr (inr h)) (inr (inr k)) = one_first (design_of tree) a b h.2 k.2
+refused_once tree a b (inl h) (inl k) = as_one (design_of tree) a b (one_value (names_break tree) a b h k)
+refused_once tree a b (inl h) (inr k) = absurd (not_both (names_break tree) a k.0 h)
+refused_once tree a b (inr h) (inl k) = absurd (not_both (names_break tree) b h.0 k)
+refused_once tree a b (inr h) (inr k) = one_first (design_of tree) a b h.1 k.1
 
 -- a refusal of a tree tells as each that is true of it
 pub tells_as : (tree : PlainTree) (told : Diagnostic) (refusal : Refusal) → TreeBreak tree told → IsTreeRefusal tree refusal → TellsAs (design_of tree) told refusal
@@ -100,29 +89,24 @@ tells_as tree told (refusals.Rule own) b h = refused_once tree own told h b
 tells_as tree told refusals.Memory b h = tt
 
 -- what the answer about a design says of its tree
-pub accepted_of : {X : Type 0} (tree : PlainTree) (d : PlainDesign) (r : Result X Refusal) → first_unbuilt tree ≡ None → names_break tree ≡ None → d ≡ design_of tree
+pub accepted_of : {X : Type 0} (tree : PlainTree) (d : PlainDesign) (r : Result X Refusal) → names_break tree ≡ None → d ≡ design_of tree
     → IfOk r (λ _. IsAccepted d) → IfOk r (λ _. IsAcceptedTree tree)
-accepted_of tree d (Ok x) built named is h = record { built = built; named = named; accepted = subst IsAccepted is h }
-accepted_of tree d (Err e) built named is h = tt
+accepted_of tree d (Ok x) named is h = record { named = named; accepted = subst IsAccepted is h }
+accepted_of tree d (Err e) named is h = tt
 
-of_design : (tree : PlainTree) (d : PlainDesign) (refusal : Refusal) → first_unbuilt tree ≡ None → names_break tree ≡ None → d ≡ design_of tree
-    → IsRefusal d refusal → IsTreeRefusal tree refusal
-of_design tree d (refusals.Rule told) built named is h = inr (inr (built, named, subst (λ x. FirstBreak x told) is h))
-of_design tree d refusals.Memory built named is h = tt
+of_design : (tree : PlainTree) (d : PlainDesign) (refusal : Refusal) → names_break tree ≡ None → d ≡ design_of tree → IsRefusal d refusal → IsTreeRefusal tree refusal
+of_design tree d (refusals.Rule told) named is h = inr (named, subst (λ x. FirstBreak x told) is h)
+of_design tree d refusals.Memory named is h = tt
 
-pub refused_of : {X : Type 0} (tree : PlainTree) (d : PlainDesign) (r : Result X Refusal) → first_unbuilt tree ≡ None → names_break tree ≡ None → d ≡ design_of tree
+pub refused_of : {X : Type 0} (tree : PlainTree) (d : PlainDesign) (r : Result X Refusal) → names_break tree ≡ None → d ≡ design_of tree
     → IfErr r (IsRefusal d) → IfErr r (IsTreeRefusal tree)
-refused_of tree d (Ok x) built named is h = tt
-refused_of tree d (Err refusal) built named is h = of_design tree d refusal built named is h
+refused_of tree d (Ok x) named is h = tt
+refused_of tree d (Err refusal) named is h = of_design tree d refusal named is h
 
 -- what the answer of the rules on names says of its tree
-pub refused_by_name : (X : Type 0) (tree : PlainTree) (refusal : Refusal) → first_unbuilt tree ≡ None → IfRule {A = X} (Err refusal) (λ told. names_break tree ≡ Some told) → IsTreeRefusal tree refusal
-refused_by_name X tree (refusals.Rule told) built h = inr (inl (built, h))
-refused_by_name X tree refusals.Memory built h = tt
-
-pub refused_unbuilt : (tree : PlainTree) (place : Place) (refusal : Refusal) → first_unbuilt tree ≡ Some place → IsLeftOut place refusal → IsTreeRefusal tree refusal
-refused_unbuilt tree place (refusals.Rule told) at h = inl (place, at, h)
-refused_unbuilt tree place refusals.Memory at h = tt
+pub refused_by_name : (X : Type 0) (tree : PlainTree) (refusal : Refusal) → IfRule {A = X} (Err refusal) (λ told. names_break tree ≡ Some told) → IsTreeRefusal tree refusal
+refused_by_name X tree (refusals.Rule told) h = inl h
+refused_by_name X tree refusals.Memory h = tt
 
 pub all_told : {X : Type 0} (tree : PlainTree) (r : Result X Refusal) → IfOk r (λ _. IsAcceptedTree tree) → IfErr r (IsTreeRefusal tree) → (told : Diagnostic) → TreeBreak tree told
     → MatchResult r (λ _. ⊥) (TellsAs (design_of tree) told)

@@ -1,9 +1,13 @@
--- What the grammar has and designs have not, by the places of the word static.
-use Rattle.std.specs.Prelude.{ℕ, nat_lt, nat_eq, Bool, ◌&&◌, ◌||◌, List, [], ◌∷◌, ◌++◌, Option, Some, None, flat_map, if◌then◌else◌}
+-- What some commands leave out, by the places of the word static: static components and static invokes.
+use Rattle.std.specs.Prelude.{◌≡◌, ℕ, nat_lt, nat_eq, Bool, ◌&&◌, ◌||◌, List, [], ◌∷◌, ◌++◌, Option, Some, None, flat_map, if◌then◌else◌}
+use Rattle.cx_text.specs.declared.diagnostics.Diagnostic.{Diagnostic}
 use Rattle.cx_text.specs.declared.places.Place.{Place}
+use Rattle.cx_text.specs.declared.rules.Rule.TheVariants.{LeftOut}
 use Rattle.cx_ast.specs.PlainTree.{PlainTree, PlainComponent}
 use Rattle.cx_ast.specs.PlainStatements as statements
 use Rattle.cx_numbering.specs.NameRules.{Visited, visit_parts, statements_in}
+use Rattle.cx_design.specs.declared.refusals.Refusal.{Refusal}
+use Rattle.cx_design.specs.declared.refusals.Refusal.TheVariants.{Rule, Memory}
 
 -- of a static component
 abbrev pub length_word : Option ℕ → Place → List Place
@@ -53,3 +57,11 @@ first_place best (place ∷ rest) = first_place (Some (earlier best place)) rest
 
 abbrev pub first_unbuilt : PlainTree → Option Place
 first_unbuilt tree = first_place None (words_of_tree tree)
+
+-- what is told where a command leaves it out, unless memory is wanting
+abbrev pub left_out : Place → Diagnostic
+left_out place = record { rule = LeftOut; place = place; name = [] }
+
+abbrev pub IsLeftOut : Place → Refusal → Type 0
+IsLeftOut place (Rule told) = told ≡ left_out place
+IsLeftOut place Memory = Unit {0}

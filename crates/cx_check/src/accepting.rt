@@ -1,24 +1,21 @@
 //! From a tree to an accepted design.
 
-ghost use Rattle.std.specs.Prelude.{◌≡◌, None, IfOk, IfErr, MatchResult};
+ghost use Rattle.std.specs.Prelude.{◌≡◌, IfOk, IfErr, MatchResult};
 ghost use Rattle.cx_text.specs.declared.diagnostics.Diagnostic.{Diagnostic as DiagnosticValue};
 ghost use Rattle.cx_ast.specs.PlainTree.{plain_tree};
 ghost use Rattle.cx_rules.specs.Accepted.{IsAccepted};
 ghost use Rattle.cx_design.specs.PlainDesigns.{plain_design};
 ghost use Rattle.cx_names.specs.Targets.{HasTargets};
 ghost use Rattle.cx_numbering.specs.DesignOf.{design_of};
-ghost use Rattle.cx_check.specs.Unbuilt as unbuilt;
 ghost use Rattle.cx_check.specs.Verdicts.{IsRefusal, TellsAs};
-ghost use Rattle.cx_check.specs.Acceptance.{IsAcceptedTree, IsLeftOut, IsTreeRefusal, TreeBreak};
+ghost use Rattle.cx_check.specs.Acceptance.{IsAcceptedTree, IsTreeRefusal, TreeBreak};
 
-use crate::first_unbuilt;
 use cx_ast::Tree;
 use cx_design::{Checked, Design, Refusal};
-use cx_text::{Diagnostic, Memory, Name, Place, Rule};
 use std::alloc::Global;
 
-/// The design of a tree, where it is accepted; else what it is refused for: the first part that is left out as a whole, the
-/// first break of the rules on names, or the first break of its design.
+/// The design of a tree, where it is accepted; else what it is refused for: the first break of the rules on names, or the first
+/// break of its design.
 pub fn accept(alloc: Global, tree: &Tree) -> Result<Checked, Refusal>
     requires targets { HasTargets (plain_tree tree.now) }
     ensures accepted { IfOk result (λ checked. IsAcceptedTree (plain_tree tree.now)) }
@@ -26,20 +23,6 @@ pub fn accept(alloc: Global, tree: &Tree) -> Result<Checked, Refusal>
     ensures rule { IfErr result (IsTreeRefusal (plain_tree tree.now)) }
     // A tree that breaks a rule is refused, by that rule at that place and with its name, unless memory is wanting.
     ensures all_refusals { (told : DiagnosticValue) → TreeBreak (plain_tree tree.now) told → MatchResult result (λ _. ⊥) (TellsAs (design_of (plain_tree tree.now)) told) }
-{
-    match first_unbuilt(tree) {
-        Some(place) => Err(left_out(alloc, place)),
-        None => accept_built(alloc, tree),
-    }
-}
-
-/// The same for a tree that has none of what is left out as a whole.
-fn accept_built(alloc: Global, tree: &Tree) -> Result<Checked, Refusal>
-    requires targets { HasTargets (plain_tree tree.now) }
-    requires built { unbuilt.first_unbuilt (plain_tree tree.now) ≡ None }
-    ensures accepted { IfOk result (λ checked. IsAcceptedTree (plain_tree tree.now)) }
-    ensures value { IfOk result (λ checked. plain_design checked ≡ design_of (plain_tree tree.now)) }
-    ensures rule { IfErr result (IsTreeRefusal (plain_tree tree.now)) }
 {
     match cx_names::resolve(alloc, tree) {
         Ok(design) => accept_named(alloc, design),
@@ -56,19 +39,5 @@ fn accept_named(alloc: Global, design: Design) -> Result<Checked, Refusal>
     match crate::check(alloc, design) {
         Ok(checked) => Ok(checked),
         Err(refused) => Err(refused.refusal),
-    }
-}
-
-/// The refusal of what is left out as a whole.
-fn left_out(alloc: Global, place: Place) -> Refusal
-    ensures { IsLeftOut place result }
-{
-    match Name::from_bytes(alloc, b"".as_slice()) {
-        Ok(name) => Refusal::Rule(Diagnostic {
-            rule: Rule::LeftOut,
-            place,
-            name,
-        }),
-        Err(Memory) => Refusal::Memory,
     }
 }

@@ -1,14 +1,14 @@
-//! Decides whether the tree of a design's text is accepted: what is left out, the rules on names and the stages of
-//! checks are tried in order, and the first rule that is broken is told with its place and name.
+//! Decides whether the tree of a design's text is accepted: the rules on names and the stages of checks are tried in order,
+//! and the first rule that is broken is told with its place and name.
 #![tactic(auto)]
 
 pub mod accept_laws;
 mod accepting;
 mod checking;
-mod left_out;
 mod shapes;
+mod statics;
 
 pub use accepting::accept;
 pub use checking::{Refused, check};
-pub use left_out::first_unbuilt;
 pub use shapes::check_shapes;
+pub use statics::{first_unbuilt, left_out};

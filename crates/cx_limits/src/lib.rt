@@ -9,7 +9,9 @@ mod lasts;
 mod needed;
 mod order;
 mod rows;
+mod sizes;
 mod statements;
 mod table;
 
 pub use checking::limits;
+pub use sizes::counted_design_size;

@@ -14,10 +14,9 @@ use Rattle.cx_numbering.specs.NameRules.{names_break}
 use Rattle.cx_names.specs.Targets.{HasTargets}
 use Rattle.cx_names.proofs.Whole.{is_design}
 use Rattle.cx_check.specs.Acceptance.{IsAcceptedTree}
-use Rattle.cx_check.proofs.BuiltLemmas.{built_is_flat}
 use Rattle.cx_promotion.specs.declared.rows.PromotedRow.{PromotedRow}
 use Rattle.cx_promotion.specs.Rewriting.{IsPromotedTree, made_rows, made_tree}
-use Rattle.cx_promoted_trees.proofs.AcceptedPromoted.{promoted_tree_accepted, unbuilt_made}
+use Rattle.cx_promoted_trees.proofs.AcceptedPromoted.{promoted_tree_accepted}
 use Rattle.cx_promoted_trees.proofs.NamesPromoted.{names_made}
 use Rattle.cx_promoted_trees.proofs.TargetsPromoted.{made_tree_has_targets}
 
@@ -40,13 +39,10 @@ module _ (tree made : PlainTree) (is : made ≡ made_tree tree) where
   pub made_is_named : names_break tree ≡ None → names_break made ≡ None
   made_is_named none = ap names_break is ∙ names_made tree none
 
-  pub made_is_flat : IsAcceptedTree tree → IsFlat (design_of made)
-  made_is_flat accepted = subst (λ t. IsFlat (design_of t)) (sym is) (built_is_flat (made_tree tree) (unbuilt_made tree accepted.built))
-
   -- by the rows of the tree that is made, since acceptance hangs on no row
-  pub made_is_accepted : (d : PlainDesign) → HasTargets tree → IsAcceptedTree tree → d ≡ design_of tree → ∥ IsDesign d ∥₁ → KeepsStage 7 (design_of made) → IsAcceptedTree made
-  made_is_accepted d targets accepted same design keeps =
-      promoted_tree_accepted tree made (made_rows tree) (tree_design tree d targets accepted same design) accepted (promoted_made (made_rows tree) refl keeps)
+  pub made_is_accepted : (d : PlainDesign) → HasTargets tree → IsAcceptedTree tree → d ≡ design_of tree → ∥ IsDesign d ∥₁ → KeepsStage 7 (design_of made) → IsFlat (design_of tree) → IsAcceptedTree made
+  made_is_accepted d targets accepted same design keeps flat =
+      promoted_tree_accepted tree made (made_rows tree) (tree_design tree d targets accepted same design) flat accepted (promoted_made (made_rows tree) refl keeps)
 
 pub breaks_limit : (d : PlainDesign) (told : Diagnostic) → IsFirstOf 7 d told → KeepsStage 7 d → ⊥
 breaks_limit d told first keeps = keeps told.rule first.spot told.place told.name first.in_stage first.breaks

@@ -31,14 +31,15 @@ pub struct Promotion {
 }
 
 /// Makes the groups of known length static, and runs of their enables static seqs, in the tree of an accepted design. Where the
-/// tree so made exceeds a limit, the tree stays as it is, and there are no rows.
+/// tree so made exceeds a limit, the tree stays as it is, and there are no rows. The promoted tree of a design without static components
+/// is accepted.
 #[tactic(auto, using(crate::proofs::PromotedLemmas::promoted_made, crate::proofs::PromotedLemmas::promoted_not))]
 pub fn promote(alloc: Global, tree: &Tree, design: &Checked) -> Result<Promotion, Memory>
     requires accepted { IsAcceptedTree (plain_tree tree.now) }
     requires targets { HasTargets (plain_tree tree.now) }
     requires its { plain_design design.now ≡ design_of (plain_tree tree.now) }
     ensures promoted { IfOk result (λ p. IsPromotedTree (plain_tree tree.now) (plain_tree p.tree) p.rows.items) }
-    ensures accepted { IfOk result (λ p. IsAcceptedTree (plain_tree p.tree)) }
+    ensures accepted { IsFlat (design_of (plain_tree tree.now)) → IfOk result (λ p. IsAcceptedTree (plain_tree p.tree)) }
     ensures targets { IfOk result (λ p. HasTargets (plain_tree p.tree)) }
 {
     let made = made(alloc, tree, design.design())?;
@@ -86,12 +87,11 @@ fn made(alloc: Global, tree: &Tree, design: &Design) -> Result<Promotion, Memory
     Ok(Promotion { tree, rows })
 }
 
-/// Whether the design of a tree that breaks no rule on names, and has no static component, keeps the limits.
+/// Whether the design of a tree that breaks no rule on names keeps the limits.
 #[tactic(auto, using(crate::proofs::PromotedLemmas::breaks_limit))]
 fn keeps_limits(alloc: Global, tree: &Tree) -> Result<bool, Memory>
     requires targets { HasTargets (plain_tree tree.now) }
     requires named { names_break (plain_tree tree.now) ≡ None }
-    requires flat { IsFlat (design_of (plain_tree tree.now)) }
     ensures keeps { IfOk result (λ keeps. keeps ≡ true → KeepsStage 7 (design_of (plain_tree tree.now))) }
     ensures breaks { IfOk result (λ keeps. keeps ≡ false → KeepsStage 7 (design_of (plain_tree tree.now)) → ⊥) }
 {

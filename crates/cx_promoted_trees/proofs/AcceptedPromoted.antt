@@ -6,25 +6,26 @@ use Rattle.cx_ast.specs.PlainTree.{PlainTree}
 use Rattle.cx_ast.specs.PlainStatements as statements
 use Rattle.cx_meaning.specs.Instances.{Instance, State, tree_of, words_of}
 use Rattle.cx_meaning.specs.Sights.{In}
+use Rattle.cx_rules.specs.Flat.{IsFlat}
 use Rattle.cx_rules.specs.Wellformed.{IsDesign}
 use Rattle.cx_numbering.specs.DesignOf.{design_of}
 use Rattle.cx_numbering.specs.NameRules.{Visited, statements_in}
 use Rattle.cx_names.proofs.Base.{append_none, flat_none}
 use Rattle.cx_check.specs.Acceptance.{IsAcceptedTree}
-use Rattle.cx_check.proofs.BuiltLemmas.{built_is_flat}
 use Rattle.cx_rewrites.proofs.FlatRulesLemmas.{accepted_flat}
 use Rattle.cx_check.specs.Unbuilt.{length_word, static_word, words_in, words_of_tree, first_place, first_unbuilt, earlier}
 use Rattle.cx_rewrites.specs.Places.{SameDesign}
 use Rattle.cx_promotion.specs.declared.rows.PromotedRow.{PromotedRow}
 use Rattle.cx_promotion.specs.Made.{Quickens}
 use Rattle.cx_promotion.specs.Rewriting.{promote_form, is_long, made_tree, IsPromotedTree}
+use Rattle.cx_promotion.proofs.Trees.{made_is_flat}
 use Rattle.cx_promotion.proofs.RulesMade.{design_is_accepted}
 use Rattle.cx_promotion.proofs.DesignsQuicken.{design_quickens, again_quickens, words_stay}
 use Rattle.cx_promoted_trees.proofs.PartsPromoted.{twin}
 use Rattle.cx_promoted_trees.proofs.DesignPromoted.{design_made, promoted_design}
 use Rattle.cx_promoted_trees.proofs.NamesPromoted.{both_none, flat_is_none, Came, of_one, as_it_is, of_piece, statements_come, part_from, names_made}
 
--- WHAT IS LEFT OUT as a whole: static invokes stay, and no other is made
+-- THE WORD STATIC of components and invokes: static invokes stay, and no other is made
 word_told : (long : List ℕ → Bool) (below : ℕ) (form : statements.PlainForm) (place : Place) → static_word (promote_form long below form) place ≡ static_word form place
 word_told long below (statements.Enable group marks) place = refl
 word_told long below (statements.Seq marks block) place = refl
@@ -67,17 +68,18 @@ unbuilt_made tree none =
     let r = part_from tree 0 tree.components x here in
     subst (λ y. words_in y ≡ []) r.3 (words_made tree r.0 r.1 (flat_none words_in tree.components (no_words (words_of_tree tree) none) r.0 r.2))))
 
--- ACCEPTED
-pub promoted_tree_accepted : (tree new : PlainTree) (rows : List PromotedRow) → IsDesign (design_of tree) → IsAcceptedTree tree → IsPromotedTree tree new rows → IsAcceptedTree new
-promoted_tree_accepted tree new rows design h (inl (keeps, made, told)) =
+-- ACCEPTED, without static components
+pub promoted_tree_flat : (tree new : PlainTree) (rows : List PromotedRow) → IsFlat (design_of tree) → IsPromotedTree tree new rows → IsFlat (design_of new)
+promoted_tree_flat tree new rows flat is = made_is_flat (design_of tree) (design_of new) (promoted_design tree new rows is) flat
+
+pub promoted_tree_accepted : (tree new : PlainTree) (rows : List PromotedRow) → IsDesign (design_of tree) → IsFlat (design_of tree) → IsAcceptedTree tree → IsPromotedTree tree new rows → IsAcceptedTree new
+promoted_tree_accepted tree new rows design flat h (inl (keeps, made, told)) =
     subst IsAcceptedTree (sym made)
     (record {
-      built = unbuilt_made tree h.built;
       named = names_made tree h.named;
-      accepted =
-          design_is_accepted (design_of tree) (design_of (made_tree tree)) design (accepted_flat (design_of tree) (built_is_flat tree h.built) h.accepted) (design_made tree) keeps;
+      accepted = design_is_accepted (design_of tree) (design_of (made_tree tree)) design (accepted_flat (design_of tree) flat h.accepted) (design_made tree) keeps;
     })
-promoted_tree_accepted tree new rows design h (inr (breaks, stays, told)) = subst IsAcceptedTree (sym stays) h
+promoted_tree_accepted tree new rows design flat h (inr (breaks, stays, told)) = subst IsAcceptedTree (sym stays) h
 
 -- QUICKER
 module _ (tree new : PlainTree) (rows : List PromotedRow) (design : IsDesign (design_of tree)) (h : IsAcceptedTree tree) (is : IsPromotedTree tree new rows) where

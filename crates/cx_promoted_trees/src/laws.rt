@@ -3,6 +3,7 @@
 ghost use Rattle.std.specs.Prelude.{◌≡◌, List, [], None};
 ghost use Rattle.cx_ast.specs.PlainTree.{PlainTree};
 ghost use Rattle.cx_meaning.specs.Instances.{State, tree_of, words_of};
+ghost use Rattle.cx_rules.specs.Flat.{IsFlat};
 ghost use Rattle.cx_rules.specs.Wellformed.{IsDesign};
 ghost use Rattle.cx_numbering.specs.DesignOf.{design_of};
 ghost use Rattle.cx_numbering.specs.NameRules.{names_break};
@@ -19,10 +20,12 @@ pub fn promoted_trees_have_promoted_designs()
     ensures made { (tree new : PlainTree) (rows : List PromotedRow) → IsPromotedTree tree new rows → DesignMade (design_of tree) (design_of new) }
 {}
 
-/// The promoted tree of an accepted tree is accepted. The tree that is made, whatever its size, has nothing that is left out as a whole,
-/// breaks no rule on names and has no target that is a literal, where the tree has and breaks none.
+/// The promoted tree of an accepted tree without static components is accepted, and has no static component. The tree that is made,
+/// whatever its size, has no word `static` of a component or an invoke, breaks no rule on names and has no target that is a literal, where
+/// the tree has and breaks none.
 pub fn promoted_is_accepted()
-    ensures accepted { (tree new : PlainTree) (rows : List PromotedRow) → IsDesign (design_of tree) → IsAcceptedTree tree → IsPromotedTree tree new rows → IsAcceptedTree new }
+    ensures accepted { (tree new : PlainTree) (rows : List PromotedRow) → IsDesign (design_of tree) → IsFlat (design_of tree) → IsAcceptedTree tree → IsPromotedTree tree new rows → IsAcceptedTree new }
+    ensures flat { (tree new : PlainTree) (rows : List PromotedRow) → IsFlat (design_of tree) → IsPromotedTree tree new rows → IsFlat (design_of new) }
     ensures built { (tree : PlainTree) → first_unbuilt tree ≡ None → first_unbuilt (made_tree tree) ≡ None }
     ensures named { (tree : PlainTree) → names_break tree ≡ None → names_break (made_tree tree) ≡ None }
     ensures targets { (tree : PlainTree) → HasTargets tree → HasTargets (made_tree tree) }

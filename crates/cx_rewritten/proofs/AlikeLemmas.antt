@@ -1,4 +1,4 @@
--- What is written of an accepted tree is accepted, and its design runs as that of the tree.
+-- What is written of an accepted tree without static components is accepted, and its design runs as that of the tree.
 use Rattle.std.proofs.Common.{◌≡◌, ◌<◌, ◌^◌, ℕ, List, refl, sym, ap, ◌∙◌, subst}
 use Rattle.std.proofs.Math.Logic.{∥∥₁_elim}
 use denote.Struct.Props.{props}
@@ -9,6 +9,7 @@ use Rattle.cx_meaning.specs.Designs.{PlainDesign}
 use Rattle.cx_meaning.specs.Instances.{State, tree_of}
 use Rattle.cx_meaning.specs.Running.{run_main}
 use Rattle.cx_rules.specs.Accepted.{IsAccepted}
+use Rattle.cx_rules.specs.Flat.{IsFlat}
 use Rattle.cx_rules.specs.Sizes.{design_size}
 use Rattle.cx_rules.specs.Wellformed.{IsDesign}
 use Rattle.cx_numbering.specs.DesignOf.{design_of}
@@ -20,7 +21,7 @@ use Rattle.cx_sharing.specs.Following.{shared_fault}
 use Rattle.cx_sharing.specs.SharedDesign.{shared_design}
 use Rattle.cx_sharing.proofs.SharedMain.{ends_shared, fault_shared, more_shared, rows_shared}
 use Rattle.cx_sharing.specs.SharedTree.{shared_tree}
-use Rattle.cx_shared_trees.proofs.DesignShared.{design-shared, shared_tree_accepted}
+use Rattle.cx_shared_trees.proofs.DesignShared.{design-shared, flat-shared, shared_tree_accepted}
 use Rattle.cx_written.specs.Written.{IsReadAs}
 use Rattle.cx_rewritten.specs.Sources.{IsTreeOfText}
 use Rattle.cx_rewritten.specs.SharedTexts.{IsSharedText}
@@ -53,27 +54,28 @@ module _ (tree new : PlainTree) (written : List ℕ) (r : IsReadAs new written) 
     words_alike a b (both_fault f g t e) = both_fault f g t e
     words_alike a b both_go_on = both_go_on
 
-  pub runs_as : IsAcceptedTree new → RunAlike (design_of tree) (design_of new) → RunsAs tree written
-  runs_as accepted alike = record {
+  pub runs_as : IsFlat (design_of new) → IsAcceptedTree new → RunAlike (design_of tree) (design_of new) → RunsAs tree written
+  runs_as flat accepted alike = record {
     again = r.again;
     tokens = r.tokens;
     lexed = r.lexed;
     parsed = r.parsed;
-    accepted = r.accepted accepted;
+    accepted = r.accepted flat accepted;
+    flat = r.flat flat;
     alike = record {
       rows = sym r.rows ∙ alike.rows;
       runs = λ ws n. subst (AreAlike (design_of tree) (design_of r.again) (run_main (design_of tree) ws n)) (r.run ws n) (words_alike alike (run_main (design_of tree) ws n) (run_main (design_of new) ws n) (alike.runs ws n));
     };
   }
 
--- WHAT IS WRITTEN of an accepted tree of a text
-pub shared_runs : (tree : PlainTree) (written : List ℕ) → IsTreeOfText tree → IsAcceptedTree tree → IsDesign (design_of tree) → IsSharedText tree written → RunsAs tree written
-shared_runs tree written source accepted design w =
+-- WHAT IS WRITTEN of an accepted tree of a text that has no static component
+pub shared_runs : (tree : PlainTree) (written : List ℕ) → IsTreeOfText tree → IsFlat (design_of tree) → IsAcceptedTree tree → IsDesign (design_of tree) → IsSharedText tree written → RunsAs tree written
+shared_runs tree written source flat accepted design w =
     let alike = shared_alike (design_of tree) design accepted.accepted in
-    runs_as tree (shared_tree tree) written (shared_read tree written source w) (shared_tree_accepted tree accepted)
+    runs_as tree (shared_tree tree) written (shared_read tree written source w) (flat-shared tree accepted.named flat) (shared_tree_accepted tree flat accepted)
     (subst (RunAlike (design_of tree)) (sym (design-shared tree accepted.named)) alike)
 
 -- and of one whose design is held
-pub held_runs : (tree : PlainTree) (d : PlainDesign) (written : List ℕ) → IsTreeOfText tree → IsAcceptedTree tree → d ≡ design_of tree → ∥ IsDesign d ∥₁ → IsSharedText tree written → RunsAs tree written
-held_runs tree d written source accepted same keeps w =
-    shared_runs tree written source accepted (tree_design tree d (targets_in_text source.1 tree source.3) accepted same keeps) w
+pub held_runs : (tree : PlainTree) (d : PlainDesign) (written : List ℕ) → IsTreeOfText tree → IsAcceptedTree tree → d ≡ design_of tree → ∥ IsDesign d ∥₁ → IsSharedText tree written → IsFlat (design_of tree) → RunsAs tree written
+held_runs tree d written source accepted same keeps w flat =
+    shared_runs tree written source flat accepted (tree_design tree d (targets_in_text source.1 tree source.3) accepted same keeps) w

@@ -5,6 +5,7 @@ use Rattle.std.specs.List.{AllByRecursion, list_all}
 use Rattle.cx_ast.specs.PlainTree as ast
 use Rattle.cx_lex.specs.Bytes.{is_in_line}
 use Rattle.cx_meaning.specs.Instances.{Instance, State, tree_of, words_of}
+use Rattle.cx_rules.specs.Flat.{IsFlat}
 use Rattle.cx_rules.specs.Ports.{component_of}
 use Rattle.cx_numbering.specs.Names.{groups_in}
 use Rattle.cx_numbering.specs.DesignOf.{group_of, design_of}
@@ -89,13 +90,14 @@ module _ (tree new : ast.PlainTree) (written : List ℕ) (r : IsReadAs new writt
   quickens_there : Quickens (design_of tree) (design_of new) → Quickens (design_of tree) (design_of r.again)
   quickens_there q = record { rows = q.rows ∙ r.rows; runs = λ words n t s e. let k = q.runs words n t s e in (k.0, sym (r.run words n) ∙ k.1, k.2) }
 
-  pub ends_no_later : IsAcceptedTree new → Quickens (design_of tree) (design_of new) → ((s : State) → words_of (tree_of (design_of new)) s ≡ words_of (tree_of (design_of tree)) s) → EndsNoLater tree written
-  ends_no_later accepted quickens words = record {
+  pub ends_no_later : IsFlat (design_of new) → IsAcceptedTree new → Quickens (design_of tree) (design_of new) → ((s : State) → words_of (tree_of (design_of new)) s ≡ words_of (tree_of (design_of tree)) s) → EndsNoLater tree written
+  ends_no_later flat accepted quickens words = record {
     again = r.again;
     tokens = r.tokens;
     lexed = r.lexed;
     parsed = r.parsed;
-    accepted = r.accepted accepted;
+    accepted = r.accepted flat accepted;
+    flat = r.flat flat;
     quickens = quickens_there quickens;
     words = λ s. sym (r.words s) ∙ words s;
   }

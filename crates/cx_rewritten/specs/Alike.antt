@@ -10,6 +10,7 @@ use Rattle.cx_meaning.specs.Designs.{PlainDesign}
 use Rattle.cx_meaning.specs.Instances.{State, tree_of, words_of}
 use Rattle.cx_meaning.specs.Running.{run_main}
 use Rattle.cx_rules.specs.Externals.{external_rows}
+use Rattle.cx_rules.specs.Flat.{IsFlat}
 use Rattle.cx_numbering.specs.DesignOf.{design_of}
 use Rattle.cx_check.specs.Acceptance.{IsAcceptedTree}
 
@@ -25,11 +26,12 @@ pub record RunAlike (d e : PlainDesign) : Type 0 where
   pub rows : external_rows e ≡ external_rows d
   pub runs : (words : List (List ℕ)) (n : ℕ) → AreAlike d e (run_main d words n) (run_main e words n)
 
--- the text has a tree that is accepted, and its design runs as the design of this tree
+-- the text has a tree that is accepted and has no static component, and its design runs as the design of this tree
 pub record RunsAs (tree : PlainTree) (written : List ℕ) : Type 0 where
   pub again : PlainTree
   pub tokens : List Token
   pub lexed : Lex written tokens
   pub parsed : Parse tokens again
   pub accepted : IsAcceptedTree again
+  pub flat : IsFlat (design_of again)
   pub alike : RunAlike (design_of tree) (design_of again)

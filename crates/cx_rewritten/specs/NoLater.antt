@@ -5,17 +5,19 @@ use Rattle.cx_ast.specs.PlainTree.{PlainTree}
 use Rattle.cx_lex.specs.Lex.{Lex}
 use Rattle.cx_grammar.specs.Parsing.{Parse}
 use Rattle.cx_meaning.specs.Instances.{State, tree_of, words_of}
+use Rattle.cx_rules.specs.Flat.{IsFlat}
 use Rattle.cx_numbering.specs.DesignOf.{design_of}
 use Rattle.cx_check.specs.Acceptance.{IsAcceptedTree}
 use Rattle.cx_promotion.specs.Made.{Quickens}
 
--- the text has a tree that is accepted. Where the run of this tree's design ends, on all data and under each budget, that of its
--- design ends under the budget, in no more turns, in the same state; the same words stand in the same external memories
+-- the text has a tree that is accepted and has no static component. Where the run of this tree's design ends, on all data and under each
+-- budget, that of its design ends under the budget, in no more turns, in the same state; the same words stand in the same external memories
 pub record EndsNoLater (tree : PlainTree) (written : List ℕ) : Type 0 where
   pub again : PlainTree
   pub tokens : List Token
   pub lexed : Lex written tokens
   pub parsed : Parse tokens again
   pub accepted : IsAcceptedTree again
+  pub flat : IsFlat (design_of again)
   pub quickens : Quickens (design_of tree) (design_of again)
   pub words : (s : State) → words_of (tree_of (design_of again)) s ≡ words_of (tree_of (design_of tree)) s

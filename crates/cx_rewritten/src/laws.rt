@@ -2,6 +2,7 @@
 
 ghost use Rattle.std.specs.Prelude.{ℕ, List};
 ghost use Rattle.cx_ast.specs.PlainTree.{PlainTree};
+ghost use Rattle.cx_rules.specs.Flat.{IsFlat};
 ghost use Rattle.cx_rules.specs.Wellformed.{IsDesign};
 ghost use Rattle.cx_numbering.specs.DesignOf.{design_of};
 ghost use Rattle.cx_check.specs.Acceptance.{IsAcceptedTree};
@@ -20,11 +21,12 @@ ghost use Rattle.cx_rewritten.specs.NoLater.{EndsNoLater};
 use cx_promoted_trees::laws::{promoted_is_accepted, promoted_trees_run_quicker};
 
 /// The lines of what is shared in the tree of a text, and behind them the shared tree as it is printed, are read as the shared tree, at
-/// other places. Where the tree is accepted, so is what is written; it has the same external memories, and its design ends in the
-/// same turn with the same words, has a fault of the same kind in the same turn, or needs more turns, where that of the tree does.
+/// other places. Where the tree is accepted and has no static component, what is written is accepted; it has the same external
+/// memories, and its design ends in the same turn with the same words, has a fault of the same kind in the same turn, or needs more
+/// turns, where that of the tree does.
 pub fn shared_texts_run_alike()
     ensures read { (tree : PlainTree) (written : List ℕ) → IsTreeOfText tree → IsSharedText tree written → IsReadAs (shared_tree tree) written }
-    ensures runs { (tree : PlainTree) (written : List ℕ) → IsTreeOfText tree → IsAcceptedTree tree → IsDesign (design_of tree) → IsSharedText tree written → RunsAs tree written }
+    ensures runs { (tree : PlainTree) (written : List ℕ) → IsTreeOfText tree → IsFlat (design_of tree) → IsAcceptedTree tree → IsDesign (design_of tree) → IsSharedText tree written → RunsAs tree written }
 {}
 
 /// The promoted tree has a text where the tree has one; its assignments and invokes stand in the order in which they stood.
@@ -34,11 +36,11 @@ pub fn promoted_trees_are_printable()
 {}
 
 /// The lines of what is promoted in the tree of a text, and behind them the promoted tree as it is printed, are read as the promoted
-/// tree, at other places. Where the tree is accepted, so is what is written; it has the same external memories, and where the run
-/// of the tree's design ends, its design ends no later, in the same state.
+/// tree, at other places. Where the tree is accepted and has no static component, what is written is accepted; it has the same
+/// external memories, and where the run of the tree's design ends, its design ends no later, in the same state.
 pub fn promoted_texts_end_no_later()
     ensures read { (tree : PlainTree) (written : List ℕ) → IsTreeOfText tree → (p : IsPromotedText tree written) → IsReadAs p.new written }
-    ensures runs { (tree : PlainTree) (written : List ℕ) → IsTreeOfText tree → IsAcceptedTree tree → IsDesign (design_of tree) → IsPromotedText tree written → EndsNoLater tree written }
+    ensures runs { (tree : PlainTree) (written : List ℕ) → IsTreeOfText tree → IsFlat (design_of tree) → IsAcceptedTree tree → IsDesign (design_of tree) → IsPromotedText tree written → EndsNoLater tree written }
 {
     promoted_is_accepted();
     promoted_trees_run_quicker();

@@ -1,6 +1,5 @@
 -- THE DESIGN OF THE SHARED TREE is the shared design, where the tree breaks no rule on names; and the shared tree is accepted, where the tree is.
-use Rattle.std.proofs.Common.{◌≡◌, ℕ, ◌<◌, ◌≤◌, ◌^◌, inl, inr, List, [], ◌∷◌, ◌++◌, Option, Some, None, length, map, flat_map, codes, refl, sym, ap, ap₂, ◌∙◌, subst, arith}
-use Rattle.cx_text.specs.declared.places.Place.{Place}
+use Rattle.std.proofs.Common.{◌≡◌, ℕ, zero, suc, ◌<◌, ◌≤◌, ◌^◌, inl, inr, List, [], ◌∷◌, Option, Some, None, length, map, get_or, flat_map, codes, refl, sym, ap, ap₂, ◌∙◌, subst, arith}
 use Rattle.cx_ast.specs.declared.operands.OperandForm.{OperandForm}
 use Rattle.cx_ast.specs.declared.operands.OperandForm.TheVariants as operands
 use Rattle.cx_ast.specs.PlainTree as ast
@@ -10,14 +9,15 @@ use Rattle.cx_meaning.specs.Sights.{In}
 use Rattle.cx_rules.specs.Accepted.{IsAccepted}
 use Rattle.cx_numbering.specs.Names.{cell_names}
 use Rattle.cx_numbering.specs.DesignOf.{number_or_0, Invoke, control_invokes, component_of, design_of}
-use Rattle.cx_numbering.specs.NameRules.{names_break, named, visit_block, Visited, statements_in, Standing, standing}
-use Rattle.cx_meaning.specs.Designs.{PlainComponent, PlainDesign}
+use Rattle.cx_numbering.specs.NameRules.{names_break, named, visit_block, Visited, Standing, standing}
+use Rattle.cx_meaning.specs.Designs.{PlainComponent, PlainDesign, no_component}
 use Rattle.cx_meaning.specs.Instances.{State, tree_of, words_of}
 use Rattle.cx_meaning.specs.Cycles.{Fault}
 use Rattle.cx_meaning.specs.Answers.{End, More}
 use Rattle.cx_meaning.specs.Answers as answers
 use Rattle.cx_meaning.specs.Running.{run_main}
 use Rattle.cx_rules.specs.Externals.{external_rows}
+use Rattle.cx_rules.specs.Flat.{IsFlatPart, IsFlat}
 use Rattle.cx_rules.specs.Sizes.{sizes_of, design_size}
 use Rattle.cx_rules.specs.Wellformed.{IsDesign}
 use Rattle.cx_names.specs.Targets.{is_literal, HasTargets}
@@ -28,12 +28,11 @@ use Rattle.cx_names.proofs.Statements.{invoke_of_block, visited_of, same_breaks}
 use Rattle.cx_names.proofs.PartLemmas.{distinct_names}
 use Rattle.cx_names.proofs.Whole.{is_design}
 use Rattle.cx_text.proofs.BoolLaws.{not_not}
-use Rattle.cx_check.specs.Unbuilt.{static_word, static_words, length_word, words_in, first_place, first_unbuilt}
 use Rattle.cx_check.specs.Acceptance.{IsAcceptedTree}
-use Rattle.cx_check.proofs.BuiltLemmas.{built_is_flat}
 use Rattle.cx_rewrites.proofs.FlatRulesLemmas.{accepted_flat}
-use Rattle.cx_copies.specs.Naming.{named_operand_form, named_form}
-use Rattle.cx_sharing.specs.SharedDesign.{shared_part, shared_design}
+use Rattle.cx_copies.specs.Naming.{named_operand_form}
+use Rattle.cx_sharing.specs.SharedDesign.{shared_invoke, shared_part, shared_design}
+use Rattle.cx_sharing.specs.Giving.{new_cell}
 use Rattle.cx_sharing.specs.SharedTree.{shared_tree}
 use Rattle.cx_sharing.specs.SharedRows.{rows_of, shared_rows}
 use Rattle.cx_sharing.specs.Following.{shared_fault}
@@ -42,7 +41,7 @@ use Rattle.cx_sharing.proofs.LimitsShared.{smaller}
 use Rattle.cx_sharing.proofs.SharedMain.{ends_shared, fault_shared, more_shared, rows_shared}
 use Rattle.cx_sharing.proofs.SharedOnce.{once_told}
 use Rattle.cx_shared_trees.proofs.TreeDesign.{shared_item, shared_items, component_names-shared, new_name, IsInvoke, component-shared}
-use Rattle.cx_shared_trees.proofs.NamesShared.{shared_visited, statements-shared, shared_standing, standing-shared, names_shared}
+use Rattle.cx_shared_trees.proofs.NamesShared.{shared_standing, standing-shared, names_shared}
 
 -- the cells of a component have names of their own
 pub distinct_cells : (tree : PlainTree) (item : ast.PlainComponent) → KeptPart tree item → Distinct (cell_names item)
@@ -79,43 +78,21 @@ design-shared tree none =
     (ap (map (component_of (shared_tree tree))) (shared_items tree tree.components) ∙ components-shared tree tree.components (kept_parts tree none))
     (ap (number_or_0 (codes "main")) (component_names-shared tree))
 
--- WHAT IS LEFT OUT as a whole
-word_named : (name : List ℕ → List ℕ) (form : statements.PlainForm) (place : Place) → static_word (named_form name form) place ≡ static_word form place
-word_named name (statements.Enable group marks) place = refl
-word_named name (statements.Seq marks block) place = refl
-word_named name (statements.Par marks block) place = refl
-word_named name (statements.StaticSeq length marks block) place = refl
-word_named name (statements.StaticPar length marks block) place = refl
-word_named name (statements.If test comb block otherwise) place = refl
-word_named name (statements.StaticIf length test block otherwise) place = refl
-word_named name (statements.While test comb body) place = refl
-word_named name (statements.Repeat count body) place = refl
-word_named name (statements.StaticRepeat length count body) place = refl
-word_named name (statements.Invoke cell inputs outputs) place = refl
-word_named name (statements.StaticInvoke length cell inputs outputs) place = refl
+-- ACCEPTED, without static components
+pub flat-shared : (tree : PlainTree) → names_break tree ≡ None → IsFlat (design_of tree) → IsFlat (design_of (shared_tree tree))
+flat-shared tree none flat = subst IsFlat (sym (design-shared tree none)) (parts (design_of tree).components flat)
+  where
+    parts : (list : List PlainComponent) → ((k : ℕ) → k < length list → IsFlatPart (get_or list k no_component)) → (k : ℕ) → k < length (map shared_part list) → IsFlatPart (get_or (map shared_part list) k no_component)
+    parts [] each k within = absurd (omega (arith, within))
+    parts (part ∷ list) each zero within =
+        let own = each 0 (omega arith) in
+        record { dynamic = own.dynamic; no_invoke = ap (map (shared_invoke (new_cell part))) own.no_invoke }
+    parts (part ∷ list) each (suc k) within = parts list (λ n less. each (suc n) (omega (arith, less))) k (omega (arith, within))
 
-module _ (tree : PlainTree) (item : ast.PlainComponent) (own : KeptPart tree item) where
-  words_visited : (list : List Visited) → static_words (map (shared_visited tree item own (distinct_cells tree item own)) list) ≡ static_words list
-  words_visited [] = refl
-  words_visited (v ∷ rest) = ap₂ ◌++◌ (word_named (new_name tree item) v.form v.place) (words_visited rest)
-
-  words_kept : words_in (shared_item tree item) ≡ words_in item
-  words_kept = ap (λ list. length_word item.length item.place ++ list) (ap static_words (statements-shared tree item own (distinct_cells tree item own)) ∙ words_visited (statements_in item))
-
-words_of_items : (tree : PlainTree) (items : List ast.PlainComponent) → ((item : ast.PlainComponent) → In items item → KeptPart tree item) → flat_map words_in (map (shared_item tree) items) ≡ flat_map words_in items
-words_of_items tree [] own = refl
-words_of_items tree (item ∷ items) own = ap₂ ◌++◌ (words_kept tree item (own item (inl refl))) (words_of_items tree items (λ x i. own x (inr i)))
-
-unbuilt-shared : (tree : PlainTree) → names_break tree ≡ None → first_unbuilt (shared_tree tree) ≡ first_unbuilt tree
-unbuilt-shared tree none =
-    ap (first_place None) (ap (flat_map words_in) (shared_items tree tree.components) ∙ words_of_items tree tree.components (kept_parts tree none))
-
--- ACCEPTED
-pub shared_tree_accepted : (tree : PlainTree) → IsAcceptedTree tree → IsAcceptedTree (shared_tree tree)
-shared_tree_accepted tree h = record {
-  built = unbuilt-shared tree h.named ∙ h.built;
+pub shared_tree_accepted : (tree : PlainTree) → IsFlat (design_of tree) → IsAcceptedTree tree → IsAcceptedTree (shared_tree tree)
+shared_tree_accepted tree flat h = record {
   named = names_shared tree (λ item i. distinct_cells tree item (kept_parts tree h.named item i)) h.named;
-  accepted = subst IsAccepted (sym (design-shared tree h.named)) (shared_accepted (design_of tree) (accepted_flat (design_of tree) (built_is_flat tree h.built) h.accepted));
+  accepted = subst IsAccepted (sym (design-shared tree h.named)) (shared_accepted (design_of tree) (accepted_flat (design_of tree) flat h.accepted));
 }
 
 -- TARGETS

@@ -8,6 +8,7 @@ ghost use Rattle.cx_meaning.specs.Answers as answers;
 ghost use Rattle.cx_meaning.specs.Cycles.{Fault};
 ghost use Rattle.cx_meaning.specs.Running.{run_main};
 ghost use Rattle.cx_rules.specs.Externals.{external_rows};
+ghost use Rattle.cx_rules.specs.Flat.{IsFlat};
 ghost use Rattle.cx_rules.specs.Sizes.{design_size};
 ghost use Rattle.cx_rules.specs.Wellformed.{IsDesign};
 ghost use Rattle.cx_numbering.specs.DesignOf.{design_of};
@@ -27,10 +28,11 @@ pub fn shared_trees_have_shared_designs()
     ensures kept { (tree : PlainTree) → HasTargets tree → names_break tree ≡ None → design_size (design_of tree) < 2 ^ 32 → IsDesign (design_of (shared_tree tree)) }
 {}
 
-/// The shared tree of an accepted tree is accepted: it has nothing that is left out as a whole, breaks no rule on names, and its
-/// design breaks no rule.
+/// The shared tree of an accepted tree without static components is accepted, and has no static component: it breaks no rule on names,
+/// and its design breaks no rule.
 pub fn shared_is_accepted()
-    ensures accepted { (tree : PlainTree) → IsAcceptedTree tree → IsAcceptedTree (shared_tree tree) }
+    ensures accepted { (tree : PlainTree) → IsFlat (design_of tree) → IsAcceptedTree tree → IsAcceptedTree (shared_tree tree) }
+    ensures flat { (tree : PlainTree) → names_break tree ≡ None → IsFlat (design_of tree) → IsFlat (design_of (shared_tree tree)) }
     ensures named { (tree : PlainTree) → names_break tree ≡ None → names_break (shared_tree tree) ≡ None }
 {}
 

@@ -17,9 +17,8 @@ use Rattle.cx_print.proofs.FileSpelling.{tree_added}
 use Rattle.cx_meaning.specs.Instances.{tree_of}
 use Rattle.cx_meaning.specs.Active.{no_later}
 use Rattle.cx_numbering.specs.DesignOf.{design_of}
-use Rattle.cx_check.proofs.BuiltLemmas.{built_is_flat}
 use Rattle.cx_rewrites.specs.Places.{SameDesign}
-use Rattle.cx_rewrites.proofs.PlaceAccepted.{accepted_there}
+use Rattle.cx_rewrites.proofs.PlaceAccepted.{flat_there, accepted_there}
 use Rattle.cx_rewrites.proofs.PlaceDesigns.{tree_of-same, run_main-same, words_of-same, external_rows-same}
 use Rattle.cx_written.specs.Ordered.{places_in, Rise, AreOf, none_left, left_out, one_kept, StandAs, KeepsOrder}
 use Rattle.cx_written.specs.Written.{IsWritten, IsReadAs}
@@ -73,7 +72,8 @@ written_read text written tokens tree new lexed parsed keeps printable w =
       lexed = whole;
       parsed = found.parsed;
       equal = found.equal;
-      accepted = λ h. same_accepted new found.again (sym found.equal) (accepted_there (design_of new) (design_of found.again) same (built_is_flat new h.built)) h;
+      accepted = λ flat h. same_accepted new found.again (sym found.equal) (accepted_there (design_of new) (design_of found.again) same flat) h;
+      flat = flat_there (design_of new) (design_of found.again) same;
       run = λ ws n. run_main-same (design_of new) (design_of found.again) same ws n;
       words = words_of-same (tree_of (design_of new)) (tree_of (design_of found.again)) (tree_of-same (design_of new) (design_of found.again) same);
       rows = external_rows-same (design_of new) (design_of found.again) same;

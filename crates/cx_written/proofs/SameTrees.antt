@@ -1,27 +1,22 @@
 -- TREES THAT ARE THE SAME apart from places: their designs are, and one is accepted where the other is.
-use Rattle.std.proofs.Common.{◌≡◌, ℕ, zero, suc, Bool, true, false, List, [], ◌∷◌, ◌++◌, codes, map, get_or, Option, Some, None, length, refl, sym, ap, ◌∙◌, if◌then◌else◌}
+use Rattle.std.proofs.Common.{◌≡◌, ℕ, zero, suc, Bool, true, false, List, [], ◌∷◌, codes, map, get_or, Option, Some, None, length, refl, sym, ap, ◌∙◌, if◌then◌else◌}
 use Rattle.std.specs.List.{AllByRecursion}
 use Rattle.cx_text.proofs.ListLaws.{length-map}
-use Rattle.cx_text.specs.declared.places.Place.{Place}
-use Rattle.cx_text.specs.Places.{start}
 use Rattle.cx_text.specs.declared.diagnostics.Diagnostic.{Diagnostic}
 use Rattle.cx_ast.specs.PlainTree as ast
-use Rattle.cx_ast.specs.PlainStatements as statements
-use Rattle.cx_print.specs.Places.{bare_form, bare_component, without_places}
+use Rattle.cx_print.specs.Places.{bare_component, without_places}
 use Rattle.cx_meaning.specs.Designs.{component_at, no_component}
 use Rattle.cx_meaning.specs.Designs as plain
 use Rattle.cx_rules.specs.Accepted.{IsAccepted, comes_before}
 use Rattle.cx_numbering.specs.Names.{component_names}
 use Rattle.cx_numbering.specs.DesignOf.{number_or_0, component_of, design_of}
-use Rattle.cx_numbering.specs.NameRules.{Visited, statements_in, name_breaks, names_break, first_break, earlier, key_of}
+use Rattle.cx_numbering.specs.NameRules.{name_breaks, names_break, first_break, earlier, key_of}
 use Rattle.cx_rewrites.specs.Places.{SamePart, SameDesign}
-use Rattle.cx_check.specs.Unbuilt.{length_word, static_word, static_words, words_in, words_of_tree, first_place, first_unbuilt}
 use Rattle.cx_check.specs.Acceptance.{IsAcceptedTree}
-use Rattle.cx_check.proofs.BuiltLemmas.{no_places}
 use Rattle.cx_written.specs.Ordered.{places_in, Rise, IsInOrder}
-use Rattle.cx_written.proofs.BareNames.{each_way, component_names-bare}
+use Rattle.cx_written.proofs.BareNames.{component_names-bare}
 use Rattle.cx_written.proofs.BareControl.{inputs-bare, outputs-bare, cells-bare, groups-bare, invokes-bare, always-bare, control-bare}
-use Rattle.cx_written.proofs.BareItems.{bare_break, bare_visited, statements_in-bare}
+use Rattle.cx_written.proofs.BareItems.{bare_break}
 use Rattle.cx_written.proofs.BareTrees.{name_breaks-bare}
 use Rattle.cx_written.proofs.WrittenOrder.{bare_order, order-bare}
 
@@ -89,43 +84,6 @@ same_names old new e h =
     let none : map bare_break (name_breaks new) ≡ [] = name_breaks-bare new ∙ ap name_breaks (sym e) ∙ sym (name_breaks-bare old) ∙ ap (map bare_break) (no_first (name_breaks old) h) in
     ap first_break (none_mapped bare_break (name_breaks new) none)
 
--- WHAT IS LEFT OUT as a whole
-at_start : Place → Place
-at_start p = start
-
-static_word-bare : (f : statements.PlainForm) (place : Place) → map at_start (static_word f place) ≡ static_word (bare_form f) start
-unfolding at_start
-static_word-bare (statements.Enable group marks) place = refl
-static_word-bare (statements.Seq marks block) place = refl
-static_word-bare (statements.Par marks block) place = refl
-static_word-bare (statements.StaticSeq written marks block) place = refl
-static_word-bare (statements.StaticPar written marks block) place = refl
-static_word-bare (statements.If test comb block otherwise) place = refl
-static_word-bare (statements.StaticIf written test block otherwise) place = refl
-static_word-bare (statements.While test comb body) place = refl
-static_word-bare (statements.Repeat count body) place = refl
-static_word-bare (statements.StaticRepeat written count body) place = refl
-static_word-bare (statements.Invoke cell inputs outputs) place = refl
-static_word-bare (statements.StaticInvoke written cell inputs outputs) place = refl
-
-words_in-bare : (part : ast.PlainComponent) → map at_start (words_in part) ≡ words_in (bare_component part)
-unfolding at_start
-words_in-bare part =
-    first part.length part.place (static_words (statements_in part))
-    ∙ ap (λ ws. length_word part.length start ++ ws) (each_way (λ (v : Visited). static_word v.form v.place) at_start bare_visited (λ v. static_word v.form v.place) (λ v. static_word-bare v.form v.place) (statements_in part) ∙ ap static_words (statements_in-bare part))
-  where
-    first : (l : Option ℕ) (place : Place) (ws : List Place) → map at_start (length_word l place ++ ws) ≡ length_word l start ++ map at_start ws
-    first None place ws = refl
-    first (Some n) place ws = refl
-
-words_of_tree-bare : (tree : ast.PlainTree) → map at_start (words_of_tree tree) ≡ words_of_tree (without_places tree)
-words_of_tree-bare tree = each_way words_in at_start bare_component words_in words_in-bare tree.components
-
-same_words : (old new : ast.PlainTree) → without_places old ≡ without_places new → first_unbuilt old ≡ None → first_unbuilt new ≡ None
-same_words old new e h =
-    let none : map at_start (words_of_tree new) ≡ [] = words_of_tree-bare new ∙ ap words_of_tree (sym e) ∙ sym (words_of_tree-bare old) ∙ ap (map at_start) (no_places (words_of_tree old) h) in
-    ap (first_place None) (none_mapped at_start (words_of_tree new) none)
-
 -- ACCEPTED where the other is, and its design with it
 pub same_accepted : (old new : ast.PlainTree) → without_places old ≡ without_places new → (IsAccepted (design_of old) → IsAccepted (design_of new)) → IsAcceptedTree old → IsAcceptedTree new
-same_accepted old new e designs h = record { built = same_words old new e h.built; named = same_names old new e h.named; accepted = designs h.accepted }
+same_accepted old new e designs h = record { named = same_names old new e h.named; accepted = designs h.accepted }

@@ -9,6 +9,7 @@ use Rattle.cx_print.specs.Printed.{AppendsTree}
 use Rattle.cx_meaning.specs.Instances.{State, tree_of, words_of}
 use Rattle.cx_meaning.specs.Running.{run_main}
 use Rattle.cx_rules.specs.Externals.{external_rows}
+use Rattle.cx_rules.specs.Flat.{IsFlat}
 use Rattle.cx_numbering.specs.DesignOf.{design_of}
 use Rattle.cx_check.specs.Acceptance.{IsAcceptedTree}
 use Rattle.cx_written.specs.Comments.{AreComments}
@@ -19,15 +20,16 @@ pub record IsWritten (tree : PlainTree) (written : List ℕ) : Type 0 where
   pub are : AreComments comments
   pub printed : AppendsTree tree comments written
 
--- READ: the text has a tree that is this one apart from places. It is accepted where this one is, and has the same run on all data
--- and under each budget, with the same words in the same external memories
+-- READ: the text has a tree that is this one apart from places. It has the same run on all data and under each budget, with the same words
+-- in the same external memories. Where this one has no static component, neither has it, and it is accepted where this one is
 pub record IsReadAs (tree : PlainTree) (written : List ℕ) : Type 0 where
   pub again : PlainTree
   pub tokens : List Token
   pub lexed : Lex written tokens
   pub parsed : Parse tokens again
   pub equal : without_places again ≡ without_places tree
-  pub accepted : IsAcceptedTree tree → IsAcceptedTree again
+  pub accepted : IsFlat (design_of tree) → IsAcceptedTree tree → IsAcceptedTree again
+  pub flat : IsFlat (design_of tree) → IsFlat (design_of again)
   pub run : (words : List (List ℕ)) (n : ℕ) → run_main (design_of tree) words n ≡ run_main (design_of again) words n
   pub words : (s : State) → words_of (tree_of (design_of tree)) s ≡ words_of (tree_of (design_of again)) s
   pub rows : external_rows (design_of tree) ≡ external_rows (design_of again)

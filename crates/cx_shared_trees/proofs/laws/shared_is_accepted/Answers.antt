@@ -1,8 +1,11 @@
-use Rattle.cx_shared_trees.proofs.DesignShared.{shared_tree_accepted, names-kept}
+use Rattle.cx_shared_trees.proofs.DesignShared.{flat-shared, shared_tree_accepted, names-kept}
 use Rattle.cx_shared_trees.proofs.laws.shared_is_accepted.Goals as goal
 
 pub returns-clause-accepted : goal.returns-clause-accepted
-returns-clause-accepted c = λ tree accepted. shared_tree_accepted tree accepted
+returns-clause-accepted c = λ tree flat accepted. shared_tree_accepted tree flat accepted
+
+pub returns-clause-flat : goal.returns-clause-flat
+returns-clause-flat c = λ tree none flat. flat-shared tree none flat
 
 pub returns-clause-named : goal.returns-clause-named
 returns-clause-named c = λ tree none. names-kept tree none

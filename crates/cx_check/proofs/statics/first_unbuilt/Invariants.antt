@@ -1,7 +1,7 @@
 use Rattle.std.proofs.Common.{◌≡◌, None, drop, flat_map, map}
 use Rattle.cx_ast.specs.PlainTree.{plain_component}
 use Rattle.cx_check.specs.Unbuilt.{first_place, words_in}
-use Rattle.cx_check.proofs.left_out.first_unbuilt.Given as goal
+use Rattle.cx_check.proofs.statics.first_unbuilt.Given as goal
 
 -- the first so far, with the components that are left, is the first of all
 abbrev pub invariant-loop-component : goal.invariant-loop-component

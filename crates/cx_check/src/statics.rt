@@ -1,14 +1,16 @@
-//! The word `static` of static components and static invokes.
+//! The word `static` of static components and static invokes, and how the commands that leave them out refuse it.
 
 ghost use Rattle.std.specs.Prelude.{◌≡◌, ◌++◌, map, option_map};
 ghost use Rattle.cx_ast.specs.PlainTree.{plain_tree, plain_component};
 ghost use Rattle.cx_ast.specs.PlainStatements.{plain_block, plain_form, plain_statement, statements_of, else_of};
 ghost use Rattle.cx_numbering.specs.NameRules.{visit_all, visit_block, visit_else, visit_parts};
 ghost use Rattle.cx_check.specs.Unbuilt as unbuilt;
-ghost use Rattle.cx_check.specs.Unbuilt.{first_place, static_words, words_in};
+ghost use Rattle.cx_check.specs.Unbuilt.{IsLeftOut, first_place, static_words, words_in};
 
 use cx_ast::{Block, ComponentItem, StatementForm, StatementItem, Tree};
-use cx_text::Place;
+use cx_design::Refusal;
+use cx_text::{Diagnostic, Memory, Name, Place, Rule};
+use std::alloc::Global;
 
 /// The place of the first word `static` of a static component or a static invoke.
 pub fn first_unbuilt(tree: &Tree) -> Option<Place>
@@ -148,5 +150,19 @@ fn past_else(first: Option<Place>, block: &Option<Block>) -> Option<Place>
     match block {
         Some(block) => past_block(first, block),
         None => first,
+    }
+}
+
+/// The refusal of a word `static`, by a command that leaves static components and static invokes out.
+pub fn left_out(alloc: Global, place: Place) -> Refusal
+    ensures refusal { IsLeftOut place result }
+{
+    match Name::from_bytes(alloc, b"".as_slice()) {
+        Ok(name) => Refusal::Rule(Diagnostic {
+            rule: Rule::LeftOut,
+            place,
+            name,
+        }),
+        Err(Memory) => Refusal::Memory,
     }
 }

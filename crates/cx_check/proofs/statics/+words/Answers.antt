@@ -4,7 +4,7 @@ use Rattle.cx_numbering.specs.NameRules.{visit_all, visit_block, visit_else, vis
 use Rattle.cx_check.specs.Unbuilt.{first_place, static_words, words_of}
 use Rattle.cx_check.proofs.PlaceLemmas.{step, words_of_all, both_past}
 use Rattle.cx_numbering.proofs.NameRulesLemmas.{if_parts, static_if_parts}
-use Rattle.cx_check.proofs.left_out.+words.Goals as goal
+use Rattle.cx_check.proofs.statics.+words.Goals as goal
 
 pub past_all-loop-statement-preserved : goal.past_all-loop-statement-preserved
 past_all-loop-statement-preserved t c =

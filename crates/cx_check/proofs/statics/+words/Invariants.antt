@@ -2,7 +2,7 @@ use Rattle.std.proofs.Common.{◌≡◌, drop, map}
 use Rattle.cx_ast.specs.PlainStatements.{plain_statement, statements_of}
 use Rattle.cx_numbering.specs.NameRules.{visit_all}
 use Rattle.cx_check.specs.Unbuilt.{first_place, static_words}
-use Rattle.cx_check.proofs.left_out.+words.Given as goal
+use Rattle.cx_check.proofs.statics.+words.Given as goal
 
 -- the first so far, with the statements that are left, is the first of all
 abbrev pub invariant-past_all-loop-statement : goal.invariant-past_all-loop-statement

@@ -2,7 +2,7 @@ use Rattle.std.proofs.Common.{◌∙◌, refl, flat_map}
 use Rattle.cx_ast.specs.PlainTree.{plain_component}
 use Rattle.cx_check.specs.Unbuilt.{words_in}
 use Rattle.cx_check.proofs.PlaceLemmas.{step}
-use Rattle.cx_check.proofs.left_out.first_unbuilt.Goals as goal
+use Rattle.cx_check.proofs.statics.first_unbuilt.Goals as goal
 
 pub loop-component-preserved : goal.loop-component-preserved
 loop-component-preserved c =
