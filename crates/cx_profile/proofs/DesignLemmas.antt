@@ -5,7 +5,6 @@ use Rattle.std.proofs.Math.Logic.{∥∥₁_map}
 use Rattle.std.proofs.lemmas.Bool.{eqb-true, eq-eqb}
 use Rattle.cx_meaning.specs.Designs.{PlainCell, PlainComponent, PlainDesign, component_at}
 use Rattle.cx_meaning.specs.Instances.{externals_from, if_external, externals_of}
-use Rattle.cx_rules.specs.Flat.{IsFlat}
 use Rattle.cx_rules.specs.Sizes.{design_size, sizes_of}
 use Rattle.cx_rules.specs.Wellformed.{IsDesign}
 use Rattle.cx_design_sizes.specs.Capped.{capped}
@@ -73,7 +72,7 @@ module _ (d : PlainDesign) where
       ap (λ cs. record { components = cs; main = main }) is ∙ ap (λ m. record { components = (instrumented d).components; main = m }) (same ∙ sym (main-same (nat_eq (entry_count d) 0)))
 
   -- keeps what every design keeps, where 32 bits count its size
-  pub made_keeps : ∥ IsDesign d ∥₁ → IsFlat d → (made : PlainDesign) → made ≡ instrumented d → (size : ℕ) → size ≡ capped (sizes_of made.components) → size < 2 ^ 32 → ∥ IsDesign made ∥₁
-  made_keeps keeps flat made is size total less =
+  pub made_keeps : ∥ IsDesign d ∥₁ → (made : PlainDesign) → made ≡ instrumented d → (size : ℕ) → size ≡ capped (sizes_of made.components) → size < 2 ^ 32 → ∥ IsDesign made ∥₁
+  made_keeps keeps made is size total less =
       let small : sizes_of made.components < 2 ^ 32 = omega arith in
-      ∥∥₁_map keeps (λ rules. subst IsDesign (sym is) (instrumented_keeps d rules flat (subst (λ x. design_size x < 2 ^ 32) is small)))
+      ∥∥₁_map keeps (λ rules. subst IsDesign (sym is) (instrumented_keeps d rules (subst (λ x. design_size x < 2 ^ 32) is small)))

@@ -4,7 +4,6 @@ use Rattle.std.proofs.Math.Logic.{∥∥₁_elim}
 use Rattle.cx_text.specs.declared.diagnostics.Diagnostic.{Diagnostic}
 use Rattle.cx_meaning.specs.Designs.{PlainDesign}
 use Rattle.cx_rules.specs.Accepted.{KeepsStage, IsFirstOf, IsAccepted}
-use Rattle.cx_rules.specs.Flat.{IsFlat}
 use Rattle.cx_rules.specs.Wellformed.{IsDesign}
 use Rattle.cx_rules.proofs.OneBreak.{one_rule, one_place, one_name}
 use Rattle.cx_design.specs.declared.refusals.Refusal.{Refusal}
@@ -16,8 +15,8 @@ use Rattle.cx_profiling.proofs.AcceptedStages.{accepted_kept}
 use Rattle.cx_profile.specs.Profiles.{IsLimit}
 
 -- IT IS ACCEPTED, where it keeps the limits
-pub accepted_within : (d made : PlainDesign) → ∥ IsDesign d ∥₁ → IsFlat d → IsAccepted d → made ≡ instrumented d → KeepsStage 7 made → IsAccepted made
-accepted_within d made keeps flat accepted is limits = subst IsAccepted (sym is) (record {
+pub accepted_within : (d made : PlainDesign) → ∥ IsDesign d ∥₁ → IsAccepted d → made ≡ instrumented d → KeepsStage 7 made → IsAccepted made
+accepted_within d made keeps accepted is limits = subst IsAccepted (sym is) (record {
   widths = λ rule spot place name stage b. never (λ a. a.widths rule spot place name stage b);
   shapes = λ rule spot place name stage b. never (λ a. a.shapes rule spot place name stage b);
   no_cycles = λ rule spot place name stage b. never (λ a. a.no_cycles rule spot place name stage b);
@@ -29,7 +28,7 @@ accepted_within d made keeps flat accepted is limits = subst IsAccepted (sym is)
     kept = subst (KeepsStage 7) is limits
 
     never : (IsAccepted (instrumented d) → ⊥) → ⊥
-    never breaks = ∥∥₁_elim keeps (λ p q. absurd p) (λ design. breaks (accepted_kept d design flat accepted kept))
+    never breaks = ∥∥₁_elim keeps (λ p q. absurd p) (λ design. breaks (accepted_kept d design accepted kept))
 
 -- A LIMIT that is told is the first one
 pub limit_is : (d : PlainDesign) (refusal : Refusal) → IsFirstBreak 7 d refusal → IsLimit d refusal

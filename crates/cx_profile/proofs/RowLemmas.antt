@@ -10,7 +10,7 @@ use Rattle.cx_meaning.specs.Designs.{PlainGroup, PlainCell, no_group, group_at}
 use Rattle.cx_meaning.specs.Instances.{Instance, Node, Cells, no_cells, a_primitive, an_instance, part_of, Path, behind, paths_of, paths_below, instance_at, child_at}
 use Rattle.cx_rules.specs.Ports.{cell_name}
 use Rattle.cx_rules.specs.Sizes.{instances_below}
-use Rattle.cx_state.specs.Paths.{names_along}
+use Rattle.cx_rules.specs.FullPaths.{names_along}
 use Rattle.cx_state.proofs.TreeLemmas.{count_paths}
 use Rattle.cx_profiling.specs.Counters.{is_counted, counters_from, ProfileEntry, behind_cell, Shown, shown_here, shown_at_cell, shown_in, shown_below, first_gained, entries_of}
 use Rattle.cx_profile.specs.declared.entries.ProfiledGroup.{ProfiledGroup}

@@ -5,7 +5,7 @@ use Rattle.cx_meaning.specs.Instances.{Instance, externals_of, instance_at, part
 use Rattle.cx_rules.specs.Accepted.{IsFirstOf}
 use Rattle.cx_design.specs.declared.refusals.Refusal.{Refusal}
 use Rattle.cx_design.specs.declared.refusals.Refusal.TheVariants.{Rule, Memory}
-use Rattle.cx_state.specs.Paths.{names_along}
+use Rattle.cx_rules.specs.FullPaths.{names_along}
 use Rattle.cx_profiling.specs.Counters.{ProfileEntry, entry_count}
 
 -- the place of the memory of the counts among the external memories of main, where there is a count

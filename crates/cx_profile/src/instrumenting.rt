@@ -4,7 +4,6 @@ ghost use Rattle.std.specs.Prelude.{◌≡◌, IfErr, IfOk, MatchResult, Some, [
 ghost use Rattle.cx_text.specs.declared.diagnostics.Diagnostic.{Diagnostic};
 ghost use Rattle.cx_meaning.specs.Instances.{externals_from, paths_of, tree_of};
 ghost use Rattle.cx_rules.specs.Accepted.{IsAccepted, IsFirstOf, KeepsStage};
-ghost use Rattle.cx_rules.specs.Flat.{IsFlat};
 ghost use Rattle.cx_rules.specs.Sizes.{sizes_of};
 ghost use Rattle.cx_design.specs.PlainForms.{plain_cell, plain_component};
 ghost use Rattle.cx_design.specs.PlainDesigns.{plain_design};
@@ -35,10 +34,8 @@ pub struct Profiled {
     pub groups: Vec<ProfiledGroup>,
 }
 
-/// The instrumented design of an accepted one without static components. It is refused exactly where it exceeds a limit, or for
-/// want of memory.
+/// The instrumented design of an accepted one. It is refused exactly where it exceeds a limit, or for want of memory.
 pub fn instrument(alloc: Global, design: &Checked) -> Result<Profiled, Refusal>
-    requires flat { IsFlat (plain_design design.now) }
     ensures design { IfOk result (λ p. plain_design p.design ≡ definitions.instrumented (plain_design design.now)) }
     ensures memory { IfOk result (λ p. p.memory ≡ memory_place_of (plain_design design.now)) }
     // Of each word of the memory, in order: the path of the group, its number, and that of the instance.
@@ -65,7 +62,6 @@ struct Unchecked {
 
 /// The instrumented design, the place of its memory, and the group of each word.
 fn made(alloc: Global, design: &Design) -> Result<Unchecked, Memory>
-    requires flat { IsFlat (plain_design design.now) }
     ensures design { IfOk result (λ p. plain_design p.design ≡ definitions.instrumented (plain_design design.now)) }
     ensures memory { IfOk result (λ p. p.memory ≡ memory_place_of (plain_design design.now)) }
     ensures groups { IfOk result (λ p. p.groups.items ≡ rows_in (tree_of (plain_design design.now)) 0 []) }
@@ -83,7 +79,6 @@ fn made(alloc: Global, design: &Design) -> Result<Unchecked, Memory>
 
 /// The design checked, where it breaks no rule but a limit; where it exceeds one, the first is told.
 fn checked(alloc: Global, made: Unchecked) -> Result<Profiled, Refusal>
-    requires flat { IsFlat (plain_design made.design) }
     requires accepted { KeepsStage 7 (plain_design made.design) → IsAccepted (plain_design made.design) }
     ensures design { IfOk result (λ p. plain_design p.design ≡ plain_design made.design) }
     ensures memory { IfOk result (λ p. p.memory ≡ made.memory) }
@@ -134,7 +129,6 @@ fn externals(cells: &[Cell]) -> Result<u32, Memory>
 
 /// The instrumented design.
 fn instrumented_design(alloc: Global, design: &Design, gains: &Gains) -> Result<Design, Memory>
-    requires flat { IsFlat (plain_design design.now) }
     requires gains { AreGains (plain_design design.now) gains.now }
     ensures value { IfOk result (λ made. plain_design made ≡ definitions.instrumented (plain_design design.now)) }
 {

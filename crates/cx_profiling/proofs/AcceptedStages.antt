@@ -1,4 +1,4 @@
--- AN INSTRUMENTED DESIGN IS ACCEPTED where the design is, without static components, but for the limits: no part of it breaks a rule on shapes, on circles or on races.
+-- AN INSTRUMENTED DESIGN IS ACCEPTED where the design is, but for the limits: no part of it breaks a rule on shapes, on circles or on races.
 use Rattle.std.proofs.Common.{◌≡◌, ℕ, suc, ◌^◌, ◌<◌, ◌≤◌, ◌⊎◌, inl, inr, Bool, true, false, if◌then◌else◌, List, length, refl, subst, arith}
 use Rattle.std.specs.Prelude.{nat_eq}
 use Rattle.std.proofs.lemmas.Bool.{eqb-false}
@@ -9,27 +9,25 @@ use Rattle.cx_meaning.specs.Instances.{tree_within}
 use Rattle.cx_meaning.specs.Active.{nothing, Owned, source_order}
 use Rattle.cx_meaning.specs.Sights.{In}
 use Rattle.cx_meaning.proofs.SightsLaws.{in_at}
-use Rattle.cx_rules.specs.Accepted as whole
+use Rattle.cx_rules.specs.Accepted.{KeepsStage, IsAccepted}
 use Rattle.cx_rules.specs.CallShape.{BreaksCallShape, GroupBreaksCallShape}
 use Rattle.cx_rules.specs.Items.{Visited, statements_in}
-use Rattle.cx_rules.specs.RaceRule.{HasCycle, BreaksCombCycle, GroupBreaksCombCycle}
-use Rattle.cx_rules.specs.ShapeRules.{BreaksNoDone, BreaksDoneNotState, BreaksAlwaysEnable, BreaksCombEnable, BreaksStaticGuard, GroupBreaksStaticShape, BreaksStaticControl, BreaksStaticTest, BreaksOutputNotState}
+use Rattle.cx_rules.specs.InvokeShape.{BreaksStaticCell, BreaksInvoke}
+use Rattle.cx_rules.specs.RaceRule.{HasCycle, BreaksCombCycle, GroupBreaksCombCycle, BreaksRace}
+use Rattle.cx_rules.specs.ShapeRules.{BreaksNoDone, BreaksDoneNotState, BreaksAlwaysEnable, BreaksCombEnable, BreaksStaticGuard, GroupBreaksStaticShape, BreaksStaticControl, BreaksLength, BreaksStaticTest, BreaksInvokeLength, BreaksPartLength, BreaksOutputNotState, BreaksKept}
 use Rattle.cx_rules.specs.Spots.{Spot, AssignRule, StatementRule, GroupRule, OnAssign, OnStatement, OnGroup}
-use Rattle.cx_rules.specs.Flat.{IsFlat}
 use Rattle.cx_rules.specs.Wellformed.{IsDesign}
-use Rattle.cx_rewrites.specs.FlatRules.{BreaksLength, BreaksRace, KeepsStage, IsAccepted}
-use Rattle.cx_rewrites.proofs.FlatRulesLemmas.{accepted_flat, accepted_whole, stage_flat}
 use Rattle.cx_profiling.specs.Counters.{entry_count}
 use Rattle.cx_profiling.specs.Instrumented.{instrumented, with_counts}
 use Rattle.cx_profiling.proofs.AlikeLemmas.{some_levels, instrumented_is}
 use Rattle.cx_profiling.proofs.CallsKept.{call_never, group_call_never}
 use Rattle.cx_profiling.proofs.CirclesKept.{cycle_never, group_cycle_never}
-use Rattle.cx_profiling.proofs.FlatKept.{with_counts_flat}
 use Rattle.cx_profiling.proofs.GainedLemmas.{components-length}
 use Rattle.cx_profiling.proofs.MemoryLemmas.{few_words}
 use Rattle.cx_profiling.proofs.RacesKept.{race_never}
 use Rattle.cx_profiling.proofs.RoleLemmas.{Role, as_main, as_child, as_kept, role}
 use Rattle.cx_profiling.proofs.ShapesKept as shapes
+use Rattle.cx_profiling.proofs.StaticsKept.{invoke_length_never, part_length_never, static_cell_never, invoke_never, kept_never}
 use Rattle.cx_profiling.proofs.WidthStage.{instrumented_keeps_widths}
 
 -- a rule of another stage
@@ -67,7 +65,10 @@ module _ (d : PlainDesign) (design : IsDesign d) (accepted : IsAccepted d) (some
   no_circle : (spot : Spot) (place : Place) (name : List ℕ) → BreaksCombCycle (with_counts d) spot place name → ⊥
   no_circle spot place name on =
       let within : spot.component < length d.components = there spot.component on.within in
-      cycle_never d design accepted.accepted m spot.component count within some small (subst (λ x. HasCycle x nothing) (shapes.j_is d design accepted m spot.component count within) on.cycle)
+      cycle_never d design accepted m spot.component count within some small (subst (λ x. HasCycle x nothing) (shapes.j_is d design accepted m spot.component count within) on.cycle)
+
+  no_part_length : (spot : Spot) (place : Place) (name : List ℕ) → BreaksPartLength (with_counts d) spot place name → ⊥
+  no_part_length spot place name on = part_length_never d design accepted m spot.component count (there spot.component on.within) on.latency on.static on.control
 
   pub keeps_shapes : KeepsStage 4 (with_counts d)
   keeps_shapes rules.NoDone spot place name e b = no_group BreaksNoDone (λ k within g less p n is. shapes.no_done_never d design accepted m k count within g less p n is) spot place name b
@@ -79,11 +80,17 @@ module _ (d : PlainDesign) (design : IsDesign d) (accepted : IsAccepted d) (some
       either (no_group GroupBreaksStaticShape (λ k within g less p n is. shapes.static_group_never d design accepted m k count within g less p n is) spot place name)
       (either (no_statement BreaksStaticControl (λ k within v i p n is. shapes.control_never d design accepted m k count within v i p n is) spot place name)
       (either (no_statement BreaksLength (λ k within v i p n is. shapes.length_never d design accepted m k count within v i p n is) spot place name)
-      (no_statement BreaksStaticTest (λ k within v i p n is. shapes.static_test_never d design accepted m k count within v i p n is) spot place name))) b
+      (either (no_statement BreaksStaticTest (λ k within v i p n is. shapes.static_test_never d design accepted m k count within v i p n is) spot place name)
+      (either (no_statement BreaksInvokeLength (λ k within v i p n is. invoke_length_never d design accepted m k count within v i p n is) spot place name)
+      (no_part_length spot place name))))) b
   keeps_shapes rules.CallShape spot place name e b =
       either (no_assign BreaksCallShape (λ k within o i p n is. call_never d design accepted m k count within o i p n is) spot place name)
-      (no_group GroupBreaksCallShape (λ k within g less p n is. group_call_never d design accepted m k count within g p n is) spot place name) b
-  keeps_shapes rules.OutputNotState spot place name e b = no_assign BreaksOutputNotState (λ k within o i p n is. shapes.output_never d design accepted m k count within o i p n is) spot place name b
+      (either (no_group GroupBreaksCallShape (λ k within g less p n is. group_call_never d design accepted m k count within g p n is) spot place name)
+      (either (no_assign BreaksStaticCell (λ k within o i p n is. static_cell_never d design accepted m k count within o i p n is) spot place name)
+      (no_statement BreaksInvoke (λ k within v i p n is. invoke_never d design accepted m k count within v i p n is) spot place name))) b
+  keeps_shapes rules.OutputNotState spot place name e b =
+      either (no_assign BreaksOutputNotState (λ k within o i p n is. shapes.output_never d design accepted m k count within o i p n is) spot place name)
+      (no_assign BreaksKept (λ k within o i p n is. kept_never d design accepted m k count within o i p n is) spot place name) b
   keeps_shapes rules.Width spot place name e b = apart 3 4 e (λ z. omega arith)
   keeps_shapes rules.GuardWidth spot place name e b = apart 3 4 e (λ z. omega arith)
   keeps_shapes rules.Literal spot place name e b = apart 3 4 e (λ z. omega arith)
@@ -96,7 +103,7 @@ module _ (d : PlainDesign) (design : IsDesign d) (accepted : IsAccepted d) (some
 
   pub keeps_no_cycles : KeepsStage 5 (with_counts d)
   keeps_no_cycles rules.CombCycle spot place name e b =
-      either (no_circle spot place name) (no_group GroupBreaksCombCycle (λ k within g less p n is. group_cycle_never d design accepted.accepted m k count within some small g is.0) spot place name) b
+      either (no_circle spot place name) (no_group GroupBreaksCombCycle (λ k within g less p n is. group_cycle_never d design accepted m k count within some small g is.0) spot place name) b
   keeps_no_cycles rules.Width spot place name e b = apart 3 5 e (λ z. omega arith)
   keeps_no_cycles rules.GuardWidth spot place name e b = apart 3 5 e (λ z. omega arith)
   keeps_no_cycles rules.Literal spot place name e b = apart 3 5 e (λ z. omega arith)
@@ -134,7 +141,7 @@ module _ (d : PlainDesign) (design : IsDesign d) (accepted : IsAccepted d) (some
   keeps_no_races _ spot place name e b = b
 
 -- where the limits are kept 32 bits count the entries, for main has a group for each
-few_entries : (d : PlainDesign) → IsDesign d → whole.KeepsStage 7 (with_counts d) → entry_count d ≤ 4096
+few_entries : (d : PlainDesign) → IsDesign d → KeepsStage 7 (with_counts d) → entry_count d ≤ 4096
 few_entries d design limits = by (role d d.main design.main_there)
   where
     by : Role d d.main → entry_count d ≤ 4096
@@ -142,20 +149,23 @@ few_entries d design limits = by (role d d.main design.main_there)
     by (as_child names is reached e) = absurd (is refl)
     by (as_kept is reached e) = absurd (is refl)
 
-with_counts_accepted : (d : PlainDesign) → IsDesign d → IsAccepted d → 1 ≤ entry_count d → whole.KeepsStage 7 (with_counts d) → whole.IsAccepted (with_counts d)
+with_counts_accepted : (d : PlainDesign) → IsDesign d → IsAccepted d → 1 ≤ entry_count d → KeepsStage 7 (with_counts d) → IsAccepted (with_counts d)
 with_counts_accepted d design accepted some limits =
     let few : entry_count d ≤ 4096 = few_entries d design limits in
     let small : entry_count d < 2 ^ 32 = omega (arith, few) in
     let levels = some_levels (length d.components) d.main design.main_there in
-    let flat = with_counts_flat d accepted.flat in
-    accepted_whole (with_counts d) flat (subst (KeepsStage 3) (instrumented_is d some) (instrumented_keeps_widths d design accepted small))
-    (keeps_shapes d design accepted some small levels.0 levels.1) (keeps_no_cycles d design accepted some small levels.0 levels.1)
-    (keeps_no_races d design accepted some small levels.0 levels.1) (stage_flat (with_counts d) flat 7 limits)
+    record {
+      widths = subst (KeepsStage 3) (instrumented_is d some) (instrumented_keeps_widths d design accepted small);
+      shapes = keeps_shapes d design accepted some small levels.0 levels.1;
+      no_cycles = keeps_no_cycles d design accepted some small levels.0 levels.1;
+      no_races = keeps_no_races d design accepted some small levels.0 levels.1;
+      limits = limits;
+    }
 
 -- THE INSTRUMENTED DESIGN IS ACCEPTED, where it keeps the limits
-pub accepted_kept : (d : PlainDesign) → IsDesign d → IsFlat d → whole.IsAccepted d → whole.KeepsStage 7 (instrumented d) → whole.IsAccepted (instrumented d)
-accepted_kept d design flat accepted limits = by (nat_eq (entry_count d) 0) refl limits
+pub accepted_kept : (d : PlainDesign) → IsDesign d → IsAccepted d → KeepsStage 7 (instrumented d) → IsAccepted (instrumented d)
+accepted_kept d design accepted limits = by (nat_eq (entry_count d) 0) refl limits
   where
-    by : (b : Bool) → nat_eq (entry_count d) 0 ≡ b → whole.KeepsStage 7 (if b then d else with_counts d) → whole.IsAccepted (if b then d else with_counts d)
+    by : (b : Bool) → nat_eq (entry_count d) 0 ≡ b → KeepsStage 7 (if b then d else with_counts d) → IsAccepted (if b then d else with_counts d)
     by true e kept = accepted
-    by false e kept = with_counts_accepted d design (accepted_flat d flat accepted) (omega (arith, eqb-false (entry_count d) 0 e)) kept
+    by false e kept = with_counts_accepted d design accepted (omega (arith, eqb-false (entry_count d) 0 e)) kept

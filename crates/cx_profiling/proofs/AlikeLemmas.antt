@@ -29,7 +29,7 @@ some_levels zero k less = absurd (omega (arith, less))
 some_levels (suc m) k less = (m, refl)
 
 -- counts by entries are counts by where they show
-entry_counts : (count : ProfileEntry → ℕ) (list : List Shown) → map count (map (λ x. x.entry) list) ≡ map (λ x. count x.entry) list
+pub entry_counts : (count : ProfileEntry → ℕ) (list : List Shown) → map count (map (λ x. x.entry) list) ≡ map (λ x. count x.entry) list
 entry_counts count [] = refl
 entry_counts count (x ∷ xs) = ap (λ rest. count x.entry ∷ rest) (entry_counts count xs)
 

@@ -76,7 +76,7 @@ driver_in part [] c e = absurd (cc)
 driver_in part (g ∷ gs) c e =
     ⊎_elim (λ a. (g, inl refl, a)) (λ b. let r = driver_in part gs c b in (r.0, inr r.1, r.2)) (or_cases (group_drives part g c) (groups_drive part gs c) e)
 
-list_joined : (done later : PlainStatements) → list_of (joined done later) ≡ list_of done ++ list_of later
+pub list_joined : (done later : PlainStatements) → list_of (joined done later) ≡ list_of done ++ list_of later
 list_joined no_statements later = refl
 list_joined (a_statement s ss) later = ap (λ list. s ∷ list) (list_joined ss later)
 
@@ -108,7 +108,7 @@ module _ (d : PlainDesign) (design : IsDesign d) (accepted : IsAccepted d) (m k 
   all_forms v stands = subst (λ x. IsForm x v.form) (same_part d (length d.components) k) ((design.components k at.within).statements v stands).form
 
   -- old cells are driven alike by groups that are there
-  groups_same : (gs : List ℕ) (c : ℕ) → ((g : ℕ) → In gs g → g < length part.groups) → c < length part.cells → groups_drive other gs c ≡ groups_drive part gs c
+  pub groups_same : (gs : List ℕ) (c : ℕ) → ((g : ℕ) → In gs g → g < length part.groups) → c < length part.cells → groups_drive other gs c ≡ groups_drive part gs c
   groups_same [] c there few = refl
   groups_same (g ∷ gs) c there few =
       ap (λ b. b || groups_drive other gs c) (old_driven d k at.within (in_reach d at) g c (there g (inl refl)) few) ∙ ap (λ b. group_drives part g c || b) (groups_same gs c (λ h i. there h (inr i)) few)

@@ -19,6 +19,7 @@ use Rattle.cx_meaning.specs.Sights.{In, PartPort, AnInput, part_port}
 use Rattle.cx_meaning.proofs.DesignsLemmas.{same_part}
 use Rattle.cx_meaning.proofs.InstancesLemmas.{instance_is, row_instance}
 use Rattle.cx_meaning.proofs.SightsLaws.{image_in}
+use Rattle.cx_rules.specs.Accepted.{IsAccepted}
 use Rattle.cx_rules.specs.Footprints.{Depends}
 use Rattle.cx_rules.specs.Items.{is_plain}
 use Rattle.cx_rules.specs.Ports.{component_of, is_primitive_enable, is_instance, is_part_port, path_of}
@@ -27,13 +28,12 @@ use Rattle.cx_rules.specs.CallShape.{is_port_of, Calls, go_port, done_port, writ
 use Rattle.cx_rules.specs.Wellformed.{IsDesign}
 use Rattle.cx_rules.proofs.FoundLemmas.{same_is}
 use Rattle.cx_rewrites.specs.Moving.{moved_assign}
-use Rattle.cx_rules.proofs.CountsLemmas.{latency_within}
-use Rattle.cx_rewrites.specs.FlatRules.{IsAccepted}
 use Rattle.cx_profiling.specs.Counters.{has_name, is_counted_kind, is_counted, counters, shown_in, first_gained}
 use Rattle.cx_profiling.specs.Instrumented.{gained, moved_number, moved_in, moved_assigns, address_width, with_counts}
 use Rattle.cx_profiling.proofs.CellPorts.{IsGiven, given_output, given_done, part_given}
 use Rattle.cx_profiling.proofs.CircleLemmas.{depends_back}
 use Rattle.cx_profiling.proofs.GainedLemmas.{grown_at}
+use Rattle.cx_profiling.proofs.InvokesKept.{keeps_at}
 use Rattle.cx_profiling.proofs.ListedCells.{CellIs, is_primitive, is_component, cell_is}
 use Rattle.cx_profiling.proofs.ListedCells as listed
 use Rattle.cx_profiling.proofs.MovedCalls.{some_moved, same_moved, AllInside, with_target-moved, target_inside, is_right_go-moved, is_right_enable-moved, is_right_done-moved}
@@ -49,7 +49,7 @@ nothing_more [] = refl
 nothing_more (x ∷ xs) = ap (λ list. x ∷ list) (nothing_more xs)
 
 -- a list of assignments and one of them
-some_back : (test : PortRef → Bool) (list : List PlainAssign) → some_target test list ≡ true → (a : PlainAssign) × In list a × (test a.target ≡ true)
+pub some_back : (test : PortRef → Bool) (list : List PlainAssign) → some_target test list ≡ true → (a : PlainAssign) × In list a × (test a.target ≡ true)
 some_back test [] e = absurd (cc)
 some_back test (a ∷ rest) e = ⊎_elim (λ h. (a, inl refl, h)) (λ h. let r = some_back test rest h in (r.0, inr r.1, r.2)) (or_cases (test a.target) (some_target test rest) e)
 
@@ -150,6 +150,7 @@ module _ (d : PlainDesign) (design : IsDesign d) (accepted : IsAccepted d) (m k 
     below : component < length d.components
     first : cell_at (cells_of i) c ≡ OfInstance (tree_within d m component)
     kid_is : tree_within (with_counts d) m component ≡ kid
+    dynamic : (component_at d component).latency ≡ None
     moved : (p : ℕ) → mv (ports.Cell c p) ≡ ports.Cell c (grown_number d (first_gained (component_at d component)) (gained d component) p)
     assign : PlainAssign
     inside : In (group_at part g).assigns assign
@@ -179,6 +180,9 @@ module _ (d : PlainDesign) (design : IsDesign d) (accepted : IsAccepted d) (m k 
         below = below;
         first = first;
         kid_is = instance_is (tree_within (with_counts d) m f) calls.child (sym second ∙ calls.is_component);
+        dynamic =
+            sym (keeps_at d f below).latency ∙ ap (λ (x : PlainComponent). x.latency) (sym (same_part (with_counts d) m f))
+            ∙ ap (λ t. (part_of t).latency) (instance_is (tree_within (with_counts d) m f) calls.child (sym second ∙ calls.is_component)) ∙ calls.dynamic;
         moved = moved;
         assign = b;
         inside = h;
@@ -209,7 +213,7 @@ module _ (d : PlainDesign) (design : IsDesign d) (accepted : IsAccepted d) (m k 
   old_calls g c kid b = record {
     child = tree_within d m b.component;
     is_component = b.first;
-    dynamic = latency_within d accepted.flat m b.component;
+    dynamic = ap (λ (x : PlainComponent). x.latency) (same_part d m b.component) ∙ b.dynamic;
     driven = some_there (is_port_of c) (assigns_of i g) b.assign b.inside (ap (is_port_of c) b.target ∙ eq-eqb c c refl);
   }
 
@@ -567,5 +571,5 @@ module _ (d : PlainDesign) (design : IsDesign d) (accepted : IsAccepted d) (m k 
       (λ a h. ap (λ q. same_port q (mv a.target)) (sym (go_stays g c calls.child back plain)) ∙ same_moved d part (go_port c) a.target (go_inside g c calls.child back plain) (inside a h).target) in
       let done : some_target (is_hole_of g) (assigns_of j g) ≡ some_target (is_hole_of g) (assigns_of i g) =
       ap (some_target (is_hole_of g)) (assigns_are g c calls.child back plain) ∙ some_moved mv (is_hole_of g) (is_hole_of g) (assigns_of i g) (λ a h. hole_of_kept d design m k within g a.target) in
-      shapes.old_group d design accepted m k count within GroupBreaksCallShape (λ s p n on. accepted.shapes rules.CallShape s p n refl (inr on)) g back.few (group_at part g).place (group_at part g).name
+      shapes.old_group d design accepted m k count within GroupBreaksCallShape (λ s p n on. accepted.shapes rules.CallShape s p n refl (inr (inl on))) g back.few (group_at part g).place (group_at part g).name
       (ap is_plain (sym (kind_kept d design k within g)) ∙ plain, (c, old_calls g c calls.child back, sym (ap₂ ◌&&◌ go done) ∙ bad), (refl, refl))

@@ -61,13 +61,13 @@ count_child (an_instance x rest) zero child e held s n = ap (λ y. count_control
 count_child (an_instance x rest) (suc c) child e held s n = count_child rest c child e held s n
 
 -- equal meanings and counts
-equal_carries : (R : Tally → State → State → Type 0) (counts more : Counted State) (go first on second : Meaning State Fault)
+pub equal_carries : (R : Tally → State → State → Type 0) (counts more : Counted State) (go first on second : Meaning State Fault)
     → ((s : State) (n : ℕ) → more s n ≡ counts s n) → ((s : State) (n : ℕ) → first s n ≡ go s n) → ((s : State) (n : ℕ) → second s n ≡ on s n) → Carries Exact R (λ f. f) counts go on → Carries Exact R (λ f. f) more first second
 equal_carries R counts more go first on second e h l carries before s z n m room r =
     subst (λ k. Carried Exact R (λ f. f) before k (first s n) (second z m)) (sym (e s n))
     (subst (λ o. Carried Exact R (λ f. f) before (counts s n) o (second z m)) (sym (h s n)) (subst (λ x. Carried Exact R (λ f. f) before (counts s n) (go s n) x) (sym (l z m)) (carries before s z n m room r)))
 
-enabled_form : (form : PlainForm) (g : ℕ) → In (enabled_group form) g → form ≡ Enable g
+pub enabled_form : (form : PlainForm) (g : ℕ) → In (enabled_group form) g → form ≡ Enable g
 enabled_form Empty g i = absurd i
 enabled_form (Enable x) g (inl e) = ap Enable e
 enabled_form (Enable x) g (inr i) = absurd i

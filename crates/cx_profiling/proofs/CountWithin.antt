@@ -33,11 +33,11 @@ module _ (path : Path) (g : ℕ) where
   abbrev pub NeverCounts : {S : Type 0} → Counted S → Type 0
   NeverCounts {S} counts = (s : S) (n : ℕ) → IsZero (counts s n)
 
-  zero_plus : (a b : Tally) → IsZero a → IsZero b → IsZero (plus a b)
+  pub zero_plus : (a b : Tally) → IsZero a → IsZero b → IsZero (plus a b)
   zero_plus a b e f = omega (arith, e, f)
 
   module _ {S F : Type 0} where
-    zero_then : (o : Answer S F) (n : ℕ) (counts : Counted S) → NeverCounts counts → IsZero (then_count o n counts)
+    pub zero_then : (o : Answer S F) (n : ℕ) (counts : Counted S) → NeverCounts counts → IsZero (then_count o n counts)
     zero_then (End s t) n counts h = h s (n - t)
     zero_then (answers.Fault f t) n counts h = refl
     zero_then More n counts h = refl
@@ -51,7 +51,7 @@ module _ (path : Path) (g : ℕ) where
         by (Goes a) h = zero_plus one (turns_count turn one a n) e (h a)
         by (answers.Faults f) h = refl
 
-    zero_test : (rest : S → S) (test : S → Test F) (first second : Counted S) → NeverCounts first → NeverCounts second → NeverCounts (test_count rest test first second)
+    pub zero_test : (rest : S → S) (test : S → Test F) (first second : Counted S) → NeverCounts first → NeverCounts second → NeverCounts (test_count rest test first second)
     zero_test rest test first second h k s zero = refl
     zero_test rest test first second h k s (suc n) = by (test s)
       where
@@ -60,14 +60,14 @@ module _ (path : Path) (g : ℕ) where
         by Fails = k (rest s) n
         by (Unclear f) = refl
 
-    zero_loop : (tests : ℕ) (rest : S → S) (test : S → Test F) (body : Meaning S F) (counts : Counted S) → NeverCounts counts → NeverCounts (loop_count tests rest test body counts)
+    pub zero_loop : (tests : ℕ) (rest : S → S) (test : S → Test F) (body : Meaning S F) (counts : Counted S) → NeverCounts counts → NeverCounts (loop_count tests rest test body counts)
     zero_loop zero rest test body counts h s n = refl
     zero_loop (suc tests) rest test body counts h s n =
         zero_test rest test (λ s1 k. plus (counts s1 k) (then_count (body s1 k) k (loop_count tests rest test body counts))) (λ s1 k. none)
         (λ s1 k. zero_plus (counts s1 k) (then_count (body s1 k) k (loop_count tests rest test body counts)) (h s1 k) (zero_then (body s1 k) k (loop_count tests rest test body counts) (zero_loop tests rest test body counts h)))
         (λ s1 k. refl) s n
 
-    zero_rounds : (times : ℕ) (body : Meaning S F) (counts : Counted S) → NeverCounts counts → NeverCounts (rounds_count times body counts)
+    pub zero_rounds : (times : ℕ) (body : Meaning S F) (counts : Counted S) → NeverCounts counts → NeverCounts (rounds_count times body counts)
     zero_rounds zero body counts h s n = refl
     zero_rounds (suc times) body counts h s n =
         zero_plus (counts s n) (then_count (body s n) n (rounds_count times body counts)) (h s n) (zero_then (body s n) n (rounds_count times body counts) (zero_rounds times body counts h))
@@ -135,7 +135,7 @@ none_active G F g differ h t (Runs x from to conditions ∷ rest) ((good, all), 
     by false e = e
 none_active G F g differ h t (Looks port at conditions ∷ rest) (here, fine) = none_active G F g differ h t rest fine
 
-called_drives : (cells : Cells) (assigns : List PlainAssign) (e : ℕ) → called_in cells assigns ≡ Some e → assigns_drive assigns e ≡ true
+pub called_drives : (cells : Cells) (assigns : List PlainAssign) (e : ℕ) → called_in cells assigns ≡ Some e → assigns_drive assigns e ≡ true
 called_drives cells [] e h = absurd (cc)
 called_drives cells (a ∷ rest) e h = by a.target h (called_drives cells rest e)
   where

@@ -1,4 +1,4 @@
--- AN INSTRUMENTED DESIGN IS A DESIGN, without static components, where 32 bits count its size.
+-- AN INSTRUMENTED DESIGN IS A DESIGN, where 32 bits count its size.
 use Rattle.std.proofs.Common.{◌≡◌, ℕ, zero, suc, ◌+◌, ◌*◌, ◌^◌, ◌<◌, ◌≤◌, Bool, true, false, inl, inr, ◌⊎◌, List, [], ◌∷◌, ◌++◌, length, map, get_or, Option, Some, None, refl, sym, ap, ◌∙◌, subst, arith}
 use Rattle.std.specs.Prelude.{nat_eq, if◌then◌else◌}
 use Rattle.std.specs.List.{slice_get}
@@ -14,7 +14,6 @@ use Rattle.cx_meaning.specs.Sights.{In}
 use Rattle.cx_meaning.proofs.DesignsLemmas.{there_below}
 use Rattle.cx_meaning.proofs.SightsLaws.{in_either, image_in}
 use Rattle.cx_rules.specs.Items.{Dynamic, Visited, visit, visit_all, statements_in, test_in, is_comb}
-use Rattle.cx_rules.specs.Flat.{IsFlat}
 use Rattle.cx_rules.specs.Ports.{component_of}
 use Rattle.cx_rules.specs.Sizes.{size_of, groups_size, sizes_of, design_size}
 use Rattle.cx_rules.specs.Wellformed.{IsComponent, IsDesign, IsEnable, IsForm, IsPort, IsWith, LeadsTo, by_cell, by_way_of}
@@ -29,7 +28,7 @@ use Rattle.cx_profiling.proofs.CounterLemmas.{counter_cells-length}
 use Rattle.cx_profiling.proofs.GainedLemmas.{IsGrown, grown_at, by_kind, components-length, component_at-with_counts, counted_groups-length, count_outputs-length, store_groups-length, gained_main, kept_grown, child_grown, main_grown}
 use Rattle.cx_profiling.proofs.FitLemmas.{FitsStatement, fits_statement, is_statement, moved_statement_fits, is_assign}
 use Rattle.cx_profiling.proofs.NewAssigns.{store_groups-at}
-use Rattle.cx_profiling.proofs.FlatKept.{with_counts_flat}
+use Rattle.cx_profiling.proofs.InvokesKept.{keeps_at, invokes_kept, invoked_kept, captures_apart_kept}
 use Rattle.cx_profiling.proofs.ComponentLemmas.{IsPart, AreNew, kept_part, child_part, main_part}
 
 -- SIZES
@@ -223,7 +222,7 @@ module _ (d : PlainDesign) (rules : IsDesign d) (k : ℕ) (there : k < length d.
               statements = main_statement names grown;
             }
 
-module _ (d : PlainDesign) (rules : IsDesign d) (flat : IsFlat d) (counted : 1 ≤ entry_count d) (few : design_size (with_counts d) < 2 ^ 32) where
+module _ (d : PlainDesign) (rules : IsDesign d) (counted : 1 ≤ entry_count d) (few : design_size (with_counts d) < 2 ^ 32) where
   some_components : 0 < length d.components
   some_components = let m : d.main < length d.components = rules.main_there in omega arith
 
@@ -236,21 +235,17 @@ module _ (d : PlainDesign) (rules : IsDesign d) (flat : IsFlat d) (counted : 1 �
       let size : size_of (instrumented_component d k) < 2 ^ 32 = subst (λ part. size_of part < 2 ^ 32) (component_at-with_counts d k there) (omega arith) in
       subst (IsWhole d rules k there) (sym (component_at-with_counts d k there)) (whole d rules k there counted size)
 
-  no_invokes : (k : ℕ) → k < length d.components → (component_at (with_counts d) k).invokes ≡ []
-  no_invokes k there = (with_counts_flat d flat k (subst (λ n. k < n) (sym (components-length d)) there)).no_invoke
-
   keeps_component : (k : ℕ) → k < length d.components → IsComponent (with_counts d) k
   keeps_component k there =
       let w = component_whole k there in
       let p = w.part in
-      let none = no_invokes k there in
       record {
         cells = p.cells;
         assigns = λ owner a stands. is_assign (with_counts d) some_grown k owner a (p.assigns owner a stands);
         statements = λ v i. is_statement (with_counts d) some_grown k v (w.statements v i);
-        invokes = λ v i. absurd (subst (λ vs. In vs v) none i);
-        invoked = λ n less. absurd (let past : n < 0 = subst (λ vs. n < length vs) none less in omega (arith, past));
-        captures_apart = λ m n g v w is other one two. absurd (let there : None ≡ Some v = sym (ap (λ vs. slice_get vs m) none) ∙ is in cc);
+        invokes = invokes_kept d rules k there;
+        invoked = invoked_kept d rules k there;
+        captures_apart = captures_apart_kept d rules k there;
         inputs = p.inputs;
         outputs = p.outputs;
         port_names = p.port_names;
@@ -337,7 +332,7 @@ module _ (d : PlainDesign) (rules : IsDesign d) (flat : IsFlat d) (counted : 1 �
       record {
         main_there = subst (λ n. d.main < n) (sym (components-length d)) rules.main_there;
         main_named = g.name ∙ rules.main_named;
-        main_dynamic = (with_counts_flat d flat d.main (subst (λ n. d.main < n) (sym (components-length d)) rules.main_there)).dynamic;
+        main_dynamic = (keeps_at d d.main rules.main_there).latency ∙ rules.main_dynamic;
         main_bare = (g.inputs ∙ rules.main_bare.0, bare_list (component_at (with_counts d) d.main).outputs (omega arith));
         components = λ k less. keeps_component k (subst (λ n. k < n) (components-length d) less);
         component_names = λ j k a b e. rules.component_names j k (subst (λ n. j < n) (components-length d) a) (subst (λ n. k < n) (components-length d) b) (sym (kept_name j a) ∙ e ∙ kept_name k b);
@@ -345,10 +340,10 @@ module _ (d : PlainDesign) (rules : IsDesign d) (flat : IsFlat d) (counted : 1 �
         few_parts = few;
       }
 
--- of any design without static components
-pub instrumented_keeps : (d : PlainDesign) → IsDesign d → IsFlat d → design_size (instrumented d) < 2 ^ 32 → IsDesign (instrumented d)
-instrumented_keeps d rules flat few = by (nat_eq (entry_count d) 0) refl few
+-- of any design
+pub instrumented_keeps : (d : PlainDesign) → IsDesign d → design_size (instrumented d) < 2 ^ 32 → IsDesign (instrumented d)
+instrumented_keeps d rules few = by (nat_eq (entry_count d) 0) refl few
   where
     by : (b : Bool) → nat_eq (entry_count d) 0 ≡ b → design_size (if b then d else with_counts d) < 2 ^ 32 → IsDesign (if b then d else with_counts d)
     by true e small = rules
-    by false e small = with_counts_keeps d rules flat (omega (arith, eqb-false (entry_count d) 0 e)) small
+    by false e small = with_counts_keeps d rules (omega (arith, eqb-false (entry_count d) 0 e)) small

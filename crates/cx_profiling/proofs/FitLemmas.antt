@@ -88,7 +88,7 @@ module _ (d : PlainDesign) (part : PlainComponent) where
   moved_output (ports.Done h) n e = e
   moved_output (ports.Literal x u) n e = e
 
-  moved_hole : (p : PortRef) → is_hole (moved_in d part p) ≡ is_hole p
+  pub moved_hole : (p : PortRef) → is_hole (moved_in d part p) ≡ is_hole p
   moved_hole (ports.Cell c p) = refl
   moved_hole (ports.Input m) = refl
   moved_hole (ports.Output m) = refl

@@ -70,7 +70,7 @@ pub capture_within : (part : PlainComponent) (g c : ℕ) → g < length part.gro
 capture_within part g c few h past = ap (λ b. if b then Some 0 else None) (ne_eqb g h (λ e. omega (arith, few, past, e)))
 
 -- what a turn counts may be told otherwise, if the states stay related
-turn_counts : (R : Tally → State → State → Type 0) (before one two : Tally) (o x : Turn State Fault) → ((s z : State) → R (plus before one) s z → R (plus before two) s z)
+pub turn_counts : (R : Tally → State → State → Type 0) (before one two : Tally) (o x : Turn State Fault) → ((s z : State) → R (plus before one) s z → R (plus before two) s z)
     → TurnCarried Exact R (λ f. f) before one o x → TurnCarried Exact R (λ f. f) before two o x
 turn_counts R before one two answers.Ends x h carried = carried
 turn_counts R before one two (answers.Goes s) x h (z, e, r) = (z, e, h s z r)
@@ -112,7 +112,7 @@ module _ (d : PlainDesign) (design : IsDesign d) (accepted : IsAccepted d) (grow
   rests τ s t grown = grown_rests i j (trees_grow d design (suc m) k at) τ s t grown
 
   -- a tally counts by the counters of the instance, and by all that is below it
-  regrown : (τ σ : Tally) (s t : State) → ((x : Counter) → In (counters i) x → τ [] x.group ≡ σ [] x.group) → ((c : ℕ) (path : Path) (g : ℕ) → τ (c ∷ path) g ≡ σ (c ∷ path) g) → Grown i τ s t → Grown i σ s t
+  pub regrown : (τ σ : Tally) (s t : State) → ((x : Counter) → In (counters i) x → τ [] x.group ≡ σ [] x.group) → ((c : ℕ) (path : Path) (g : ℕ) → τ (c ∷ path) g ≡ σ (c ∷ path) g) → Grown i τ s t → Grown i σ s t
   regrown τ σ s t own deep grown =
       make_grown d design m k at σ s t (grown_rows d design m k at τ s t grown)
       (λ c child e. grown_numbers child (at_cell c τ) (at_cell c σ) (under c s) (under c t) (λ path g. deep c path g) (grown_kid d design m k at τ s t grown c child e))
@@ -141,7 +141,7 @@ module _ (d : PlainDesign) (design : IsDesign d) (accepted : IsAccepted d) (grow
       same_component : (e f : ℕ) → OfComponent e ≡ OfComponent f → e ≡ f
       same_component e f h = cc
 
-  grown_same : (first more p : ℕ) → (p ≡ first → ⊥) → grown_number d first more p ≡ p
+  pub grown_same : (first more p : ℕ) → (p ≡ first → ⊥) → grown_number d first more p ≡ p
   grown_same first more p differ = ap (λ b. if b then p + more else p) (ne_eqb p first differ)
 
   -- WHAT A GROUP CALLS AND CAPTURES stays
@@ -210,7 +210,7 @@ module _ (d : PlainDesign) (design : IsDesign d) (accepted : IsAccepted d) (grow
       by (ports.Literal w v) here = refl
 
   -- a group that calls is not counted
-  calls_uncounted : (g c : ℕ) (kind : GroupKind) → (group_at node g).kind ≡ kind → kind_length kind ≡ None → called i g ≡ Some c → is_counted (cells_of (component_of d k)) (group_at node g) ≡ false
+  pub calls_uncounted : (g c : ℕ) (kind : GroupKind) → (group_at node g).kind ≡ kind → kind_length kind ≡ None → called i g ≡ Some c → is_counted (cells_of (component_of d k)) (group_at node g) ≡ false
   calls_uncounted g c kind is none calls =
       ap (λ x. has_name (group_at node g).name && is_counted_kind (cells_of (component_of d k)) (group_at node g).assigns x) is ∙ by kind none
     where
@@ -229,7 +229,7 @@ module _ (d : PlainDesign) (design : IsDesign d) (accepted : IsAccepted d) (grow
   both true e f = absurd (cc)
   both false e f = absurd (cc)
 
-  same_captures : (g : ℕ) → g < length node.groups → is_counted (cells_of (component_of d k)) (group_at node g) ≡ false → captures j g ≡ captures i g
+  pub same_captures : (g : ℕ) → g < length node.groups → is_counted (cells_of (component_of d k)) (group_at node g) ≡ false → captures j g ≡ captures i g
   same_captures g few uncounted = by (group_is d k at.within (in_reach d at) g few)
     where
       by : GroupOf d node (cells_of (component_of d k)) (counters (component_of d k)) g (group_at node g) (group_at other g) → captures j g ≡ captures i g
@@ -244,7 +244,7 @@ module _ (d : PlainDesign) (design : IsDesign d) (accepted : IsAccepted d) (grow
       by (plain_group is e) = ap (λ (x : PlainGroup). x.kind) e
 
   -- A CHILD'S STATE put back
-  put_grown : (c : ℕ) (child : Instance) → cell_at (cells_of i) c ≡ OfInstance child → (τ counted : Tally) (s t own twin : State) → Grown i τ s t → Grown child (plus (at_cell c τ) counted) own twin
+  pub put_grown : (c : ℕ) (child : Instance) → cell_at (cells_of i) c ≡ OfInstance child → (τ counted : Tally) (s t own twin : State) → Grown i τ s t → Grown child (plus (at_cell c τ) counted) own twin
       → Grown i (plus τ (below c counted)) (put c own s) (put c twin t)
   put_grown c child stands τ counted s t own twin grown inner =
       make_grown d design m k at (plus τ (below c counted)) (put c own s) (put c twin t)
@@ -284,12 +284,12 @@ module _ (d : PlainDesign) (design : IsDesign d) (accepted : IsAccepted d) (grow
       (further : (act : Active) → ActsWithin node act → IsAcyclic j act → (twin : Held) (t : State) (e : ℕ) → length node.cells + 2 * length (counters (component_of d k)) ≤ e → e < length other.cells
       → (after : CellState) × (comes_to j twin act t e ≡ Next after))
       (held twin : Held) (same : (n : ℕ) → n < length node.inputs → twin n ≡ held n) where
-    found : (act : Active) → ActsWithin node act → IsAcyclic i act → (τ : Tally) (s t : State) → Grown i τ s t → (p : PortRef) → IsInside d node p → seen j twin act t (mv p) ≡ seen i held act s p
+    pub found : (act : Active) → ActsWithin node act → IsAcyclic i act → (τ : Tally) (s t : State) → Grown i τ s t → (p : PortRef) → IsInside d node p → seen j twin act t (mv p) ≡ seen i held act s p
     found act acts acyclic τ s t grown p here =
         found_grows d design m k at act held twin same s t (grown_rows d design m k at τ s t grown) (kids_seen d design accepted grown_accepted m k at τ s t grown)
         (entries_there act acts acyclic) (below_there d design accepted grown_accepted (suc m) k) acyclic (below_here d design accepted grown_accepted (suc m) k) p here
 
-    cycles : (act : Active) → ActsWithin node act → IsAcyclic i act → (faults : Fault → Fault)
+    pub cycles : (act : Active) → ActsWithin node act → IsAcyclic i act → (faults : Fault → Fault)
         → ((c p : ℕ) (row : Row) (kind : FaultKind) → cell_at (cells_of i) c ≡ OfRow row → faults (fault_at kind (ports.Cell c p)) ≡ fault_at kind (ports.Cell c p))
         → CycleCarries Exact (Grown i) faults (made_with act) i j held twin act act
     cycles act acts acyclic faults fixed =

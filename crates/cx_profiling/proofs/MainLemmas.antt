@@ -55,25 +55,25 @@ use Rattle.cx_profiling.proofs.GrownCycles.{grown_rows}
 use Rattle.cx_profiling.proofs.StartsGrown.{start_grown, memory_start, externals_grow, external_row}
 
 -- a word in the middle of a list
-set_middle : (xs : List ℕ) (y v : ℕ) (ys : List ℕ) (n : ℕ) → n ≡ length xs → slice_set (xs ++ y ∷ ys) n v ≡ (xs ++ v ∷ []) ++ ys
+pub set_middle : (xs : List ℕ) (y v : ℕ) (ys : List ℕ) (n : ℕ) → n ≡ length xs → slice_set (xs ++ y ∷ ys) n v ≡ (xs ++ v ∷ []) ++ ys
 set_middle [] y v ys zero e = refl
 set_middle [] y v ys (suc n) e = absurd (omega (arith, e))
 set_middle (x ∷ xs) y v ys zero e = absurd (let wrong : zero ≡ suc (length xs) = e in omega (arith, wrong))
 set_middle (x ∷ xs) y v ys (suc n) e = ap (λ list. x ∷ list) (set_middle xs y v ys n (let same : suc n ≡ suc (length xs) = e in omega (arith, same)))
 
-none_left : (xs : List ℕ) → length xs ≡ 0 → xs ≡ []
+pub none_left : (xs : List ℕ) → length xs ≡ 0 → xs ≡ []
 none_left [] e = refl
 none_left (x ∷ xs) e = absurd (let wrong : suc (length xs) ≡ 0 = e in omega (arith, wrong))
 
-more_after : {A : Type 0} (xs : List A) (x : A) (ys : List A) → (xs ++ x ∷ []) ++ ys ≡ xs ++ x ∷ ys
+pub more_after : {A : Type 0} (xs : List A) (x : A) (ys : List A) → (xs ++ x ∷ []) ++ ys ≡ xs ++ x ∷ ys
 more_after [] x ys = refl
 more_after (z ∷ xs) x ys = ap (λ list. z ∷ list) (more_after xs x ys)
 
-one_longer : {A : Type 0} (xs : List A) (x : A) → length (xs ++ x ∷ []) ≡ suc (length xs)
+pub one_longer : {A : Type 0} (xs : List A) (x : A) → length (xs ++ x ∷ []) ≡ suc (length xs)
 one_longer [] x = refl
 one_longer (y ∷ xs) x = ap suc (one_longer xs x)
 
-nothing_more : {A : Type 0} (xs : List A) → xs ++ [] ≡ xs
+pub nothing_more : {A : Type 0} (xs : List A) → xs ++ [] ≡ xs
 nothing_more [] = refl
 nothing_more (x ∷ xs) = ap (λ list. x ∷ list) (nothing_more xs)
 
@@ -168,7 +168,7 @@ module _ (d : PlainDesign) (design : IsDesign d) (accepted : IsAccepted d) (grow
   at_memory : cell_at (cells_of j) memory ≡ OfRow (memory_row 64 (size ∷ []) (address_width size ∷ []))
   at_memory = memory_at d k at.within names is grown_accepted.limits m some
 
-  memory_rests : (act : Active) → ActsWithin node act → IsAcyclic j act → (twin : Held) (t : State) (e : ℕ) → memory ≤ e → e < length other.cells → (after : CellState) × (comes_to j twin act t e ≡ Next after)
+  pub memory_rests : (act : Active) → ActsWithin node act → IsAcyclic j act → (twin : Held) (t : State) (e : ℕ) → memory ≤ e → e < length other.cells → (after : CellState) × (comes_to j twin act t e ≡ Next after)
   memory_rests act acts acyclic twin t e past less =
       let total : length other.cells ≡ suc memory = cells_total d k at.within names is grown_accepted.limits in
       let same : memory ≡ e = omega (arith, past, less, total) in

@@ -17,6 +17,7 @@ use Rattle.cx_meaning.proofs.ActiveLemmas.{placed_still, placed_first}
 use Rattle.cx_meaning.proofs.DesignsLemmas.{owned_has}
 use Rattle.cx_meaning.proofs.SightsLaws.{in_left, in_right, in_either, image_in}
 use Rattle.cx_rules.specs.Ports.{component_of}
+use Rattle.cx_rules.specs.Invokes.{invoke_in}
 use Rattle.cx_rules.specs.Items.{Dynamic, Visited, visit, visit_all, statements_in, test_in}
 use Rattle.cx_rules.specs.RaceRule.{arms_of}
 use Rattle.cx_rules.specs.StaticControl.{is_static, is_in_static}
@@ -230,12 +231,13 @@ module _ (d : PlainDesign) (design : IsDesign d) (k : ℕ) (within : k < length 
       by (continuous e j) = of_always e (always_made o.assign j)
       by (of_group g e j) = of_one g e (in_group g o.assign j)
 
-  -- A STATEMENT: an old one, or one that says nothing of ports, arms or cycles
+  -- A STATEMENT: an old one, or one that says nothing of ports, arms, cycles or static invokes
   pub record IsNewStatement (v : Visited) : Type 0 where
     pub tested : test_in v.form ≡ None
     pub dynamic : is_in_static v.context ≡ false
     pub bare : is_static v.form ≡ false
     pub alone : arms_of v.form ≡ []
+    pub untimed : invoke_in v.form ≡ []
 
   pub data StatementMade (v : Visited) : Type 0 where
     old_statement : (w : Visited) → In (statements_in part) w → moved_visited mv w ≡ v → StatementMade v
@@ -249,12 +251,12 @@ module _ (d : PlainDesign) (design : IsDesign d) (k : ℕ) (within : k < length 
 
       enables : (g : ℕ) (xs : List Shown) → In (visit_all Dynamic (statements_of (store_enables part.place g xs))) v → IsNewStatement v
       enables g [] j = absurd j
-      enables g (x ∷ xs) (inl e) = subst IsNewStatement e (record { tested = refl; dynamic = refl; bare = refl; alone = refl })
+      enables g (x ∷ xs) (inl e) = subst IsNewStatement e (record { tested = refl; dynamic = refl; bare = refl; alone = refl; untimed = refl })
       enables g (x ∷ xs) (inr j) = enables (suc g) xs j
 
       main : In (record { context = Dynamic; form = Seq (a_statement (moved_statement mv part.control) (statements_of (store_enables part.place (length part.groups) shown))); place = part.place }
           ∷ (visit Dynamic (moved_statement mv part.control) ++ visit_all Dynamic (statements_of (store_enables part.place (length part.groups) shown)))) v → StatementMade v
-      main (inl e) = new_statement (subst IsNewStatement e (record { tested = refl; dynamic = refl; bare = refl; alone = refl }))
+      main (inl e) = new_statement (subst IsNewStatement e (record { tested = refl; dynamic = refl; bare = refl; alone = refl; untimed = refl }))
       main (inr j) =
           ⊎_elim (λ h. old h) (λ h. new_statement (enables (length part.groups) shown h))
           (in_either (visit Dynamic (moved_statement mv part.control)) (visit_all Dynamic (statements_of (store_enables part.place (length part.groups) shown))) v j)

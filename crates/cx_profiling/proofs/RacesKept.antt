@@ -1,91 +1,47 @@
--- An instrumented design keeps the rule on races: what two arms share is a cell that they shared before, or one of a counter, whose group both enable.
-use Rattle.std.proofs.Common.{◌≡◌, ℕ, zero, suc, ◌+◌, ◌*◌, ◌<◌, ◌≤◌, inl, inr, ◌⊎◌, ⊎_elim, true, List, [], ◌∷◌, ◌++◌, length, map, Option, Some, None, slice_get, refl, sym, ap, ap₂, ◌∙◌, subst, arith}
-use Rattle.std.specs.Prelude.{flat_map}
-use Rattle.std.proofs.lemmas.Bool.{or_cases}
-use Rattle.std.proofs.lemmas.List.{map-append}
+-- An instrumented design keeps the rule on races: what two arms share is a cell that they shared before, or one of a counter, whose group both
+-- enable; static invokes drive and read what they did, for the groups that capture are not counted.
+use Rattle.std.proofs.Common.{◌≡◌, ℕ, zero, suc, ◌+◌, ◌*◌, ◌<◌, ◌≤◌, inl, inr, ◌⊎◌, ⊎_elim, true, ◌||◌, List, [], ◌∷◌, length, map, Some, None, slice_get, refl, sym, ap, ◌∙◌, subst, arith}
+use Rattle.std.proofs.lemmas.Bool.{both_ways, or_cases, or_right}
 use Rattle.cx_text.specs.declared.places.Place.{Place}
 use Rattle.cx_meaning.specs.declared.ports.PortRef.{PortRef}
 use Rattle.cx_meaning.specs.declared.ports.PortRef.TheVariants as ports
 use Rattle.cx_meaning.specs.declared.ports.PlacedPort.{PlacedPort}
-use Rattle.cx_meaning.specs.Designs.{PlainAssign, PlainComponent, PlainDesign, component_at, group_at, PlainForm, Empty, Enable, Seq, Par, If, While, Repeat, StaticSeq, StaticPar, StaticIf, StaticRepeat, Timed, PlainStatement, Placed, PlainStatements, no_statements, a_statement}
+use Rattle.cx_meaning.specs.Designs.{Always, PlainAssign, PlainInvoke, PlainComponent, PlainDesign, component_at, group_at, PlainStatement}
 use Rattle.cx_meaning.specs.Instances.{Cells, cells_of, tree_within}
-use Rattle.cx_meaning.specs.Control.{targets_cell, assigns_drive, groups_of, drives}
-use Rattle.cx_meaning.specs.Sights.{In}
+use Rattle.cx_meaning.specs.Control.{targets_cell, assigns_drive, groups_drive, groups_of, drives}
+use Rattle.cx_meaning.specs.Active.{Owned, source_order}
+use Rattle.cx_meaning.specs.Sights.{In, GuardNames}
 use Rattle.cx_meaning.proofs.ControlLaws.{groups_drive_in}
 use Rattle.cx_meaning.proofs.DesignsLemmas.{same_part}
 use Rattle.cx_meaning.proofs.InstancesLemmas.{just_true}
-use Rattle.cx_meaning.proofs.SightsLaws.{image_in, in_image, in_either}
-use Rattle.cx_rules.specs.Footprints.{AssignNames, Reads, driven, named, tested, through}
-use Rattle.cx_rules.specs.Items.{Context, Dynamic, InStatic, below_dynamic, Visited, visit, visit_parts, visit_all, statements_in, test_in, tests_of, option_list}
+use Rattle.cx_meaning.proofs.SightsLaws.{image_in}
+use Rattle.cx_rules.specs.Accepted.{IsAccepted}
+use Rattle.cx_rules.specs.Footprints.{AssignNames}
+use Rattle.cx_rules.specs.Invokes.{invoke_at, invokes_of, captures_of, invokes_cell, drives_all, IsFed, ReadsAll, driven, named, captured, fed, tested, through}
+use Rattle.cx_rules.specs.Items.{Context, Dynamic, Visited, visit, statements_in, tests_of}
 use Rattle.cx_rules.specs.Ports.{component_of}
-use Rattle.cx_rules.specs.RaceRule.{Arms, arms_of, enabled_in, IsEnabledTwice}
-use Rattle.cx_rules.specs.Wellformed.{IsDesign, IsForm}
+use Rattle.cx_rules.specs.RaceRule.{Arms, arms_of, enabled_in, IsShared, IsEnabledTwice, BreaksRace}
+use Rattle.cx_rules.specs.Wellformed.{IsBind, IsDesign, IsForm, IsThere}
 use Rattle.cx_rules.proofs.ForeignLemmas.{assigns_drive_in}
-use Rattle.cx_rules.proofs.InvokesLemmas.{drives_more, reads_more}
 use Rattle.cx_laws.proofs.RaceLemmas.{unshared, not_twice}
 use Rattle.cx_laws.proofs.VisitLemmas.{visited}
-use Rattle.cx_rewrites.specs.FlatRules.{IsShared, BreaksRace, IsAccepted}
-use Rattle.cx_rewrites.specs.Moving.{moved_port, moved_form, moved_statement}
+use Rattle.cx_rewrites.specs.Moving.{moved_port, moved_assign, moved_form, moved_statement}
 use Rattle.cx_rewrites.proofs.ReflectLemmas.{names_back}
 use Rattle.cx_rewrites.proofs.MovedLists.{groups_of-moved, tests_of-moved, arms_of-moved, enabled_in-moved}
 use Rattle.cx_profiling.specs.Counters.{is_counted, counters, counters_from}
-use Rattle.cx_profiling.specs.Instrumented.{is_reached, moved_in, with_counts}
+use Rattle.cx_profiling.specs.Instrumented.{is_reached, counter_assigns, moved_in, moved_invoke, with_counts}
 use Rattle.cx_profiling.proofs.ArmLemmas.{driver_in, counted_kind}
-use Rattle.cx_profiling.proofs.EnabledLemmas.{AreForms, statement_known, is_enabled, visits_of_arm}
+use Rattle.cx_profiling.proofs.EnabledLemmas.{AreForms, statement_known, is_enabled}
 use Rattle.cx_profiling.proofs.GroupLemmas.{register_past, same_register}
+use Rattle.cx_profiling.proofs.InvokesKept.{uncounted}
+use Rattle.cx_profiling.proofs.InvokesMade.{invoke_back, invokes_of-moved, captures_kept, cells_kept, captures_there, invoked_there, own_invoke}
 use Rattle.cx_profiling.proofs.MovedParts.{moved_visited}
 use Rattle.cx_profiling.proofs.PartTable.{AlwaysMade, old_always, showing_always, always_made, InGroup, old_in, counting_in, storing_in, in_group, in_order}
 use Rattle.cx_profiling.proofs.PortLemmas.{IsInside, there_inside}
 use Rattle.cx_profiling.proofs.PortsKept.{counter_target, counter_names, cell_back}
 use Rattle.cx_profiling.proofs.RoleLemmas.{own_counters, counter_number}
 use Rattle.cx_profiling.proofs.ShapesKept as shapes
-
--- THE FORMS that a statement visits are the same wherever it stands
-abbrev forms : List Visited → List PlainForm
-forms vs = map (λ (v : Visited). v.form) vs
-
-two_forms : (xs ys us vs : List Visited) → forms xs ≡ forms us → forms ys ≡ forms vs → forms (xs ++ ys) ≡ forms (us ++ vs)
-two_forms xs ys us vs e h = map-append (λ (v : Visited). v.form) xs ys ∙ ap₂ ◌++◌ e h ∙ sym (map-append (λ (v : Visited). v.form) us vs)
-
-mutual
-  parts_same : (c e : Context) (form : PlainForm) → forms (visit_parts c form) ≡ forms (visit_parts e form)
-  parts_same c e Empty = refl
-  parts_same c e (Enable g) = refl
-  parts_same c e (Seq parts) = all_same (below_dynamic c) (below_dynamic e) parts
-  parts_same c e (Par arms) = all_same (below_dynamic c) (below_dynamic e) arms
-  parts_same c e (If test comb a b) =
-      two_forms (visit (below_dynamic c) a) (visit (below_dynamic c) b) (visit (below_dynamic e) a) (visit (below_dynamic e) b) (forms_same (below_dynamic c) (below_dynamic e) a) (forms_same (below_dynamic c) (below_dynamic e) b)
-  parts_same c e (While test comb a) = forms_same (below_dynamic c) (below_dynamic e) a
-  parts_same c e (Repeat times a) = forms_same (below_dynamic c) (below_dynamic e) a
-  parts_same c e (StaticSeq written parts) = refl
-  parts_same c e (StaticPar written arms) = refl
-  parts_same c e (StaticIf written test a b) = refl
-  parts_same c e (StaticRepeat written times a) = refl
-  parts_same c e (Timed k) = refl
-
-  forms_same : (c e : Context) (s : PlainStatement) → forms (visit c s) ≡ forms (visit e s)
-  forms_same c e (Placed form place) = ap (λ fs. form ∷ fs) (parts_same c e form)
-
-  all_same : (c e : Context) (ss : PlainStatements) → forms (visit_all c ss) ≡ forms (visit_all e ss)
-  all_same c e no_statements = refl
-  all_same c e (a_statement s ss) = two_forms (visit c s) (visit_all c ss) (visit e s) (visit_all e ss) (forms_same c e s) (all_same c e ss)
-
--- a condition of a statement is that of a form that it visits
-flat_tests : (vs : List Visited) (p : PlacedPort) → In (flat_map (λ (v : Visited). option_list (test_in v.form)) vs) p → (v : Visited) × In vs v × (test_in v.form ≡ Some p)
-flat_tests [] p i = absurd i
-flat_tests (v ∷ vs) p i =
-    ⊎_elim (λ h. (v, inl refl, one (test_in v.form) h)) (λ h. let r = flat_tests vs p h in (r.0, inr r.1, r.2)) (in_either (option_list (test_in v.form)) (flat_map (λ (w : Visited). option_list (test_in w.form)) vs) p i)
-  where
-    one : (o : Option PlacedPort) → In (option_list o) p → o ≡ Some p
-    one None h = absurd h
-    one (Some q) (inl e) = ap Some e
-    one (Some q) (inr h) = absurd h
-
-tested_form : (c : Context) (s : PlainStatement) (p : PlacedPort) → In (tests_of s) p → (v : Visited) × In (visit c s) v × (test_in v.form ≡ Some p)
-tested_form c s p i =
-    let r = flat_tests (visit Dynamic s) p i in
-    let x = image_in (λ (v : Visited). v.form) (visit c s) r.0.form (subst (λ list. In list r.0.form) (forms_same Dynamic c s) (in_image (λ (v : Visited). v.form) (visit Dynamic s) r.0 r.1)) in
-    (x.0, x.1, ap test_in x.2 ∙ r.2)
+use Rattle.cx_profiling.proofs.VisitedForms.{tested_form, arm_visits}
 
 -- an assignment that drives a cell
 targeted : (list : List PlainAssign) (c : ℕ) → assigns_drive list c ≡ true → (a : PlainAssign) × In list a × ((p : ℕ) × (a.target ≡ ports.Cell c p))
@@ -104,24 +60,6 @@ map_back : {A B : Type 0} (f : A → B) (list : List A) (n : ℕ) (y : B) → sl
 map_back f [] n y e = absurd (cc)
 map_back f (x ∷ xs) zero y e = (x, refl, cc)
 map_back f (x ∷ xs) (suc n) y e = map_back f xs n y e
-
--- an arm, with where it stands
-arm_visits : (v : Visited) (n : ℕ) (s : PlainStatement) → slice_get (arms_of v.form) n ≡ Some s → (c : Context) × ((u : Visited) → In (visit c s) u → In (visit_parts v.context v.form) u)
-arm_visits v n s at = by v.form at
-  where
-    by : (form : PlainForm) → slice_get (arms_of form) n ≡ Some s → (c : Context) × ((u : Visited) → In (visit c s) u → In (visit_parts v.context form) u)
-    by Empty e = absurd (cc)
-    by (Enable g) e = absurd (cc)
-    by (Seq parts) e = absurd (cc)
-    by (Par arms) e = (below_dynamic v.context, λ u i. visits_of_arm (below_dynamic v.context) arms n s u e i)
-    by (If test comb a b) e = absurd (cc)
-    by (While test comb a) e = absurd (cc)
-    by (Repeat times a) e = absurd (cc)
-    by (StaticSeq written parts) e = absurd (cc)
-    by (StaticPar written arms) e = (InStatic, λ u i. visits_of_arm InStatic arms n s u e i)
-    by (StaticIf written test a b) e = absurd (cc)
-    by (StaticRepeat written times a) e = absurd (cc)
-    by (Timed k) e = absurd (cc)
 
 module _ (d : PlainDesign) (design : IsDesign d) (accepted : IsAccepted d) (m k : ℕ) (count : length d.components ≡ suc m) (within : k < length d.components) where
   abbrev part : PlainComponent
@@ -146,6 +84,14 @@ module _ (d : PlainDesign) (design : IsDesign d) (accepted : IsAccepted d) (m k 
   our_test : (c : Context) (s : PlainStatement) → IsOurs c s → (p : PlacedPort) → In (tests_of s) p → IsInside d part p.port
   our_test c s ours p i = let r = tested_form c s p i in there_inside d k within p.port (((design.components k within).statements r.0 (ours r.0 r.1)).test p r.2)
 
+  -- what a static invoke binds names ports of the component
+  bound_inside : (b : PlainAssign) (c : ℕ) → IsBind (component_of d k) c b → (q : PortRef) → AssignNames b q → IsInside d part q
+  bound_inside b c bind q (inl n) = absurd (let none : GuardNames Always q = subst (λ g. GuardNames g q) bind.no_guard n in none)
+  bound_inside b c bind q (inr e) = there_inside d k within q (subst (IsThere (component_of d k)) e bind.source)
+
+  groups_same : (x : PlainComponent) (gs hs : List ℕ) (c : ℕ) → gs ≡ hs → groups_drive x gs c ≡ true → groups_drive x hs c ≡ true
+  groups_same x gs hs c e h = subst (λ list. groups_drive x list c ≡ true) e h
+
   -- A CELL OF A COUNTER whose group stands in the statement
   record CounterOf (s : PlainStatement) (c : ℕ) : Type 0 where
     group : ℕ
@@ -169,44 +115,138 @@ module _ (d : PlainDesign) (design : IsDesign d) (accepted : IsAccepted d) (m k 
     old_group_here : (g : ℕ) → In (groups_of (moved_statement mv s)) g → In (groups_of s) g
     old_group_here g i = subst (λ gs. In gs g) (groups_of-moved mv s) i
 
-    abbrev DrivesBack : ℕ → Type 0
-    DrivesBack e = ((e < length part.cells) × (drives part s e ≡ true)) ⊎ CounterOf s e
+    -- a group that captures is old, and no counter's
+    captures_here : (g : ℕ) → In (captures_of other (invokes_of (moved_statement mv s))) g → In (captures_of part (invokes_of s)) g
+    captures_here g i = subst (λ gs. In gs g) (captures_kept d design k within (invokes_of (moved_statement mv s)) ∙ ap (captures_of part) (invokes_of-moved d design k within s)) i
 
-    drives_back : (e : ℕ) → drives other (moved_statement mv s) e ≡ true → DrivesBack e
-    drives_back e h =
-        let g = driver_in other (groups_of (moved_statement mv s)) e h in
-        let a = targeted (group_at other g.0).assigns e g.2 in
-        by g.0 (old_group_here g.0 g.1) a.0 a.2.0 a.2.1 (in_group d design k within g.0 a.0 a.1)
+    -- AN ASSIGNMENT OF A GROUP of the statement, enabled or capturing
+    data Stands (g : ℕ) : Type 0 where
+      enabled : In (groups_of s) g → Stands g
+      capturing : In (captures_of part (invokes_of s)) g → Stands g
+
+    abbrev OldOrCounter : ℕ → PlainAssign → Type 0
+    OldOrCounter g a =
+        ((b : PlainAssign) × In (group_at part g).assigns b × (moved_assign mv b ≡ a) × In (source_order part) (record { owner = Some g; assign = b }))
+        ⊎ ((r : ℕ) × In (groups_of s) g × In (counters (component_of d k)) (record { group = g; register = r }) × (is_reached d k ≡ true) × (is_counted cells (group_at part g) ≡ true) × In (counter_assigns part.place r) a)
+
+    of_group : (g : ℕ) (a : PlainAssign) → Stands g → In (group_at other g).assigns a → OldOrCounter g a
+    of_group g a here i = by here (in_group d design k within g a i)
       where
-        by : (g : ℕ) → In (groups_of s) g → (a : PlainAssign) (p : ℕ) → a.target ≡ ports.Cell e p → InGroup d design k within g a → DrivesBack e
-        by g here a p target (old_in b few i is) =
-            let q = cell_back d design 0 k within b.target e p (ap (λ (x : PlainAssign). x.target) is ∙ target) in
-            let inside : IsInside d part (ports.Cell e q.0) = subst (IsInside d part) q.1 (shapes.target_inside d design accepted m k count within (record { owner = Some g; assign = b }) (in_order part (Some g) b (few, i))) in
-            inl (inside.0, groups_drive_in part (groups_of s) g e here (assigns_drive_in (group_at part g).assigns b e q.0 i q.1))
-        by g here a p target (counting_in r own reached few is i) =
+        few : Stands g → g < length part.groups
+        few (enabled h) = group_few g h
+        few (capturing h) = (captures_there d design k within (invokes_of s) g h).there
+
+        by : Stands g → InGroup d design k within g a → OldOrCounter g a
+        by here (old_in b less h is) = inl (b, h, is, in_order part (Some g) b (less, h))
+        by (enabled x) (counting_in r own reached less is h) = inr (r, x, own, reached, is, h)
+        by (capturing x) (counting_in r own reached less is h) =
+            absurd (both_ways (is_counted cells (group_at part g)) (uncounted d k cells (group_at part g) (captures_there d design k within (invokes_of s) g x).unnamed) is)
+        by here (storing_in n x main at number h) = let less : g < length part.groups = few here in absurd (omega (arith, less, number))
+
+    old_target : (g e p : ℕ) (b a : PlainAssign) → In (source_order part) (record { owner = Some g; assign = b }) → moved_assign mv b ≡ a → a.target ≡ ports.Cell e p → (q : ℕ) × (b.target ≡ ports.Cell e q) × (e < length part.cells)
+    old_target g e p b a stands is target =
+        let q = cell_back d design 0 k within b.target e p (ap (λ (x : PlainAssign). x.target) is ∙ target) in
+        let inside : IsInside d part (ports.Cell e q.0) = subst (IsInside d part) q.1 (shapes.target_inside d design accepted m k count within (record { owner = Some g; assign = b }) stands) in
+        (q.0, q.1, inside.0)
+
+    abbrev DrivesBack : ℕ → Type 0
+    DrivesBack e = ((e < length part.cells) × (drives_all part s e ≡ true)) ⊎ CounterOf s e
+
+    groups_back : (gs : List ℕ) (e : ℕ) → ((g : ℕ) → In gs g → Stands g) → groups_drive other gs e ≡ true → ((e < length part.cells) × (groups_drive part gs e ≡ true)) ⊎ CounterOf s e
+    groups_back gs e stands h =
+        let g = driver_in other gs e h in
+        let a = targeted (group_at other g.0).assigns e g.2 in
+        by g.0 g.1 a.0 a.2.0 a.2.1 (of_group g.0 a.0 (stands g.0 g.1) a.1)
+      where
+        by : (g : ℕ) → In gs g → (a : PlainAssign) (p : ℕ) → a.target ≡ ports.Cell e p → OldOrCounter g a → ((e < length part.cells) × (groups_drive part gs e ≡ true)) ⊎ CounterOf s e
+        by g here a p target (inl (b, i, is, inside)) =
+            let q = old_target g e p b a inside is target in
+            inl (q.2, groups_drive_in part gs g e here (assigns_drive_in (group_at part g).assigns b e q.0 i q.1))
+        by g here a p target (inr (r, x, own, reached, is, i)) =
             let t = counter_target part.place r a i in
             let same : t.0 ≡ e = (let both : ports.Cell t.0 t.1 ≡ ports.Cell e p = sym t.2 ∙ target in cc) in
-            inr (record { group = g; register = r; stands = here; own = own; reached = reached; at = subst (λ z. (z ≡ r) ⊎ (z ≡ suc r)) same t.3; counted = is })
-        by g here a p target (storing_in n x main at number i) = let few : g < length part.groups = group_few g here in absurd (omega (arith, few, number))
+            inr (record { group = g; register = r; stands = x; own = own; reached = reached; at = subst (λ z. (z ≡ r) ⊎ (z ≡ suc r)) same t.3; counted = is })
+
+    drives_from : (ns : List ℕ) → ns ≡ invokes_of s → (e : ℕ) → (drives other (moved_statement mv s) e || (invokes_cell other ns e || groups_drive other (captures_of other ns) e)) ≡ true → DrivesBack e
+    drives_from ns same e h = by (or_cases (drives other (moved_statement mv s) e) (invokes_cell other ns e || groups_drive other (captures_of other ns) e) h)
+      where
+        enables : (e < length part.cells) × (drives part s e ≡ true) → DrivesBack e
+        enables (few, is) = inl (few, ap (λ b. b || (invokes_cell part (invokes_of s) e || groups_drive part (captures_of part (invokes_of s)) e)) is)
+
+        invokes : invokes_cell part (invokes_of s) e ≡ true → DrivesBack e
+        invokes is =
+            inl (
+              invoked_there d design k within (invokes_of s) e is,
+              or_right (drives part s e) (invokes_cell part (invokes_of s) e || groups_drive part (captures_of part (invokes_of s)) e)
+                  (ap (λ b. b || groups_drive part (captures_of part (invokes_of s)) e) is),
+            )
+
+        captures : (e < length part.cells) × (groups_drive part (captures_of part (invokes_of s)) e ≡ true) → DrivesBack e
+        captures (few, is) =
+            inl (
+              few,
+              or_right (drives part s e) (invokes_cell part (invokes_of s) e || groups_drive part (captures_of part (invokes_of s)) e)
+                  (or_right (invokes_cell part (invokes_of s) e) (groups_drive part (captures_of part (invokes_of s)) e) is),
+            )
+
+        later : (invokes_cell other ns e ≡ true) ⊎ (groups_drive other (captures_of other ns) e ≡ true) → DrivesBack e
+        later (inl x) = invokes (ap (λ list. invokes_cell part list e) (sym same) ∙ sym (cells_kept d design k within ns e) ∙ x)
+        later (inr x) =
+            ⊎_elim captures (λ y. inr y) (groups_back (captures_of part (invokes_of s)) e (λ g i. capturing i)
+            (groups_same other (captures_of other ns) (captures_of part (invokes_of s)) e (captures_kept d design k within ns ∙ ap (captures_of part) same) x))
+
+        by : (drives other (moved_statement mv s) e ≡ true) ⊎ ((invokes_cell other ns e || groups_drive other (captures_of other ns) e) ≡ true) → DrivesBack e
+        by (inl x) = ⊎_elim enables (λ y. inr y) (groups_back (groups_of s) e (λ g i. enabled i) (groups_same other (groups_of (moved_statement mv s)) (groups_of s) e (groups_of-moved mv s) x))
+        by (inr x) = later (or_cases (invokes_cell other ns e) (groups_drive other (captures_of other ns) e) x)
+
+    drives_back : (e : ℕ) → drives_all other (moved_statement mv s) e ≡ true → DrivesBack e
+    drives_back e h = drives_from (invokes_of (moved_statement mv s)) (invokes_of-moved d design k within s) e h
 
     abbrev ReadsBack : ℕ → Type 0
-    ReadsBack e = ((e < length part.cells) × Reads part s e) ⊎ CounterOf s e
+    ReadsBack e = ((e < length part.cells) × ReadsAll part s e) ⊎ CounterOf s e
 
-    reads_back : (e : ℕ) → Reads other (moved_statement mv s) e → ReadsBack e
-    reads_back e (driven h) = ⊎_elim (λ x. inl (x.0, driven x.1)) (λ x. inr x) (drives_back e h)
-    reads_back e (named p g a i l names) = by (in_group d design k within g a l)
+    -- what an old assignment of the component, moved, names
+    named_there : (o : Owned) → In (source_order part) o → (e p : ℕ) (a : PlainAssign) → moved_assign mv o.assign ≡ a → AssignNames a (ports.Cell e p) → (q : ℕ) × AssignNames o.assign (ports.Cell e q) × (e < length part.cells)
+    named_there o stands e p a is names =
+        let y = names_back mv o.assign (ports.Cell e p) (subst (λ (x : PlainAssign). AssignNames x (ports.Cell e p)) (sym is) names) in
+        let q = cell_back d design 0 k within y.0 e p y.1 in
+        let inside : IsInside d part (ports.Cell e q.0) = subst (IsInside d part) q.1 (shapes.named_inside d design accepted m k count within o stands y.0 y.2) in
+        (q.0, subst (AssignNames o.assign) q.1 y.2, inside.0)
+
+    group_reads : (e p g : ℕ) (a : PlainAssign) → Stands g → AssignNames a (ports.Cell e p) → OldOrCounter g a → ReadsBack e
+    group_reads e p g a here names (inl (b, i, is, inside)) =
+        let q = named_there (record { owner = Some g; assign = b }) inside e p a is names in
+        inl (q.2, by here q.0 q.1)
       where
-        here : In (groups_of s) g
-        here = old_group_here g i
+        by : Stands g → (q : ℕ) → AssignNames b (ports.Cell e q) → ReadsAll part s e
+        by (enabled x) q n = named q g b x i n
+        by (capturing x) q n = captured q g b x i n
+    group_reads e p g a here names (inr (r, x, own, reached, is, i)) =
+        inr (record { group = g; register = r; stands = x; own = own; reached = reached; at = counter_names part.place r a e p i names; counted = is })
 
-        by : InGroup d design k within g a → ReadsBack e
-        by (old_in b few h is) =
+    -- an input of a static invoke of the statement
+    fed_back : (e p : ℕ) (a : PlainAssign) → IsFed other (moved_statement mv s) a → AssignNames a (ports.Cell e p) → ReadsBack e
+    fed_back e p a f names = by (invoke_back d design k within f.number f.invoke f.is)
+      where
+        stands : In (invokes_of s) f.number
+        stands = subst (λ list. In list f.number) (invokes_of-moved d design k within s) f.stands
+
+        of_bind : (v : PlainInvoke) → invoke_at part f.number ≡ Some v → (b : PlainAssign) × In v.inputs b × (moved_assign mv b ≡ a) → ReadsBack e
+        of_bind v at (b, i, is) =
+            let bind = (own_invoke d design k within f.number v at).inputs b i in
             let y = names_back mv b (ports.Cell e p) (subst (λ (x : PlainAssign). AssignNames x (ports.Cell e p)) (sym is) names) in
             let q = cell_back d design 0 k within y.0 e p y.1 in
-            let inside : IsInside d part (ports.Cell e q.0) = subst (IsInside d part) q.1 (shapes.named_inside d design accepted m k count within (record { owner = Some g; assign = b }) (in_order part (Some g) b (few, h)) y.0 y.2) in
-            inl (inside.0, named q.0 g b here h (subst (AssignNames b) q.1 y.2))
-        by (counting_in r own reached few is h) = inr (record { group = g; register = r; stands = here; own = own; reached = reached; at = counter_names part.place r a e p h names; counted = is })
-        by (storing_in n x main at number h) = let few : g < length part.groups = group_few g here in absurd (omega (arith, few, number))
+            let inside : IsInside d part (ports.Cell e q.0) = subst (IsInside d part) q.1 (bound_inside b v.cell bind y.0 y.2) in
+            inl (inside.0, fed q.0 b (record { number = f.number; stands = stands; invoke = v; is = at; input = i }) (subst (AssignNames b) q.1 y.2))
+
+        by : (v : PlainInvoke) × (invoke_at part f.number ≡ Some v) × (moved_invoke d part v ≡ f.invoke) → ReadsBack e
+        by (v, at, is) = of_bind v at (image_in (moved_assign mv) v.inputs a (subst (λ (x : PlainInvoke). In x.inputs a) (sym is) f.input))
+
+    reads_back : (e : ℕ) → ReadsAll other (moved_statement mv s) e → ReadsBack e
+    reads_back e (driven h) = ⊎_elim (λ x. inl (x.0, driven x.1)) (λ x. inr x) (drives_back e h)
+    reads_back e (named p g a i l names) = let here : Stands g = enabled (old_group_here g i) in group_reads e p g a here names (of_group g a here l)
+    reads_back e (captured p g a i l names) = let here : Stands g = capturing (captures_here g i) in group_reads e p g a here names (of_group g a here l)
+    reads_back e (fed p a f names) = fed_back e p a f names
     reads_back e (tested p test i is) =
         let x = image_in (moved_port mv) (tests_of s) test (subst (λ list. In list test) (tests_of-moved mv s) i) in
         let q = cell_back d design 0 k within x.0.port e p (ap (λ (z : PlacedPort). z.port) x.2 ∙ is) in
@@ -266,7 +306,7 @@ module _ (d : PlainDesign) (design : IsDesign d) (accepted : IsAccepted d) (m k 
     arm_ours n s at = let r = arm_visits w n s at in (r.0, λ u i. visited Dynamic part.control w u stands (inr (r.1 u i)))
 
     twice_never : (two : Arms (arms_of w.form)) (g : ℕ) → In (enabled_in two.first) g → In (enabled_in two.second) g → ⊥
-    twice_never two g a b = not_twice d accepted.accepted k within w stands g (two, a, b)
+    twice_never two g a b = not_twice d accepted k within w stands g (two, a, b)
 
     counters_never : (two : Arms (arms_of w.form)) (c : ℕ) → CounterOf two.first c → CounterOf two.second c → ⊥
     counters_never two c x y =
@@ -281,7 +321,7 @@ module _ (d : PlainDesign) (design : IsDesign d) (accepted : IsAccepted d) (m k 
     shared_never c (two, drives_it, reads_it) = by (old_arms two)
       where
         by : OldArms two → ⊥
-        by arms = both (drives_back a.0 arms.old.first a.1 c (subst (λ s. drives other s c ≡ true) (sym arms.first) drives_it)) (reads_back b.0 arms.old.second b.1 c (subst (λ s. Reads other s c) (sym arms.second) reads_it))
+        by arms = both (drives_back a.0 arms.old.first a.1 c (subst (λ s. drives_all other s c ≡ true) (sym arms.first) drives_it)) (reads_back b.0 arms.old.second b.1 c (subst (λ s. ReadsAll other s c) (sym arms.second) reads_it))
           where
             a : (c : Context) × IsOurs c arms.old.first
             a = arm_ours arms.old.one arms.old.first arms.old.first_stands
@@ -289,9 +329,9 @@ module _ (d : PlainDesign) (design : IsDesign d) (accepted : IsAccepted d) (m k 
             b : (c : Context) × IsOurs c arms.old.second
             b = arm_ours arms.old.other arms.old.second arms.old.second_stands
 
-            both : ((c < length part.cells) × (drives part arms.old.first c ≡ true)) ⊎ CounterOf arms.old.first c → ((c < length part.cells) × Reads part arms.old.second c) ⊎ CounterOf arms.old.second c → ⊥
+            both : ((c < length part.cells) × (drives_all part arms.old.first c ≡ true)) ⊎ CounterOf arms.old.first c → ((c < length part.cells) × ReadsAll part arms.old.second c) ⊎ CounterOf arms.old.second c → ⊥
             both (inl (few, d1)) (inl (less, r1)) =
-                unshared d accepted.accepted k within w stands c (arms.old, drives_more part arms.old.first c d1, reads_more part arms.old.second c r1)
+                unshared d accepted k within w stands c (arms.old, d1, r1)
             both (inl (few, d1)) (inr y) = let past : length part.cells ≤ c = counter_past arms.old.second c y in omega (arith, few, past)
             both (inr x) (inl (less, r1)) = let past : length part.cells ≤ c = counter_past arms.old.first c x in omega (arith, less, past)
             both (inr x) (inr y) = counters_never arms.old c x y

@@ -15,20 +15,20 @@ use Rattle.cx_meaning.specs.Designs.{Always, PlainAssign, PlainGroup, PlainCompo
 use Rattle.cx_meaning.specs.Instances.{Instance, tree_within}
 use Rattle.cx_meaning.specs.Active.{nothing, Owned, source_order}
 use Rattle.cx_meaning.specs.Sights.{In}
-use Rattle.cx_meaning.specs.Islands.{kind_length, group_length, form_length}
+use Rattle.cx_meaning.specs.Islands.{kind_length, group_length}
 use Rattle.cx_meaning.proofs.SightsLaws.{in_at, number_in}
+use Rattle.cx_rules.specs.Accepted.{IsAccepted}
 use Rattle.cx_rules.specs.Footprints.{AssignNames, Rests, registered_rests, Depends, at_once, by_way_of}
+use Rattle.cx_rules.specs.Invokes.{form_lasts}
 use Rattle.cx_rules.specs.Items.{Visited, statements_in, ranges_of, is_plain, is_comb}
 use Rattle.cx_rules.specs.Ports.{component_of, is_primitive_enable, is_part_port, path_of}
-use Rattle.cx_rules.specs.ShapeRules.{is_hole, is_hole_of, some_target, BreaksNoDone, BreaksDoneNotState, BreaksAlwaysEnable, BreaksCombEnable, owner_length, is_bad_range, BreaksStaticGuard, GroupBreaksStaticShape, enabled_name, BreaksStaticControl, BreaksStaticTest, LeadsToInput, BreaksOutputNotState}
+use Rattle.cx_rules.specs.ShapeRules.{is_hole, is_hole_of, some_target, BreaksNoDone, BreaksDoneNotState, BreaksAlwaysEnable, BreaksCombEnable, owner_length, is_bad_range, BreaksStaticGuard, GroupBreaksStaticShape, enabled_name, BreaksStaticControl, BreaksLength, BreaksStaticTest, LeadsToInput, BreaksOutputNotState}
 use Rattle.cx_rules.specs.Spots.{AnAssign, AStatement, AGroup, Spot, AssignRule, StatementRule, GroupRule, OnAssign, OnStatement, OnGroup}
-use Rattle.cx_rules.specs.StaticControl.{is_in_static, is_static, is_written, is_timed, written_length}
+use Rattle.cx_rules.specs.StaticControl.{is_in_static, is_static, written_length}
 use Rattle.cx_rules.specs.Wellformed.{IsDesign}
 use Rattle.cx_rules.proofs.ForeignLemmas.{sorted_among}
-use Rattle.cx_rewrites.specs.FlatRules.{BreaksLength, IsAccepted}
 use Rattle.cx_rewrites.specs.Driving.{assigns_of}
 use Rattle.cx_rewrites.specs.Moving.{moved_port, moved_owned, moved_form}
-use Rattle.cx_rewrites.proofs.IslandLemmas.{form_length-moved}
 use Rattle.cx_rewrites.proofs.ReflectLemmas.{names_back}
 use Rattle.cx_rewrites.proofs.MovedLists.{ranges_of-moved, some_target-moved, is_static-moved, written_length-moved, may_stand-moved, form_has_length-moved}
 use Rattle.cx_profiling.specs.Counters.{counters, Shown, shown_in, entry_count}
@@ -38,10 +38,10 @@ use Rattle.cx_profiling.proofs.ArmLemmas.{counted_kind}
 use Rattle.cx_profiling.proofs.CellLemmas.{memory_row_of}
 use Rattle.cx_profiling.proofs.CircleLemmas.{Ends, depends_back}
 use Rattle.cx_profiling.proofs.DepthLemmas.{deep}
-use Rattle.cx_profiling.proofs.FlatKept.{with_counts_flat}
 use Rattle.cx_profiling.proofs.GainedLemmas.{components-length}
 use Rattle.cx_profiling.proofs.GrownTrees.{InTree}
 use Rattle.cx_profiling.proofs.InsideLemmas.{targets_inside, names_inside}
+use Rattle.cx_profiling.proofs.InvokesMade.{words_kept, form_lasts-moved}
 use Rattle.cx_profiling.proofs.MovedParts.{moved_visited}
 use Rattle.cx_profiling.proofs.PartTable.{StoreOf, GroupMade, bare_group, counting_group, storing_group, no_group_there, group_made, kind_kept, length_kept, OwnedMade, old_owned, showing, counting, storing, owned_made, IsNewStatement, StatementMade, old_statement, new_statement, statement_made}
 use Rattle.cx_profiling.proofs.PortLemmas.{IsInside}
@@ -163,16 +163,16 @@ module _ (d : PlainDesign) (design : IsDesign d) (accepted : IsAccepted d) (m k 
   named_inside w stands q names = names_inside d design k within w (sorted_among (assigns_of part) w stands) q names
 
   -- what an old assignment, moved, names and drives
-  names_of : (o w : Owned) → moved_owned mv w ≡ o → (q : PortRef) → AssignNames o.assign q → (r : PortRef) × (mv r ≡ q) × AssignNames w.assign r
+  pub names_of : (o w : Owned) → moved_owned mv w ≡ o → (q : PortRef) → AssignNames o.assign q → (r : PortRef) × (mv r ≡ q) × AssignNames w.assign r
   names_of o w is q names = names_back mv w.assign q (subst (λ (x : Owned). AssignNames x.assign q) (sym is) names)
 
-  target_of : (o w : Owned) → moved_owned mv w ≡ o → mv w.assign.target ≡ o.assign.target
+  pub target_of : (o w : Owned) → moved_owned mv w ≡ o → mv w.assign.target ≡ o.assign.target
   target_of o w is = ap (λ (x : Owned). x.assign.target) is
 
-  owner_is : (o w : Owned) → moved_owned mv w ≡ o → w.owner ≡ o.owner
+  pub owner_is : (o w : Owned) → moved_owned mv w ≡ o → w.owner ≡ o.owner
   owner_is o w is = ap (λ (x : Owned). x.owner) is
 
-  shown_there : (n : ℕ) (x : Shown) → slice_get (shown_in (component_of d k)) n ≡ Some x → In (shown_in (component_of d k)) x
+  pub shown_there : (n : ℕ) (x : Shown) → slice_get (shown_in (component_of d k)) n ≡ Some x → In (shown_in (component_of d k)) x
   shown_there n x at = in_at (shown_in (component_of d k)) n x at
 
   -- RULE done-not-state
@@ -202,7 +202,7 @@ module _ (d : PlainDesign) (design : IsDesign d) (accepted : IsAccepted d) (m k 
         by (storing n x main at owner h) =
             of_store n x main at (store_target part.place (length part.cells + 2 * length (counters (component_of d k))) (address_width (length (shown_in (component_of d k)))) (length part.groups + n) n x.port o.assign h)
 
-  no_owner : (o : Owned) (g : ℕ) → o.owner ≡ None → o.owner ≡ Some g → ⊥
+  pub no_owner : (o : Owned) (g : ℕ) → o.owner ≡ None → o.owner ≡ Some g → ⊥
   no_owner o g none some = none_some g (sym none ∙ some)
 
   -- RULE always-enable
@@ -273,7 +273,7 @@ module _ (d : PlainDesign) (design : IsDesign d) (accepted : IsAccepted d) (m k 
       by (storing n x main at some h) = bare (store_bare part.place (length part.cells + 2 * length (counters (component_of d k))) (address_width (length (shown_in (component_of d k)))) (length part.groups + n) n x.port o.assign h)
 
   -- RULE output-not-state
-  shown_cell : (x : Shown) → In (shown_in (component_of d k)) x → (c p : ℕ) × (x.port ≡ ports.Cell c p)
+  pub shown_cell : (x : Shown) → In (shown_in (component_of d k)) x → (c p : ℕ) × (x.port ≡ ports.Cell c p)
   shown_cell x inside = by (where_shown (component_of d k) x inside)
     where
       by : WhereShown (component_of d k) x → (c p : ℕ) × (x.port ≡ ports.Cell c p)
@@ -305,7 +305,7 @@ module _ (d : PlainDesign) (design : IsDesign d) (accepted : IsAccepted d) (m k 
       by : OwnedMade d design k within o → ⊥
       by (old_owned w stands is) =
           let y = names_of o w is q names in
-          old_assign BreaksOutputNotState (λ s p x on. accepted.shapes rules.OutputNotState s p x refl on) w stands w.assign.place (path_of i w.assign.target)
+          old_assign BreaksOutputNotState (λ s p x on. accepted.shapes rules.OutputNotState s p x refl (inl on)) w stands w.assign.place (path_of i w.assign.target)
           (n, output_back d design m k within w.assign.target n (target_of o w is ∙ target), (y.0, y.2, bad_back y.0 (named_inside w stands y.0 y.2) y.1 bad), (refl, refl))
       by (showing none s x main reached at is) =
           of_shown reached x (shown_there s x at) (⊎_elim (λ wrong. absurd wrong) (λ same. same) (subst (λ (y : PlainAssign). AssignNames y q) (sym is) names)) bad
@@ -370,31 +370,24 @@ module _ (d : PlainDesign) (design : IsDesign d) (accepted : IsAccepted d) (m k 
       by (old_statement w stands is) = old w stands place name (subst (λ x. rule j x place name) (sym is) breaks)
       by (new_statement n) = new v place name n breaks
 
-  -- where the word static stands at static invokes: there are none
-  words_kept : (n : ℕ) → (is_written (slice_get other.invokes n) ≡ is_written (slice_get part.invokes n)) × (is_timed (slice_get other.invokes n) ≡ is_timed (slice_get part.invokes n))
-  words_kept n = (ap (λ vs. is_written (slice_get vs n)) same, ap (λ vs. is_timed (slice_get vs n)) same)
-    where
-      same : other.invokes ≡ part.invokes
-      same = (with_counts_flat d accepted.flat k (subst (λ n. k < n) (sym (components-length d)) within)).no_invoke ∙ sym (accepted.flat k within).no_invoke
-
   control_old : (w : Visited) → In (statements_in part) w → (place : Place) (name : List ℕ) → BreaksStaticControl j (moved_visited mv w) place name → ⊥
   control_old w stands place name (static, bad, told) =
       old_visited BreaksStaticControl (λ s p n on. accepted.shapes rules.StaticShape s p n refl (inr (inl on))) w stands w.place (enabled_name part w.form)
-      (static, sym (may_stand-moved mv part other (length_kept d design k within) words_kept w.context w.form) ∙ bad, (refl, refl))
+      (static, sym (may_stand-moved mv part other (length_kept d design k within) (words_kept d design k within) w.context w.form) ∙ bad, (refl, refl))
 
   pub control_never : (v : Visited) → In (statements_in other) v → (place : Place) (name : List ℕ) → BreaksStaticControl j v place name → ⊥
   control_never = no_visited BreaksStaticControl (λ v place name n breaks. both_ways (is_in_static v.context) n.dynamic breaks.0) control_old
 
-  length_is : (w : Visited) → form_length other (moved_form mv w.form) ≡ form_length part w.form
-  length_is w = form_length-moved mv part other (length_kept d design k within) w.form
+  length_is : (w : Visited) → form_lasts other (moved_form mv w.form) ≡ form_lasts part w.form
+  length_is w = form_lasts-moved d design k within w.form
 
   length_old : (w : Visited) → In (statements_in part) w → (place : Place) (name : List ℕ) → BreaksLength j (moved_visited mv w) place name → ⊥
   length_old w stands place name (static, has, bad, told) =
       old_visited BreaksLength (λ s p n on. accepted.shapes rules.StaticShape s p n refl (inr (inr (inl on)))) w stands w.place []
-      (sym (is_static-moved mv w.form) ∙ static, sym (form_has_length-moved mv part other (length_kept d design k within) words_kept w.context w.form) ∙ has, one bad, (refl, refl))
+      (sym (is_static-moved mv w.form) ∙ static, sym (form_has_length-moved mv part other (length_kept d design k within) (words_kept d design k within) w.context w.form) ∙ has, one bad, (refl, refl))
     where
-      one : ((n : ℕ) × (written_length (moved_form mv w.form) ≡ Some n) × (n ≢ form_length other (moved_form mv w.form))) ⊎ (form_length other (moved_form mv w.form) ≡ 0)
-          → ((n : ℕ) × (written_length w.form ≡ Some n) × (n ≢ form_length part w.form)) ⊎ (form_length part w.form ≡ 0)
+      one : ((n : ℕ) × (written_length (moved_form mv w.form) ≡ Some n) × (n ≢ form_lasts other (moved_form mv w.form))) ⊎ (form_lasts other (moved_form mv w.form) ≡ 0)
+          → ((n : ℕ) × (written_length w.form ≡ Some n) × (n ≢ form_lasts part w.form)) ⊎ (form_lasts part w.form ≡ 0)
       one (inl (n, written, differs)) = inl (n, sym (written_length-moved mv w.form) ∙ written, (λ is. differs (is ∙ sym (length_is w))))
       one (inr none) = inr (sym (length_is w) ∙ none)
 
@@ -404,7 +397,7 @@ module _ (d : PlainDesign) (design : IsDesign d) (accepted : IsAccepted d) (m k 
   static_test_old : (w : Visited) → In (statements_in part) w → (place : Place) (name : List ℕ) → BreaksStaticTest j (moved_visited mv w) place name → ⊥
   static_test_old w stands place name (written, test, a, b, is, wrong, told) =
       let r = static_if_back mv w.form written test a b is in
-      old_visited BreaksStaticTest (λ s p n on. accepted.shapes rules.StaticShape s p n refl (inr (inr (inr on)))) w stands w.place []
+      old_visited BreaksStaticTest (λ s p n on. accepted.shapes rules.StaticShape s p n refl (inr (inr (inr (inl on))))) w stands w.place []
       (written, r.old, r.first, r.second, r.is, (λ rests. wrong (subst (Rests j) r.port (rests_moved d design m k within r.old.port rests))), (refl, refl))
 
   pub static_test_never : (v : Visited) → In (statements_in other) v → (place : Place) (name : List ℕ) → BreaksStaticTest j v place name → ⊥

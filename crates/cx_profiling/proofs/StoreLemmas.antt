@@ -55,7 +55,7 @@ use Rattle.cx_profiling.proofs.OutputLemmas.{counted_of, port_shows, outputs_sho
 use Rattle.cx_profiling.proofs.StoreDrives.{StoreWire, to_address, to_data, to_write, to_done, store_target, store_source, store_driven, store_group}
 use Rattle.cx_profiling.proofs.MemoryLemmas.{memory_at, done_shows, memory_stores}
 
-none_stops : (outcome : ℕ → Outcome) (c n : ℕ) → ((e : ℕ) → c ≤ e → e < c + n → (after : CellState) × (outcome e ≡ Next after)) → first_fault outcome c n ≡ None
+pub none_stops : (outcome : ℕ → Outcome) (c n : ℕ) → ((e : ℕ) → c ≤ e → e < c + n → (after : CellState) × (outcome e ≡ Next after)) → first_fault outcome c n ≡ None
 none_stops outcome c zero h = refl
 none_stops outcome c (suc n) h =
     let here : (after : CellState) × (outcome c ≡ Next after) = h c (omega arith) (omega arith) in
@@ -175,14 +175,14 @@ module _ (d : PlainDesign) (design : IsDesign d) (accepted : IsAccepted d) (grow
     each_goes : (c : ℕ) → (after : CellState) × (comes_to j unheld (group g) u c ≡ Next after)
     each_goes c = ⊎_elim (λ (e : c ≡ memory). (Memory (slice_set words n (counted_of τ x)) true, ap (comes_to j unheld (group g) u) e ∙ memory_goes)) (λ differ. (u (c ∷ []), cell_goes c differ)) (cases_eq c memory)
 
-    cycle_goes : cycle j unheld (group g) u ≡ Goes (left_by j unheld (group g) u)
+    pub cycle_goes : cycle j unheld (group g) u ≡ Goes (left_by j unheld (group g) u)
     cycle_goes =
         ap (λ f. unless_fault f (left_by j unheld (group g) u)) (none_stops (comes_to j unheld (group g) u) 0 (cell_count (cells_of j)) (λ e past less. each_goes e))
 
     memory_after : left_by j unheld (group g) u (memory ∷ []) ≡ Memory (slice_set words n (counted_of τ x)) true
     memory_after = ap (stepped (u (memory ∷ []))) memory_goes
 
-    same_after : (path : Path) → (path ≡ memory ∷ [] → ⊥) → left_by j unheld (group g) u path ≡ u path
+    pub same_after : (path : Path) → (path ≡ memory ∷ [] → ⊥) → left_by j unheld (group g) u path ≡ u path
     same_after [] differ = refl
     same_after (c ∷ e ∷ path) differ = refl
     same_after (c ∷ []) differ = ap (stepped (u (c ∷ []))) (cell_goes c (λ e. differ (ap (λ y. y ∷ []) e)))
@@ -230,7 +230,7 @@ module _ (d : PlainDesign) (design : IsDesign d) (accepted : IsAccepted d) (grow
             omega (arith, number, few)
 
     -- A STORE IN TWO TURNS
-    done_before : look (ports.Done g) ≡ bit_of false
+    pub done_before : look (ports.Done g) ≡ bit_of false
     done_before =
         solved (ports.Done g) ∙ one_source to_done (bit_of false) ∙ solved (ports.Cell memory 4)
         ∙ ap (cell_step other (group g) u look (outputs_below (cells_of j) (λ c. under c u)) memory 4) at_memory
@@ -242,7 +242,7 @@ module _ (d : PlainDesign) (design : IsDesign d) (accepted : IsAccepted d) (grow
     solved_after : (p : PortRef) → look_after p ≡ step j unheld (group g) (left_by j unheld (group g) u) look_after (outputs_below (cells_of j) (λ c. under c (left_by j unheld (group g) u))) p
     solved_after p = seen_solves j unheld (group g) (left_by j unheld (group g) u) acyclic (below_there d design accepted grown_accepted (suc m) k) p
 
-    done_after : look_after (ports.Done g) ≡ bit_of true
+    pub done_after : look_after (ports.Done g) ≡ bit_of true
     done_after =
         solved_after (ports.Done g) ∙ ap (target_seen (bit_of false) look_after) (store_driven d design k at.within names is to_done n x listed) ∙ solved_after (ports.Cell memory 4)
         ∙ ap (cell_step other (group g) (left_by j unheld (group g) u) look_after (outputs_below (cells_of j) (λ c. under c (left_by j unheld (group g) u))) memory 4) at_memory
@@ -259,7 +259,7 @@ module _ (d : PlainDesign) (design : IsDesign d) (accepted : IsAccepted d) (grow
         ap (λ t. turn_then (idle j) u t (λ a. turns_of (idle j) (group_turn j unheld g) a (suc b))) first_turn
         ∙ ap (λ t. after_turns 1 (turn_then (idle j) (left_by j unheld (group g) u) t (λ a. turns_of (idle j) (group_turn j unheld g) a b))) second_turn
 
-    no_call : called j g ≡ None
+    pub no_call : called j g ≡ None
     no_call =
         let r = store_group d design k at.within names is n x listed in
         ap (λ (y : PlainGroup). called_in (cells_of j) y.assigns) r.1

@@ -37,20 +37,20 @@ use Rattle.cx_profiling.proofs.PairLemmas.{CellPair, child_pair, pair_at, row_pa
 use Rattle.cx_profiling.proofs.ShownLemmas.{IsBelow, WhereShown, child_count, own_count, where_shown}
 use Rattle.cx_profiling.proofs.TallyAnswers.{Fits, FitsIn, fits_both, fits_idle, fits_loop, fits_rounds, fits_stay, fits_test, fits_then, fits_turn, fits_turns, fits_wait, fits_within}
 
-once_few : (o : Option ℕ) → once o ≤ 1
+pub once_few : (o : Option ℕ) → once o ≤ 1
 once_few None = omega arith
 once_few (Some n) = omega arith
 
 -- one arm more stands before those that are left
-abbrev with_last : PlainStatements → PlainStatement → PlainStatements
+abbrev pub with_last : PlainStatements → PlainStatement → PlainStatements
 with_last no_statements s = a_statement s no_statements
 with_last (a_statement first rest) s = a_statement first (with_last rest s)
 
-joined-with_last : (done : PlainStatements) (s : PlainStatement) (later : PlainStatements) → joined (with_last done s) later ≡ joined done (a_statement s later)
+pub joined-with_last : (done : PlainStatements) (s : PlainStatement) (later : PlainStatements) → joined (with_last done s) later ≡ joined done (a_statement s later)
 joined-with_last no_statements s later = refl
 joined-with_last (a_statement first rest) s later = ap (a_statement first) (joined-with_last rest s later)
 
-member : (g : ℕ) (gs : List ℕ) → In gs g ⊎ (In gs g → ⊥)
+pub member : (g : ℕ) (gs : List ℕ) → In gs g ⊎ (In gs g → ⊥)
 member g [] = inr (λ none. none)
 member g (x ∷ gs) = by (nat_eq x g) refl (member g gs)
   where
@@ -65,18 +65,18 @@ PlainAt i [] g = is_comb (group_at (part_of i) g).kind ≡ false
 PlainAt i (c ∷ path) g = (child : Instance) → cell_at (cells_of i) c ≡ OfInstance child → PlainAt child path g
 
 -- nothing is counted of it, and it takes no more turns than the budget has
-steady_fits : (n : ℕ) (o : Answer State Fault) → Grows n o o → Fits n 0 o
+pub steady_fits : (n : ℕ) (o : Answer State Fault) → Grows n o o → Fits n 0 o
 steady_fits n (End s t) h = (omega arith, h.0)
 steady_fits n (answers.Fault f t) h = omega arith
 steady_fits n More h = omega arith
 
-lifted_fits : (n m c : ℕ) (s : State) (o : Answer State Fault) → Fits n m o → Fits n m (lift_answer c s o)
+pub lifted_fits : (n m c : ℕ) (s : State) (o : Answer State Fault) → Fits n m o → Fits n m (lift_answer c s o)
 lifted_fits n m c s (End own t) h = h
 lifted_fits n m c s (answers.Fault f t) h = h
 lifted_fits n m c s More h = h
 
 -- a run behind it counts nothing
-then_fits : (n m : ℕ) (o : Answer State Fault) (go : Meaning State Fault) → Fits n m o → ((s : State) (k : ℕ) → Fits k 0 (go s k)) → Fits n m (then_do o n go)
+pub then_fits : (n m : ℕ) (o : Answer State Fault) (go : Meaning State Fault) → Fits n m o → ((s : State) (k : ℕ) → Fits k 0 (go s k)) → Fits n m (then_do o n go)
 then_fits n m (End s t) go h each = behind (go s (n - t)) (each s (n - t))
   where
     behind : (x : Answer State Fault) → Fits (n - t) 0 x → Fits n m (after_turns t x)

@@ -16,35 +16,29 @@ use Rattle.cx_meaning.specs.Instances.{Instance}
 use Rattle.cx_meaning.specs.Active.{Owned, source_order}
 use Rattle.cx_meaning.specs.Sights.{In}
 use Rattle.cx_meaning.proofs.SightsLaws.{in_at, number_in}
-use Rattle.cx_rules.specs.Items.{Visited, atoms_of, sources_of, statements_in, test_in}
+use Rattle.cx_rules.specs.Items.{Visited, sources_of, statements_in, test_in}
 use Rattle.cx_rules.specs.Ports.{component_of, keeps_literal, width_of, path_of, is_source_only, is_target_only}
-use Rattle.cx_rules.specs.Spots.{AStatement, Spot, AssignRule, StatementRule, OnAssign, OnStatement}
-use Rattle.cx_rules.specs.WidthRules.{differ, pairs_of, first_unequal, is_wide, first_wide, IsBadLiteral, BreaksWidth, BreaksGuardWidth, TestBreaksGuardWidth, BreaksLiteral, TestBreaksLiteral, BreaksNotATarget, BreaksNotASource, TestBreaksNotASource}
-use Rattle.cx_rules.specs.Wellformed.{IsDesign, StandsIn}
+use Rattle.cx_rules.specs.Accepted.{KeepsStage, IsAccepted}
+use Rattle.cx_rules.specs.Spots.{ABind, AnAssign, AStatement, Spot, AssignRule, StatementRule, binds_in, OnBind, OnAssign, OnStatement}
+use Rattle.cx_rules.specs.WidthRules.{differ, is_wide, IsBadLiteral, BreaksWidth, BreaksGuardWidth, TestBreaksGuardWidth, BreaksLiteral, TestBreaksLiteral, BreaksNotATarget, BreaksNotASource, TestBreaksNotASource}
+use Rattle.cx_rules.specs.Wellformed.{IsDesign}
 use Rattle.cx_rules.proofs.ForeignLemmas.{sorted_among}
 use Rattle.cx_rewrites.specs.Driving.{assigns_of}
-use Rattle.cx_rewrites.specs.Moving.{moved_port}
-use Rattle.cx_rewrites.specs.FlatRules.{KeepsStage, IsAccepted}
+use Rattle.cx_rewrites.specs.Moving.{moved_port, moved_assign}
 use Rattle.cx_profiling.specs.Counters.{counters, Shown, shown_in, entry_count}
 use Rattle.cx_profiling.specs.Instrumented.{drive, counter_assigns, store_assigns, address_width, moved_in, with_counts, instrumented}
 use Rattle.cx_profiling.proofs.MovedParts.{test_in-moved}
 use Rattle.cx_profiling.proofs.ThereLemmas.{Names}
-use Rattle.cx_profiling.proofs.FitLemmas.{fits_statement, moved_literal}
+use Rattle.cx_profiling.proofs.FitLemmas.{FitsAssign, fits_assign, fits_statement, moved_literal}
 use Rattle.cx_profiling.proofs.GainedLemmas.{components-length}
 use Rattle.cx_profiling.proofs.InsideLemmas.{stands_in}
+use Rattle.cx_profiling.proofs.InvokesKept.{get_mapped}
+use Rattle.cx_profiling.proofs.InvokesMade.{bind_names, binds_moved}
 use Rattle.cx_profiling.proofs.PartTable.{OwnedMade, old_owned, showing, counting, storing, owned_made, StatementMade, old_statement, new_statement, statement_made}
 use Rattle.cx_profiling.proofs.RoleLemmas.{counter_number}
 use Rattle.cx_profiling.proofs.SortLemmas.{written_width-moved, is_target_only-moved}
-use Rattle.cx_profiling.proofs.WidthsKept.{width_kept, guard_width_kept, literal_kept, target_kept, source_kept}
+use Rattle.cx_profiling.proofs.WidthsKept.{IsSound, is_sound, sound_moved}
 use Rattle.cx_profiling.proofs.NewSorts.{HasInstance, IsTarget, IsSource, register_in, register_write, register_out, adder_left, adder_right, adder_out, shown_source, shown_output, memory_address, memory_data, memory_write, memory_done, address_source}
-
--- an assignment that breaks none of the five rules
-pub record IsSound (i : Instance) (a : PlainAssign) : Type 0 where
-  pub width : first_unequal i (pairs_of a) ≡ None
-  pub guard_width : first_wide i (atoms_of a.guard) ≡ None
-  pub literal : (p : PlacedPort) → In (sources_of a) p → IsBadLiteral p.port → ⊥
-  pub target : is_source_only i a.target ≡ true → ⊥
-  pub source : (p : PlacedPort) → In (sources_of a) p → is_target_only i p.port ≡ true → ⊥
 
 -- of equal widths, to a target and from a source
 sound_drive : (i : Instance) (place : Place) (t s : PortRef) (w : ℕ) → width_of i t ≡ Some w → is_source_only i t ≡ false → width_of i s ≡ Some w → is_target_only i s ≡ false → IsSound i (drive place t s)
@@ -108,17 +102,45 @@ module _ (d : PlainDesign) (rules : IsDesign d) (accepted : IsAccepted d) (count
       by (inr (inr (inr (inl e)))) = driven (ports.Done (length (component_at d k).groups + n)) (ports.Cell (length (component_at d k).cells + 2 * length (counters (component_of d k))) 4) 1 a (refl, refl) (memory_done d rules k there is_main some few) e
       by (inr (inr (inr (inr h)))) = absurd h
 
-  made_sound : (o : Owned) → OwnedMade d rules k there o → IsSound i o.assign
-  made_sound o (old_owned w stands e) = subst (λ (x : Owned). IsSound i x.assign) e (record {
-    width = width_kept d rules accepted k there w.owner w.assign (ours w stands);
-    guard_width = guard_width_kept d rules accepted k there w.owner w.assign (ours w stands);
-    literal = literal_kept d rules accepted k there w.owner w.assign (ours w stands);
-    target = target_kept d rules accepted k there w.owner w.assign (ours w stands);
-    source = source_kept d rules accepted k there w.owner w.assign (ours w stands);
-  })
+  -- an old assignment breaks nothing, and an input that a static invoke binds
+  old_sound : (w : Owned) → In (source_order (component_at d k)) w → IsSound (component_of d k) w.assign
+  old_sound w stands = is_sound (component_of d k) w
+      (λ at name h. accepted.widths words.Width spot at name refl (inl (here BreaksWidth at name h)))
+      (λ at name h. accepted.widths words.GuardWidth spot at name refl (inl (here BreaksGuardWidth at name h)))
+      (λ at name h. accepted.widths words.Literal spot at name refl (inl (here BreaksLiteral at name h)))
+      (λ at name h. accepted.widths words.NotATarget spot at name refl (inl (here BreaksNotATarget at name h)))
+      (λ at name h. accepted.widths words.NotASource spot at name refl (inl (here BreaksNotASource at name h)))
     where
-      ours : (w : Owned) → In (source_order (component_at d k)) w → StandsIn (component_at d k) w.owner w.assign
-      ours w stands = stands_in (component_at d k) w (sorted_among (assigns_of (component_at d k)) w stands)
+      number : (n : ℕ) × (slice_get (source_order (component_at d k)) n ≡ Some w)
+      number = number_in (source_order (component_at d k)) w stands
+
+      spot : Spot
+      spot = record { component = k; part = AnAssign number.0 }
+
+      here : (rule : AssignRule) (at : Place) (name : List ℕ) → rule (component_of d k) w at name → OnAssign rule d spot at name
+      here rule at name h = record { within = there; number = number.0; is = refl; assign = w; stands = number.1; breaks = h }
+
+  bound_sound : (n : ℕ) (a : PlainAssign) → slice_get (binds_in (component_at d k)) n ≡ Some a → IsSound (component_of d k) a
+  bound_sound n a stands = is_sound (component_of d k) (record { owner = None; assign = a })
+      (λ at name h. accepted.widths words.Width spot at name refl (inr (here BreaksWidth at name h)))
+      (λ at name h. accepted.widths words.GuardWidth spot at name refl (inr (inr (here BreaksGuardWidth at name h))))
+      (λ at name h. accepted.widths words.Literal spot at name refl (inr (inr (here BreaksLiteral at name h))))
+      (λ at name h. accepted.widths words.NotATarget spot at name refl (inr (here BreaksNotATarget at name h)))
+      (λ at name h. accepted.widths words.NotASource spot at name refl (inr (inr (here BreaksNotASource at name h))))
+    where
+      spot : Spot
+      spot = record { component = k; part = ABind n }
+
+      here : (rule : AssignRule) (at : Place) (name : List ℕ) → rule (component_of d k) (record { owner = None; assign = a }) at name → OnBind rule d spot at name
+      here rule at name h = record { within = there; number = n; is = refl; assign = a; stands = stands; breaks = h }
+
+  made_sound : (o : Owned) → OwnedMade d rules k there o → IsSound i o.assign
+  made_sound o (old_owned w stands e) =
+      subst (λ (x : Owned). IsSound i x.assign) e (sound_moved d rules k there w.assign fits.target fits.sources (old_sound w stands))
+    where
+      fits : FitsAssign d (component_at d k) w.owner w.assign
+      fits = fits_assign d (let z : 0 < length d.components = omega arith in z) k w.owner w.assign
+          ((rules.components k there).assigns w.owner w.assign (stands_in (component_at d k) w (sorted_among (assigns_of (component_at d k)) w stands)))
   made_sound o (counting g r owner own reached few is h) =
       let n = counter_number d k there reached (record { group = g; register = r }) own in
       counter_sound n.0 (inr reached) n.1 o.assign (subst (λ z. In (counter_assigns place z) o.assign) n.2 h)
@@ -132,6 +154,17 @@ module _ (d : PlainDesign) (rules : IsDesign d) (accepted : IsAccepted d) (count
 
   pub sound : (n : ℕ) (o : Owned) → slice_get (source_order (component_at (with_counts d) k)) n ≡ Some o → IsSound i o.assign
   sound n o at = made_sound o (owned_made d rules k there o (in_at (source_order (component_at (with_counts d) k)) n o at))
+
+  pub bind_sound : (n : ℕ) (a : PlainAssign) → slice_get (binds_in (component_at (with_counts d) k)) n ≡ Some a → IsSound i a
+  bind_sound n a at = by (map_some move (slice_get (binds_in (component_at d k)) n) a (sym (get_mapped move (binds_in (component_at d k)) n) ∙ sym (ap (λ list. slice_get list n) (binds_moved d rules k there)) ∙ at))
+    where
+      move : PlainAssign → PlainAssign
+      move = moved_assign (moved_in d (component_at d k))
+
+      by : (x : PlainAssign) × (slice_get (binds_in (component_at d k)) n ≡ Some x) × (moved_assign (moved_in d (component_at d k)) x ≡ a) → IsSound i a
+      by (x, stands, e) =
+          let names = bind_names d rules k there x (in_at (binds_in (component_at d k)) n x stands) in
+          subst (IsSound i) e (sound_moved d rules k there x names.target names.sources (bound_sound n x stands))
 
   -- a condition of the new component is one of the old, moved
   old_test : (n : ℕ) (v : Visited) → slice_get (statements_in (component_at (with_counts d) k)) n ≡ Some v → (test : PlacedPort) → test_in v.form ≡ Some test
@@ -160,7 +193,7 @@ module _ (d : PlainDesign) (rules : IsDesign d) (accepted : IsAccepted d) (count
       let same : is_wide i test.port ≡ is_wide (component_of d k) old.port =
       ap (λ q. is_wide i q.port) (sym o.3.2) ∙ ap (λ w. differ w (Some 1)) (written_width-moved d rules k there old.port (test_names o.1 o.0 o.2 old o.3.1)) in
       accepted.widths words.GuardWidth (record { component = k; part = AStatement o.1 }) o.0.place (path_of (component_of d k) old.port) refl
-      (inr (on_old TestBreaksGuardWidth o.1 o.0 o.2 o.0.place (path_of (component_of d k) old.port) (old, o.3.1, sym same ∙ wide, (refl, refl))))
+      (inr (inl (on_old TestBreaksGuardWidth o.1 o.0 o.2 o.0.place (path_of (component_of d k) old.port) (old, o.3.1, sym same ∙ wide, (refl, refl)))))
 
   pub test_literal : (n : ℕ) (v : Visited) (at : Place) (name : List ℕ) → slice_get (statements_in (component_at (with_counts d) k)) n ≡ Some v → TestBreaksLiteral i v at name → ⊥
   test_literal n v at name stands (test, e, (w, u, same, bad), told) =
@@ -168,7 +201,7 @@ module _ (d : PlainDesign) (rules : IsDesign d) (accepted : IsAccepted d) (count
       let old = o.3.0 in
       let literal : old.port ≡ ports.Literal w u = moved_literal d (component_at d k) old.port w u (ap (λ q. q.port) o.3.2 ∙ same) in
       accepted.widths words.Literal (record { component = k; part = AStatement o.1 }) old.place [] refl
-      (inr (on_old TestBreaksLiteral o.1 o.0 o.2 old.place [] (old, o.3.1, (w, u, literal, bad), (refl, refl))))
+      (inr (inl (on_old TestBreaksLiteral o.1 o.0 o.2 old.place [] (old, o.3.1, (w, u, literal, bad), (refl, refl)))))
 
   pub test_source : (n : ℕ) (v : Visited) (at : Place) (name : List ℕ) → slice_get (statements_in (component_at (with_counts d) k)) n ≡ Some v → TestBreaksNotASource i v at name → ⊥
   test_source n v at name stands (test, e, side, told) =
@@ -177,29 +210,39 @@ module _ (d : PlainDesign) (rules : IsDesign d) (accepted : IsAccepted d) (count
       let same : is_target_only i test.port ≡ is_target_only (component_of d k) old.port =
       ap (λ q. is_target_only i q.port) (sym o.3.2) ∙ is_target_only-moved d rules k there old.port (test_names o.1 o.0 o.2 old o.3.1) in
       accepted.widths words.NotASource (record { component = k; part = AStatement o.1 }) old.place (path_of (component_of d k) old.port) refl
-      (inr (on_old TestBreaksNotASource o.1 o.0 o.2 old.place (path_of (component_of d k) old.port) (old, o.3.1, sym same ∙ side, (refl, refl))))
+      (inr (inl (on_old TestBreaksNotASource o.1 o.0 o.2 old.place (path_of (component_of d k) old.port) (old, o.3.1, sym same ∙ side, (refl, refl)))))
 
 module _ (d : PlainDesign) (rules : IsDesign d) (accepted : IsAccepted d) (counted : 1 ≤ entry_count d) (small : entry_count d < 2 ^ 32) where
   there : (n : ℕ) → n < length (with_counts d).components → n < length d.components
   there n less = subst (λ m. n < m) (components-length d) less
 
-  sound_at : {rule : AssignRule} (spot : Spot) (there_at : Place) (name : List ℕ) (b : OnAssign rule (with_counts d) spot there_at name) → IsSound (component_of (with_counts d) spot.component) b.assign.assign
-  sound_at spot there_at name b = sound d rules accepted counted small spot.component (there spot.component b.within) b.number b.assign b.stands
+  -- what is sound breaks none of the rules
+  abbrev IsApart : AssignRule → Type 0
+  IsApart rule = (i : Instance) (o : Owned) (place : Place) (name : List ℕ) → IsSound i o.assign → rule i o place name → ⊥
 
-  no_width : (spot : Spot) (place : Place) (name : List ℕ) → OnAssign BreaksWidth (with_counts d) spot place name → ⊥
-  no_width spot place name b = let s = sound_at spot place name b in let x = b.breaks in none_is_some x.0 (sym s.width ∙ x.1)
+  no_width : IsApart BreaksWidth
+  no_width i o at name s x = none_is_some x.0 (sym s.width ∙ x.1)
 
-  no_guard_width : (spot : Spot) (place : Place) (name : List ℕ) → OnAssign BreaksGuardWidth (with_counts d) spot place name → ⊥
-  no_guard_width spot place name b = let s = sound_at spot place name b in let x = b.breaks in none_is_some x.0 (sym s.guard_width ∙ x.1)
+  no_guard_width : IsApart BreaksGuardWidth
+  no_guard_width i o at name s x = none_is_some x.0 (sym s.guard_width ∙ x.1)
 
-  no_literal : (spot : Spot) (place : Place) (name : List ℕ) → OnAssign BreaksLiteral (with_counts d) spot place name → ⊥
-  no_literal spot place name b = let s = sound_at spot place name b in let x = b.breaks in s.literal x.0 x.1 x.2
+  no_literal : IsApart BreaksLiteral
+  no_literal i o at name s x = s.literal x.0 x.1 x.2
 
-  no_target : (spot : Spot) (place : Place) (name : List ℕ) → OnAssign BreaksNotATarget (with_counts d) spot place name → ⊥
-  no_target spot place name b = let s = sound_at spot place name b in let x = b.breaks in s.target x.0
+  no_target : IsApart BreaksNotATarget
+  no_target i o at name s x = s.target x.0
 
-  no_source : (spot : Spot) (place : Place) (name : List ℕ) → OnAssign BreaksNotASource (with_counts d) spot place name → ⊥
-  no_source spot place name b = let s = sound_at spot place name b in let x = b.breaks in s.source x.0 x.1 x.2
+  no_source : IsApart BreaksNotASource
+  no_source i o at name s x = s.source x.0 x.1 x.2
+
+  of_assign : (rule : AssignRule) → IsApart rule → (spot : Spot) (place : Place) (name : List ℕ) → OnAssign rule (with_counts d) spot place name → ⊥
+  of_assign rule never spot place name b =
+      never (component_of (with_counts d) spot.component) b.assign place name (sound d rules accepted counted small spot.component (there spot.component b.within) b.number b.assign b.stands) b.breaks
+
+  of_bind : (rule : AssignRule) → IsApart rule → (spot : Spot) (place : Place) (name : List ℕ) → OnBind rule (with_counts d) spot place name → ⊥
+  of_bind rule never spot place name b =
+      never (component_of (with_counts d) spot.component) (record { owner = None; assign = b.assign }) place name
+      (bind_sound d rules accepted counted small spot.component (there spot.component b.within) b.number b.assign b.stands) b.breaks
 
   no_test_guard_width : (spot : Spot) (place : Place) (name : List ℕ) → OnStatement TestBreaksGuardWidth (with_counts d) spot place name → ⊥
   no_test_guard_width spot place name b = test_guard_width d rules accepted counted small spot.component (there spot.component b.within) b.number b.statement place name b.stands b.breaks
@@ -219,11 +262,14 @@ module _ (d : PlainDesign) (rules : IsDesign d) (accepted : IsAccepted d) (count
   apart n e other = other e
 
   pub keeps_widths : KeepsStage 3 (with_counts d)
-  keeps_widths words.Width spot place name e b = no_width spot place name b
-  keeps_widths words.GuardWidth spot place name e b = either (no_guard_width spot place name) (no_test_guard_width spot place name) b
-  keeps_widths words.Literal spot place name e b = either (no_literal spot place name) (no_test_literal spot place name) b
-  keeps_widths words.NotATarget spot place name e b = no_target spot place name b
-  keeps_widths words.NotASource spot place name e b = either (no_source spot place name) (no_test_source spot place name) b
+  keeps_widths words.Width spot place name e b = either (of_assign BreaksWidth no_width spot place name) (of_bind BreaksWidth no_width spot place name) b
+  keeps_widths words.GuardWidth spot place name e b =
+      either (of_assign BreaksGuardWidth no_guard_width spot place name) (either (no_test_guard_width spot place name) (of_bind BreaksGuardWidth no_guard_width spot place name)) b
+  keeps_widths words.Literal spot place name e b =
+      either (of_assign BreaksLiteral no_literal spot place name) (either (no_test_literal spot place name) (of_bind BreaksLiteral no_literal spot place name)) b
+  keeps_widths words.NotATarget spot place name e b = either (of_assign BreaksNotATarget no_target spot place name) (of_bind BreaksNotATarget no_target spot place name) b
+  keeps_widths words.NotASource spot place name e b =
+      either (of_assign BreaksNotASource no_source spot place name) (either (no_test_source spot place name) (of_bind BreaksNotASource no_source spot place name)) b
   keeps_widths words.BadByte spot place name e b = b
   keeps_widths words.OpenComment spot place name e b = b
   keeps_widths words.OpenString spot place name e b = b
@@ -250,7 +296,7 @@ module _ (d : PlainDesign) (rules : IsDesign d) (accepted : IsAccepted d) (count
   keeps_widths words.Race spot place name e b = apart 6 e (λ z. omega arith)
   keeps_widths words.Limit spot place name e b = apart 7 e (λ z. omega arith)
 
--- of any design without static components, where 32 bits count its entries
+-- of any design, where 32 bits count its entries
 pub instrumented_keeps_widths : (d : PlainDesign) → IsDesign d → IsAccepted d → entry_count d < 2 ^ 32 → KeepsStage 3 (instrumented d)
 instrumented_keeps_widths d rules accepted small = by (nat_eq (entry_count d) 0) refl
   where

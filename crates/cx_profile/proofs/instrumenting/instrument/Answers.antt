@@ -3,12 +3,10 @@ use Rattle.std.specs.List.{slice_get}
 use Rattle.std.proofs.lemmas.Result.{IfOk-weaker}
 use Rattle.cx_meaning.specs.Instances.{paths_of, tree_of}
 use Rattle.cx_rules.specs.Accepted.{IsAccepted, IsFirstOf}
-use Rattle.cx_rules.specs.Flat.{IsFlat}
 use Rattle.cx_design.specs.PlainDesigns.{plain_design}
 use Rattle.cx_check.specs.Verdicts.{TellsAs}
 use Rattle.cx_profiling.specs.Counters.{ProfileEntry, entries_of}
 use Rattle.cx_profiling.specs.Instrumented.{instrumented}
-use Rattle.cx_profiling.proofs.FlatKept.{instrumented_flat}
 use Rattle.cx_profile.specs.declared.entries.ProfiledGroup.{ProfiledGroup}
 use Rattle.cx_profile.specs.Profiles.{group_path}
 use Rattle.cx_profile.specs.Rows.{rows_in}
@@ -21,8 +19,7 @@ checked-requires c =
     let d = plain_design c.args.design.now in
     let is = c.in-Ok.ensures.design ∙ ap (λ x. instrumented (plain_design x)) c.design.ensures.value in
     record {
-      flat = subst IsFlat (sym is) (instrumented_flat d c.requires.flat);
-      accepted = accepted_within d (plain_design c.in-Ok.made.design) c.args.design.now.keeps c.requires.flat
+      accepted = accepted_within d (plain_design c.in-Ok.made.design) c.args.design.now.keeps
           (subst (λ x. IsAccepted (plain_design x)) c.design.ensures.value c.design.ensures.accepted) is;
     }
 

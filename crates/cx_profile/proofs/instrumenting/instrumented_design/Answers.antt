@@ -13,4 +13,4 @@ invariant_of-result c =
     let same : plain_parts c.in_ok-components.components.items c.args.design.now.main ≡ instrumented d = made_is d (map plain_component c.in_ok-components.components.items) c.args.design.now.main c.in_ok-components.ensures.value refl in
     let total : c.total_size.result ≡ capped (sizes_of (map plain_component c.in_ok-components.components.items)) =
     c.total_size.ensures.value ∙ ap (λ cs. capped (sizes_of (map plain_component cs))) c.deref.ensures.value in
-    record { keeps = made_keeps d c.args.design.now.keeps c.requires.flat (plain_parts c.in_ok-components.components.items c.args.design.now.main) same c.total_size.result total (omega (arith, c.from.ensures, c.if-total_size-from.false)) }
+    record { keeps = made_keeps d c.args.design.now.keeps (plain_parts c.in_ok-components.components.items c.args.design.now.main) same c.total_size.result total (omega (arith, c.from.ensures, c.if-total_size-from.false)) }
