@@ -1,12 +1,12 @@
 //! The flat design.
 
-ghost use Rattle.std.specs.Prelude.{◌≡◌, ◌<◌, ◌^◌, ◌++◌, ◌&&◌, IfOk, get_or, is_none, is_some, length, map, option_map};
+ghost use Rattle.std.specs.Prelude.{◌≡◌, ◌<◌, ◌++◌, ◌&&◌, IfOk, get_or, is_none, is_some, length, map, option_map};
 ghost use Rattle.cx_design.specs.PlainForms.{plain_cell, plain_component, plain_kind};
 ghost use Rattle.cx_design.specs.PlainDesigns.{plain_design};
-ghost use Rattle.cx_design_sizes.specs.Capped.{capped};
 ghost use Rattle.cx_design_sizes.specs.Orders.{IsChildrenFirst};
-ghost use Rattle.cx_rules.specs.Sizes.{design_size, sizes_of};
-ghost use Rattle.cx_rules.specs.Wellformed.{IsDesign};
+ghost use Rattle.cx_rules.specs.Accepted.{IsAccepted};
+ghost use Rattle.cx_rules.specs.Flat.{ArePlainNames, IsFlat};
+ghost use Rattle.cx_flattening.specs.Ends.{NoneNamesDone};
 ghost use Rattle.cx_flattening.specs.FlatDesign as definitions;
 ghost use Rattle.cx_flattening.specs.Flattened.{flat_component, kid_if};
 ghost use Rattle.cx_flat.specs.Flats.{AreKids, AreKidsTo, AreMarks, cell_by, kept_for, kind_by, numbers_of, renumbered_by};
@@ -18,27 +18,43 @@ use crate::copies::copied_name;
 use crate::levels::fits;
 use crate::numbers::sum;
 use crate::reaching::made_of;
-use cx_design::{Cell, CellKind, Component, Design};
-use cx_design_sizes::{children_first, component_size};
+use cx_design::{Cell, CellKind, Checked, Component, Design};
+use cx_design_sizes::children_first;
+use cx_flattening::laws::{
+    flat_designs_are_accepted, flat_designs_are_designs, flat_designs_are_flat,
+};
 use cx_text::Memory;
 use std::alloc::Global;
 
 /// Control that nests deeper than so many levels is not made.
 const LEVELS: u32 = 1024;
 
-/// The flat design, of which no component is static. It has to keep what every design keeps, where 32 bits count its size. Want of
-/// memory is answered too where 32 bits do not number its parts, and where its control would nest deeper than 1,024 levels.
-pub fn flatten(alloc: Global, design: &Design) -> Result<Design, Memory>
-    requires kept { design_size (definitions.flat_design (plain_design design.now)) < 2 ^ 32 → IsDesign (definitions.flat_design (plain_design design.now)) }
+/// The flat design of an accepted one: it is accepted, and no component of it is static. Want of memory is answered too where 32 bits
+/// do not number the parts of a flat component, and where control would nest deeper than 1,024 levels.
+pub fn flatten(alloc: Global, design: &Checked) -> Result<Checked, Memory>
+    requires undone { NoneNamesDone (plain_design design.now) }
+    requires plain { ArePlainNames (plain_design design.now) }
+    ensures design { IfOk result (λ flat. plain_design flat ≡ definitions.flat_design (plain_design design.now)) }
+    ensures flat { IfOk result (λ flat. IsFlat (plain_design flat)) }
+{
+    flat_designs_are_flat();
+    flat_designs_are_accepted();
+    let flat = flat_design(alloc, design.design())?;
+    Ok(Checked::new(flat))
+}
+
+/// The flat design, which keeps what every design keeps.
+fn flat_design(alloc: Global, design: &Design) -> Result<Design, Memory>
+    requires accepted { IsAccepted (plain_design design.now) }
+    requires undone { NoneNamesDone (plain_design design.now) }
+    requires plain { ArePlainNames (plain_design design.now) }
     ensures design { IfOk result (λ flat. plain_design flat ≡ definitions.flat_design (plain_design design.now)) }
 {
+    flat_designs_are_designs();
     let kids = static_kids(alloc, design)?;
     let marks = kept_marks(alloc, design)?;
     let numbers = new_numbers(alloc, &marks)?;
     let components = kept_components(alloc, design, &kids, &marks, &numbers)?;
-    if total_size(&components) > u64::from(u32::MAX) {
-        return Err(Memory);
-    }
     let main = new_number(&numbers, design.main);
     Ok(Design { components, main })
 }
@@ -264,17 +280,4 @@ fn renumbered_kind(kind: &CellKind, numbers: &[u32]) -> Result<CellKind, Memory>
             None => Err(Memory),
         },
     }
-}
-
-/// The sizes of components together, and one more for each. The sum stops at 2^64 - 1.
-fn total_size(components: &[Component]) -> u64
-    ensures value { result ≡ capped (sizes_of (map plain_component components.now)) }
-{
-    let mut size = 0u64;
-    for component in components {
-        size = size
-            .saturating_add(component_size(component))
-            .saturating_add(1);
-    }
-    size
 }

@@ -15,7 +15,9 @@ mod levels;
 mod numbers;
 mod ports;
 mod reaching;
+mod running;
 mod stands;
 mod statements;
 
 pub use flattening::flatten;
+pub use running::flattened;

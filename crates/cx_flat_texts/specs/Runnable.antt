@@ -1,31 +1,25 @@
--- THE DESIGN THAT IS RUN: the flat design where a component is static, and else the design itself.
-use Rattle.std.specs.Prelude.{◌≡◌, ℕ, Bool, true, false, ◌||◌, is_some, List, [], ◌∷◌, if◌then◌else◌}
-use Rattle.cx_meaning.specs.Designs.{PlainInvoke, PlainComponent, PlainDesign}
+-- What the design that is run keeps: it tells of each run what the design means.
+use Rattle.std.specs.Prelude.{◌≡◌, ℕ, List}
+use Rattle.cx_meaning.specs.Designs.{PlainDesign}
 use Rattle.cx_meaning.specs.Running.{run_main}
+use Rattle.cx_rules.specs.Accepted.{IsAccepted}
 use Rattle.cx_rules.specs.Externals.{external_rows}
-use Rattle.cx_flattening.specs.FlatDesign.{flat_design}
+use Rattle.cx_rules.specs.Flat.{ArePlainNames}
+use Rattle.cx_rules.specs.Wellformed.{IsDesign}
+use Rattle.cx_flattening.specs.Ends.{NoneNamesDone}
 use Rattle.cx_flattening.specs.Told.{told}
 use Rattle.cx_flattening.specs.Whole.{whole_main}
-
-abbrev pub has_invokes : List PlainInvoke → Bool
-has_invokes [] = false
-has_invokes (v ∷ vs) = true
-
--- a component that is static, or has a static invoke
-abbrev pub is_static_part : PlainComponent → Bool
-is_static_part part = is_some part.latency || has_invokes part.invokes
-
-abbrev pub any_static : List PlainComponent → Bool
-any_static [] = false
-any_static (part ∷ parts) = is_static_part part || any_static parts
-
-abbrev pub has_static : PlainDesign → Bool
-has_static d = any_static d.components
-
-abbrev pub runnable : PlainDesign → PlainDesign
-runnable d = if has_static d then flat_design d else d
+pub use Rattle.cx_flattening.specs.Runnable.{has_invokes, is_static_part, any_static, has_static, runnable}
 
 -- its run tells what the design tells by its own meaning, and it has the same external memories
 pub record RunsAsMeant (d : PlainDesign) : Type 0 where
   pub rows : external_rows (runnable d) ≡ external_rows d
   pub runs : (words : List (List ℕ)) (budget : ℕ) → told (runnable d) (run_main (runnable d) words budget) ≡ told d (whole_main d words budget)
+
+-- WHAT FLATTENING ASKS of a design: it keeps what every design keeps, breaks no rule, nothing looks at the done of a static component's cell, and no
+-- name of its cells and ports is empty or holds a point
+pub record CanBeFlattened (d : PlainDesign) : Type 0 where
+  pub design : IsDesign d
+  pub accepted : IsAccepted d
+  pub undone : NoneNamesDone d
+  pub plain : ArePlainNames d
