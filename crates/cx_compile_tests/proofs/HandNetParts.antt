@@ -1,11 +1,13 @@
 -- The parts of the net of `src/nets.rt`, as they are made.
 use Rattle.std.proofs.Common.{◌≡◌, ℕ, false, List, [], ◌∷◌, Option, Some, Result, Ok, Err, IfOk, codes, sym, ap, ◌∙◌, subst}
 use Rattle.std.specs.Result.{result_ok}
+use Rattle.std.proofs.lemmas.Grind.{merely}
 use Rattle.cx_prim.specs.declared.names.PrimitiveName.{PrimitiveName}
 use Rattle.cx_prim.specs.declared.names.PrimitiveName.TheVariants.{Reg}
 use Rattle.cx_prim.specs.Table.{PrimitiveRow}
 use Rattle.cx_meaning.specs.declared.kinds.PortDecl.{PortDecl}
 use Rattle.cx_meaning.specs.Designs.{OfPrimitive, PlainCell}
+use Rattle.cx_net.specs.NetFits.{IsNet}
 use Rattle.cx_net.specs.Nets.{PlainNetDriver, PlainNetComponent, PlainNet}
 use Rattle.cx_emit.specs.Emitted.{CanBeEmitted}
 use Rattle.cx_compile_tests.specs.HandNet.{hand_drivers, hand_cell, hand_part}
@@ -39,5 +41,13 @@ part_is name inputs outputs cells registers wires drivers e1 e2 e3 e4 e5 e6 e7 =
     ∙ ap (λ x. a_part (codes "main") [] [] (hand_cell ∷ []) (32 ∷ []) x drivers) e6
     ∙ ap (λ x. a_part (codes "main") [] [] (hand_cell ∷ []) (32 ∷ []) (1 ∷ 3 ∷ []) x) e7
 
-pub net_is : (made : PlainNet) (parts : List PlainNetComponent) → made ≡ record { components = parts; main = 0 } → parts ≡ hand_part ∷ [] → CanBeEmitted made
-net_is made parts e f = subst CanBeEmitted (sym (e ∙ ap (λ (x : List PlainNetComponent). record { components = x; main = 0 }) f)) hand_emitted
+abbrev net_in : List PlainNetComponent → PlainNet
+net_in parts = record { components = parts; main = 0 }
+
+pub net_keeps : (parts : List PlainNetComponent) → parts ≡ hand_part ∷ [] → ∥ IsNet (net_in parts) ∥₁
+net_keeps parts e =
+    let own : IsNet (net_in (hand_part ∷ [])) = record { fits = hand_emitted.fits; targets = hand_emitted.targets } in
+    merely (subst (λ x. IsNet (net_in x)) (sym e) own)
+
+pub net_is : (made : PlainNet) (parts : List PlainNetComponent) → made ≡ net_in parts → parts ≡ hand_part ∷ [] → CanBeEmitted made
+net_is made parts e f = subst CanBeEmitted (sym (e ∙ ap net_in f)) hand_emitted

@@ -15,16 +15,16 @@ use Rattle.cx_net.specs.NetTree.{NetInstance, net_tree}
 use Rattle.cx_net.specs.Realises.{HasOutcome}
 use Rattle.cx_static.specs.Lowering.{lowered_of}
 use Rattle.cx_wiring.specs.Wiring.{net_of}
-use Rattle.cx_compiler.specs.Texts.{IsDesignOf}
+use Rattle.cx_compiler.specs.Texts.{IsRunOf}
 
 -- the net of a design
 abbrev pub net_for : PlainDesign → NetInstance
 net_for d = net_tree (net_of (lowered_of d))
 
--- the text is accepted and has this design, and the data file loads these memories
+-- the text is accepted, this is the design that is run of it, and the data file loads these memories
 pub record Loads (text json : List ℕ) : Type 0 where
   pub design : PlainDesign
-  pub stands : IsDesignOf text design
+  pub stands : IsRunOf text design
   pub memories : List PlainMemory
   pub loaded : load_of json (external_rows design) ≡ Ok memories
 

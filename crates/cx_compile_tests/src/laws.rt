@@ -9,6 +9,9 @@ use crate::stepped::{ADD_THREE, FIVE};
 use cx_compiler::net_of;
 use cx_control::laws::machine_runs;
 use cx_driver::{Stop, interp};
+use cx_flat_texts::laws::{
+    accepted_texts_run_as_meant, what_is_run_is_accepted, what_is_run_is_flat,
+};
 use cx_wiring_runs::laws::design_is_realised;
 use std::alloc::Global;
 use std::process::Abort;
@@ -22,6 +25,9 @@ fn comes_to(alloc: Global, text: &[u8], json: &[u8], budget: u64) -> Result<Vec<
 {
     machine_runs();
     design_is_realised();
+    accepted_texts_run_as_meant();
+    what_is_run_is_accepted();
+    what_is_run_is_flat();
     match net_of(alloc, text) {
         Ok(_) => interp(alloc, text, json, budget),
         Err(stop) => Err(stop),

@@ -1,10 +1,11 @@
 //! A net made by hand, as its text.
 
-ghost use Rattle.std.specs.Prelude.{◌≡◌, IfOk};
+ghost use Rattle.std.specs.Prelude.{◌≡◌, [], ◌∷◌, IfOk, map};
 ghost use Rattle.cx_emit.specs.Emitted.{CanBeEmitted};
 ghost use Rattle.cx_meaning.specs.declared.ports.PortRef.TheVariants as ports;
 ghost use Rattle.cx_net.specs.Nets.{ToPort};
-ghost use Rattle.cx_net.specs.PlainNets.{plain_net, plain_net_driver, plain_net_drivers, plain_net_expr};
+ghost use Rattle.cx_net.specs.NetsAsData.{plain_net};
+ghost use Rattle.cx_net.specs.PlainNets.{plain_net_component, plain_net_driver, plain_net_drivers, plain_net_expr};
 ghost use Rattle.cx_compile_tests.specs.HandNet as hand;
 
 use cx_bits::Bits;
@@ -116,9 +117,9 @@ fn drivers(alloc: Global) -> Result<Vec<NetDriver>, Fail>
     Ok(drivers)
 }
 
-/// A net of one register of 8 bits, two wires and a register of the control.
-fn net(alloc: Global) -> Result<Net, Fail>
-    ensures { IfOk result (λ net. CanBeEmitted (plain_net net)) }
+/// The component of one register of 8 bits, two wires and a register of the control.
+fn components(alloc: Global) -> Result<Vec<NetComponent>, Fail>
+    ensures { IfOk result (λ parts. map plain_net_component parts.items ≡ hand.hand_part ∷ []) }
 {
     let mut cells = Vec::new(alloc);
     cells.push(Cell {
@@ -142,7 +143,14 @@ fn net(alloc: Global) -> Result<Net, Fail>
         holes: 0,
         drivers: drivers(alloc)?,
     })?;
-    Ok(Net::new(components, 0))
+    Ok(components)
+}
+
+/// The net of that component.
+fn net(alloc: Global) -> Result<Net, Fail>
+    ensures { IfOk result (λ net. CanBeEmitted (plain_net net)) }
+{
+    Ok(Net::new(components(alloc)?, 0))
 }
 
 /// Drivers of one target stand in their order, none behind one whose guard is the number 1; what nothing drives is 0; a register

@@ -1,28 +1,24 @@
 -- A text is compiled or refused, and not both; and what is told of it is one thing.
-use Rattle.std.proofs.Common.{◌≡◌, ◌⊎◌, inl, inr, ℕ, ◌≤◌, ◌<◌, List, Result, Ok, Err, IfOk, IfErr, MatchResult, sym, ap, ◌∙◌, subst, arith}
+use Rattle.std.proofs.Common.{◌≡◌, ◌⊎◌, inl, inr, ℕ, ◌≤◌, ◌<◌, ◌^◌, List, Result, Ok, Err, IfOk, IfErr, MatchResult, refl, sym, ap, ◌∙◌, arith}
 use Rattle.cx_text.specs.declared.diagnostics.Diagnostic.{Diagnostic}
 use Rattle.cx_text.specs.declared.limits.TheConstants.{COMPILE_SIZE}
 use Rattle.cx_meaning.specs.Designs.{PlainDesign}
 use Rattle.cx_rules.specs.Counts.{counted_design_size}
 use Rattle.cx_rules.specs.Sizes.{design_size}
 use Rattle.cx_flat_texts.specs.Runnable.{runnable}
-use Rattle.cx_flat_texts.proofs.RunnableLemmas.{without_static}
-use Rattle.cx_vtree.specs.Spelling.{text_of}
 use Rattle.cx_commands.specs.declared.stops.Stop.{Stop}
 use Rattle.cx_commands.specs.declared.stops.Stop.TheVariants as stops
 use Rattle.cx_compiler.specs.Texts.{IsDesignOf, IsTextRefusal}
-use Rattle.cx_compiler.specs.Compiled.{IsCompiled, IsCompilable, IsTextOf, size_break, too_large, CompileBreak, Compiles, IsCompileStop, IsDesignWritten, IsDesignTooLarge, IsRealised, written_net, written_source}
+use Rattle.cx_compiler.specs.Compiled.{IsCompiled, IsCompilable, counted_too_large, CompileBreak, Compiles, IsCompileStop, IsRealised, IsRunTooLarge, IsRunWritten, written_net, written_source}
 use Rattle.cx_compiler.specs.Promise.{KeepsPromise}
 use Rattle.cx_power.proofs.SourceLemmas.{source_reset}
 use Rattle.cx_scripts.specs.Laws.{SourcesRealiseAlways}
+use Rattle.cx_compiler.proofs.MeantLemmas.{TextsRunAsMeant, text_runs}
 use Rattle.cx_compiler.proofs.PromiseLemmas.{promise_is_kept}
-use Rattle.cx_compiler.proofs.WrittenNets.{written_nets}
-use Rattle.cx_compiler.proofs.WrittenLength.{answer_few}
+use Rattle.cx_compiler.proofs.RunLayers.{RunLaws, can_bytes, can_nets, text_can}
 use Rattle.cx_compiler.proofs.WrittenCells.{written_cells}
 use Rattle.cx_compiler.proofs.WrittenShape.{written_shape, written_names}
 use Rattle.cx_compiler.proofs.WrittenUses.{written_used}
-use Rattle.cx_compiler.proofs.CountedSizes.{counted_design_size-flat}
-use Rattle.cx_compiler.proofs.TextLayers.{text_rules, text_flat}
 use Rattle.cx_compiler.proofs.TextLemmas.{one_design, text_of_design, accepted_once, break_once}
 
 -- an accepted text whose design is within the size is not refused
@@ -46,53 +42,50 @@ pub one_refusal : (text : List ℕ) (a b : Diagnostic) → CompileBreak text a �
 one_refusal text a b (inl h) (inl k) = break_once text a b h k
 one_refusal text a b (inl h) (inr k) = absurd (accepted_once text a (text_of_design text k.0 k.1) h)
 one_refusal text a b (inr h) (inl k) = absurd (accepted_once text b (text_of_design text h.0 h.1) k)
-one_refusal text a b (inr h) (inr k) = h.3 ∙ ap (λ (x : PlainDesign). size_break (counted_design_size x)) (one_design text h.0 k.0 h.1 k.1) ∙ sym k.3
+one_refusal text a b (inr h) (inr k) = h.3 ∙ ap counted_too_large (one_design text h.0 k.0 h.1 k.1) ∙ sym k.3
 
 compile_stop : (text : List ℕ) (told : Diagnostic) (stop : Stop) → CompileBreak text told → IsCompileStop text stop → (stop ≡ stops.Memory) ⊎ (stop ≡ stops.Rule told)
 compile_stop text told stop b (inl memory) = inl memory
 compile_stop text told stop b (inr own) = inr (own.2 ∙ ap (λ d. stops.Rule d) (one_refusal text own.0 told own.1 b))
 
 -- from a design to its text, by what the passes promise
-pub text_written : {X : Type 0} (bytes : X → List ℕ) (text : List ℕ) (d : PlainDesign) (r : Result X Stop)
-    → IsDesignOf text d → SourcesRealiseAlways → IfOk r (λ _. IsRealised d) → IfOk r (λ x. IsDesignWritten d (bytes x)) → IfOk r (λ x. IsCompiled text (bytes x))
-text_written bytes text d (Ok x) stands always realised h =
-    let rules = text_rules text d stands h.0 in
-    let small : design_size d ≤ 16384 = h.0 in
-    let same : d ≡ runnable d = sym (without_static d rules.1) in
-    let own : IsTextOf d (bytes x) = record {
-      source = written_source d;
-      spelled = h.1;
-      realises = realised rules.0 rules.1 rules.2;
-      always = always d rules.0 rules.1 rules.2 h.1.sound;
-      reset = source_reset (written_net d);
-      shape = written_shape d rules.0 rules.1 rules.2 h.1.sound;
-      cells = written_cells d rules.0;
-      used = written_used d rules.0 rules.1 rules.2 h.1.sound;
-      names = written_names d;
-      nets = written_nets text d stands h.0;
-      small = answer_few text (bytes x) d stands h.0 h.1;
-    } in
+pub text_written : {X : Type 0} (bytes : X → List ℕ) (laws : RunLaws) (meant : TextsRunAsMeant) (text : List ℕ) (d : PlainDesign) (r : Result X Stop)
+    → IsDesignOf text d → design_size d < 2 ^ 32 → SourcesRealiseAlways → IfOk r (λ _. IsRealised (runnable d)) → IfOk r (λ x. IsRunWritten d (bytes x)) → IfOk r (λ x. IsCompiled text (bytes x))
+text_written bytes laws meant text d (Ok x) stands few always realised h =
+    let e = runnable d in
+    let can = text_can laws text d stands few h.0 in
     record {
       design = d;
       stands = stands;
-      few = omega (arith, small);
-      within = subst (λ n. n ≤ COMPILE_SIZE) (sym (counted_design_size-flat d rules.1)) h.0;
-      written = subst (λ (e : PlainDesign). IsTextOf e (bytes x)) same own;
-      exact = subst (λ (e : PlainDesign). bytes x ≡ text_of (written_source e)) same h.1.spelled;
+      few = few;
+      within = h.0;
+      runs = text_runs meant text d stands few;
+      written = record {
+        source = written_source e;
+        spelled = h.1;
+        realises = realised can.design can.flat can.accepted;
+        always = always e can.design can.flat can.accepted h.1.sound;
+        reset = source_reset (written_net e);
+        shape = written_shape e can.design can.flat can.accepted h.1.sound;
+        cells = written_cells e can.design;
+        used = written_used e can.design can.flat can.accepted h.1.sound;
+        names = written_names e;
+        nets = can_nets e can;
+        small = λ shallow. can_bytes e can (bytes x) h.1 shallow;
+      };
+      exact = h.1.spelled;
     }
-text_written bytes text d (Err stop) stands always realised h = tt
+text_written bytes laws meant text d (Err stop) stands few always realised h = tt
 
 -- and what is written of it keeps the promise
 pub text_keeps : {X : Type 0} (bytes : X → List ℕ) (text : List ℕ) (r : Result X Stop) → IfOk r (λ x. IsCompiled text (bytes x)) → IfOk r (λ x. KeepsPromise text (bytes x))
 text_keeps bytes text (Ok x) h = promise_is_kept text (bytes x) h
 text_keeps bytes text (Err stop) h = tt
 
-pub text_too_large : {X : Type 0} (text : List ℕ) (d : PlainDesign) (r : Result X Stop) → IsDesignOf text d → IfErr r (IsDesignTooLarge d) → IfErr r (IsCompileStop text)
+pub text_too_large : {X : Type 0} (text : List ℕ) (d : PlainDesign) (r : Result X Stop) → IsDesignOf text d → IfErr r (IsRunTooLarge d) → IfErr r (IsCompileStop text)
 text_too_large text d (Ok x) stands h = tt
 text_too_large text d (Err stop) stands (inl memory) = inl memory
-text_too_large text d (Err stop) stands (inr h) =
-    let same : counted_design_size d ≡ design_size d = counted_design_size-flat d (text_flat text d stands) in
-    inr (too_large d, inr (d, stands, subst (λ n. COMPILE_SIZE < n) (sym same) h.0, ap size_break (sym same)), h.1)
+text_too_large text d (Err stop) stands (inr h) = inr (counted_too_large d, inr (d, stands, h.0, refl), h.1)
 
 -- from a text that is refused
 pub refused_compile : (text : List ℕ) (stop : Stop) → IsTextRefusal text stop → IsCompileStop text stop

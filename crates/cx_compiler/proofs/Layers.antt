@@ -10,7 +10,7 @@ use Rattle.cx_rules.specs.Wellformed.{IsDesign}
 use Rattle.cx_vtree.specs.Plain.{PlainSource}
 use Rattle.cx_vtree.specs.PlainParts as text
 use Rattle.cx_vtree.specs.SimRun.{Outcome, DoneAt, NotDone}
-use Rattle.cx_net.specs.NetFits.{IsFit}
+use Rattle.cx_net.specs.NetFits.{HasTargets, IsFit}
 use Rattle.cx_net.specs.Nets.{PlainNet}
 use Rattle.cx_net.specs.NetRuns.{NetRun}
 use Rattle.cx_net.specs.NetTree.{net_component_at, net_tree}
@@ -19,7 +19,6 @@ use Rattle.cx_net.proofs.FollowLemmas.{source_realises}
 use Rattle.cx_fsm.specs.Built.{IsNetFor}
 use Rattle.cx_holes.specs.Inlining.{inlined}
 use Rattle.cx_holes.specs.Kept.{DoesWithoutHoles}
-use Rattle.cx_holes.specs.Names.{HasTargets}
 use Rattle.cx_emit.specs.RunsAs.{RunsAs}
 use Rattle.cx_compiler.specs.Compiled.{HasItsNet, IsHolelessNetFor, IsRealised, written_source}
 

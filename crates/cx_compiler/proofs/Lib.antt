@@ -8,7 +8,6 @@ pub mod TimerUses
 pub mod WrittenShape
 pub mod WrittenCells
 pub mod WrittenUses
-pub mod CountedSizes
 pub mod TextLayers
 pub mod TextWords
 pub mod TextGuards
@@ -21,7 +20,6 @@ pub mod RunLayers
 pub mod CompileLemmas
 pub mod NetLemmas
 pub mod BelowLemmas
-pub mod PlainPaths
 pub mod MeantLemmas
 pub mod OwedLemmas
 pub mod PromiseLemmas

@@ -13,12 +13,13 @@ use Rattle.cx_meaning.specs.Instances.{State, tree_of, words_of}
 use Rattle.cx_meaning.specs.Running.{run_main}
 use Rattle.cx_meaning.specs.Budgets.{Grows}
 use Rattle.cx_rules.specs.Externals.{external_rows}
+use Rattle.cx_rules.specs.Flat.{IsFlat}
 use Rattle.cx_vtree.specs.Plain.{PlainSource}
 use Rattle.cx_vtree.specs.SimRun.{Outcome, DoneAt, LoopAt, NotDone, SimRun}
 use Rattle.cx_vtree.proofs.Runs.{one_outcome}
 use Rattle.cx_power.specs.Resets.{IsReset}
 use Rattle.cx_scripts.specs.Always.{RealisesAlways}
-use Rattle.cx_compiler.specs.Texts.{IsDesignOf}
+use Rattle.cx_compiler.specs.Texts.{IsDesignOf, IsRunOf}
 use Rattle.cx_compiler.specs.Interpreted.{told_of, loaded_result, design_result, meant_result, Interprets}
 use Rattle.cx_commands.specs.declared.stops.Stop.TheVariants as stops
 use Rattle.cx_net.specs.Realises.{HasOutcome, comes, waits, Realises}
@@ -27,7 +28,7 @@ use Rattle.cx_compiler.specs.Promise.{a_fault, EndsOrFaults, ends_so, faults, Is
 use Rattle.cx_compiler.proofs.Once.{Told}
 use Rattle.cx_compiler.proofs.TextLemmas.{accepted_once, one_design, text_of_design}
 use Rattle.cx_flat_texts.specs.Runnable.{runnable}
-use Rattle.cx_compiler.proofs.MeantLemmas.{run_meant, text_meant}
+use Rattle.cx_compiler.proofs.MeantLemmas.{design_meant_is, run_meant, text_meant}
 use Rattle.cx_compiler.proofs.OneSource.{one_source_of}
 use Rattle.cx_net.proofs.FollowLemmas.{never_loops}
 use Rattle.cx_compiler.proofs.BelowLemmas.{cycle_within, main_grows, loaded_fits}
@@ -195,9 +196,13 @@ pub of_meant : (text : List ℕ) (d : PlainDesign) → IsDesignOf text d → (js
 of_meant text d stands json budget result (inl h) = h.2 ∙ ap (λ x. meant_result x json budget) (one_design text h.0 d h.1 stands)
 of_meant text d stands json budget result (inr h) = absurd (accepted_once text h.0 (text_of_design text d stands) h.1)
 
--- which, as it has no static component, is what it does
-pub of_design : (text : List ℕ) (d : PlainDesign) → IsDesignOf text d → (json : List ℕ) (budget : ℕ) (result : Told) → Interprets text json budget result → result ≡ design_result d json budget
-of_design text d stands json budget result h = of_meant text d stands json budget result h ∙ text_meant text d stands json budget
+-- which is what the design that is run does
+pub of_run : (text : List ℕ) (run : PlainDesign) → IsRunOf text run → (json : List ℕ) (budget : ℕ) (result : Told) → Interprets text json budget result → result ≡ design_result run json budget
+of_run text run h json budget result i = of_meant text h.design h.stands json budget result i ∙ run_meant text run h json budget
+
+-- and where the text's design has no static component, what it does itself
+pub of_design : (text : List ℕ) (d : PlainDesign) → IsDesignOf text d → IsFlat d → (json : List ℕ) (budget : ℕ) (result : Told) → Interprets text json budget result → result ≡ design_result d json budget
+of_design text d stands flat json budget result h = of_meant text d stands json budget result h ∙ text_meant text d stands flat json budget
 
 -- and what a Verilog text does is what its source does
 of_source : (verilog : List ℕ) (source : PlainSource) → IsVerilogOf verilog source → (json : List ℕ) (budget : ℕ) (result : Told) → Simulates verilog json budget result
@@ -250,4 +255,4 @@ module _ (text verilog : List ℕ) (d own : PlainDesign) (source : PlainSource) 
 
 pub promise_is_kept : PromiseIsKept
 promise_is_kept text verilog h =
-    kept_by text verilog (runnable h.design) h.design h.written.source h.stands (λ json budget. run_meant text h.design h.stands json budget) refl h.written.spelled h.written.realises h.written.reset h.written.always
+    kept_by text verilog (runnable h.design) h.design h.written.source h.stands (λ json budget. design_meant_is h.design h.runs json budget) refl h.written.spelled h.written.realises h.written.reset h.written.always

@@ -16,8 +16,7 @@ use Rattle.cx_numbering.specs.NameRules.{names_break}
 use Rattle.cx_names.specs.Targets.{HasTargets}
 use Rattle.cx_names.proofs.TargetLemmas.{targets_in_text}
 use Rattle.cx_names.proofs.Placed as placed
-use Rattle.cx_check.specs.Unbuilt.{first_unbuilt}
-use Rattle.cx_check.specs.Acceptance.{IsAcceptedTree, IsTreeRefusal, TreeBreak, left_out}
+use Rattle.cx_check.specs.Acceptance.{IsAcceptedTree, IsTreeRefusal, TreeBreak}
 use Rattle.cx_check.proofs.Verdicts as verdicts
 use Rattle.cx_design.specs.declared.refusals.Refusal.{Refusal}
 use Rattle.cx_design.specs.declared.refusals.Refusal.TheVariants as refusals
@@ -28,7 +27,7 @@ use Rattle.cx_compiler.specs.Texts.{IsAcceptedText, IsDesignOf, TextBreak, IsTre
 use Rattle.cx_commands.proofs.UnreadLemmas.{read_no_fault, one_stage_one}
 use Rattle.cx_text.proofs.OptionLaws.{one_value}
 
-one_text_tree : (text : List ℕ) (a b : PlainTree) → HasTree text a → HasTree text b → a ≡ b
+pub one_text_tree : (text : List ℕ) (a b : PlainTree) → HasTree text a → HasTree text b → a ≡ b
 one_text_tree text a b h k = one_tree h.0 a b h.2 (subst (λ ts. Parse ts b) (one_tokens text k.0 h.0 k.1 h.1) k.2)
 
 -- in the tree of a text targets are ports
@@ -63,16 +62,11 @@ same_diagnostic a b rule place name =
     ap (λ r. tell r a.place a.name) rule ∙ ap (λ p. tell b.rule p a.name) place ∙ ap (λ n. tell b.rule b.place n) name
 
 tree_break_once : (text : List ℕ) (tokens : List Token) (tree : PlainTree) (a b : Diagnostic) → Lex text tokens → Parse tokens tree → TreeBreak tree a → TreeBreak tree b → a ≡ b
-tree_break_once text tokens tree a b lexed parsed (inl h) (inl k) = h.2 ∙ ap left_out (one_value (first_unbuilt tree) h.0 k.0 h.1 k.1) ∙ sym k.2
-tree_break_once text tokens tree a b lexed parsed (inl h) (inr (inl k)) = absurd (not_both (first_unbuilt tree) h.0 h.1 k.0)
-tree_break_once text tokens tree a b lexed parsed (inl h) (inr (inr k)) = absurd (not_both (first_unbuilt tree) h.0 h.1 k.0)
-tree_break_once text tokens tree a b lexed parsed (inr (inl h)) (inl k) = absurd (not_both (first_unbuilt tree) k.0 k.1 h.0)
-tree_break_once text tokens tree a b lexed parsed (inr (inl h)) (inr (inl k)) = one_value (names_break tree) a b h.1 k.1
-tree_break_once text tokens tree a b lexed parsed (inr (inl h)) (inr (inr k)) = absurd (not_both (names_break tree) a h.1 k.1)
-tree_break_once text tokens tree a b lexed parsed (inr (inr h)) (inl k) = absurd (not_both (first_unbuilt tree) k.0 k.1 h.0)
-tree_break_once text tokens tree a b lexed parsed (inr (inr h)) (inr (inl k)) = absurd (not_both (names_break tree) b k.1 h.1)
-tree_break_once text tokens tree a b lexed parsed (inr (inr h)) (inr (inr k)) =
-    let one = placed.refused_once text tokens tree a b lexed parsed h.1 h.2 k.2 in
+tree_break_once text tokens tree a b lexed parsed (inl h) (inl k) = one_value (names_break tree) a b h k
+tree_break_once text tokens tree a b lexed parsed (inl h) (inr k) = absurd (not_both (names_break tree) a h k.0)
+tree_break_once text tokens tree a b lexed parsed (inr h) (inl k) = absurd (not_both (names_break tree) b k h.0)
+tree_break_once text tokens tree a b lexed parsed (inr h) (inr k) =
+    let one = placed.refused_once text tokens tree a b lexed parsed h.0 h.1 k.1 in
     same_diagnostic a b one.0 one.1 one.2
 
 pub break_once : (text : List ℕ) (a b : Diagnostic) → TextBreak text a → TextBreak text b → a ≡ b

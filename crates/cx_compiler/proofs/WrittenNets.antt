@@ -1,9 +1,8 @@
--- The net that compile writes for the design of an accepted text within the size can be emitted, and so its source is sound; and it has few nets.
+-- The net that is written for an accepted design within the size can be emitted, where the names of its external memories are words; and it has few nets.
 use Rattle.std.proofs.Common.{◌≡◌, ℕ, ◌+◌, ◌*◌, ◌<◌, ◌≤◌, true, List, [], ◌∷◌, length, refl, sym, ap, ap₂, ◌∙◌, subst, arith}
 use Rattle.std.specs.Prelude.{◌^◌}
 use Rattle.std.proofs.lemmas.List.{length-map}
 use Rattle.std.proofs.lemmas.Option.{slice_get-get_or}
-use Rattle.cx_text.specs.declared.limits.TheConstants.{COMPILE_SIZE}
 use Rattle.cx_ast.specs.PlainTree.{PlainTree}
 use Rattle.cx_prim.specs.Rows.{Row}
 use Rattle.cx_meaning.specs.Designs.{PlainCell, PlainComponent, PlainDesign, no_component, component_at}
@@ -20,7 +19,6 @@ use Rattle.cx_check.specs.Acceptance.{IsAcceptedTree}
 use Rattle.cx_names.proofs.Base.{in_at, in_map, some_at}
 use Rattle.cx_names.proofs.There.{component_is}
 use Rattle.cx_vtree.specs.Layout.{is_word}
-use Rattle.cx_vtree.specs.Sound.{is_sound}
 use Rattle.cx_net.specs.Nets.{PlainNetComponent, PlainNet}
 use Rattle.cx_net.specs.NetLimits.{nets_below}
 use Rattle.cx_net.specs.NetMeaning.{NetState}
@@ -53,7 +51,7 @@ use Rattle.cx_compiler.specs.Texts.{IsDesignOf}
 use Rattle.cx_compiler.specs.Compiled.{EmitsWithin, written_net, written_source}
 use Rattle.cx_wiring.proofs.FitTargets.{targets_there}
 use Rattle.cx_compiler.proofs.TextGuards.{guards_hold}
-use Rattle.cx_compiler.proofs.TextLayers.{text_rules, tree_rules}
+use Rattle.cx_compiler.proofs.TextLayers.{tree_rules}
 use Rattle.cx_compiler.proofs.TextLemmas.{text_targets}
 use Rattle.cx_compiler.proofs.TextWords.{cells_named}
 use Rattle.cx_text.proofs.ListLaws.{there_at}
@@ -146,25 +144,9 @@ module _ (d : PlainDesign) (rules : IsDesign d) (flat : IsFlat d) (accepted : Is
       let nets = source_nets (inlined net) (emitted_sound (inlined net) net_emitted) (record { fits = net_emitted.fits; no_holes = net_emitted.no_holes }) in
       omega (arith, weigh, nets)
 
--- THE NET of an accepted tree within the size, whose external memories have words for names, can be emitted
-pub tree_emitted : (tree : PlainTree) (d : PlainDesign) → HasTargets tree → IsAcceptedTree tree → d ≡ design_of tree → HasWords d → EmitsWithin d
-tree_emitted tree d targets accepted same words within =
-    let rules = tree_rules tree d targets accepted same within in
+-- THE NET of an accepted tree without static components within the size, whose external memories have words for names, can be emitted
+pub tree_emitted : (tree : PlainTree) (d : PlainDesign) → HasTargets tree → IsAcceptedTree tree → d ≡ design_of tree → IsFlat d → HasWords d → EmitsWithin d
+tree_emitted tree d targets accepted same flat words within =
+    let rules = tree_rules tree d targets accepted same flat within in
     let small : design_size d ≤ 16384 = within in
     net_emitted d rules.0 rules.1 rules.2 (record { small = small; parts = design_parts tree d same; words = words })
-
--- and so can that of an accepted text
-pub text_emitted : (text : List ℕ) (d : PlainDesign) → IsDesignOf text d → EmitsWithin d
-text_emitted text d h within =
-    tree_emitted h.0 d (text_targets text h.0 h.1) h.2 h.3 (λ cell i external. design_words text d h d.main (text_rules text d h within).0.main_there cell i) within
-
--- and its source is sound
-pub written_sound : (text : List ℕ) (d : PlainDesign) → IsDesignOf text d → design_size d ≤ COMPILE_SIZE → is_sound (written_source d) ≡ true
-written_sound text d h within = emitted_sound (written_net d) (text_emitted text d h within)
-
--- and has few nets
-pub written_nets : (text : List ℕ) (d : PlainDesign) → IsDesignOf text d → design_size d ≤ COMPILE_SIZE → HasFewNets d (written_source d)
-written_nets text d h within =
-    let rules = text_rules text d h within in
-    let small : design_size d ≤ 16384 = within in
-    nets_weigh d rules.0 rules.1 rules.2 (record { small = small; parts = design_parts h.0 d h.3; words = λ cell i external. design_words text d h d.main rules.0.main_there cell i })

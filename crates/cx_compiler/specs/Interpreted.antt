@@ -11,7 +11,7 @@ use Rattle.cx_meaning.specs.Designs.{PlainDesign}
 use Rattle.cx_meaning.specs.Instances.{State, tree_of, words_of}
 use Rattle.cx_meaning.specs.Running.{run_main}
 use Rattle.cx_rules.specs.Externals.{external_rows}
-use Rattle.cx_state.specs.Paths.{full_path}
+use Rattle.cx_rules.specs.FullPaths.{full_path}
 use Rattle.cx_flattening.specs.Told as tellings
 use Rattle.cx_flattening.specs.Told.{told}
 use Rattle.cx_flattening.specs.Whole.{whole_main}

@@ -1,8 +1,9 @@
 //! What follows from the definitions of what the commands and the passes do: each function does nothing but call others, and its clause is the law.
 
-ghost use Rattle.cx_compiler.specs.Laws.{NeverTooLong, NoneEnds, OneSource};
+ghost use Rattle.cx_compiler.specs.Laws.{AreShallow, NeverTooLong, NoneEnds, OneSource};
 ghost use Rattle.cx_compiler.specs.Promise.{PromiseIsKept};
 
+use cx_flat_texts::laws::{what_is_run_is_accepted, what_is_run_is_flat};
 use cx_orders::laws::run_ends_too;
 
 /// A Verilog text spells one sound source at most.
@@ -15,10 +16,18 @@ pub fn promise_is_kept()
     ensures { PromiseIsKept }
 {}
 
-/// What the passes make of an accepted text within the size is never too long to be written.
+/// Few static ifs stand around a statement of what is run of an accepted text without static components.
+pub fn texts_are_shallow()
+    ensures { AreShallow }
+{}
+
+/// Where this is so of what is run of an accepted text within the size, what the passes make of it is never too long to be written.
 pub fn never_too_long()
     ensures { NeverTooLong }
-{}
+{
+    what_is_run_is_accepted();
+    what_is_run_is_flat();
+}
 
 /// In an accepted design, where the run of `main` has a fault, no order of the leaves ends.
 pub fn none_ends()

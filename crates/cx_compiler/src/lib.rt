@@ -6,6 +6,6 @@ mod compiling;
 pub mod laws;
 mod nets;
 
-pub use accepting::{accepted_design, check_text, tried};
-pub use compiling::{compile, compile_design};
+pub use accepting::{accepted_design, check_text, design_to_run, tried};
+pub use compiling::{compile, compile_accepted, compile_design};
 pub use nets::{DesignNet, net_of};

@@ -5,16 +5,19 @@ ghost use Rattle.cx_text.specs.declared.diagnostics.Diagnostic.{Diagnostic as Di
 ghost use Rattle.cx_text.specs.Loading.{plain_rows};
 ghost use Rattle.cx_data.specs.Widths.{HasWordWidth};
 ghost use Rattle.cx_rules.specs.Externals.{external_rows};
+ghost use Rattle.cx_flat_texts.specs.Runnable.{CanBeFlattened, runnable};
 ghost use Rattle.cx_design.specs.PlainDesigns.{plain_design};
-ghost use Rattle.cx_net.specs.PlainNets.{plain_net};
-ghost use Rattle.cx_compiler.specs.Compiled.{CompileBreak, IsCompilable, IsCompileStop, IsDesignTooLarge, IsNetOfText, IsSizedNet, net_rows};
+ghost use Rattle.cx_net.specs.NetsAsData.{plain_net};
+ghost use Rattle.cx_compiler.specs.Compiled.{CompileBreak, IsCompilable, IsCompileStop, IsNetOfText, IsRunTooLarge, IsSizedNet, KeepsRules, net_rows};
 ghost use Rattle.cx_commands.specs.declared.stops.Stop.TheVariants as stops;
 
 use crate::accepting::accepted_design;
 use crate::compiling::{design_net, too_large};
 use cx_commands::Stop;
 use cx_design::Checked;
-use cx_design_sizes::design_size;
+use cx_flat::flattened;
+use cx_flat_texts::laws::{what_is_run_is_accepted, what_is_run_is_flat};
+use cx_limits::counted_design_size;
 use cx_net::Net;
 use cx_text::{COMPILE_SIZE, MemoryRow};
 use std::alloc::Global;
@@ -41,24 +44,29 @@ pub fn net_of(alloc: Global, text: &[u8]) -> Result<DesignNet, Stop>
     ensures all_refusals { (told : DiagnosticValue) → CompileBreak text.now told
         → MatchResult result (λ _. ⊥) (λ stop. (stop ≡ stops.Memory) ⊎ (stop ≡ stops.Rule told)) }
 {
+    what_is_run_is_accepted();
+    what_is_run_is_flat();
     match accepted_design(alloc, text) {
-        Ok(design) => sized_net(alloc, &design),
+        Ok(design) => sized_net(alloc, design),
         Err(stop) => Err(stop),
     }
 }
 
-/// The net of a design, where its size is within the limit.
-fn sized_net(alloc: Global, design: &Checked) -> Result<DesignNet, Stop>
-    ensures answer { IfOk result (λ own. IsSizedNet (plain_design design.now) (plain_net own.net)) }
-    ensures rows { IfOk result (λ own. plain_rows own.rows.items ≡ external_rows (plain_design design.now)) }
+/// The net of the design that is run of an accepted one, where its size is within the limit.
+fn sized_net(alloc: Global, checked: Checked) -> Result<DesignNet, Stop>
+    requires flattens { CanBeFlattened (plain_design checked) }
+    requires rules { KeepsRules (runnable (plain_design checked)) }
+    ensures answer { IfOk result (λ own. IsSizedNet (plain_design checked) (plain_net own.net)) }
+    ensures rows { IfOk result (λ own. plain_rows own.rows.items ≡ external_rows (runnable (plain_design checked))) }
     ensures widths { IfOk result (λ own. All HasWordWidth (plain_rows own.rows.items)) }
-    ensures cause { IfErr result (IsDesignTooLarge (plain_design design.now)) }
+    ensures cause { IfErr result (IsRunTooLarge (plain_design checked)) }
 {
-    let size = design_size(design.design());
+    let size = counted_design_size(alloc, checked.design())?;
     if size > COMPILE_SIZE {
         return Err(too_large(alloc, size));
     }
-    let net = design_net(alloc, design)?;
-    let rows = design.rows(alloc)?;
+    let run = flattened(alloc, checked)?;
+    let net = design_net(alloc, &run)?;
+    let rows = run.rows(alloc)?;
     Ok(DesignNet { net, rows })
 }

@@ -12,8 +12,9 @@ use Rattle.cx_meaning.specs.Designs.{PlainDesign}
 use Rattle.cx_meaning.specs.Instances.{State, tree_of}
 use Rattle.cx_meaning.specs.Running.{run_main}
 use Rattle.cx_rules.specs.Externals.{external_rows}
+use Rattle.cx_rules.specs.Flat.{IsFlat}
 use Rattle.cx_numbering.specs.DesignOf.{design_of}
-use Rattle.cx_state.specs.Paths.{full_path}
+use Rattle.cx_rules.specs.FullPaths.{full_path}
 use Rattle.cx_commands.specs.Commands.{Asked, share}
 use Rattle.cx_commands.specs.Unread.{HasTree}
 use Rattle.cx_commands.specs.declared.stops.Stop.TheVariants as stops
@@ -21,6 +22,7 @@ use Rattle.cx_compiler.specs.Interpreted.{told_of, loaded_result, design_result}
 use Rattle.cx_compiler.specs.Texts.{IsDesignOf}
 use Rattle.cx_compiler.proofs.MeantLemmas.{text_meant}
 use Rattle.cx_compiler.proofs.PromiseLemmas.{of_design}
+use Rattle.cx_compiler.proofs.TextLemmas.{one_design}
 use Rattle.cx_rewritten.specs.Alike.{AreAlike, both_end, both_fault, both_go_on, RunAlike, RunsAs}
 use Rattle.cx_driver.specs.Alike.{ToldAlike, InterpretsAlike, AlikeOfFile}
 use Rattle.cx_driver.specs.Outcomes.{IsAnswer}
@@ -46,15 +48,15 @@ module _ (d e : PlainDesign) where
       subst (λ rows. ToldAlike (design_result d json budget) (loaded_result e budget (load_of json rows))) (sym alike.rows) (loaded_alike alike budget (load_of json (external_rows d)))
 
 -- the text that is written of an accepted text
-pub interprets_alike : (text other : List ℕ) (tree : PlainTree) → HasTree text tree → IsAcceptedTree tree → RunsAs tree other → InterpretsAlike text other
-interprets_alike text other tree has accepted runs =
+pub interprets_alike : (text other : List ℕ) (tree : PlainTree) → HasTree text tree → IsAcceptedTree tree → IsFlat (design_of tree) → RunsAs tree other → InterpretsAlike text other
+interprets_alike text other tree has accepted flat runs =
     let own : IsDesignOf other (design_of runs.again) = (runs.again, (runs.tokens, runs.lexed, runs.parsed), runs.accepted, refl) in
     record {
       accepted = (runs.again, (runs.tokens, runs.lexed, runs.parsed), runs.accepted);
       told = λ json budget result is.
-          let same = of_design text (design_of tree) (tree, has, accepted, refl) json budget result is in (
+          let same = of_design text (design_of tree) (tree, has, accepted, refl) flat json budget result is in (
             design_result (design_of runs.again) json budget,
-            inl (design_of runs.again, own, sym (text_meant other (design_of runs.again) own json budget)),
+            inl (design_of runs.again, own, sym (text_meant other (design_of runs.again) own runs.flat json budget)),
             subst (λ r. ToldAlike r (design_result (design_of runs.again) json budget)) (sym same) (designs_alike (design_of tree) (design_of runs.again) runs.alike json budget),
           );
     }
@@ -64,4 +66,10 @@ pub shared_of_file : (held : Held) (file answer : List ℕ) (command : Asked) �
 shared_of_file held file answer command same h =
     let written : IsAnswer held (share file) answer = subst (λ asked. IsAnswer held asked answer) (sym same) h in
     let shared = answer_rewritten IsSharedTree written.bytes answer written.is in
-    record { bytes = written.bytes; reads = written.reads; is = interprets_alike written.bytes answer shared.tree shared.has shared.accepted shared.written.runs }
+    record {
+      bytes = written.bytes;
+      reads = written.reads;
+      is = λ d stands flat.
+          let own = subst IsFlat (one_design written.bytes d (design_of shared.tree) stands (shared.tree, shared.has, shared.accepted, refl)) flat in
+          interprets_alike written.bytes answer shared.tree shared.has shared.accepted own (shared.written.runs own);
+    }

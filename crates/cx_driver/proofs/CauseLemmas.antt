@@ -1,5 +1,5 @@
 -- Why a command has no answer.
-use Rattle.std.proofs.Common.{◌≡◌, ◌⊎◌, inl, inr, ⊎_elim, ℕ, List, Option, Some, None, Contains, Result, Ok, Err, IfOk, IfErr, OnOk, OnErr, codes, sym, ap, ◌∙◌, subst}
+use Rattle.std.proofs.Common.{◌≡◌, ◌⊎◌, inl, inr, ⊎_elim, ℕ, List, [], ◌∷◌, ◌++◌, Option, Some, None, Contains, Result, Ok, Err, IfOk, IfErr, OnOk, OnErr, codes, sym, ap, ◌∙◌, subst}
 use Rattle.cx_text.specs.declared.limits.TheConstants.{DESIGN_BYTES}
 use Rattle.cx_commands.specs.Commands.{Asked, check, files_of, wanted_by}
 use Rattle.cx_commands.specs.Reads.{HoldsWithin, IsReadFault}
@@ -11,7 +11,7 @@ use Rattle.cx_commands.specs.declared.refusals.Status.{Status}
 use Rattle.cx_commands.specs.declared.refusals.Status.TheVariants as statuses
 use Rattle.cx_commands.specs.declared.stops.Stop.{Stop}
 use Rattle.cx_commands.specs.declared.stops.Stop.TheVariants as stops
-use Rattle.cx_driver.specs.Causes.{IsMemory, HasCause, ToldWhy}
+use Rattle.cx_driver.specs.Causes.{IsMemory, HasCause, TellsUnread, ToldWhy, unread_by}
 use Rattle.cx_commands.specs.Statuses.{IsRefusing, ReceivesLine, fixed_line, status_of}
 use Rattle.cx_commands.specs.Messages.{line_of}
 use Rattle.cx_driver.proofs.ReadLemmas.{Held, unread_in}
@@ -45,30 +45,34 @@ pub delivered : {P Q S G R : Type 0} (status : Status) → ((status ≡ statuses
 delivered status (inl h) r = done_tells_nothing status h.0 r
 delivered status (inr h) r = write_fault_tells_nothing status h.0 r
 
-pub told_why : {L : Type 0} (command : Asked) (held : Held) (before after : ℕ) (status : Status) (err_old : Option (List ℕ)) (err_before : ℕ) (err_new : Option (List ℕ)) (err_after : ℕ) (refusal : Refusal)
+pub told_why : {L : Type 0} (command : Asked) (held : Held) (before after : ℕ) (old_names new_names : List (List ℕ)) (status : Status) (err_old : Option (List ℕ)) (err_before : ℕ) (err_new : Option (List ℕ)) (err_after : ℕ) (refusal : Refusal)
     → ((status ≡ status_of refusal) × ReceivesLine err_old err_before (line_of refusal) err_new err_after) ⊎ ((status ≡ statuses.Memory) × L)
-    → HasCause command held before after refusal → IsRefusing status → ToldWhy command held before after status err_old err_before err_new err_after
-told_why command held before after status err_old err_before err_new err_after refusal (inl h) cause r = record { refusal = refusal; tells = h.0; is_true = cause; line = h.1 }
-told_why command held before after status err_old err_before err_new err_after refusal (inr h) cause r = absurd (memory_tells_nothing status h.0 r)
+    → HasCause command held before after refusal → new_names ≡ unread_by refusal old_names → IsRefusing status
+    → ToldWhy command held before after old_names new_names status err_old err_before err_new err_after
+told_why command held before after old_names new_names status err_old err_before err_new err_after refusal (inl h) cause unread r =
+    record { refusal = refusal; tells = h.0; is_true = cause; unread = unread; line = h.1 }
+told_why command held before after old_names new_names status err_old err_before err_new err_after refusal (inr h) cause unread r = absurd (memory_tells_nothing status h.0 r)
 
 -- which file was not read
-read_fault_in : (command : Asked) (held : Held) (before after : ℕ) (refusal : Refusal) → status_of refusal ≡ statuses.ReadFault → HasCause command held before after refusal
-    → (file : List ℕ) × Contains (files_of command) file × IsReadFault held before after file
-read_fault_in command held before after (refusals.TooLong file seen) e h = absurd (cc)
-read_fault_in command held before after (refusals.ReadFault file) e h = let k = unread_in held before after file.now (wanted_by command) h in (file.now, k.0, k.1)
-read_fault_in command held before after (refusals.Stop (stops.Rule told)) e h = absurd (cc)
-read_fault_in command held before after (refusals.Stop (stops.Json fault)) e h = absurd (cc)
-read_fault_in command held before after (refusals.Stop (stops.More budget)) e h = absurd (cc)
-read_fault_in command held before after (refusals.Stop (stops.Verilog refused)) e h = absurd (cc)
-read_fault_in command held before after (refusals.Stop (stops.Fault kind path turn)) e h = absurd (cc)
-read_fault_in command held before after (refusals.Stop (stops.Loop path)) e h = absurd (cc)
-read_fault_in command held before after (refusals.Stop stops.Memory) e h = absurd (cc)
+module _ (command : Asked) (held : Held) (before after : ℕ) (old_names new_names : List (List ℕ)) where
+  abbrev IsUnreadAlone : Type 0
+  IsUnreadAlone = (file : List ℕ) × Contains (files_of command) file × IsReadFault held before after file × (new_names ≡ old_names ++ file ∷ [])
 
-pub unread_file : {L M : Type 0} (command : Asked) (held : Held) (before after : ℕ) (status : Status) (refusal : Refusal)
-    → ((status ≡ status_of refusal) × L) ⊎ ((status ≡ statuses.Memory) × M) → HasCause command held before after refusal → status ≡ statuses.ReadFault
-    → (file : List ℕ) × Contains (files_of command) file × IsReadFault held before after file
-unread_file command held before after status refusal (inl h) cause e = read_fault_in command held before after refusal (sym h.0 ∙ e) cause
-unread_file command held before after status refusal (inr h) cause e = absurd (let memory = h.0 in cc)
+  read_fault_in : (refusal : Refusal) → status_of refusal ≡ statuses.ReadFault → HasCause command held before after refusal → new_names ≡ unread_by refusal old_names → IsUnreadAlone
+  read_fault_in (refusals.TooLong file seen) e h names = absurd (cc)
+  read_fault_in (refusals.ReadFault file) e h names = let k = unread_in held before after file.now (wanted_by command) h in (file.now, k.0, k.1, names)
+  read_fault_in (refusals.Stop (stops.Rule told)) e h names = absurd (cc)
+  read_fault_in (refusals.Stop (stops.Json fault)) e h names = absurd (cc)
+  read_fault_in (refusals.Stop (stops.More budget)) e h names = absurd (cc)
+  read_fault_in (refusals.Stop (stops.Verilog refused)) e h names = absurd (cc)
+  read_fault_in (refusals.Stop (stops.Fault kind path turn)) e h names = absurd (cc)
+  read_fault_in (refusals.Stop (stops.Loop path)) e h names = absurd (cc)
+  read_fault_in (refusals.Stop stops.Memory) e h names = absurd (cc)
+
+  pub unread_file : {L M : Type 0} (status : Status) (refusal : Refusal) → ((status ≡ status_of refusal) × L) ⊎ ((status ≡ statuses.Memory) × M) → HasCause command held before after refusal
+      → new_names ≡ unread_by refusal old_names → status ≡ statuses.ReadFault → IsUnreadAlone
+  unread_file status refusal (inl h) cause names e = read_fault_in refusal (sym h.0 ∙ e) cause names
+  unread_file status refusal (inr h) cause names e = absurd (let memory = h.0 in cc)
 
 -- THE LINE of a status that has but one
 line_same : (a b : List ℕ) → (let o : Option (List ℕ) = Some a in o ≡ Some b) → a ≡ b
@@ -128,6 +132,13 @@ memory_cause command held before after (Ok x) h = tt
 memory_cause command held before after (Err (refusals.TooLong file seen)) h = absurd h
 memory_cause command held before after (Err (refusals.ReadFault file)) h = absurd h
 memory_cause command held before after (Err (refusals.Stop stop)) h = inl h
+
+-- and no read failed with it
+pub memory_unread : {X : Type 0} (old_names new_names : List (List ℕ)) (r : Result X Refusal) → IfErr r IsMemory → new_names ≡ old_names → TellsUnread r old_names new_names
+memory_unread old_names new_names (Ok x) h same = same
+memory_unread old_names new_names (Err (refusals.TooLong file seen)) h same = absurd h
+memory_unread old_names new_names (Err (refusals.ReadFault file)) h same = absurd h
+memory_unread old_names new_names (Err (refusals.Stop stop)) h same = same
 
 -- the status where there is no answer is none of one
 pub refused_not_done : {L M : Type 0} (status : Status) (refusal : Refusal) → ((status ≡ status_of refusal) × L) ⊎ ((status ≡ statuses.Memory) × M) → status ≡ statuses.Done → ⊥

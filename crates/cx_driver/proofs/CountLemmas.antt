@@ -1,24 +1,32 @@
 -- A text whose instrumented design keeps the limits is not refused, and what is told of one that is refused is one rule.
-use Rattle.std.proofs.Common.{◌≡◌, inl, inr, ℕ, ◌^◌, ◌<◌, List, sym, subst, arith}
-use Rattle.std.proofs.Math.Logic.{∥∥₁_elim}
-use denote.Struct.Props.{props}
+use Rattle.std.proofs.Common.{◌≡◌, inl, inr, ℕ, ◌^◌, ◌<◌, List, length, map, sym, ap, ◌∙◌, subst, arith}
+use Rattle.std.proofs.lemmas.List.{length-map}
 use Rattle.cx_text.specs.declared.diagnostics.Diagnostic.{Diagnostic}
 use Rattle.cx_text.specs.declared.rules.Rule.{Rule}
 use Rattle.cx_text.specs.declared.rules.Rule.TheVariants.{NotASource}
 use Rattle.cx_meaning.specs.Designs.{PlainDesign}
-use Rattle.cx_rules.specs.Accepted.{KeepsStage, IsFirstOf, stage_of}
+use Rattle.cx_meaning.specs.Instances.{tree_of}
+use Rattle.cx_rules.specs.Accepted.{IsAccepted, KeepsStage, IsFirstOf, stage_of}
+use Rattle.cx_rules.specs.Flat.{IsFlat}
 use Rattle.cx_rules.specs.OneBreak.{IsPlaced}
 use Rattle.cx_rules.specs.Sizes.{design_size}
 use Rattle.cx_rules.specs.Wellformed.{IsDesign}
 use Rattle.cx_rules.proofs.OneBreak.{one_rule, one_place, one_name}
-use Rattle.cx_names.proofs.Whole.{is_design}
+use Rattle.cx_design.specs.PlainDesigns.{plain_design}
+use Rattle.cx_profiling.specs.Counters.{entries_of, entry_count, shown_in}
 use Rattle.cx_profiling.specs.Instrumented.{instrumented}
+use Rattle.cx_profile.specs.Profiles.{group_path, memory_place}
+use Rattle.cx_profile.specs.declared.entries.ProfiledGroup.{ProfiledGroup}
+use Rattle.cx_profile.specs.declared.instrumenting.Profiled.{Profiled}
+use Rattle.cx_flat_texts.specs.Runnable.{CanBeFlattened, RunsAsMeant, runnable}
+use Rattle.cx_instrumented.proofs.KeptTexts.{flattens}
 use Rattle.cx_compiler.specs.Texts.{IsDesignOf}
-use Rattle.cx_compiler.proofs.TextDepth.{text_shallow}
-use Rattle.cx_compiler.proofs.TextLayers.{text_flat}
-use Rattle.cx_compiler.proofs.TextLemmas.{accepted_once, accepted_rules, break_once, one_design, same_diagnostic, text_of_design, text_targets}
+use Rattle.cx_compiler.proofs.TextLayers.{few_parts, text_flattens}
+use Rattle.cx_compiler.proofs.TextLemmas.{accepted_once, break_once, one_design, same_diagnostic, text_of_design}
 use Rattle.cx_compiler.proofs.WrittenNets.{design_parts, design_words}
+use Rattle.cx_driver.specs.Counted.{IsProfiled}
 use Rattle.cx_driver.specs.Counting.{CanCount, CountBreak}
+use Rattle.cx_driver.specs.Profiling.{group_paths}
 
 -- a design that keeps the limits exceeds none
 kept_exceeds : (d : PlainDesign) (told : Diagnostic) → KeepsStage 7 d → IsFirstOf 7 d told → ⊥
@@ -48,13 +56,36 @@ counted_once text d told is keeps (inr h) =
 -- THE DESIGN OF A TEXT can be counted
 pub text_counts : (text : List ℕ) (d : PlainDesign) → IsDesignOf text d → ∥ IsDesign d ∥₁ → CanCount d
 text_counts text d h keeps =
-    let few : design_size d < 2 ^ 32 = ∥∥₁_elim keeps (hlevel props) (λ k. k.few_parts) in
-    let design : IsDesign d = subst IsDesign (sym h.3) (is_design h.0 (text_targets text h.0 h.1) h.2.named (subst (λ (e : PlainDesign). design_size e < 2 ^ 32) h.3 few)) in
+    let can = text_flattens text d h (few_parts d keeps) in
     record {
-      design = design;
-      accepted = accepted_rules text d h;
-      flat = text_flat text d h;
+      flattens = can;
       guards = design_parts h.0 d h.3;
-      words = λ cell i external. design_words text d h d.main design.main_there cell i;
-      shallow = text_shallow text d h;
+      words = λ cell i external. design_words text d h d.main can.design.main_there cell i;
     }
+
+-- WHAT IS RUN of its instrumented design
+module _ (d e : PlainDesign) (can : CanCount d) (same : e ≡ instrumented d) (keeps : ∥ IsDesign e ∥₁) (accepted : IsAccepted (instrumented d)) where
+  pub few_new : design_size (instrumented d) < 2 ^ 32
+  few_new = subst (λ (x : PlainDesign). design_size x < 2 ^ 32) same (few_parts e keeps)
+
+  pub new_flattens : CanBeFlattened (instrumented d)
+  new_flattens = flattens d can.flattens few_new accepted
+
+  pub made_flattens : CanBeFlattened e
+  made_flattens = subst CanBeFlattened (sym same) new_flattens
+
+-- as many groups as entries
+pub each_group : (d : PlainDesign) (groups : List ProfiledGroup) → map (λ (g : ProfiledGroup). g.path) groups ≡ group_paths d → length groups ≡ entry_count d
+each_group d groups same =
+    sym (length-map groups (λ (g : ProfiledGroup). g.path)) ∙ ap length same ∙ length-map (entries_of (tree_of d)) (group_path (tree_of d)) ∙ length-map (shown_in (tree_of d)) (λ x. x.entry)
+
+pub run_profiled : (d e : PlainDesign) (p : Profiled) → ((x : PlainDesign) → CanBeFlattened x → RunsAsMeant x) → ((x : PlainDesign) → IsFlat (runnable x)) → CanBeFlattened (instrumented d) → e ≡ instrumented d → plain_design p.design ≡ runnable e → p.memory ≡ memory_place d
+    → map (λ (g : ProfiledGroup). g.path) p.groups.items ≡ group_paths d → IsProfiled d p
+run_profiled d e p law flat can same run memory paths = record {
+  design = run ∙ ap (λ (x : PlainDesign). runnable x) same;
+  flat = subst IsFlat (sym run) (flat e);
+  runs = law (instrumented d) can;
+  accepted = can.accepted;
+  memory = memory;
+  each = each_group d p.groups.items paths;
+}

@@ -1,50 +1,46 @@
--- A DESIGN'S RUN, with its counts, by the run of its instrumented design.
-use Rattle.std.proofs.Common.{◌≡◌, ◌⊎◌, inl, inr, ℕ, zero, suc, ◌+◌, ◌*◌, ◌^◌, ◌%◌, ◌<◌, ◌≤◌, Bool, true, false, nat_eq, if◌then◌else◌, List, [], ◌∷◌, ◌++◌, length, map, slice_get, Some, None, Ok, Err, refl, sym, ap, ap₂, ◌∙◌, subst, arith}
-use Rattle.std.proofs.lemmas.Bool.{eqb-true, eqb-false}
-use Rattle.std.proofs.lemmas.List.{length-map, map-append}
+-- A DESIGN'S RUN, with its counts, by the run of what is run of its instrumented design.
+use Rattle.std.proofs.Common.{◌≡◌, ◌⊎◌, inl, inr, ℕ, suc, ◌+◌, ◌-◌, ◌*◌, ◌^◌, ◌%◌, ◌<◌, ◌≤◌, Bool, true, false, nat_eq, if◌then◌else◌, List, [], ◌∷◌, ◌++◌, length, map, Some, None, Result, Ok, Err, refl, sym, ap, ap₂, ◌∙◌, subst, arith}
+use Rattle.std.proofs.lemmas.Bool.{eq-eqb, eqb-true, eqb-false}
+use Rattle.std.proofs.lemmas.List.{length-append, length-map, map-append}
 use Rattle.std.proofs.Math.Nat.{mod-eq_of_lt}
-use Rattle.cx_text.specs.Loading.{PlainMemory, PlainRow, FitsRows, plain_memory, words_loaded, with_words}
-use Rattle.cx_text.specs.declared.loading.LoadedMemory.{LoadedMemory}
+use Rattle.cx_text.specs.Loading.{PlainMemory, PlainRow, FitsRows, words_loaded, with_words}
 use Rattle.cx_text.specs.declared.limits.TheConstants.{BUDGET}
+use Rattle.cx_data.specs.Load.{load_of}
 use Rattle.cx_prim.specs.CellStates.{AreWords}
 use Rattle.cx_prim.specs.CellStates as cell_states
+use Rattle.cx_meaning.specs.declared.sights.FaultKind.{FaultKind}
 use Rattle.cx_meaning.specs.Answers as answers
 use Rattle.cx_meaning.specs.Cycles as cycles
 use Rattle.cx_meaning.specs.Designs.{PlainCell, PlainDesign, component_at}
-use Rattle.cx_meaning.specs.Instances.{State, externals_from, externals_of, if_external, part_of, paths_of, tree_of, words_of}
-use Rattle.cx_meaning.specs.Running.{run_main}
+use Rattle.cx_meaning.specs.Instances.{State, externals_from, externals_of, if_external, part_of, tree_of, words_of}
 use Rattle.cx_meaning.specs.Sights.{In}
 use Rattle.cx_meaning.proofs.DesignsLemmas.{same_part}
 use Rattle.cx_rules.specs.Accepted.{KeepsStage}
 use Rattle.cx_rules.specs.Externals.{external_rows, rows_of}
 use Rattle.cx_rules.specs.Externals as externals
-use Rattle.cx_rules.specs.Flat.{IsFlat}
-use Rattle.cx_design.specs.PlainActives.{TellsFault}
+use Rattle.cx_flattening.specs.Told.{told}
+use Rattle.cx_flattening.specs.Whole.{whole_main}
 use Rattle.cx_design.specs.PlainDesigns.{plain_design}
-use Rattle.cx_design.specs.declared.actives.PortFault.{PortFault}
-use Rattle.cx_interp.specs.declared.answers.Answer.TheVariants as interp
-use Rattle.cx_interp.specs.declared.interp.Ran.{Ran}
-use Rattle.cx_interp.specs.Runs.{HasRun}
-use Rattle.cx_state.specs.States.{plain_state, words_in}
 use Rattle.cx_profiling.specs.Counters.{ProfileEntry, entries_of, entry_count, shown_in}
-use Rattle.cx_profiling.specs.Counting.{tally_of}
 use Rattle.cx_profiling.specs.Instrumented.{instrumented, with_counts}
-use Rattle.cx_profiling.specs.RunsAlike.{HasMemories, Reads, counts_of}
-use Rattle.cx_profiling.proofs.AlikeLemmas.{instrumented_is, reads_alike}
-use Rattle.cx_profiling.proofs.FlatKept.{instrumented_flat}
+use Rattle.cx_profiling.specs.RunsAlike.{HasMemories, Reads}
+use Rattle.cx_profiling.specs.WholeCounting.{whole_tally_of}
+use Rattle.cx_profiling.specs.WholeRunsAlike.{whole_counts_of}
+use Rattle.cx_profiling.proofs.AlikeLemmas.{instrumented_is}
 use Rattle.cx_profiling.proofs.MemoryLemmas.{few_words}
+use Rattle.cx_profiling.proofs.PathsKept.{rows_kept}
 use Rattle.cx_profiling.proofs.RoleLemmas.{Role, as_main, as_child, as_kept, role}
-use Rattle.cx_profiling.proofs.TallyWithin.{entry_within}
-use Rattle.cx_profiling.proofs.PathsKept.{paths_kept, rows_kept}
+use Rattle.cx_profiling.proofs.WholeAlike.{whole_reads_alike}
+use Rattle.cx_profiling.proofs.WholeTallies.{whole_entry_within}
 use Rattle.cx_profile.specs.Profiles.{memory_place}
 use Rattle.cx_profile.specs.declared.instrumenting.Profiled.{Profiled}
-use Rattle.cx_compiler.specs.Interpreted.{PlainLeft, fault_stop, run_left}
 use Rattle.cx_commands.specs.declared.stops.Stop.{Stop}
 use Rattle.cx_commands.specs.declared.stops.Stop.TheVariants as stops
-use Rattle.cx_driver.specs.Counted.{CountsRun, HasRoom, IsAdded, IsCountedRun, IsProfiled, StopsRunCounted}
+use Rattle.cx_compiler.specs.Interpreted.{IsRunLeft, PlainLeft, StopsRun, design_meant, left_told, loaded_meant, meant_left, run_left}
+use Rattle.cx_compiler.proofs.MeantLemmas.{left_meant}
+use Rattle.cx_driver.specs.Counted.{CountsLoaded, HasRoom, IsAdded, IsFaulty, IsProfiled, StopsLoaded, StopsStored}
 use Rattle.cx_driver.specs.Counting.{CanCount}
-use Rattle.cx_driver.specs.Profiling.{active_counts, with_counts_of}
-use Rattle.cx_driver.proofs.RanLemmas.{ended, fault_stops, faulted, more_stops, run_leaves, unfinished, words_of_loaded}
+use Rattle.cx_driver.specs.Profiling.{active_counts, loaded_counted, with_counts_of}
 use Rattle.cx_driver.proofs.ReadOffLemmas.{read_end, read_fault, read_more, same_front, with_last}
 
 -- where the counts stand: nowhere, where there is none
@@ -69,18 +65,7 @@ no_items (x ∷ xs) e = absurd (omega (arith, e))
 
 no_counts : (d : PlainDesign) (words : List (List ℕ)) (n : ℕ) → entry_count d ≡ 0 → active_counts d words n ≡ []
 no_counts d words n none =
-    no_items (active_counts d words n) (length-map (entries_of (tree_of d)) (λ e. tally_of d words n e.path e.group) ∙ length-map (shown_in (tree_of d)) (λ x. x.entry) ∙ none)
-
-counted_so : (left : PlainLeft) (counts given : List ℕ) → counts ≡ given → with_counts_of counts (Ok left) ≡ Ok (record { left = left; counts = given })
-counted_so left counts given e = ap (λ cs. with_counts_of cs (Ok left)) e
-
-pub uncounted_run : (d : PlainDesign) (ms : List PlainMemory) (n : ℕ) (left : PlainLeft) (counts : List ℕ) → entry_count d ≡ 0 → counts ≡ [] → run_left d ms n ≡ Ok left → CountsRun d ms n (record { left = left; counts = counts })
-uncounted_run d ms n left counts none empty h =
-    ap (with_counts_of (active_counts d (words_loaded ms) n)) h ∙ counted_so left (active_counts d (words_loaded ms) n) counts (no_counts d (words_loaded ms) n none ∙ sym empty)
-
-pub stopped_run : (d : PlainDesign) (ms : List PlainMemory) (n : ℕ) (stop : Stop) → (stop ≡ stops.Memory) ⊎ (run_left d ms n ≡ Err stop) → StopsRunCounted d ms n stop
-stopped_run d ms n stop (inl memory) = inl memory
-stopped_run d ms n stop (inr h) = inr (ap (with_counts_of (active_counts d (words_loaded ms) n)) h)
+    no_items (active_counts d words n) (length-map (entries_of (tree_of d)) (λ e. whole_tally_of d words n e.path e.group) ∙ length-map (shown_in (tree_of d)) (λ x. x.entry) ∙ none)
 
 -- as many memories as rows
 rows_many : (c : ℕ) (cells : List PlainCell) → length (externals_from c cells) ≡ length (rows_of cells)
@@ -96,158 +81,196 @@ small_counts : (count : ProfileEntry → ℕ) (es : List ProfileEntry) → ((e :
 small_counts count [] small = refl
 small_counts count (e ∷ es) small = ap₂ (λ x xs. x ∷ xs) (mod-eq_of_lt (small e (inl refl))) (small_counts count es (λ x i. small x (inr i)))
 
--- what is run is the instrumented design with the memory of the counts
-pub is_counted_run : (d : PlainDesign) (p : Profiled) (ms : List PlainMemory) (loaded : List LoadedMemory) (n total : ℕ) (ran : Ran) → IsProfiled d p → 1 ≤ entry_count d → FitsRows (external_rows d) ms → IsAdded p ms (map plain_memory loaded)
-    → total ≡ 2 * length p.groups.items → HasRun p.design (words_in loaded) (n + total) ran → IsCountedRun d p ms (map plain_memory loaded) n ran
-is_counted_run d p ms loaded n total ran is some fits added behind run = record {
-  profiled = is;
-  some = λ none. let each = is.each in absurd (omega (arith, none, each, some));
-  fits = fits;
-  added = added;
-  run = subst (λ words. HasRun p.design words (n + 2 * length p.groups.items) ran) (words_of_loaded loaded) (subst (λ m. HasRun p.design (words_in loaded) (n + m) ran) behind run);
-}
+-- what is counted of a data file, by what the design means on it
+pub counts_loaded : (d : PlainDesign) (json : List ℕ) (ms : List PlainMemory) (n : ℕ) (left : PlainLeft) (counts : List ℕ) → load_of json (external_rows d) ≡ Ok ms → meant_left d ms n ≡ Ok left → counts ≡ active_counts d (words_loaded ms) n
+    → CountsLoaded d json n (record { left = left; counts = counts })
+counts_loaded d json ms n left counts loads means same =
+    ap (loaded_counted d n) loads ∙ ap (with_counts_of (active_counts d (words_loaded ms) n)) means ∙ ap (λ cs. Ok (record { left = left; counts = cs })) (sym same)
 
--- THE RUN of the instrumented design
-module _ (d : PlainDesign) (can : CanCount d) where
-  exact : (words : List (List ℕ)) (n : ℕ) → n ≤ BUDGET → counts_of d words n ≡ active_counts d words n
-  exact words n within =
-      small_counts (λ e. tally_of d words n e.path e.group) (entries_of (tree_of d))
-      (λ e inside. let few = entry_within d can.design can.accepted words n e inside in let budget : n ≤ 1000000000000 = within in omega (arith, few, budget))
+pub stops_loaded : (d : PlainDesign) (json : List ℕ) (n : ℕ) (stop : Stop) → design_meant d json n ≡ Err stop → StopsLoaded d json n stop
+stops_loaded d json n stop means = by (load_of json (external_rows d)) refl means
+  where
+    by : (r : Result (List PlainMemory) _) → load_of json (external_rows d) ≡ r → loaded_meant d n r ≡ Err stop → StopsLoaded d json n stop
+    by (Ok ms) loads h = inr (ap (loaded_counted d n) loads ∙ ap (with_counts_of (active_counts d (words_loaded ms) n)) h)
+    by (Err fault) loads h = inr (ap (loaded_counted d n) loads ∙ ap (λ r. with_counts_of [] r) h)
 
-  module _ (p : Profiled) (is : IsProfiled d p) (some : 1 ≤ entry_count d) where
-    abbrev new : PlainDesign
-    new = plain_design p.design
+-- what the run of the instrumented design stops for, as it is told of the design
+module _ (d : PlainDesign) (json : List ℕ) (n : ℕ) (kind : FaultKind) (path : List ℕ) (turn : ℕ) (stop : Stop) (is : stop ≡ stops.Fault kind path turn) (stored : StopsStored d json n stop) where
+  pub fault_within : turn < n → IsFaulty (design_meant d json n)
+  fault_within less = by (subst (StopsStored d json n) is stored)
+    where
+      by : ((turn < n) × IsFaulty (design_meant d json n)) ⊎ ((n ≤ turn) × (design_meant d json n ≡ Err (stops.More n))) → IsFaulty (design_meant d json n)
+      by (inl h) = h.1
+      by (inr h) = let past = h.0 in absurd (omega (arith, less, past))
 
-    grown : new ≡ with_counts d
-    grown = is.design ∙ instrumented_is d some
+  pub fault_behind : n ≤ turn → design_meant d json n ≡ Err (stops.More n)
+  fault_behind past = by (subst (StopsStored d json n) is stored)
+    where
+      by : ((turn < n) × IsFaulty (design_meant d json n)) ⊎ ((n ≤ turn) × (design_meant d json n ≡ Err (stops.More n))) → design_meant d json n ≡ Err (stops.More n)
+      by (inl h) = let less = h.0 in absurd (omega (arith, less, past))
+      by (inr h) = h.1
 
-    -- it has no static component
-    pub new_flat : IsFlat new
-    new_flat = subst IsFlat (sym is.design) (instrumented_flat d can.flat)
+pub more_stored : (d : PlainDesign) (json : List ℕ) (n turns : ℕ) (stop : Stop) → stop ≡ stops.More turns → StopsStored d json n stop → StopsLoaded d json n (stops.More n)
+more_stored d json n turns stop is stored = stops_loaded d json n (stops.More n) (subst (StopsStored d json n) is stored)
 
+-- WHAT IS RUN of the instrumented design
+module _ (d : PlainDesign) (can : CanCount d) (p : Profiled) (is : IsProfiled d p) where
+  abbrev run : PlainDesign
+  run = plain_design p.design
+
+  -- its run is that of the instrumented design, by the meaning of that one
+  new_left : (ms : List PlainMemory) (budget : ℕ) → run_left run ms budget ≡ meant_left (instrumented d) ms budget
+  new_left ms budget = ap (λ (e : PlainDesign). run_left e ms budget) is.design ∙ sym (left_meant (instrumented d) is.runs ms budget)
+
+  -- WHERE NO GROUP IS COUNTED it is what is run of the design
+  module _ (none : entry_count d ≡ 0) where
+    itself : instrumented d ≡ d
+    itself = ap (λ b. if b then d else with_counts d) (eq-eqb (entry_count d) 0 none)
+
+    pub bare_fits : (ms : List PlainMemory) → FitsRows (external_rows d) ms → FitsRows (external_rows run) ms
+    bare_fits ms fits = subst (λ rows. FitsRows rows ms) (sym (ap external_rows is.design ∙ is.runs.rows ∙ ap external_rows itself)) fits
+
+    bare_left : (ms : List PlainMemory) (n : ℕ) → run_left run ms n ≡ meant_left d ms n
+    bare_left ms n = new_left ms n ∙ ap (λ (e : PlainDesign). meant_left e ms n) itself
+
+    pub bare_counts : (json : List ℕ) (ms : List PlainMemory) (n : ℕ) (left : PlainLeft) (counts : List ℕ) → load_of json (external_rows d) ≡ Ok ms → IsRunLeft run ms n left → counts ≡ [] → CountsLoaded d json n (record { left = left; counts = counts })
+    bare_counts json ms n left counts loads h empty = counts_loaded d json ms n left counts loads (sym (bare_left ms n) ∙ h) (empty ∙ sym (no_counts d (words_loaded ms) n none))
+
+    pub bare_stops : (json : List ℕ) (ms : List PlainMemory) (n : ℕ) (stop : Stop) → load_of json (external_rows d) ≡ Ok ms → StopsRun run ms n stop → StopsLoaded d json n stop
+    bare_stops json ms n stop loads (inl memory) = inl memory
+    bare_stops json ms n stop loads (inr h) = stops_loaded d json n stop (ap (loaded_meant d n) loads ∙ sym (bare_left ms n) ∙ h)
+
+  -- WHERE GROUPS ARE COUNTED
+  module _ (some : 1 ≤ entry_count d) where
     -- main has a store for each count, so they are few
     pub few_groups : length p.groups.items < 2 ^ 32
-    few_groups = let few = by (role d d.main can.design.main_there) in let each = is.each in omega (arith, few, each)
+    few_groups = let few = by (role d d.main can.flattens.design.main_there) in let each = is.each in omega (arith, few, each)
       where
         by : Role d d.main → entry_count d ≤ 4096
-        by (as_main names e same) = few_words d d.main can.design.main_there names same (subst (KeepsStage 7) (instrumented_is d some) is.accepted.limits)
+        by (as_main names e same) = few_words d d.main can.flattens.design.main_there names same (subst (KeepsStage 7) (instrumented_is d some) is.accepted.limits)
         by (as_child names e reached same) = absurd (e refl)
         by (as_kept e reached same) = absurd (e refl)
 
-    -- its memories are those of the design and that of the counts
+    -- the memories are those of the design and that of the counts
     pub has_room : (ms : List PlainMemory) → FitsRows (external_rows d) ms → HasRoom p ms
     has_room ms fits =
         let row : ℕ → List ℕ → PlainRow = λ k name. record { name = name; width = 64; sizes = k ∷ [] } in
-        let own = rows_kept d can.design in record {
+        let own = rows_kept d can.flattens.design in record {
           old = external_rows d;
           name = own.0;
-          rows = ap external_rows grown ∙ own.1 ∙ ap (λ k. external_rows d ++ row k own.0 ∷ []) (sym is.each);
+          rows = ap external_rows is.design ∙ is.runs.rows ∙ ap external_rows (instrumented_is d some) ∙ own.1 ∙ ap (λ k. external_rows d ++ row k own.0 ∷ []) (sym is.each);
           fits = fits;
         }
 
-    -- the instances of a fault are those of the design
-    pub same_fault : (fault : cycles.Fault) (told : PortFault) → TellsFault (tree_of new) fault told → TellsFault (tree_of d) fault told
-    same_fault fault told t =
-        let paths = ap (λ (x : PlainDesign). paths_of (tree_of x)) grown ∙ paths_kept d can.design in
-        record { instance = subst (λ ps. slice_get ps told.instance ≡ Some fault.path) paths t.instance; port = t.port; kind = t.kind }
+    -- THE RUN, on these memories and that of the counts
+    module _ (json : List ℕ) (ms all : List PlainMemory) (n behind : ℕ) (loads : load_of json (external_rows d) ≡ Ok ms) (fits : FitsRows (external_rows d) ms) (added : IsAdded p ms all) (within : n ≤ BUDGET) (turns_more : behind ≡ 2 * length p.groups.items) where
+      abbrev words : List (List ℕ)
+      words = words_loaded ms
 
-  module _ (p : Profiled) (ms all : List PlainMemory) (n : ℕ) (ran : Ran) (within : n ≤ BUDGET) (run : IsCountedRun d p ms all n ran) where
-    abbrev k : ℕ
-    k = length p.groups.items
+      abbrev later : answers.Answer State cycles.Fault
+      later = whole_main (instrumented d) (words_loaded all) (n + behind)
 
-    abbrev at_end : PlainDesign
-    at_end = plain_design p.design
+      exact : whole_counts_of d words n ≡ active_counts d words n
+      exact =
+          small_counts (λ e. whole_tally_of d words n e.path e.group) (entries_of (tree_of d))
+          (λ e inside. let few = whole_entry_within d can.flattens.design can.flattens.accepted can.flattens.undone words n e inside in let budget : n ≤ 1000000000000 = within in omega (arith, few, budget))
 
-    abbrev words : List (List ℕ)
-    words = words_loaded ms
+      memories_many : length ms ≡ length (externals_of (part_of (tree_of d)))
+      memories_many =
+          sym (length-map ms (λ m. m.shape)) ∙ ap length fits.same_rows ∙ sym (rows_many 0 (component_at d d.main).cells)
+          ∙ ap (λ x. length (externals_of x)) (sym (same_part d (length d.components) d.main))
 
-    pub some : 1 ≤ entry_count d
-    some = let each = run.profiled.each in let never = run.some in one_or_none k never each
-      where
-        one_or_none : (m : ℕ) → (m ≡ 0 → ⊥) → m ≡ entry_count d → 1 ≤ entry_count d
-        one_or_none zero other e = absurd (other refl)
-        one_or_none (suc m) other e = omega (arith, e)
+      has_memories : HasMemories d words
+      has_memories = length-map ms (λ m. m.words) ∙ memories_many
 
-    memories_many : length ms ≡ length (externals_of (part_of (tree_of d)))
-    memories_many =
-        sym (length-map ms (λ m. m.shape)) ∙ ap length run.fits.same_rows ∙ sym (rows_many 0 (component_at d d.main).cells)
-        ∙ ap (λ x. length (externals_of x)) (sym (same_part d (length d.components) d.main))
+      abbrev Left : State → State → Type 0
+      Left s u = words_of (tree_of (instrumented d)) u ≡ words_of (tree_of d) s ++ whole_counts_of d words n ∷ []
 
-    has_memories : HasMemories d words
-    has_memories = length-map ms (λ m. m.words) ∙ memories_many
+      owed : Reads Left (entry_count d) n (whole_main d words n) later
+      owed =
+          let last = added.last in
+          let own = whole_reads_alike d can.flattens.design can.flattens.accepted can.flattens.undone is.accepted some words last.words n has_memories (subst (λ m. AreWords 64 m last.words) is.each added.words) in
+          let joined : words_loaded all ≡ words ++ last.words ∷ [] = ap words_loaded added.joined ∙ map-append (λ m. m.words) ms (last ∷ []) in
+          let same : whole_main (instrumented d) (words ++ last.words ∷ []) (n + 2 * entry_count d) ≡ later =
+          ap (λ ws. whole_main (instrumented d) ws (n + 2 * entry_count d)) (sym joined) ∙ ap (λ m. whole_main (instrumented d) (words_loaded all) (n + m)) (sym (turns_more ∙ ap (λ m. 2 * m) is.each)) in
+          subst (λ a. Reads Left (entry_count d) n (whole_main d words n) a) same own
 
-    abbrev later : answers.Answer State cycles.Fault
-    later = run_main at_end (words_loaded all) (n + 2 * k)
+      -- what the run of the design means
+      means : (a : answers.Answer State cycles.Fault) → whole_main d words n ≡ a → meant_left d ms n ≡ left_told ms n (told d a)
+      means a e = ap (λ x. left_told ms n (told d x)) e
 
-    owed : Reads (λ s u. words_of (tree_of (instrumented d)) u ≡ words_of (tree_of d) s ++ counts_of d words n ∷ []) (entry_count d) n (run_main d words n) later
-    owed =
-        let last = run.added.last in
-        let accepted = run.profiled.accepted in
-        let own = reads_alike d can.design can.accepted accepted some words last.words n has_memories (subst (λ m. AreWords 64 m last.words) run.profiled.each run.added.words) in
-        let joined : words_loaded all ≡ words ++ last.words ∷ [] = ap words_loaded run.added.joined ∙ map-append (λ m. m.words) ms (last ∷ []) in
-        let same : run_main (instrumented d) (words ++ last.words ∷ []) (n + 2 * entry_count d) ≡ later =
-        ap (λ x. run_main x (words ++ last.words ∷ []) (n + 2 * entry_count d)) (sym run.profiled.design)
-        ∙ ap (λ ws. run_main at_end ws (n + 2 * entry_count d)) (sym joined) ∙ ap (λ m. run_main at_end (words_loaded all) (n + 2 * m)) (sym run.profiled.each) in
-        subst (λ a. Reads (λ s u. words_of (tree_of (instrumented d)) u ≡ words_of (tree_of d) s ++ counts_of d words n ∷ []) (entry_count d) n (run_main d words n) a) same own
+      loaded_means : (a : answers.Answer State cycles.Fault) → whole_main d words n ≡ a → design_meant d json n ≡ left_told ms n (told d a)
+      loaded_means a e = ap (loaded_meant d n) loads ∙ means a e
 
-    -- where it ends
-    pub ends_counted : (turns : ℕ) → ran.answer ≡ interp.End turns
-        → (s : State) × (u : State) × (t : ℕ) × (run_main d words n ≡ answers.End s t) × (turns ≡ t + 2 * k) × (later ≡ answers.End u turns)
-        × (words_of (tree_of at_end) u ≡ words_of (tree_of d) s ++ active_counts d words n ∷ [])
-    ends_counted turns e =
-        let own = ended at_end (plain_state ran.state) ran.answer later turns run.run.answered e in
-        let r = read_end (λ s u. words_of (tree_of (instrumented d)) u ≡ words_of (tree_of d) s ++ counts_of d words n ∷ []) (entry_count d) n (run_main d words n) later owed own.0 turns own.1 in (
-          r.0,
-          own.0,
-          r.1,
-          r.2,
-          r.3 ∙ ap (λ m. r.1 + 2 * m) (sym run.profiled.each),
-          own.1,
-          ap (λ x. words_of (tree_of x) own.0) run.profiled.design ∙ r.4 ∙ ap (λ counts. words_of (tree_of d) r.0 ++ counts ∷ []) (exact words n within),
-        )
+      -- WHERE IT ENDS: so many turns later, with the counts in the last memory
+      record IsRead (left : PlainLeft) : Type 0 where
+        turns : ℕ
+        front : List PlainMemory
+        counts : PlainMemory
+        means : meant_left d ms n ≡ Ok (record { turns = turns; memories = front })
+        later : left.turns ≡ turns + behind
+        memories : left.memories ≡ front ++ counts ∷ []
+        are : counts.words ≡ active_counts d words n
 
-    pub leaves_counted : (turns : ℕ) → ran.answer ≡ interp.End turns → (front : List PlainMemory) (last : PlainMemory) (left : PlainLeft) (counts : List ℕ)
-        → ((after : State) → later ≡ answers.End after turns → front ++ last ∷ [] ≡ with_words all (words_of (tree_of at_end) after))
-        → left.memories ≡ front → left.turns + 2 * k ≡ turns → counts ≡ last.words → CountsRun d ms n (record { left = left; counts = counts })
-    leaves_counted turns e front last left counts written memories behind taken =
-        let r = ends_counted turns e in
-        let s = r.0 in
-        let last_old = run.added.last in
-        let many : length ms ≡ length (words_of (tree_of d) s) = memories_many ∙ sym (length-map (externals_of (part_of (tree_of d))) (λ c. cell_states.words_of (s (c ∷ [])))) in
-        let all_words : front ++ last ∷ [] ≡ with_words ms (words_of (tree_of d) s) ++ record { shape = last_old.shape; signed = last_old.signed; words = active_counts d words n } ∷ [] =
-        written r.1 r.5 ∙ ap (λ ns. with_words ns (words_of (tree_of at_end) r.1)) run.added.joined ∙ ap (λ ws. with_words (ms ++ last_old ∷ []) ws) r.6
-        ∙ with_last ms last_old (words_of (tree_of d) s) (active_counts d words n) many in
-        let parts = same_front front (with_words ms (words_of (tree_of d) s)) last (record { shape = last_old.shape; signed = last_old.signed; words = active_counts d words n }) all_words in
-        let count : left.turns ≡ r.2 = let ends = r.4 in omega (arith, behind, ends) in
-        let left_is = run_leaves d ms n r.2 s left r.3 count (memories ∙ parts.0) in
-        let counted : active_counts d words n ≡ counts = sym (taken ∙ ap (λ (m : PlainMemory). m.words) parts.1) in
-        ap (with_counts_of (active_counts d words n)) left_is ∙ counted_so left (active_counts d words n) counts counted
+      abbrev left_or : PlainLeft → Result PlainLeft Stop → PlainLeft
+      left_or none (Ok left) = left
+      left_or none (Err stop) = none
 
-    pub turns_enough : (turns : ℕ) → ran.answer ≡ interp.End turns → 2 * k ≤ turns
-    turns_enough turns e = let r = ends_counted turns e in let ends = r.4 in omega (arith, ends)
+      ended : (b : answers.Answer State cycles.Fault) (left : PlainLeft) → later ≡ b → left_told all (n + behind) (told (instrumented d) b) ≡ Ok left → IsRead left
+      ended (answers.End u turns) left e h =
+          let r = read_end Left (entry_count d) n (whole_main d words n) later owed u turns e in
+          let s = r.0 in
+          let last = added.last in
+          let own : PlainLeft = record { turns = turns; memories = with_words all (words_of (tree_of (instrumented d)) u) } in
+          let is_own : own ≡ left = ap (left_or own) h in
+          let counts : PlainMemory = record { shape = last.shape; signed = last.signed; words = active_counts d words n } in
+          let many : length ms ≡ length (words_of (tree_of d) s) = memories_many ∙ sym (length-map (externals_of (part_of (tree_of d))) (λ c. cell_states.words_of (s (c ∷ [])))) in
+          let left_words : words_of (tree_of (instrumented d)) u ≡ words_of (tree_of d) s ++ active_counts d words n ∷ [] = r.4 ∙ ap (λ cs. words_of (tree_of d) s ++ cs ∷ []) exact in
+          record {
+            turns = r.1;
+            front = with_words ms (words_of (tree_of d) s);
+            counts = counts;
+            means = means (answers.End s r.1) r.2;
+            later = ap (λ (x : PlainLeft). x.turns) (sym is_own) ∙ r.3 ∙ ap (λ m. r.1 + m) (sym (turns_more ∙ ap (λ m. 2 * m) is.each));
+            memories = ap (λ (x : PlainLeft). x.memories) (sym is_own) ∙ ap₂ (λ (x : List PlainMemory) (ws : List (List ℕ)). with_words x ws) added.joined left_words ∙ with_last ms last (words_of (tree_of d) s) (active_counts d words n) many;
+            are = refl;
+          }
+      ended (answers.Fault f turn) left e h = absurd (cc)
+      ended answers.More left e h = absurd (cc)
 
-    -- where it has a fault
-    pub faults_counted : (told : PortFault) (turn : ℕ) → ran.answer ≡ interp.Fault told turn
-        → (fault : cycles.Fault) × TellsFault (tree_of d) fault told × (((turn < n) × (run_main d words n ≡ answers.Fault fault turn)) ⊎ ((n ≤ turn) × (run_main d words n ≡ answers.More)))
-    faults_counted told turn e =
-        let own = faulted at_end (plain_state ran.state) ran.answer later told turn run.run.answered e in (
-          own.0,
-          same_fault p run.profiled some own.0 told own.1,
-          read_fault (λ s u. words_of (tree_of (instrumented d)) u ≡ words_of (tree_of d) s ++ counts_of d words n ∷ []) (entry_count d) n (run_main d words n) later owed own.0 turn own.2,
-        )
+      read : (left : PlainLeft) → IsRunLeft run all (n + behind) left → IsRead left
+      read left h = ended later left refl (sym (new_left all (n + behind)) ∙ h)
 
-    pub fault_counted : (told : PortFault) (turn : ℕ) (stop : Stop) → ran.answer ≡ interp.Fault told turn
-        → (turn < n → (fault : cycles.Fault) → TellsFault (tree_of d) fault told → (stop ≡ stops.Memory) ⊎ (stop ≡ fault_stop d fault turn)) → (n ≤ turn → stop ≡ stops.More n)
-        → StopsRunCounted d ms n stop
-    fault_counted told turn stop e in_budget behind = let r = faults_counted told turn e in by r.0 r.1 r.2
-      where
-        by : (fault : cycles.Fault) → TellsFault (tree_of d) fault told → ((turn < n) × (run_main d words n ≡ answers.Fault fault turn)) ⊎ ((n ≤ turn) × (run_main d words n ≡ answers.More)) → StopsRunCounted d ms n stop
-        by fault tells (inl h) = stopped_run d ms n stop (fault_stops d ms n turn fault stop h.1 (in_budget h.0 fault tells))
-        by fault tells (inr h) = stopped_run d ms n stop (subst (λ x. (x ≡ stops.Memory) ⊎ (run_left d ms n ≡ Err x)) (sym (behind h.0)) (more_stops d ms n h.1))
+      pub enough : (left : PlainLeft) → IsRunLeft run all (n + behind) left → behind ≤ left.turns
+      enough left h = let r = read left h in let later = r.later in omega (arith, later)
 
-    -- where it goes on
-    pub more_counted : ran.answer ≡ interp.More → StopsRunCounted d ms n (stops.More n)
-    more_counted e =
-        let own = unfinished at_end (plain_state ran.state) ran.answer later run.run.answered e in
-        stopped_run d ms n (stops.More n)
-        (more_stops d ms n (read_more (λ s u. words_of (tree_of (instrumented d)) u ≡ words_of (tree_of d) s ++ counts_of d words n ∷ []) (entry_count d) n (run_main d words n) later owed own))
+      pub some_left : (left : PlainLeft) → IsRunLeft run all (n + behind) left → 1 ≤ length left.memories
+      some_left left h = let r = read left h in let many : length left.memories ≡ length r.front + 1 = ap length r.memories ∙ length-append r.front (r.counts ∷ []) in omega (arith, many)
+
+      pub counts_read : (left : PlainLeft) (turns : ℕ) (front : List PlainMemory) (taken : PlainMemory) (counts : List ℕ) → IsRunLeft run all (n + behind) left → turns ≡ left.turns - behind → left.memories ≡ front ++ taken ∷ [] → counts ≡ taken.words
+          → CountsLoaded d json n (record { left = record { turns = turns; memories = front }; counts = counts })
+      counts_read left turns front taken counts h less joined are =
+          let r = read left h in
+          let later = r.later in
+          let parts = same_front front r.front taken r.counts (sym joined ∙ r.memories) in
+          let count : r.turns ≡ turns = omega (arith, later, less) in
+          let leave : ℕ → List PlainMemory → PlainLeft = λ t x. record { turns = t; memories = x } in
+          counts_loaded d json ms n (record { turns = turns; memories = front }) counts loads (r.means ∙ ap₂ (λ t x. Ok (leave t x)) count (sym parts.0)) (are ∙ ap (λ (m : PlainMemory). m.words) parts.1 ∙ r.are)
+
+      -- WHERE IT STOPS
+      abbrev stop_or : Stop → Result PlainLeft Stop → Stop
+      stop_or none (Ok left) = none
+      stop_or none (Err stop) = stop
+
+      stopped : (b : answers.Answer State cycles.Fault) (stop : Stop) → later ≡ b → left_told all (n + behind) (told (instrumented d) b) ≡ Err stop → StopsStored d json n stop
+      stopped (answers.End u turns) stop e h = absurd (cc)
+      stopped (answers.Fault f turn) stop e h = subst (StopsStored d json n) (ap (stop_or stops.Memory) h) (by (read_fault Left (entry_count d) n (whole_main d words n) later owed f turn e))
+        where
+          by : ((turn < n) × (whole_main d words n ≡ answers.Fault f turn)) ⊎ ((n ≤ turn) × (whole_main d words n ≡ answers.More)) → ((turn < n) × IsFaulty (design_meant d json n)) ⊎ ((n ≤ turn) × (design_meant d json n ≡ Err (stops.More n)))
+          by (inl (less, is)) = inl (less, subst IsFaulty (sym (loaded_means (answers.Fault f turn) is)) tt)
+          by (inr (past, is)) = inr (past, loaded_means answers.More is)
+      stopped answers.More stop e h = subst (StopsStored d json n) (ap (stop_or stops.Memory) h) (loaded_means answers.More (read_more Left (entry_count d) n (whole_main d words n) later owed e))
+
+      pub stops_stored : (stop : Stop) → StopsRun run all (n + behind) stop → StopsStored d json n stop
+      stops_stored stop (inl memory) = subst (StopsStored d json n) (sym memory) tt
+      stops_stored stop (inr h) = stopped later stop refl (sym (new_left all (n + behind)) ∙ h)

@@ -5,7 +5,8 @@ use Rattle.cx_meaning.specs.Designs.{PlainDesign}
 use Rattle.cx_meaning.specs.Instances.{tree_of}
 use Rattle.cx_design.specs.declared.actives.PortFault.{PortFault}
 use Rattle.cx_design.specs.PlainActives.{TellsFault}
-use Rattle.cx_state.specs.Paths.{TellsPort, full_path}
+use Rattle.cx_state.specs.Paths.{TellsPort}
+use Rattle.cx_rules.specs.FullPaths.{full_path}
 use Rattle.cx_compiler.specs.Interpreted.{fault_stop}
 use Rattle.cx_commands.specs.declared.stops.Stop.TheVariants as stops
 

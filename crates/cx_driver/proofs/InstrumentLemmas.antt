@@ -1,32 +1,36 @@
 -- What `instrument` does with a text is one thing.
-use Rattle.std.proofs.Common.{◌≡◌, ◌⊎◌, inl, inr, ℕ, ◌≤◌, List, Result, Ok, Err, IfOk, IfErr, MatchResult, refl, sym, ap, ◌∙◌, subst, arith}
+use Rattle.std.proofs.Common.{◌≡◌, ◌⊎◌, inl, inr, ℕ, ◌^◌, ◌<◌, ◌≤◌, List, Result, Ok, Err, IfOk, IfErr, MatchResult, refl, sym, ap, ◌∙◌, subst, arith}
 use Rattle.cx_text.specs.declared.diagnostics.Diagnostic.{Diagnostic}
 use Rattle.cx_text.specs.declared.limits.TheConstants.{COMPILE_SIZE}
 use Rattle.cx_meaning.specs.Designs.{PlainDesign}
 use Rattle.cx_rules.specs.Accepted.{IsAccepted, KeepsStage}
+use Rattle.cx_rules.specs.Counts.{counted_design_size}
 use Rattle.cx_rules.specs.Sizes.{design_size}
+use Rattle.cx_rules.specs.Wellformed.{IsDesign}
 use Rattle.cx_profiling.specs.Instrumented.{instrumented}
 use Rattle.cx_scripts.specs.Laws.{SourcesRealiseAlways}
-use Rattle.cx_instrumented.proofs.KeptTexts.{emits_within, is_text, short_within}
+use Rattle.cx_flat_texts.specs.Runnable.{runnable}
+use Rattle.cx_instrumented.proofs.KeptTexts.{run_emits, run_rules, run_text}
 use Rattle.cx_commands.specs.Statuses.{status_of}
 use Rattle.cx_commands.specs.declared.refusals.Refusal.TheVariants as refusals
 use Rattle.cx_commands.specs.declared.stops.Stop.{Stop}
 use Rattle.cx_commands.specs.declared.stops.Stop.TheVariants as stops
-use Rattle.cx_compiler.specs.Compiled.{EmitsWithin, IsDesignTooLarge, IsDesignWritten, IsRealised, IsShortWithin, too_large}
+use Rattle.cx_compiler.specs.Compiled.{IsRealised, IsRunTooLarge, IsRunWritten, KeepsRules, RunEmitsWithin, counted_too_large}
 use Rattle.cx_compiler.specs.Texts.{IsDesignOf, IsTextRefusal}
+use Rattle.cx_compiler.proofs.RunLayers.{RunLaws}
 use Rattle.cx_compiler.proofs.TextLemmas.{one_design}
 use Rattle.cx_driver.specs.Counting.{CanCount}
 use Rattle.cx_driver.specs.Instrumenting.{InstrumentBreak, Instruments, IsInstrumentable, IsInstrumented, IsInstrumentedDesign, IsInstrumentedStop, IsInstrumentStop, IsTooLargeToCount}
-use Rattle.cx_driver.proofs.CountLemmas.{count_once, counted_once}
+use Rattle.cx_driver.proofs.CountLemmas.{count_once, counted_once, few_new}
 
 -- an instrumented design is not within the size and over it
-over_once : (text : List ℕ) (d : PlainDesign) (told : Diagnostic) → IsDesignOf text d → design_size (instrumented d) ≤ COMPILE_SIZE → IsTooLargeToCount text told → ⊥
+over_once : (text : List ℕ) (d : PlainDesign) (told : Diagnostic) → IsDesignOf text d → counted_design_size (instrumented d) ≤ COMPILE_SIZE → IsTooLargeToCount text told → ⊥
 over_once text d told is within h =
-    let same : design_size (instrumented d) ≡ design_size (instrumented h.0) = ap (λ x. design_size (instrumented x)) (one_design text d h.0 is h.1) in
+    let same : counted_design_size (instrumented d) ≡ counted_design_size (instrumented h.0) = ap (λ x. counted_design_size (instrumented x)) (one_design text d h.0 is h.1) in
     let over = h.3 in
     omega (arith, same, within, over)
 
-fits_not_refused : (text : List ℕ) (d : PlainDesign) (told : Diagnostic) → IsDesignOf text d → KeepsStage 7 (instrumented d) → design_size (instrumented d) ≤ COMPILE_SIZE → InstrumentBreak text told → ⊥
+fits_not_refused : (text : List ℕ) (d : PlainDesign) (told : Diagnostic) → IsDesignOf text d → KeepsStage 7 (instrumented d) → counted_design_size (instrumented d) ≤ COMPILE_SIZE → InstrumentBreak text told → ⊥
 fits_not_refused text d told is keeps within (inl h) = counted_once text d told is keeps h
 fits_not_refused text d told is keeps within (inr h) = over_once text d told is within h
 
@@ -44,7 +48,7 @@ pub one_break : (text : List ℕ) (a b : Diagnostic) → InstrumentBreak text a 
 one_break text a b (inl h) (inl k) = count_once text a b h k
 one_break text a b (inl h) (inr k) = absurd (counted_once text k.0 a k.1 k.2 h)
 one_break text a b (inr h) (inl k) = absurd (counted_once text h.0 b h.1 h.2 k)
-one_break text a b (inr h) (inr k) = h.4 ∙ ap (λ d. too_large (instrumented d)) (one_design text h.0 k.0 h.1 k.1) ∙ sym k.4
+one_break text a b (inr h) (inr k) = h.4 ∙ ap (λ d. counted_too_large (instrumented d)) (one_design text h.0 k.0 h.1 k.1) ∙ sym k.4
 
 instrument_stop : (text : List ℕ) (told : Diagnostic) (stop : Stop) → InstrumentBreak text told → IsInstrumentStop text stop → (stop ≡ stops.Memory) ⊎ (stop ≡ stops.Rule told)
 instrument_stop text told stop b (inl memory) = inl memory
@@ -66,7 +70,7 @@ module _ {X : Type 0} (bytes : X → List ℕ) (text : List ℕ) where
   text_instrument_stops d (Err stop) is (inl (inl memory)) = inl memory
   text_instrument_stops d (Err stop) is (inl (inr h)) = inr (h.0, inl (inr (d, is, h.1)), h.2)
   text_instrument_stops d (Err stop) is (inr (keeps, inl memory)) = inl memory
-  text_instrument_stops d (Err stop) is (inr (keeps, inr h)) = inr (too_large (instrumented d), inr (d, is, keeps, h.0, refl), h.1)
+  text_instrument_stops d (Err stop) is (inr (keeps, inr h)) = inr (counted_too_large (instrumented d), inr (d, is, keeps, h.0, refl), h.1)
 
   -- a text that can be instrumented is, and one that is refused is told, unless memory is wanting
   pub all_instrumented : (r : Result X Stop) → IfErr r (IsInstrumentStop text) → IsInstrumentable text → MatchResult r (λ _. Unit {0}) (λ stop. stop ≡ stops.Memory)
@@ -79,20 +83,24 @@ module _ {X : Type 0} (bytes : X → List ℕ) (text : List ℕ) where
   all_refused (Ok x) answer cause told b = fits_not_refused text answer.design told answer.stands answer.accepted.limits answer.within b
   all_refused (Err stop) answer cause told b = instrument_stop text told stop b cause
 
--- THE TEXT of an instrumented design
-module _ (d e : PlainDesign) (can : CanCount d) (same : e ≡ instrumented d) (accepted : IsAccepted (instrumented d)) where
-  pub emits : EmitsWithin e
-  emits = subst EmitsWithin (sym same) (emits_within d can.design can.flat can.accepted accepted.limits can.guards can.words)
+-- THE TEXT of what is run of an instrumented design
+module _ (d e : PlainDesign) (can : CanCount d) (same : e ≡ instrumented d) (keeps : ∥ IsDesign e ∥₁) (accepted : IsAccepted (instrumented d)) (laws : RunLaws) where
+  few : design_size (instrumented d) < 2 ^ 32
+  few = few_new d e can same keeps accepted
 
-  pub is_short : IsShortWithin e
-  is_short = subst IsShortWithin (sym same) (short_within d can.design can.flat can.accepted accepted.limits can.guards can.words can.shallow)
+  pub keeps_rules : KeepsRules (runnable e)
+  keeps_rules = subst (λ (x : PlainDesign). KeepsRules (runnable x)) (sym same) (run_rules d can.flattens few accepted laws)
 
-  pub design_instrumented : SourcesRealiseAlways → {X : Type 0} (bytes : X → List ℕ) (r : Result X Stop) → IfOk r (λ _. IsRealised e) → IfOk r (λ x. IsDesignWritten e (bytes x)) → IfOk r (λ x. IsInstrumentedDesign d (bytes x))
+  pub emits : RunEmitsWithin e
+  emits = subst RunEmitsWithin (sym same) (run_emits d can.flattens few accepted laws can.guards can.words)
+
+  pub design_instrumented : SourcesRealiseAlways → {X : Type 0} (bytes : X → List ℕ) (r : Result X Stop) → IfOk r (λ _. IsRealised (runnable e)) → IfOk r (λ x. IsRunWritten e (bytes x)) → IfOk r (λ x. IsInstrumentedDesign d (bytes x))
   design_instrumented always bytes (Ok x) realised h =
-      let own = subst (λ c. IsDesignWritten c (bytes x)) same h in
-      (accepted, own.0, is_text d can.design can.flat can.accepted accepted.limits can.guards can.words always can.shallow (subst IsRealised same realised) (bytes x) own, own.1.spelled)
+      let own = subst (λ (c : PlainDesign). IsRunWritten c (bytes x)) same h in
+      let runs = subst (λ (c : PlainDesign). IsRealised (runnable c)) same realised in
+      (accepted, own.0, run_text d can.flattens few accepted laws can.guards can.words always runs (bytes x) own, own.1.spelled)
   design_instrumented always bytes (Err stop) realised h = tt
 
-  pub design_over : {X : Type 0} (r : Result X Stop) → IfErr r (IsDesignTooLarge e) → IfErr r (IsInstrumentedStop d)
+  pub design_over : {X : Type 0} (r : Result X Stop) → IfErr r (IsRunTooLarge e) → IfErr r (IsInstrumentedStop d)
   design_over (Ok x) h = tt
-  design_over (Err stop) h = inr (accepted.limits, subst (λ c. IsDesignTooLarge c stop) same h)
+  design_over (Err stop) h = inr (accepted.limits, subst (λ (c : PlainDesign). IsRunTooLarge c stop) same h)

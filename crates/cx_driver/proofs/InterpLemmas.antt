@@ -7,10 +7,10 @@ use Rattle.cx_meaning.specs.Designs.{PlainDesign}
 use Rattle.cx_rules.specs.Externals.{external_rows}
 use Rattle.cx_commands.specs.declared.stops.Stop.{Stop}
 use Rattle.cx_commands.specs.declared.stops.Stop.TheVariants as stops
-use Rattle.cx_compiler.specs.Texts.{IsDesignOf, IsTextRefusal}
+use Rattle.cx_compiler.specs.Texts.{IsRunOf, IsTextRefusal}
 use Rattle.cx_compiler.specs.Interpreted.{PlainLeft, dumped, loaded_left, design_left, meant_result, Interprets, IsInterpAnswer, IsInterpStop, IsDesignAnswer, IsDesignStop, IsDesignLeft, StopsDesign, IsRunLeft, StopsRun}
 use Rattle.cx_compiler.proofs.TextLemmas.{one_design, text_of_design, accepted_once, break_once}
-use Rattle.cx_compiler.proofs.MeantLemmas.{text_meant}
+use Rattle.cx_compiler.proofs.MeantLemmas.{run_meant}
 use Rattle.cx_driver.specs.Loads.{IsUnloaded}
 
 -- WHAT A TEXT DOES is one thing
@@ -20,17 +20,17 @@ one_result text json budget a b (inl h) (inr k) = absurd (accepted_once text k.0
 one_result text json budget a b (inr h) (inl k) = absurd (accepted_once text h.0 (text_of_design text k.0 k.1) h.1)
 one_result text json budget a b (inr h) (inr k) = h.2 ∙ ap (λ d. Err (stops.Rule d)) (break_once text h.0 k.0 h.1 k.1) ∙ sym k.2
 
--- from a design to its text
-pub text_answers : {X : Type 0} (bytes : X → List ℕ) (text json : List ℕ) (d : PlainDesign) (budget : ℕ) (r : Result X Stop) → IsDesignOf text d
+-- from what is run of a text to the text
+pub text_answers : {X : Type 0} (bytes : X → List ℕ) (text json : List ℕ) (d : PlainDesign) (budget : ℕ) (r : Result X Stop) → IsRunOf text d
     → IfOk r (λ x. IsDesignAnswer d json budget (bytes x)) → IfOk r (λ x. IsInterpAnswer text json budget (bytes x))
-text_answers bytes text json d budget (Ok x) is h = inl (d, is, sym (text_meant text d is json budget ∙ h))
+text_answers bytes text json d budget (Ok x) is h = inl (is.design, is.stands, sym (run_meant text d is json budget ∙ h))
 text_answers bytes text json d budget (Err stop) is h = tt
 
-pub text_stops : {X : Type 0} (text json : List ℕ) (d : PlainDesign) (budget : ℕ) (r : Result X Stop) → IsDesignOf text d
+pub text_stops : {X : Type 0} (text json : List ℕ) (d : PlainDesign) (budget : ℕ) (r : Result X Stop) → IsRunOf text d
     → IfErr r (IsDesignStop d json budget) → IfErr r (IsInterpStop text json budget)
 text_stops text json d budget (Ok x) is h = tt
 text_stops text json d budget (Err stop) is (inl memory) = inl memory
-text_stops text json d budget (Err stop) is (inr h) = inr (inl (d, is, sym (text_meant text d is json budget ∙ h)))
+text_stops text json d budget (Err stop) is (inr h) = inr (inl (is.design, is.stands, sym (run_meant text d is json budget ∙ h)))
 
 -- from a text that is refused
 pub refused_stops : (text json : List ℕ) (budget : ℕ) (stop : Stop) → IsTextRefusal text stop → IsInterpStop text json budget stop

@@ -7,6 +7,7 @@ pub mod CountLemmas
 pub mod ReadOffLemmas
 pub mod RoomLemmas
 pub mod CountedLemmas
+pub mod FaultOfLemmas
 pub mod LoadedCounts
 pub mod InstrumentLemmas
 pub mod ProfileLemmas
@@ -22,7 +23,6 @@ pub mod TrialLemmas
 pub mod WovenLemmas
 pub mod ListLemmas
 pub mod OrderLemmas
-pub mod TrialDepth
 pub mod FilePromise
 pub mod AlikeLemmas
 pub mod NoLaterLemmas

@@ -111,11 +111,11 @@ stop_refuses (stops.Loop path) = inl (inr (inr (inl refl)))
 stop_refuses stops.Memory = inr refl
 
 -- THE LINE of what stops a command
-pub line_told : (held : Held) (command : Asked) (before after : ℕ) (why : Stop) (status : Status) (err_old : Option (List ℕ)) (err_before : ℕ) (err_new : Option (List ℕ)) (err_after : ℕ)
+pub line_told : (held : Held) (command : Asked) (before after : ℕ) (old_names new_names : List (List ℕ)) (why : Stop) (status : Status) (err_old : Option (List ℕ)) (err_before : ℕ) (err_new : Option (List ℕ)) (err_after : ℕ)
     → OfTold command held (λ h. IsStopped h command why) → (HasRisen before after → ⊥) → (status ≡ status_of (refusals.Stop why)) ⊎ (status ≡ statuses.Memory)
-    → (IsRefusing status → ToldWhy command held before after status err_old err_before err_new err_after) → IsTold (refusals.Stop why) status err_old err_before err_new err_after
-line_told held command before after why status err_old err_before err_new err_after stopped never (inr memory) cause = inr memory
-line_told held command before after why status err_old err_before err_new err_after stopped never (inl same) cause = by (stop_refuses why)
+    → (IsRefusing status → ToldWhy command held before after old_names new_names status err_old err_before err_new err_after) → IsTold (refusals.Stop why) status err_old err_before err_new err_after
+line_told held command before after old_names new_names why status err_old err_before err_new err_after stopped never (inr memory) cause = inr memory
+line_told held command before after old_names new_names why status err_old err_before err_new err_after stopped never (inl same) cause = by (stop_refuses why)
   where
     by : IsRefusing (status_of (refusals.Stop why)) ⊎ (status_of (refusals.Stop why) ≡ statuses.Memory) → IsTold (refusals.Stop why) status err_old err_before err_new err_after
     by (inr memory) = inr (same ∙ memory)
@@ -124,7 +124,7 @@ line_told held command before after why status err_old err_before err_new err_af
         let told = told_some (λ c k. IsStopped k c why) (λ c k. HasCause c k before after t.refusal) (λ seed p q own. own) (cause_of_trial before after t.refusal) command held stopped t.is_true in
         told_by t (line_alone told.0 command before after why t.refusal told.1 never told.2)
       where
-        told_by : (t : ToldWhy command held before after status err_old err_before err_new err_after) → (line_of t.refusal ≡ line_of (refusals.Stop why)) ⊎ (status_of t.refusal ≡ statuses.Memory)
+        told_by : (t : ToldWhy command held before after old_names new_names status err_old err_before err_new err_after) → (line_of t.refusal ≡ line_of (refusals.Stop why)) ⊎ (status_of t.refusal ≡ statuses.Memory)
             → IsTold (refusals.Stop why) status err_old err_before err_new err_after
         told_by t (inl e) = inl (same, subst (λ line. ReceivesLine err_old err_before line err_new err_after) e t.line)
         told_by t (inr memory) = inr (t.tells ∙ memory)

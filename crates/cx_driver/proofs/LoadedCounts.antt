@@ -1,6 +1,6 @@
 -- What a design does on a data file, counted, is made of what its parts do.
-use Rattle.std.proofs.Common.{◌≡◌, inl, inr, ℕ, List, ◌++◌, Result, Ok, Err, IfOk, IfErr, sym, ap, ◌∙◌}
-use Rattle.cx_text.specs.Loading.{PlainRow, PlainMemory}
+use Rattle.std.proofs.Common.{◌≡◌, inl, inr, ℕ, List, ◌++◌, Ok, Err, sym, ap, ◌∙◌}
+use Rattle.cx_text.specs.Loading.{PlainRow}
 use Rattle.cx_data.specs.Dump.{dump_text}
 use Rattle.cx_data.specs.Load.{load_of}
 use Rattle.cx_meaning.specs.Designs.{PlainDesign}
@@ -12,7 +12,7 @@ use Rattle.cx_profiling.specs.Instrumented.{instrumented}
 use Rattle.cx_profile.specs.Profiles.{IsLimit}
 use Rattle.cx_commands.specs.declared.stops.Stop.{Stop}
 use Rattle.cx_compiler.specs.Texts.{tree_stop}
-use Rattle.cx_driver.specs.Counted.{CountsLoaded, CountsRun, StopsLoaded, StopsRunCounted}
+use Rattle.cx_driver.specs.Counted.{CountsLoaded, StopsLoaded}
 use Rattle.cx_driver.specs.Counting.{IsLimitStop}
 use Rattle.cx_driver.specs.Loads.{IsUnloaded}
 use Rattle.cx_driver.specs.Profiling.{IsDesignProfile, IsDesignProfileStop, PlainCounted, active_lines, group_paths, loaded_counted, profiled}
@@ -31,18 +31,6 @@ counted_told d json budget counted paths text keeps h same e =
 pub counted_stopped : (d : PlainDesign) (json : List ℕ) (budget : ℕ) (stop : Stop) → KeepsStage 7 (instrumented d) → StopsLoaded d json budget stop → IsDesignProfileStop d json budget stop
 counted_stopped d json budget stop keeps (inl memory) = inl (inl memory)
 counted_stopped d json budget stop keeps (inr h) = inr (keeps, ap (profiled d) h)
-
--- from a run to its design
-pub design_counts : {X : Type 0} (counted : X → PlainCounted) (d : PlainDesign) (json : List ℕ) (ms : List PlainMemory) (budget : ℕ) (r : Result X Stop) → load_of json (external_rows d) ≡ Ok ms
-    → IfOk r (λ x. CountsRun d ms budget (counted x)) → IfOk r (λ x. CountsLoaded d json budget (counted x))
-design_counts counted d json ms budget (Ok x) loads h = ap (loaded_counted d budget) loads ∙ h
-design_counts counted d json ms budget (Err stop) loads h = tt
-
-pub design_counts_stops : {X : Type 0} (d : PlainDesign) (json : List ℕ) (ms : List PlainMemory) (budget : ℕ) (r : Result X Stop) → load_of json (external_rows d) ≡ Ok ms
-    → IfErr r (StopsRunCounted d ms budget) → IfErr r (StopsLoaded d json budget)
-design_counts_stops d json ms budget (Ok x) loads h = tt
-design_counts_stops d json ms budget (Err stop) loads (inl memory) = inl memory
-design_counts_stops d json ms budget (Err stop) loads (inr h) = inr (ap (loaded_counted d budget) loads ∙ h)
 
 -- from a data file that is not loaded to its design
 pub unloaded_counts : (d : PlainDesign) (rows : List PlainRow) (json : List ℕ) (budget : ℕ) (stop : Stop) → rows ≡ external_rows d → IsUnloaded rows json stop → StopsLoaded d json budget stop

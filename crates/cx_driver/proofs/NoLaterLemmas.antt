@@ -12,6 +12,7 @@ use Rattle.cx_meaning.specs.Designs.{PlainDesign}
 use Rattle.cx_meaning.specs.Instances.{State, tree_of, words_of}
 use Rattle.cx_meaning.specs.Running.{run_main}
 use Rattle.cx_rules.specs.Externals.{external_rows}
+use Rattle.cx_rules.specs.Flat.{IsFlat}
 use Rattle.cx_numbering.specs.DesignOf.{design_of}
 use Rattle.cx_commands.specs.Commands.{Asked, promote}
 use Rattle.cx_commands.specs.Unread.{HasTree}
@@ -19,6 +20,7 @@ use Rattle.cx_compiler.specs.Interpreted.{told_of, loaded_result, design_result}
 use Rattle.cx_compiler.specs.Texts.{IsDesignOf}
 use Rattle.cx_compiler.proofs.MeantLemmas.{text_meant}
 use Rattle.cx_compiler.proofs.PromiseLemmas.{of_design}
+use Rattle.cx_compiler.proofs.TextLemmas.{one_design}
 use Rattle.cx_promotion.specs.Made.{Quickens}
 use Rattle.cx_rewritten.specs.NoLater.{EndsNoLater}
 use Rattle.cx_driver.specs.NoLater.{ToldNoLater, InterpretsNoLater, NoLaterOfFile}
@@ -51,15 +53,15 @@ module _ (d e : PlainDesign) (quickens : Quickens d e) (words : (s : State) → 
       subst (λ rows. ToldNoLater (design_result d json budget) (loaded_result e budget (load_of json rows))) quickens.rows (loaded_no_later budget (load_of json (external_rows d)))
 
 -- the text that is written of an accepted text
-interprets_no_later : (text other : List ℕ) (tree : PlainTree) → HasTree text tree → IsAcceptedTree tree → EndsNoLater tree other → InterpretsNoLater text other
-interprets_no_later text other tree has accepted runs =
+interprets_no_later : (text other : List ℕ) (tree : PlainTree) → HasTree text tree → IsAcceptedTree tree → IsFlat (design_of tree) → EndsNoLater tree other → InterpretsNoLater text other
+interprets_no_later text other tree has accepted flat runs =
     let own : IsDesignOf other (design_of runs.again) = (runs.again, (runs.tokens, runs.lexed, runs.parsed), runs.accepted, refl) in
     record {
       accepted = (runs.again, (runs.tokens, runs.lexed, runs.parsed), runs.accepted);
       told = λ json budget result is.
-          let same = of_design text (design_of tree) (tree, has, accepted, refl) json budget result is in (
+          let same = of_design text (design_of tree) (tree, has, accepted, refl) flat json budget result is in (
             design_result (design_of runs.again) json budget,
-            inl (design_of runs.again, own, sym (text_meant other (design_of runs.again) own json budget)),
+            inl (design_of runs.again, own, sym (text_meant other (design_of runs.again) own runs.flat json budget)),
             subst (λ r. ToldNoLater r (design_result (design_of runs.again) json budget)) (sym same) (designs_no_later (design_of tree) (design_of runs.again) runs.quickens runs.words json budget),
           );
     }
@@ -69,4 +71,10 @@ pub promoted_of_file : (held : Held) (file answer : List ℕ) (command : Asked) 
 promoted_of_file held file answer command same h =
     let written : IsAnswer held (promote file) answer = subst (λ asked. IsAnswer held asked answer) (sym same) h in
     let promoted = answer_rewritten PromotesTree written.bytes answer written.is in
-    record { bytes = written.bytes; reads = written.reads; is = interprets_no_later written.bytes answer promoted.tree promoted.has promoted.accepted promoted.written.runs }
+    record {
+      bytes = written.bytes;
+      reads = written.reads;
+      is = λ d stands flat.
+          let own = subst IsFlat (one_design written.bytes d (design_of promoted.tree) stands (promoted.tree, promoted.has, promoted.accepted, refl)) flat in
+          interprets_no_later written.bytes answer promoted.tree promoted.has promoted.accepted own (promoted.written.runs own);
+    }

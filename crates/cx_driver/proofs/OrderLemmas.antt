@@ -20,8 +20,8 @@ use Rattle.cx_commands.specs.declared.stops.Stop.{Stop}
 use Rattle.cx_commands.specs.declared.stops.Stop.TheVariants as stops
 use Rattle.cx_compiler.specs.Interpreted.{told_of, loaded_result}
 use Rattle.cx_compiler.specs.Laws.{NoneEnds}
-use Rattle.cx_compiler.specs.Texts.{IsDesignOf}
-use Rattle.cx_compiler.proofs.PromiseLemmas.{of_design}
+use Rattle.cx_compiler.specs.Texts.{IsRunOf}
+use Rattle.cx_compiler.proofs.PromiseLemmas.{of_run}
 use Rattle.cx_driver.specs.Weaving.{told_woven, loaded_woven, IsDesignWoven, NeverFaults}
 
 module _ (none : NoneEnds) (d : PlainDesign) (keeps : ∥ IsDesign d ∥₁) (accepted : IsAccepted d) (list : List ℕ) where
@@ -42,7 +42,7 @@ module _ (none : NoneEnds) (d : PlainDesign) (keeps : ∥ IsDesign d ∥₁) (ac
       not_both ms steps budget answer kind path turn (woven.woven d (words_loaded ms) (by_list list) steps) refl told (run_main d (words_loaded ms) budget) refl said
   not_loaded json steps budget answer kind path turn (Err fault) told said = cc
 
-  pub never_faults : {X : Type 0} (bytes : X → List ℕ) (text json : List ℕ) (steps : ℕ) (r : Result X Stop) → IsDesignOf text d → IfOk r (λ x. IsDesignWoven d list json steps (bytes x)) → IfOk r (λ _. NeverFaults text json)
+  pub never_faults : {X : Type 0} (bytes : X → List ℕ) (text json : List ℕ) (steps : ℕ) (r : Result X Stop) → IsRunOf text d → IfOk r (λ x. IsDesignWoven d list json steps (bytes x)) → IfOk r (λ _. NeverFaults text json)
   never_faults bytes text json steps (Ok x) stands h = λ budget kind path turn i.
-      not_loaded json steps budget (bytes x) kind path turn (load_of json (external_rows d)) h (of_design text d stands json budget (Err (stops.Fault kind path turn)) i)
+      not_loaded json steps budget (bytes x) kind path turn (load_of json (external_rows d)) h (of_run text d stands json budget (Err (stops.Fault kind path turn)) i)
   never_faults bytes text json steps (Err stop) stands h = tt

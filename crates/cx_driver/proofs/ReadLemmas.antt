@@ -1,7 +1,9 @@
 -- What the reads of a command tell.
-use Rattle.std.proofs.Common.{ℕ, suc, ◌<◌, ◌≤◌, ◌≡◌, inl, inr, List, [], ◌∷◌, Option, Some, map, length, Contains, sym, ap, ◌∙◌, subst, arith}
+use Rattle.std.proofs.Common.{ℕ, suc, ◌<◌, ◌≤◌, ◌≡◌, inl, inr, List, [], ◌∷◌, Option, Some, Result, Err, MatchResult, map, length, Contains, sym, ap, ◌∙◌, subst, arith}
 use Rattle.cx_outside.specs.Counts.{HasRisen}
+use Rattle.cx_outside.specs.Failures.{failed_by}
 use Rattle.cx_outside.specs.Reading.{IsAbsent, HasLength}
+use Rattle.cx_outside.specs.declared.reading.FileAnswer.{FileAnswer}
 use Rattle.cx_commands.specs.declared.refusals.Refusal.{Refusal}
 use Rattle.cx_commands.specs.declared.refusals.Refusal.TheVariants as refusals
 use Rattle.cx_driver.specs.Causes.{IsOfFile, HasCause}
@@ -14,6 +16,11 @@ Held = Option (List ℕ → Option (List ℕ))
 -- a count that rose in the later part of a call rose in the whole
 pub HasRisen-later : (before middle after : ℕ) → before ≤ middle → HasRisen middle after → HasRisen before after
 HasRisen-later before middle after rises risen = omega (arith, rises, risen)
+
+-- the names of the reads that failed, after one with this answer
+pub failed_names : {X : Type 0} (r : Result X FileAnswer) (answer : FileAnswer) (name : List ℕ) (old_names new_names : List (List ℕ)) → r ≡ Err answer
+    → MatchResult r (λ _. new_names ≡ old_names) (λ e. new_names ≡ failed_by e name old_names) → new_names ≡ failed_by answer name old_names
+failed_names r answer name old_names new_names is names = subst (λ o. MatchResult o (λ _. new_names ≡ old_names) (λ e. new_names ≡ failed_by e name old_names)) is names
 
 -- what is told of a file, after earlier reads
 over_later : (told held : Held) (file : List ℕ) (seen : ℕ) (w : Wanted) → held ≡ told → IsOver held file seen w → IsOver told file seen w

@@ -1,6 +1,6 @@
--- In the design of a trial a place tells a port: no assignment has a guard, so each has one operand alone, and nothing is invoked. So the rule that it breaks is
+-- In the design of a trial a place tells a port: no assignment has a guard, so each has one operand alone, and nothing is invoked; nor is anything static. So the rule that it breaks is
 -- one, with its place and its name.
-use Rattle.std.proofs.Common.{◌≡◌, inl, inr, ⊎_elim, ℕ, zero, suc, ◌+◌, ◌*◌, ◌%◌, Bool, true, false, if◌then◌else◌, List, [], ◌∷◌, ◌++◌, map, Some, None, slice_get, refl, sym, ap, ◌∙◌, subst, codes}
+use Rattle.std.proofs.Common.{◌≡◌, inl, inr, ⊎_elim, ℕ, zero, suc, ◌+◌, ◌*◌, ◌%◌, Bool, true, false, if◌then◌else◌, List, [], ◌∷◌, ◌++◌, map, length, ◌<◌, Some, None, slice_get, refl, sym, ap, ◌∙◌, subst, codes, arith}
 use Rattle.std.specs.Prelude.{nat_eq, flat_map}
 use Rattle.std.proofs.lemmas.List.{append-nil}
 use Rattle.cx_text.specs.declared.diagnostics.Diagnostic.{Diagnostic}
@@ -10,11 +10,12 @@ use Rattle.cx_ast.specs.PlainStatements.{PlainStatement, Placed, statements_of}
 use Rattle.cx_ast.specs.PlainTree as ast
 use Rattle.cx_ast.specs.PlainTree.{PlainTree, PlainComponent}
 use Rattle.cx_meaning.specs.declared.ports.PlacedPort.{PlacedPort}
-use Rattle.cx_meaning.specs.Designs.{PlainAssign, PlainGroup, PlainInvoke, Always, component_at}
+use Rattle.cx_meaning.specs.Designs.{PlainAssign, PlainGroup, PlainInvoke, PlainDesign, Always, component_at}
 use Rattle.cx_meaning.specs.Active.{Owned, owned, owned_by_groups, source_order}
 use Rattle.cx_meaning.specs.Sights.{In}
 use Rattle.cx_numbering.specs.DesignOf.{Invoke, invokes_in, invokes_all, invokes_of, guard_or_always, assign_of, group_of, invoke_groups, static_invokes, first, component_of, design_of}
 use Rattle.cx_numbering.specs.Names.{groups_in, always_in}
+use Rattle.cx_rules.specs.Flat.{IsFlatPart, IsFlat}
 use Rattle.cx_rules.specs.Items.{operands_of, sources_of}
 use Rattle.cx_rules.specs.OneBreak.{IsPlaced}
 use Rattle.cx_rules.specs.Spots.{binds_in}
@@ -144,6 +145,14 @@ module _ (seed : ℕ) where
     assigns = λ k n o p q e ip iq tp tq same. one_operand o.assign p q (order_unguarded k n o e) ip iq;
     binds = λ k n a p q e ip iq tp tq same. absurd (nothing n a (subst (λ xs. slice_get xs n ≡ Some a) (no_binds k) e));
   }
+
+  -- NOTHING IS STATIC
+  flat_at : (k : ℕ) → k < length (design_of tree).components → IsFlatPart (component_at (design_of tree) k)
+  flat_at zero few = record { dynamic = refl; no_invoke = ap (λ ks. static_invokes tree part (first tree part) ks) (no_invokes seed) }
+  flat_at (suc k) few = absurd (omega (arith, few))
+
+  pub trial_flat : (d : PlainDesign) → d ≡ design_of tree → IsFlat d
+  trial_flat d same = subst IsFlat (sym same) flat_at
 
   -- THE RULE that the tree of a trial breaks is one
   pub trial_once : (a b : Diagnostic) → TreeBreak (trial_tree seed) a → TreeBreak (trial_tree seed) b → a ≡ b

@@ -20,11 +20,9 @@ use Rattle.cx_commands.specs.Lists.{numbers_in, parts_of}
 use Rattle.cx_commands.specs.declared.stops.Stop.{Stop}
 use Rattle.cx_commands.specs.declared.stops.Stop.TheVariants as stops
 use Rattle.cx_compiler.specs.Interpreted.{fault_stop}
-use Rattle.cx_compiler.specs.Texts.{IsDesignOf, IsTextRefusal}
+use Rattle.cx_compiler.specs.Texts.{IsRunOf, IsTextRefusal}
 use Rattle.cx_compiler.proofs.TextLemmas.{one_design, text_of_design, accepted_once, break_once}
-use Rattle.cx_compiler.proofs.TextLayers.{text_flat}
 use Rattle.cx_flat_texts.specs.Runnable.{runnable}
-use Rattle.cx_flat_texts.proofs.RunnableLemmas.{without_static}
 use Rattle.cx_driver.specs.Loads.{IsUnloaded}
 use Rattle.cx_driver.specs.Weaving.{woven_text, told_woven, loaded_woven, design_woven, Weaves, IsWovenAnswer, IsWeaveStop, IsDesignWoven, StopsDesignWoven, IsRunWoven, StopsRunWoven}
 
@@ -40,19 +38,18 @@ module _ (text json : List ℕ) (steps : ℕ) (list : List ℕ) where
   one_woven a b (inr h) (inl k) = absurd (accepted_once text h.0 (text_of_design text k.0 k.1) h.1)
   one_woven a b (inr h) (inr k) = h.2 ∙ ap (λ d. Err (stops.Rule d)) (break_once text h.0 k.0 h.1 k.1) ∙ sym k.2
 
-  -- the design that is run is the design of the text, as that has no static component
-  run_so : (d : PlainDesign) → IsDesignOf text d → design_woven (runnable d) list json steps ≡ design_woven d list json steps
-  run_so d is = ap (λ (e : PlainDesign). design_woven e list json steps) (without_static d (text_flat text d is))
+  -- from what is run of a text to the text
+  run_so : (run : PlainDesign) (is : IsRunOf text run) → design_woven (runnable is.design) list json steps ≡ design_woven run list json steps
+  run_so run is = ap (λ (e : PlainDesign). design_woven e list json steps) (sym is.is)
 
-  -- from a design to its text
-  pub text_woven : {X : Type 0} (bytes : X → List ℕ) (d : PlainDesign) (r : Result X Stop) → IsDesignOf text d → IfOk r (λ x. IsDesignWoven d list json steps (bytes x)) → IfOk r (λ x. IsWovenAnswer text json steps list (bytes x))
-  text_woven bytes d (Ok x) is h = inl (d, is, sym (run_so d is ∙ h))
+  pub text_woven : {X : Type 0} (bytes : X → List ℕ) (d : PlainDesign) (r : Result X Stop) → IsRunOf text d → IfOk r (λ x. IsDesignWoven d list json steps (bytes x)) → IfOk r (λ x. IsWovenAnswer text json steps list (bytes x))
+  text_woven bytes d (Ok x) is h = inl (is.design, is.stands, sym (run_so d is ∙ h))
   text_woven bytes d (Err stop) is h = tt
 
-  pub text_stops : {X : Type 0} (d : PlainDesign) (r : Result X Stop) → IsDesignOf text d → IfErr r (StopsDesignWoven d list json steps) → IfErr r (IsWeaveStop text json steps list)
+  pub text_stops : {X : Type 0} (d : PlainDesign) (r : Result X Stop) → IsRunOf text d → IfErr r (StopsDesignWoven d list json steps) → IfErr r (IsWeaveStop text json steps list)
   text_stops d (Ok x) is h = tt
   text_stops d (Err stop) is (inl memory) = inl memory
-  text_stops d (Err stop) is (inr h) = inr (inl (d, is, sym (run_so d is ∙ h)))
+  text_stops d (Err stop) is (inr h) = inr (inl (is.design, is.stands, sym (run_so d is ∙ h)))
 
   -- from a text that is refused
   pub refused_stops : (stop : Stop) → IsTextRefusal text stop → IsWeaveStop text json steps list stop

@@ -1,5 +1,5 @@
 -- Why a command has no answer.
-use Rattle.std.specs.Prelude.{◌≡◌, ◌⊎◌, ℕ, List, Option, Some}
+use Rattle.std.specs.Prelude.{◌≡◌, ◌⊎◌, ℕ, List, [], ◌∷◌, ◌++◌, Option, Some, Result, MatchResult}
 use Rattle.cx_outside.specs.Reading.{IsAbsent}
 use Rattle.cx_commands.specs.Messages.{line_of}
 use Rattle.cx_commands.specs.Commands.{Asked, Wanted, wanted_by}
@@ -30,12 +30,24 @@ HasCause command held before after (refusals.TooLong file seen) = IsTooLong held
 HasCause command held before after (refusals.ReadFault file) = IsUnreadFile held command before after file.now
 HasCause command held before after (refusals.Stop stop) = StopsCommand command held stop
 
--- what a command tells where it has no answer: a refusal of this status that is true of its files, with its line
-pub record ToldWhy (command : Asked) (held : Option (List ℕ → Option (List ℕ))) (before after : ℕ) (status : Status) (err_old : Option (List ℕ)) (err_before : ℕ)
+-- the names of the reads that failed, after this refusal: a file that was not read is the last of them
+abbrev pub unread_by : Refusal → List (List ℕ) → List (List ℕ)
+unread_by (refusals.TooLong file seen) names = names
+unread_by (refusals.ReadFault file) names = names ++ file.now ∷ []
+unread_by (refusals.Stop stop) names = names
+
+-- no read failed but that of the file that is told
+abbrev pub TellsUnread : {X : Type 0} → Result X Refusal → List (List ℕ) → List (List ℕ) → Type 0
+TellsUnread r old_names new_names = MatchResult r (λ _. new_names ≡ old_names) (λ why. new_names ≡ unread_by why old_names)
+
+-- what a command tells where it has no answer: a refusal of this status that is true of its files, with its line; and no read failed but that of
+-- the file that is told
+pub record ToldWhy (command : Asked) (held : Option (List ℕ → Option (List ℕ))) (before after : ℕ) (old_names new_names : List (List ℕ)) (status : Status) (err_old : Option (List ℕ)) (err_before : ℕ)
     (err_new : Option (List ℕ)) (err_after : ℕ) : Type 0 where
   pub refusal : Refusal
   pub tells : status ≡ status_of refusal
   pub is_true : HasCause command held before after refusal
+  pub unread : new_names ≡ unread_by refusal old_names
   pub line : ReceivesLine err_old err_before (line_of refusal) err_new err_after
 
 -- of files that are told: a file of the command is not there

@@ -1,29 +1,32 @@
--- The run of an instrumented design, and what is read off it.
-use Rattle.std.specs.Prelude.{◌≡◌, ◌⊎◌, ◌+◌, ◌*◌, ◌++◌, ◌∷◌, [], ℕ, List, Ok, Err, length}
-use Rattle.cx_text.specs.Loading.{PlainMemory, PlainRow, FitsRows, words_loaded}
+-- The run of what is run of an instrumented design, and what is read off it.
+use Rattle.std.specs.Prelude.{◌≡◌, ◌⊎◌, ◌<◌, ◌≤◌, ◌++◌, ◌∷◌, [], ℕ, List, Result, Ok, Err, length}
+use Rattle.cx_text.specs.Loading.{PlainMemory, PlainRow, FitsRows}
 use Rattle.cx_prim.specs.CellStates.{AreWords}
 use Rattle.cx_meaning.specs.Designs.{PlainDesign}
 use Rattle.cx_rules.specs.Accepted.{IsAccepted}
 use Rattle.cx_rules.specs.Externals.{external_rows}
+use Rattle.cx_rules.specs.Flat.{IsFlat}
 use Rattle.cx_design.specs.PlainDesigns.{plain_design}
-use Rattle.cx_interp.specs.Runs.{HasRun}
-use Rattle.cx_interp.specs.declared.interp.Ran.{Ran}
 use Rattle.cx_profiling.specs.Counters.{entry_count}
 use Rattle.cx_profiling.specs.Instrumented.{instrumented}
 use Rattle.cx_profile.specs.Profiles.{memory_place}
 use Rattle.cx_profile.specs.declared.instrumenting.Profiled.{Profiled}
+use Rattle.cx_flat_texts.specs.Runnable.{RunsAsMeant, runnable}
 use Rattle.cx_commands.specs.declared.stops.Stop.{Stop}
 use Rattle.cx_commands.specs.declared.stops.Stop.TheVariants as stops
+use Rattle.cx_compiler.specs.Interpreted.{PlainLeft, design_meant}
 use Rattle.cx_driver.specs.Leaving.{plain_left}
-use Rattle.cx_driver.specs.Profiling.{PlainCounted, counted_left, design_counted}
+use Rattle.cx_driver.specs.Profiling.{PlainCounted, design_counted}
 use Rattle.cx_driver.specs.declared.counted.Counted.{Counted}
 
 abbrev pub plain_counted : Counted → PlainCounted
 plain_counted counted = record { left = plain_left counted.left; counts = counted.counts.items }
 
--- this is the instrumented design of a design, which is accepted, with the place of its memory of the counts, and a group for each count
+-- this is what is run of the instrumented design of a design, which is accepted, with the place of its memory of the counts, and a group for each count
 pub record IsProfiled (d : PlainDesign) (p : Profiled) : Type 0 where
-  pub design : plain_design p.design ≡ instrumented d
+  pub design : plain_design p.design ≡ runnable (instrumented d)
+  pub flat : IsFlat (plain_design p.design)
+  pub runs : RunsAsMeant (instrumented d)
   pub accepted : IsAccepted (instrumented d)
   pub memory : p.memory ≡ memory_place d
   pub each : length p.groups.items ≡ entry_count d
@@ -35,12 +38,20 @@ CountsLoaded d json budget counted = design_counted d json budget ≡ Ok counted
 abbrev pub StopsLoaded : PlainDesign → List ℕ → ℕ → Stop → Type 0
 StopsLoaded d json budget stop = (stop ≡ stops.Memory) ⊎ (design_counted d json budget ≡ Err stop)
 
--- the same of a run
-abbrev pub CountsRun : PlainDesign → List PlainMemory → ℕ → PlainCounted → Type 0
-CountsRun d memories budget counted = counted_left d memories budget ≡ Ok counted
+-- what the run of the instrumented design stops for, and what is known of the design's own: a fault in a turn within the budget is one of the design; a
+-- later one, or that the run goes on, tells that the design goes on
+abbrev pub IsFaulty : Result PlainLeft Stop → Type 0
+IsFaulty (Ok left) = ⊥
+IsFaulty (Err stop) = Unit {0}
 
-abbrev pub StopsRunCounted : PlainDesign → List PlainMemory → ℕ → Stop → Type 0
-StopsRunCounted d memories budget stop = (stop ≡ stops.Memory) ⊎ (counted_left d memories budget ≡ Err stop)
+abbrev pub StopsStored : PlainDesign → List ℕ → ℕ → Stop → Type 0
+StopsStored d json budget (stops.Fault kind path turn) = ((turn < budget) × IsFaulty (design_meant d json budget)) ⊎ ((budget ≤ turn) × (design_meant d json budget ≡ Err (stops.More budget)))
+StopsStored d json budget (stops.More turns) = design_meant d json budget ≡ Err (stops.More budget)
+StopsStored d json budget (stops.Rule told) = ⊥
+StopsStored d json budget (stops.Verilog refusal) = ⊥
+StopsStored d json budget (stops.Json fault) = ⊥
+StopsStored d json budget (stops.Loop path) = ⊥
+StopsStored d json budget stops.Memory = Unit {0}
 
 -- these memories are those of the instrumented design but the last, which has a word of 64 bits for each group
 pub record HasRoom (p : Profiled) (memories : List PlainMemory) : Type 0 where
@@ -55,11 +66,3 @@ pub record IsAdded (p : Profiled) (memories all : List PlainMemory) : Type 0 whe
   pub joined : all ≡ memories ++ last ∷ []
   pub words : AreWords 64 (length p.groups.items) last.words
   pub fits : FitsRows (external_rows (plain_design p.design)) all
-
--- THE RUN of the instrumented design on the memories of a design and that of the counts, with two turns more for each group
-pub record IsCountedRun (d : PlainDesign) (p : Profiled) (memories all : List PlainMemory) (budget : ℕ) (ran : Ran) : Type 0 where
-  pub profiled : IsProfiled d p
-  pub some : length p.groups.items ≡ 0 → ⊥
-  pub fits : FitsRows (external_rows d) memories
-  pub added : IsAdded p memories all
-  pub run : HasRun p.design (words_loaded all) (budget + 2 * length p.groups.items) ran

@@ -2,12 +2,10 @@
 use Rattle.std.specs.Prelude.{◌⊎◌, ℕ, List}
 use Rattle.cx_text.specs.declared.diagnostics.Diagnostic.{Diagnostic}
 use Rattle.cx_meaning.specs.Designs.{PlainDesign}
-use Rattle.cx_rules.specs.Accepted.{IsAccepted, IsFirstOf}
-use Rattle.cx_rules.specs.Flat.{IsFlat}
-use Rattle.cx_rules.specs.Wellformed.{IsDesign}
+use Rattle.cx_rules.specs.Accepted.{IsFirstOf}
 use Rattle.cx_bytes.specs.Laws.{HasGuards}
-use Rattle.cx_bytes.specs.Shallow.{IsShallow}
 use Rattle.cx_profiling.specs.Instrumented.{instrumented}
+use Rattle.cx_flat_texts.specs.Runnable.{CanBeFlattened}
 use Rattle.cx_commands.specs.Stopping.{TellsBreak}
 use Rattle.cx_commands.specs.declared.stops.Stop.{Stop}
 use Rattle.cx_compiler.specs.Texts.{IsDesignOf, TextBreak}
@@ -25,12 +23,8 @@ CountBreak text told = TextBreak text told ⊎ ExceedsLimit text told
 abbrev pub IsLimitStop : PlainDesign → Stop → Type 0
 IsLimitStop d stop = TellsBreak (IsFirstOf 7 (instrumented d)) stop
 
--- what a design that is counted keeps: what every design keeps, and all rules; and what its text has, so that the text of its instrumented design can be
--- written
+-- what a design that is counted keeps: what flattening asks for, and what its text has, so that the text of its instrumented design can be written
 pub record CanCount (d : PlainDesign) : Type 0 where
-  pub design : IsDesign d
-  pub accepted : IsAccepted d
-  pub flat : IsFlat d
+  pub flattens : CanBeFlattened d
   pub guards : HasGuards d
   pub words : HasWords d
-  pub shallow : IsShallow d

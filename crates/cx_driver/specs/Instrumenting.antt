@@ -4,34 +4,35 @@ use Rattle.cx_text.specs.declared.diagnostics.Diagnostic.{Diagnostic}
 use Rattle.cx_text.specs.declared.limits.TheConstants.{COMPILE_SIZE}
 use Rattle.cx_meaning.specs.Designs.{PlainDesign}
 use Rattle.cx_rules.specs.Accepted.{IsAccepted, KeepsStage}
-use Rattle.cx_rules.specs.Sizes.{design_size}
+use Rattle.cx_rules.specs.Counts.{counted_design_size}
 use Rattle.cx_vtree.specs.Spelling.{text_of}
 use Rattle.cx_profiling.specs.Instrumented.{instrumented}
+use Rattle.cx_flat_texts.specs.Runnable.{runnable}
 use Rattle.cx_commands.specs.Stopping.{TellsBreak}
 use Rattle.cx_commands.specs.declared.stops.Stop.{Stop}
 use Rattle.cx_commands.specs.declared.stops.Stop.TheVariants as stops
-use Rattle.cx_compiler.specs.Compiled.{IsDesignTooLarge, IsTextOf, too_large, written_source}
+use Rattle.cx_compiler.specs.Compiled.{IsRunTooLarge, IsTextOf, counted_too_large, written_source}
 use Rattle.cx_compiler.specs.Texts.{IsDesignOf}
 use Rattle.cx_driver.specs.Counting.{CountBreak, IsLimitStop}
 
--- WHAT instrument WRITES of a text: it is accepted, its instrumented design is accepted and within the size that compile takes, and this is the text
--- of that design, to the byte
+-- WHAT instrument WRITES of a text: it is accepted, its instrumented design is accepted and within the size that compile takes, and this is the text of what
+-- is run of that design, to the byte
 pub record IsInstrumented (text answer : List ℕ) : Type 0 where
   pub design : PlainDesign
   pub stands : IsDesignOf text design
   pub accepted : IsAccepted (instrumented design)
-  pub within : design_size (instrumented design) ≤ COMPILE_SIZE
-  pub written : IsTextOf (instrumented design) answer
-  pub exact : answer ≡ text_of (written_source (instrumented design))
+  pub within : counted_design_size (instrumented design) ≤ COMPILE_SIZE
+  pub written : IsTextOf (runnable (instrumented design)) answer
+  pub exact : answer ≡ text_of (written_source (runnable (instrumented design)))
 
 -- the text is accepted, its instrumented design keeps the limits, and is within the size
 abbrev pub IsInstrumentable : List ℕ → Type 0
-IsInstrumentable text = (d : PlainDesign) × IsDesignOf text d × KeepsStage 7 (instrumented d) × (design_size (instrumented d) ≤ COMPILE_SIZE)
+IsInstrumentable text = (d : PlainDesign) × IsDesignOf text d × KeepsStage 7 (instrumented d) × (counted_design_size (instrumented d) ≤ COMPILE_SIZE)
 
 -- the text is accepted, its instrumented design keeps the limits, and is over the size
 abbrev pub IsTooLargeToCount : List ℕ → Diagnostic → Type 0
 IsTooLargeToCount text told =
-    (d : PlainDesign) × IsDesignOf text d × KeepsStage 7 (instrumented d) × (COMPILE_SIZE < design_size (instrumented d)) × (told ≡ too_large (instrumented d))
+    (d : PlainDesign) × IsDesignOf text d × KeepsStage 7 (instrumented d) × (COMPILE_SIZE < counted_design_size (instrumented d)) × (told ≡ counted_too_large (instrumented d))
 
 -- REFUSED by instrument: the text breaks a rule; or else its instrumented design exceeds a limit; or else it is over the size
 abbrev pub InstrumentBreak : List ℕ → Diagnostic → Type 0
@@ -49,7 +50,7 @@ IsInstrumentStop text stop = TellsBreak (InstrumentBreak text) stop
 -- the same of a design
 abbrev pub IsInstrumentedDesign : PlainDesign → List ℕ → Type 0
 IsInstrumentedDesign d answer =
-    IsAccepted (instrumented d) × (design_size (instrumented d) ≤ COMPILE_SIZE) × IsTextOf (instrumented d) answer × (answer ≡ text_of (written_source (instrumented d)))
+    IsAccepted (instrumented d) × (counted_design_size (instrumented d) ≤ COMPILE_SIZE) × IsTextOf (runnable (instrumented d)) answer × (answer ≡ text_of (written_source (runnable (instrumented d))))
 
 abbrev pub IsInstrumentedStop : PlainDesign → Stop → Type 0
-IsInstrumentedStop d stop = IsLimitStop d stop ⊎ (KeepsStage 7 (instrumented d) × IsDesignTooLarge (instrumented d) stop)
+IsInstrumentedStop d stop = IsLimitStop d stop ⊎ (KeepsStage 7 (instrumented d) × IsRunTooLarge (instrumented d) stop)

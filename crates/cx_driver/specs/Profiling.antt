@@ -9,13 +9,13 @@ use Rattle.cx_meaning.specs.Designs.{PlainDesign}
 use Rattle.cx_meaning.specs.Instances.{tree_of}
 use Rattle.cx_rules.specs.Accepted.{KeepsStage}
 use Rattle.cx_rules.specs.Externals.{external_rows}
-use Rattle.cx_profiling.specs.Counting.{tally_of}
 use Rattle.cx_profiling.specs.Counters.{entries_of}
 use Rattle.cx_profiling.specs.Instrumented.{instrumented}
+use Rattle.cx_profiling.specs.WholeCounting.{whole_tally_of}
 use Rattle.cx_profile.specs.Profiles.{group_path}
 use Rattle.cx_commands.specs.declared.stops.Stop.{Stop}
 use Rattle.cx_commands.specs.declared.stops.Stop.TheVariants as stops
-use Rattle.cx_compiler.specs.Interpreted.{PlainLeft, run_left}
+use Rattle.cx_compiler.specs.Interpreted.{PlainLeft, meant_left}
 use Rattle.cx_compiler.specs.Texts.{IsDesignOf}
 use Rattle.cx_driver.specs.Counting.{CountBreak, IsLimitStop}
 
@@ -34,7 +34,7 @@ abbrev pub group_paths : PlainDesign → List (List ℕ)
 group_paths d = map (group_path (tree_of d)) (entries_of (tree_of d))
 
 abbrev pub active_counts : PlainDesign → List (List ℕ) → ℕ → List ℕ
-active_counts d words budget = map (λ e. tally_of d words budget e.path e.group) (entries_of (tree_of d))
+active_counts d words budget = map (λ e. whole_tally_of d words budget e.path e.group) (entries_of (tree_of d))
 
 -- what a run within this budget leaves, with its counts
 pub record PlainCounted : Type 0 where
@@ -45,9 +45,9 @@ abbrev pub with_counts_of : List ℕ → Result PlainLeft Stop → Result PlainC
 with_counts_of counts (Ok left) = Ok (record { left = left; counts = counts })
 with_counts_of counts (Err stop) = Err stop
 
--- THE RUN OF MAIN with these memories loaded, counted
+-- THE RUN OF MAIN with these memories loaded, by the design's own meaning, counted
 abbrev pub counted_left : PlainDesign → List PlainMemory → ℕ → Result PlainCounted Stop
-counted_left d memories budget = with_counts_of (active_counts d (words_loaded memories) budget) (run_left d memories budget)
+counted_left d memories budget = with_counts_of (active_counts d (words_loaded memories) budget) (meant_left d memories budget)
 
 -- which is told as the dump of what is left, and a line for each group
 abbrev pub profiled : PlainDesign → Result PlainCounted Stop → Result (List ℕ) Stop
@@ -65,8 +65,8 @@ design_counted d json budget = loaded_counted d budget (load_of json (external_r
 abbrev pub design_profile : PlainDesign → List ℕ → ℕ → Result (List ℕ) Stop
 design_profile d json budget = profiled d (design_counted d json budget)
 
--- WHAT profile DOES WITH A TEXT AND A DATA FILE: the text is accepted, its instrumented design keeps the limits, and its design does this; or the
--- text is refused, and that is told
+-- WHAT profile DOES WITH A TEXT AND A DATA FILE: the text is accepted, its instrumented design keeps the limits, and its design does this; or the text is
+-- refused, and that is told
 abbrev pub Profiles : List ℕ → List ℕ → ℕ → Result (List ℕ) Stop → Type 0
 Profiles text json budget result =
     ((d : PlainDesign) × IsDesignOf text d × KeepsStage 7 (instrumented d) × (result ≡ design_profile d json budget))

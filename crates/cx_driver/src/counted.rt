@@ -1,31 +1,26 @@
 //! The run of a design with the active cycles of its groups, read off the run of its instrumented design.
 
-ghost use Rattle.std.specs.Prelude.{◌≡◌, ◌++◌, ◌∷◌, ◌<◌, ◌≤◌, ◌⊎◌, ◌*◌, IfOk, IfErr, List, [], length};
+ghost use Rattle.std.specs.Prelude.{◌≡◌, ◌++◌, ◌∷◌, ◌<◌, ◌≤◌, ◌*◌, ◌-◌, IfOk, IfErr, Ok, Err, [], length};
 ghost use Rattle.cx_text.specs.declared.limits.TheConstants.{BUDGET};
 ghost use Rattle.cx_text.specs.Loading.{FitsRows, PlainMemory, plain_loaded};
-ghost use Rattle.cx_meaning.specs.Cycles.{Fault};
-ghost use Rattle.cx_meaning.specs.Instances.{paths_of, tree_of};
+ghost use Rattle.cx_data.specs.Load.{load_of};
 ghost use Rattle.cx_rules.specs.Externals.{external_rows};
-ghost use Rattle.cx_rules.specs.Flat.{IsFlat};
-ghost use Rattle.cx_design.specs.PlainActives.{TellsFault};
 ghost use Rattle.cx_design.specs.PlainDesigns.{plain_design};
-ghost use Rattle.cx_interp.specs.declared.answers.Answer.TheVariants as answers;
 ghost use Rattle.cx_profiling.specs.Counters.{entry_count};
 ghost use Rattle.cx_commands.specs.declared.stops.Stop.TheVariants as stops;
-ghost use Rattle.cx_compiler.specs.Interpreted.{fault_stop};
-ghost use Rattle.cx_driver.specs.Counted.{CountsLoaded, CountsRun, HasRoom, IsAdded, IsCountedRun, IsProfiled, StopsLoaded, StopsRunCounted, plain_counted};
+ghost use Rattle.cx_compiler.specs.Interpreted.{design_meant};
+ghost use Rattle.cx_driver.specs.Counted.{CountsLoaded, HasRoom, IsAdded, IsFaulty, IsProfiled, StopsLoaded, StopsStored, plain_counted};
 ghost use Rattle.cx_driver.specs.Counting.{CanCount};
 ghost use Rattle.cx_driver.specs.Leaving.{CanDump};
 
-use crate::faults::faulted;
-use crate::interpreting::{Left, run_loaded};
+use crate::interpreting::{Left, run_design, run_loaded};
 use crate::memories::load;
 use cx_commands::Stop;
-use cx_design::{Checked, PortFault};
-use cx_interp::{Answer, Ran, run};
+use cx_design::Checked;
+use cx_flat::flattened;
+use cx_flat_texts::laws::{what_is_run_is_flat, what_is_run_runs_as_meant};
 use cx_profile::Profiled;
 use cx_text::{Loaded, LoadedMemory, Memory};
-use cx_turns::Begun;
 use std::alloc::Global;
 
 /// What a run leaves, and how many cycles each group is active in.
@@ -35,65 +30,73 @@ pub(crate) struct Counted {
     pub(crate) counts: Vec<u64>,
 }
 
-/// Runs a design on a data file within a budget of turns, and counts. The other design is its instrumented one.
+/// Runs a design on a data file within a budget of turns, and counts. The other design is what is run of its instrumented one.
 pub(crate) fn run_counted(
+    alloc: Global,
+    design: Checked,
+    profiled: &Profiled,
+    json: &[u8],
+    turns: u64,
+) -> Result<Counted, Stop>
+    requires rules { CanCount (plain_design design) }
+    requires profiled { IsProfiled (plain_design design) profiled.now }
+    requires budget { turns ≤ BUDGET }
+    ensures answer { IfOk result (λ counted. CountsLoaded (plain_design design) json.now turns (plain_counted counted)) }
+    ensures ready { IfOk result (λ counted. CanDump counted.left) }
+    ensures cause { IfErr result (StopsLoaded (plain_design design) json.now turns) }
+{
+    let rows = design.rows(alloc)?;
+    match load(alloc, json, &rows) {
+        Ok(loaded) => count_loaded(alloc, design, profiled, loaded, json, turns),
+        Err(stop) => Err(stop),
+    }
+}
+
+/// Runs a design with the words of a data file loaded, and counts.
+fn count_loaded(
+    alloc: Global,
+    design: Checked,
+    profiled: &Profiled,
+    loaded: Loaded,
+    json: &[u8],
+    turns: u64,
+) -> Result<Counted, Stop>
+    requires rules { CanCount (plain_design design) }
+    requires profiled { IsProfiled (plain_design design) profiled.now }
+    requires budget { turns ≤ BUDGET }
+    requires fits { FitsRows (external_rows (plain_design design)) (plain_loaded loaded) }
+    requires loads { load_of json.now (external_rows (plain_design design)) ≡ Ok (plain_loaded loaded) }
+    ensures answer { IfOk result (λ counted. CountsLoaded (plain_design design) json.now turns (plain_counted counted)) }
+    ensures ready { IfOk result (λ counted. CanDump counted.left) }
+    ensures cause { IfErr result (StopsLoaded (plain_design design) json.now turns) }
+{
+    match profiled.memory {
+        None => run_uncounted(alloc, &design, profiled, loaded, json, turns),
+        Some(_) => run_instrumented(alloc, design, profiled, loaded, json, turns),
+    }
+}
+
+/// Runs a design that has no group to count: the instrumented design is the same.
+fn run_uncounted(
     alloc: Global,
     design: &Checked,
     profiled: &Profiled,
+    loaded: Loaded,
     json: &[u8],
     turns: u64,
 ) -> Result<Counted, Stop>
     requires rules { CanCount (plain_design design.now) }
     requires profiled { IsProfiled (plain_design design.now) profiled.now }
-    requires budget { turns ≤ BUDGET }
+    requires none { entry_count (plain_design design.now) ≡ 0 }
+    requires fits { FitsRows (external_rows (plain_design design.now)) (plain_loaded loaded) }
+    requires loads { load_of json.now (external_rows (plain_design design.now)) ≡ Ok (plain_loaded loaded) }
     ensures answer { IfOk result (λ counted. CountsLoaded (plain_design design.now) json.now turns (plain_counted counted)) }
     ensures ready { IfOk result (λ counted. CanDump counted.left) }
     ensures cause { IfErr result (StopsLoaded (plain_design design.now) json.now turns) }
 {
-    let rows = design.rows(alloc)?;
-    match load(alloc, json, &rows) {
-        Ok(loaded) => count_loaded(alloc, design, profiled, loaded, turns),
-        Err(stop) => Err(stop),
-    }
-}
-
-/// Runs a design with these words loaded, and counts.
-fn count_loaded(
-    alloc: Global,
-    design: &Checked,
-    profiled: &Profiled,
-    loaded: Loaded,
-    turns: u64,
-) -> Result<Counted, Stop>
-    requires rules { CanCount (plain_design design.now) }
-    requires profiled { IsProfiled (plain_design design.now) profiled.now }
-    requires budget { turns ≤ BUDGET }
-    requires fits { FitsRows (external_rows (plain_design design.now)) (plain_loaded loaded) }
-    ensures answer { IfOk result (λ counted. CountsRun (plain_design design.now) (plain_loaded loaded) turns (plain_counted counted)) }
-    ensures ready { IfOk result (λ counted. CanDump counted.left) }
-    ensures cause { IfErr result (StopsRunCounted (plain_design design.now) (plain_loaded loaded) turns) }
-{
-    match profiled.memory {
-        None => run_uncounted(alloc, design, loaded, turns),
-        Some(_) => run_instrumented(alloc, design, profiled, loaded, turns),
-    }
-}
-
-/// Runs a design that has no group to count.
-fn run_uncounted(
-    alloc: Global,
-    design: &Checked,
-    loaded: Loaded,
-    turns: u64,
-) -> Result<Counted, Stop>
-    requires flat { IsFlat (plain_design design.now) }
-    requires none { entry_count (plain_design design.now) ≡ 0 }
-    requires fits { FitsRows (external_rows (plain_design design.now)) (plain_loaded loaded) }
-    ensures answer { IfOk result (λ counted. CountsRun (plain_design design.now) (plain_loaded loaded) turns (plain_counted counted)) }
-    ensures ready { IfOk result (λ counted. CanDump counted.left) }
-    ensures cause { IfErr result (StopsRunCounted (plain_design design.now) (plain_loaded loaded) turns) }
-{
-    match run_loaded(alloc, design, loaded, turns) {
+    let _ = design;
+    let _ = json;
+    match run_loaded(alloc, &profiled.design, loaded, turns) {
         Ok(left) => Ok(Counted {
             left,
             counts: Vec::new(alloc),
@@ -102,27 +105,97 @@ fn run_uncounted(
     }
 }
 
-/// Runs the instrumented design, with two turns more for each group.
+/// Runs the instrumented design, with zeros in the memory of the counts and two turns more for each group.
 fn run_instrumented(
     alloc: Global,
-    design: &Checked,
+    design: Checked,
     profiled: &Profiled,
     mut loaded: Loaded,
+    json: &[u8],
     turns: u64,
 ) -> Result<Counted, Stop>
-    requires rules { CanCount (plain_design design.now) }
-    requires profiled { IsProfiled (plain_design design.now) profiled.now }
-    requires some { 1 ≤ entry_count (plain_design design.now) }
+    requires rules { CanCount (plain_design design) }
+    requires profiled { IsProfiled (plain_design design) profiled.now }
+    requires some { 1 ≤ entry_count (plain_design design) }
     requires budget { turns ≤ BUDGET }
-    requires fits { FitsRows (external_rows (plain_design design.now)) (plain_loaded loaded) }
-    ensures answer { IfOk result (λ counted. CountsRun (plain_design design.now) (plain_loaded loaded) turns (plain_counted counted)) }
+    requires fits { FitsRows (external_rows (plain_design design)) (plain_loaded loaded) }
+    requires loads { load_of json.now (external_rows (plain_design design)) ≡ Ok (plain_loaded loaded) }
+    ensures answer { IfOk result (λ counted. CountsLoaded (plain_design design) json.now turns (plain_counted counted)) }
     ensures ready { IfOk result (λ counted. CanDump counted.left) }
-    ensures cause { IfErr result (StopsRunCounted (plain_design design.now) (plain_loaded loaded) turns) }
+    ensures cause { IfErr result (StopsLoaded (plain_design design) json.now turns) }
 {
     add_zeros(alloc, profiled, &mut loaded)?;
-    let begun = Begun::new(alloc, &profiled.design, &loaded)?;
-    let ran = run(begun, turns + turns_behind(profiled));
-    count_end(alloc, design, profiled, &ran, loaded, turns)
+    let behind = turns_behind(profiled);
+    match run_loaded(alloc, &profiled.design, loaded, turns + behind) {
+        Ok(left) => Ok(read_off(left, behind)),
+        Err(stop) => Err(why(alloc, design, json, turns, stop)),
+    }
+}
+
+/// What is read off what an instrumented design leaves: so many turns less, and the last memory as counts.
+fn read_off(left: Left, behind: u64) -> Counted
+    requires some { 1 ≤ length left.loaded.memories.items }
+    requires behind { behind ≤ left.turns }
+    requires ready { CanDump left }
+    ensures turns { result.left.turns ≡ left.turns - behind }
+    ensures words { (last : PlainMemory) × (plain_loaded left.loaded ≡ plain_loaded result.left.loaded ++ last ∷ []) × (result.counts.items ≡ last.words) }
+    ensures ready { CanDump result.left }
+{
+    let Left { turns, mut loaded } = left;
+    let counts = counts_of(&mut loaded);
+    Counted {
+        left: Left {
+            turns: turns - behind,
+            loaded,
+        },
+        counts,
+    }
+}
+
+/// Why the run of a design stops, by what the run of its instrumented design stops for.
+fn why(alloc: Global, design: Checked, json: &[u8], turns: u64, stop: Stop) -> Stop
+    requires rules { CanCount (plain_design design) }
+    requires stop { StopsStored (plain_design design) json.now turns stop }
+    ensures { StopsLoaded (plain_design design) json.now turns result }
+{
+    match stop {
+        Stop::Fault { turn, .. } => fault_or_more(alloc, design, json, turns, turn),
+        Stop::More(_) => Stop::More(turns),
+        Stop::Rule(_) | Stop::Verilog(_) | Stop::Json(_) | Stop::Loop(_) | Stop::Memory => {
+            Stop::Memory
+        }
+    }
+}
+
+/// A fault of the instrumented design in this turn is one of the design, where the turn is within the budget.
+fn fault_or_more(alloc: Global, design: Checked, json: &[u8], turns: u64, turn: u64) -> Stop
+    requires rules { CanCount (plain_design design) }
+    requires within { turn < turns → IsFaulty (design_meant (plain_design design) json.now turns) }
+    requires behind { turns ≤ turn → design_meant (plain_design design) json.now turns ≡ Err (stops.More turns) }
+    ensures { StopsLoaded (plain_design design) json.now turns result }
+{
+    if turn < turns {
+        fault_of(alloc, design, json, turns)
+    } else {
+        Stop::More(turns)
+    }
+}
+
+/// The fault of a design as it is told, of its own run: that of the instrumented design tells no ports of this one.
+fn fault_of(alloc: Global, design: Checked, json: &[u8], turns: u64) -> Stop
+    requires rules { CanCount (plain_design design) }
+    requires faulty { IsFaulty (design_meant (plain_design design) json.now turns) }
+    ensures { StopsLoaded (plain_design design) json.now turns result }
+{
+    what_is_run_runs_as_meant();
+    what_is_run_is_flat();
+    match flattened(alloc, design) {
+        Ok(run) => match run_design(alloc, &run, json, turns) {
+            Ok(_) => unreachable!(),
+            Err(stop) => stop,
+        },
+        Err(memory) => memory.into(),
+    }
 }
 
 /// The turns in which the counts are stored behind the run: two for each group.
@@ -151,73 +224,6 @@ fn add_zeros(alloc: Global, profiled: &Profiled, loaded: &mut Loaded) -> Result<
         }
         None => unreachable!(),
     }
-}
-
-/// What the run of an instrumented design came to.
-fn count_end(
-    alloc: Global,
-    design: &Checked,
-    profiled: &Profiled,
-    ran: &Ran<'_>,
-    loaded: Loaded,
-    turns: u64,
-) -> Result<Counted, Stop>
-    requires rules { CanCount (plain_design design.now) }
-    requires budget { turns ≤ BUDGET }
-    requires run { (memories : List PlainMemory) × IsCountedRun (plain_design design.now) profiled.now memories (plain_loaded loaded) turns ran.now }
-    ensures answer { (memories : List PlainMemory) → IsCountedRun (plain_design design.now) profiled.now memories (plain_loaded loaded) turns ran.now
-        → IfOk result (λ counted. CountsRun (plain_design design.now) memories turns (plain_counted counted)) }
-    ensures ready { IfOk result (λ counted. CanDump counted.left) }
-    ensures cause { (memories : List PlainMemory) → IsCountedRun (plain_design design.now) profiled.now memories (plain_loaded loaded) turns ran.now
-        → IfErr result (StopsRunCounted (plain_design design.now) memories turns) }
-{
-    match ran.answer() {
-        Answer::End(ended) => Ok(count_finished(design, profiled, ran, loaded, turns, ended)),
-        Answer::Fault(fault, turn) => Err(count_fault(alloc, design, fault, turn, turns)),
-        Answer::More => Err(Stop::More(turns)),
-    }
-}
-
-/// A fault of the run of an instrumented design: behind the budget it is one that the design does not come to.
-fn count_fault(alloc: Global, design: &Checked, fault: PortFault, turn: u64, turns: u64) -> Stop
-    requires instance { fault.instance < length (paths_of (tree_of (plain_design design.now))) }
-    ensures within { turn < turns → (plain : Fault) → TellsFault (tree_of (plain_design design.now)) plain fault
-        → (result ≡ stops.Memory) ⊎ (result ≡ fault_stop (plain_design design.now) plain turn) }
-    ensures behind { turns ≤ turn → result ≡ stops.More turns }
-{
-    if turn < turns {
-        faulted(alloc, design, fault, turn)
-    } else {
-        Stop::More(turns)
-    }
-}
-
-/// What the run of an instrumented design leaves that ended after so many turns.
-fn count_finished(
-    design: &Checked,
-    profiled: &Profiled,
-    ran: &Ran<'_>,
-    mut loaded: Loaded,
-    turns: u64,
-    ended: u64,
-) -> Counted
-    requires rules { CanCount (plain_design design.now) }
-    requires budget { turns ≤ BUDGET }
-    requires run { (memories : List PlainMemory) × IsCountedRun (plain_design design.now) profiled.now memories (plain_loaded loaded) turns ran.now }
-    requires ended { ran.now.answer ≡ answers.End ended }
-    ensures answer { (memories : List PlainMemory) → IsCountedRun (plain_design design.now) profiled.now memories (plain_loaded loaded) turns ran.now
-        → CountsRun (plain_design design.now) memories turns (plain_counted result) }
-    ensures ready { CanDump result.left }
-{
-    let _ = design;
-    let _ = turns;
-    ran.memories(&mut loaded);
-    let counts = counts_of(&mut loaded);
-    let left = Left {
-        turns: ended - turns_behind(profiled),
-        loaded,
-    };
-    Counted { left, counts }
 }
 
 /// Takes the last memory, which has the counts.

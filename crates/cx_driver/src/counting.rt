@@ -1,23 +1,24 @@
-//! The instrumented design of a design, or why there is none.
+//! The instrumented design of an accepted one, and what is run of it.
 
 ghost use Rattle.std.specs.Prelude.{◌≡◌, IfOk, IfErr, map};
 ghost use Rattle.cx_rules.specs.Accepted.{IsAccepted};
-ghost use Rattle.cx_rules.specs.Flat.{IsFlat};
 ghost use Rattle.cx_design.specs.PlainDesigns.{plain_design};
 ghost use Rattle.cx_profiling.specs.Instrumented.{instrumented};
 ghost use Rattle.cx_profile.specs.Profiles.{memory_place};
 ghost use Rattle.cx_compiler.specs.Texts.{tree_stop};
-ghost use Rattle.cx_driver.specs.Counting.{IsLimitStop};
+ghost use Rattle.cx_driver.specs.Counted.{IsProfiled};
+ghost use Rattle.cx_driver.specs.Counting.{CanCount, IsLimitStop};
 ghost use Rattle.cx_driver.specs.Profiling.{group_paths};
 
 use cx_commands::Stop;
 use cx_design::{Checked, Refusal};
+use cx_flat::flattened;
+use cx_flat_texts::laws::{what_is_run_is_flat, what_is_run_runs_as_meant};
 use cx_profile::{Profiled, instrument};
 use std::alloc::Global;
 
 /// The instrumented design of an accepted one. It is refused for the first limit that it exceeds.
 pub(crate) fn counting(alloc: Global, design: &Checked) -> Result<Profiled, Stop>
-    requires flat { IsFlat (plain_design design.now) }
     ensures design { IfOk result (λ p. plain_design p.design ≡ instrumented (plain_design design.now)) }
     ensures accepted { IfOk result (λ _. IsAccepted (instrumented (plain_design design.now))) }
     ensures memory { IfOk result (λ p. p.memory ≡ memory_place (plain_design design.now)) }
@@ -30,6 +31,28 @@ pub(crate) fn counting(alloc: Global, design: &Checked) -> Result<Profiled, Stop
             Ok(profiled)
         }
         Err(refusal) => Err(of_refusal(refusal)),
+    }
+}
+
+/// The same, with what is run of the instrumented design in its place.
+pub(crate) fn counting_run(alloc: Global, design: &Checked) -> Result<Profiled, Stop>
+    requires counted { CanCount (plain_design design.now) }
+    ensures profiled { IfOk result (IsProfiled (plain_design design.now)) }
+    ensures paths { IfOk result (λ p. map (λ g. g.path) p.groups.items ≡ group_paths (plain_design design.now)) }
+    ensures limit { IfErr result (IsLimitStop (plain_design design.now)) }
+{
+    what_is_run_runs_as_meant();
+    what_is_run_is_flat();
+    match counting(alloc, design) {
+        Ok(profiled) => {
+            let run = flattened(alloc, profiled.design)?;
+            Ok(Profiled {
+                design: run,
+                memory: profiled.memory,
+                groups: profiled.groups,
+            })
+        }
+        Err(stop) => Err(stop),
     }
 }
 

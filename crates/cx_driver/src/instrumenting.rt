@@ -9,8 +9,9 @@ ghost use Rattle.cx_driver.specs.Instrumenting.{InstrumentBreak, IsInstrumentabl
 
 use crate::counting::counting;
 use cx_commands::Stop;
-use cx_compiler::{accepted_design, compile_design};
+use cx_compiler::{accepted_design, compile_accepted};
 use cx_design::Checked;
+use cx_flat_texts::laws::{what_is_run_is_accepted, what_is_run_is_flat};
 use cx_scripts::laws::sources_realise_always;
 use std::alloc::Global;
 
@@ -38,8 +39,10 @@ fn instrument_design(alloc: Global, design: &Checked) -> Result<Vec<u8>, Stop>
     ensures cause { IfErr result (IsInstrumentedStop (plain_design design.now)) }
 {
     sources_realise_always();
+    what_is_run_is_accepted();
+    what_is_run_is_flat();
     match counting(alloc, design) {
-        Ok(profiled) => compile_design(alloc, &profiled.design),
+        Ok(profiled) => compile_accepted(alloc, profiled.design),
         Err(stop) => Err(stop),
     }
 }

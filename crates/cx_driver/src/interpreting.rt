@@ -17,7 +17,7 @@ ghost use Rattle.cx_commands.specs.declared.stops.Stop.TheVariants as stops;
 use crate::faults::faulted;
 use crate::memories::{dump_of, load};
 use cx_commands::Stop;
-use cx_compiler::accepted_design;
+use cx_compiler::design_to_run;
 use cx_design::Checked;
 use cx_interp::{Answer, Ran, run};
 use cx_text::Loaded;
@@ -47,8 +47,8 @@ pub fn interp(alloc: Global, text: &[u8], json: &[u8], turns: u64) -> Result<Vec
     ensures all_stops { (why : StopValue) → StopsText text.now json.now turns why
         → MatchResult result (λ _. ⊥) (λ stop. (stop ≡ stops.Memory) ⊎ (stop ≡ why)) }
 {
-    match accepted_design(alloc, text) {
-        Ok(design) => design_dump(alloc, &design, json, turns),
+    match design_to_run(alloc, text) {
+        Ok(run) => design_dump(alloc, &run, json, turns),
         Err(stop) => Err(stop),
     }
 }

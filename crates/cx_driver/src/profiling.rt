@@ -14,7 +14,7 @@ ghost use Rattle.cx_driver.specs.Leaving.{CanDump};
 ghost use Rattle.cx_driver.specs.Profiling.{IsDesignProfile, IsDesignProfileStop, IsProfileAnswer, IsProfileStop, StopsProfile, active_line, active_lines, design_counted};
 
 use crate::counted::{Counted, run_counted};
-use crate::counting::counting;
+use crate::counting::counting_run;
 use crate::memories::dump_of;
 use cx_commands::Stop;
 use cx_compiler::accepted_design;
@@ -36,25 +36,25 @@ pub fn profile(alloc: Global, text: &[u8], json: &[u8], turns: u64) -> Result<Ve
     ensures all_answers { (answer : List ℕ) → IsProfileAnswer text.now json.now turns answer
         → MatchResult result (λ text. text.items ≡ answer) (λ stop. stop ≡ stops.Memory) }
 
-    // A rule that the text breaks is told, a limit that the instrumented design exceeds, the fault of the data file, that of the run, or that the
-    // budget does not suffice, unless memory is wanting.
+    // A rule that the text breaks is told, a limit that the instrumented design exceeds, the fault of the data file, that of the run, or that the budget
+    // does not suffice, unless memory is wanting.
     ensures all_stops { (why : StopValue) → StopsProfile text.now json.now turns why
         → MatchResult result (λ _. ⊥) (λ stop. (stop ≡ stops.Memory) ⊎ (stop ≡ why)) }
 {
     match accepted_design(alloc, text) {
-        Ok(design) => profile_design(alloc, &design, json, turns),
+        Ok(design) => profile_design(alloc, design, json, turns),
         Err(stop) => Err(stop),
     }
 }
 
 /// The profile of a design on a data file.
-fn profile_design(alloc: Global, design: &Checked, json: &[u8], turns: u64) -> Result<Vec<u8>, Stop>
-    requires counted { CanCount (plain_design design.now) }
+fn profile_design(alloc: Global, design: Checked, json: &[u8], turns: u64) -> Result<Vec<u8>, Stop>
+    requires counted { CanCount (plain_design design) }
     requires budget { turns ≤ BUDGET }
-    ensures answer { IfOk result (λ text. IsDesignProfile (plain_design design.now) json.now turns text.items) }
-    ensures cause { IfErr result (IsDesignProfileStop (plain_design design.now) json.now turns) }
+    ensures answer { IfOk result (λ text. IsDesignProfile (plain_design design) json.now turns text.items) }
+    ensures cause { IfErr result (IsDesignProfileStop (plain_design design) json.now turns) }
 {
-    match counting(alloc, design) {
+    match counting_run(alloc, &design) {
         Ok(profiled) => {
             let counted = run_counted(alloc, design, &profiled, json, turns)?;
             let text = profile_text(alloc, profiled.groups.as_slice(), &counted)?;

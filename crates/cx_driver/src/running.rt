@@ -1,6 +1,6 @@
 //! The top call.
 
-ghost use Rattle.std.specs.Prelude.{◌≡◌, ◌≢◌, ◌⊎◌, ◌↔◌, ◌≤◌, ℕ, List, Option, [], ◌∷◌, Some, Contains, codes, length, IfOk, IfErr, IsSomeAnd};
+ghost use Rattle.std.specs.Prelude.{◌≡◌, ◌≢◌, ◌⊎◌, ◌↔◌, ◌≤◌, ℕ, List, Option, [], ◌∷◌, ◌++◌, Some, Contains, codes, length, IfOk, IfErr, IsSomeAnd};
 ghost use Rattle.cx_text.specs.declared.limits.TheConstants.{BUDGET};
 ghost use Rattle.cx_outside.specs.Counts.{HasRisen};
 ghost use Rattle.cx_outside.specs.Writing.{grown, GrowsByPart};
@@ -18,7 +18,7 @@ ghost use Rattle.cx_commands.specs.declared.refusals.Refusal.{Refusal as Refusal
 ghost use Rattle.cx_commands.specs.declared.refusals.Refusal.TheVariants as refusals;
 ghost use Rattle.cx_commands.specs.declared.refusals.Status.TheVariants as statuses;
 ghost use Rattle.cx_commands.specs.declared.stops.Stop.{Stop as StopValue};
-ghost use Rattle.cx_driver.specs.Causes.{HasCause, IsMemory, IsOfFile, IsTold, IsTrueOfFile, ToldWhy};
+ghost use Rattle.cx_driver.specs.Causes.{HasCause, IsMemory, IsOfFile, IsTold, IsTrueOfFile, TellsUnread, ToldWhy};
 ghost use Rattle.cx_commands.specs.Statuses.{IsRefusing, ReceivesLine, fixed_line, status_of};
 
 use crate::instrumenting::instrument;
@@ -61,7 +61,7 @@ pub fn run<F: Files, O: Sink, E: Sink>(
 
     ensures words { (result ≡ statuses.Words) ↔ AsksNothing words.now }
     ensures read_fault { result ≡ statuses.ReadFault → (file : List ℕ) × IsFileOf words.now file
-        × IsReadFault (F.held files.old) (F.faults files.old) (F.faults files.new) file }
+        × IsReadFault (F.held files.old) (F.faults files.old) (F.faults files.new) file × (F.failures files.new ≡ F.failures files.old ++ file ∷ []) }
     ensures write_fault { result ≡ statuses.WriteFault → HasRisen (O.faults out.old) (O.faults out.new) }
 
     ensures part { result ≡ statuses.WriteFault →
@@ -70,8 +70,10 @@ pub fn run<F: Files, O: Sink, E: Sink>(
         O.written out.new ≡ O.written out.old }
 
     ensures cause { IsRefusing result → (command : Asked) × Asks words.now command
-        × ToldWhy command (F.held files.old) (F.faults files.old) (F.faults files.new) result (E.written err.old) (E.faults err.old) (E.written err.new) (E.faults err.new) }
+        × ToldWhy command (F.held files.old) (F.faults files.old) (F.faults files.new) (F.failures files.old) (F.failures files.new) result
+        (E.written err.old) (E.faults err.old) (E.written err.new) (E.faults err.new) }
     ensures quiet { result ≡ statuses.Done → E.written err.new ≡ E.written err.old }
+    ensures all_read { result ≡ statuses.Done → F.failures files.new ≡ F.failures files.old }
     ensures said { (told : List ℕ) → fixed_line result ≡ Some told → ReceivesLine (E.written err.old) (E.faults err.old) told (E.written err.new) (E.faults err.new) }
 
     // Where the files are told, or none is read, and they give an answer, and no read failed, it is written, but for a failing output and want of memory.
@@ -115,7 +117,7 @@ fn obey<F: Files, O: Sink, E: Sink>(
 
     ensures words { result ≢ statuses.Words }
     ensures read_fault { result ≡ statuses.ReadFault → (file : List ℕ) × Contains (files_of (asked_of command.entry)) file
-        × IsReadFault (F.held files.old) (F.faults files.old) (F.faults files.new) file }
+        × IsReadFault (F.held files.old) (F.faults files.old) (F.faults files.new) file × (F.failures files.new ≡ F.failures files.old ++ file ∷ []) }
     ensures write_fault { result ≡ statuses.WriteFault → HasRisen (O.faults out.old) (O.faults out.new) }
 
     ensures part { result ≡ statuses.WriteFault →
@@ -123,9 +125,10 @@ fn obey<F: Files, O: Sink, E: Sink>(
     ensures nothing { result ≢ statuses.Done → result ≢ statuses.WriteFault →
         O.written out.new ≡ O.written out.old }
 
-    ensures cause { IsRefusing result → ToldWhy (asked_of command.entry) (F.held files.old) (F.faults files.old) (F.faults files.new) result
-        (E.written err.old) (E.faults err.old) (E.written err.new) (E.faults err.new) }
+    ensures cause { IsRefusing result → ToldWhy (asked_of command.entry) (F.held files.old) (F.faults files.old) (F.faults files.new)
+        (F.failures files.old) (F.failures files.new) result (E.written err.old) (E.faults err.old) (E.written err.new) (E.faults err.new) }
     ensures quiet { result ≡ statuses.Done → E.written err.new ≡ E.written err.old }
+    ensures all_read { result ≡ statuses.Done → F.failures files.new ≡ F.failures files.old }
     ensures said { (told : List ℕ) → fixed_line result ≡ Some told → ReceivesLine (E.written err.old) (E.faults err.old) told (E.written err.new) (E.faults err.new) }
 
     ensures completes { OfTold (asked_of command.entry) (F.held files.old) (λ held. CanAnswer held (asked_of command.entry))
@@ -192,6 +195,7 @@ fn answer<'a, F: Files>(
     requires possible { IsPossible (asked_of command) }
     ensures answer { IfOk result (λ text. IsAnswer (F.held files.old) (asked_of command.entry) text.items) }
     ensures cause { IfErr result (HasCause (asked_of command.entry) (F.held files.old) (F.faults files.old) (F.faults files.new)) }
+    ensures unread { TellsUnread result (F.failures files.old) (F.failures files.new) }
     ensures kept { F.held files.new ≡ F.held files.old }
 {
     match command {
@@ -233,6 +237,7 @@ fn compiled<'a, F: Files>(
 ) -> Result<Vec<u8>, Refusal<'a>>
     ensures answer { IfOk result (λ text. IsAnswer (F.held files.old) (asked.compile design.now) text.items) }
     ensures cause { IfErr result (HasCause (asked.compile design.now) (F.held files.old) (F.faults files.old) (F.faults files.new)) }
+    ensures unread { TellsUnread result (F.failures files.old) (F.failures files.new) }
     ensures kept { F.held files.new ≡ F.held files.old }
 {
     let text = read(alloc, files, design, DESIGN_BYTES)?;
@@ -252,6 +257,7 @@ fn interpreted<'a, F: Files>(
 ) -> Result<Vec<u8>, Refusal<'a>>
     ensures answer { IfOk result (λ text. IsAnswer (F.held files.old) (asked.interp design.now json.now budget) text.items) }
     ensures cause { IfErr result (HasCause (asked.interp design.now json.now budget) (F.held files.old) (F.faults files.old) (F.faults files.new)) }
+    ensures unread { TellsUnread result (F.failures files.old) (F.failures files.new) }
     ensures kept { F.held files.new ≡ F.held files.old }
 {
     let text = read(alloc, files, design, DESIGN_BYTES)?;
@@ -272,6 +278,7 @@ fn simulated<'a, F: Files>(
 ) -> Result<Vec<u8>, Refusal<'a>>
     ensures answer { IfOk result (λ text. IsAnswer (F.held files.old) (asked.sim verilog.now json.now budget) text.items) }
     ensures cause { IfErr result (HasCause (asked.sim verilog.now json.now budget) (F.held files.old) (F.faults files.old) (F.faults files.new)) }
+    ensures unread { TellsUnread result (F.failures files.old) (F.failures files.new) }
     ensures kept { F.held files.new ≡ F.held files.old }
 {
     let text = read(alloc, files, verilog, VERILOG_BYTES)?;
@@ -294,6 +301,7 @@ fn woven<'a, F: Files>(
     requires list { IsList list.now }
     ensures answer { IfOk result (λ text. IsAnswer (F.held files.old) (asked.weave design.now json.now steps list.now) text.items) }
     ensures cause { IfErr result (HasCause (asked.weave design.now json.now steps list.now) (F.held files.old) (F.faults files.old) (F.faults files.new)) }
+    ensures unread { TellsUnread result (F.failures files.old) (F.failures files.new) }
     ensures kept { F.held files.new ≡ F.held files.old }
 {
     let text = read(alloc, files, design, DESIGN_BYTES)?;
@@ -308,6 +316,7 @@ fn woven<'a, F: Files>(
 fn tried<'a>(alloc: Global, seed: u64) -> Result<Vec<u8>, Refusal<'a>>
     ensures answer { (held : Option (List ℕ → Option (List ℕ))) → IfOk result (λ line. IsAnswer held (asked.trial seed) line.items) }
     ensures cause { (held : Option (List ℕ → Option (List ℕ))) (before after : ℕ) → IfErr result (HasCause (asked.trial seed) held before after) }
+    ensures unread { (names : List (List ℕ)) → TellsUnread result names names }
 {
     match trial(alloc, seed) {
         Ok(line) => Ok(line),
@@ -323,6 +332,7 @@ fn checked<'a, F: Files>(
 ) -> Result<Vec<u8>, Refusal<'a>>
     ensures answer { IfOk result (λ text. IsAnswer (F.held files.old) (asked.check design.now) text.items) }
     ensures cause { IfErr result (HasCause (asked.check design.now) (F.held files.old) (F.faults files.old) (F.faults files.new)) }
+    ensures unread { TellsUnread result (F.failures files.old) (F.failures files.new) }
     ensures kept { F.held files.new ≡ F.held files.old }
 {
     let text = read(alloc, files, design, DESIGN_BYTES)?;
@@ -340,6 +350,7 @@ fn shared<'a, F: Files>(
 ) -> Result<Vec<u8>, Refusal<'a>>
     ensures answer { IfOk result (λ text. IsAnswer (F.held files.old) (asked.share design.now) text.items) }
     ensures cause { IfErr result (HasCause (asked.share design.now) (F.held files.old) (F.faults files.old) (F.faults files.new)) }
+    ensures unread { TellsUnread result (F.failures files.old) (F.failures files.new) }
     ensures kept { F.held files.new ≡ F.held files.old }
 {
     let text = read(alloc, files, design, DESIGN_BYTES)?;
@@ -357,6 +368,7 @@ fn promoted<'a, F: Files>(
 ) -> Result<Vec<u8>, Refusal<'a>>
     ensures answer { IfOk result (λ text. IsAnswer (F.held files.old) (asked.promote design.now) text.items) }
     ensures cause { IfErr result (HasCause (asked.promote design.now) (F.held files.old) (F.faults files.old) (F.faults files.new)) }
+    ensures unread { TellsUnread result (F.failures files.old) (F.failures files.new) }
     ensures kept { F.held files.new ≡ F.held files.old }
 {
     let text = read(alloc, files, design, DESIGN_BYTES)?;
@@ -374,6 +386,7 @@ fn instrumented<'a, F: Files>(
 ) -> Result<Vec<u8>, Refusal<'a>>
     ensures answer { IfOk result (λ text. IsAnswer (F.held files.old) (asked.instrument design.now) text.items) }
     ensures cause { IfErr result (HasCause (asked.instrument design.now) (F.held files.old) (F.faults files.old) (F.faults files.new)) }
+    ensures unread { TellsUnread result (F.failures files.old) (F.failures files.new) }
     ensures kept { F.held files.new ≡ F.held files.old }
 {
     let text = read(alloc, files, design, DESIGN_BYTES)?;
@@ -394,6 +407,7 @@ fn profiled<'a, F: Files>(
     requires budget { budget ≤ BUDGET }
     ensures answer { IfOk result (λ text. IsAnswer (F.held files.old) (asked.profile design.now json.now budget) text.items) }
     ensures cause { IfErr result (HasCause (asked.profile design.now json.now budget) (F.held files.old) (F.faults files.old) (F.faults files.new)) }
+    ensures unread { TellsUnread result (F.failures files.old) (F.failures files.new) }
     ensures kept { F.held files.new ≡ F.held files.old }
 {
     let text = read(alloc, files, design, DESIGN_BYTES)?;
@@ -425,6 +439,7 @@ fn read<'a, F: Files>(
     ensures held { IfOk result (λ bytes. HoldsWithin (F.held files.old) limit file.now bytes.items) }
     ensures within { IfOk result (λ bytes. length bytes.items ≤ limit) }
     ensures cause { IfErr result (IsOfFile (F.held files.old) (F.faults files.old) (F.faults files.new) (record { file = file.now; most = limit })) }
+    ensures unread { TellsUnread result (F.failures files.old) (F.failures files.new) }
 
     ensures kept { F.held files.new ≡ F.held files.old }
     ensures count { F.faults files.old ≤ F.faults files.new }

@@ -10,7 +10,7 @@ ghost use Rattle.cx_check.specs.Acceptance.{TreeBreak};
 ghost use Rattle.cx_trial.specs.TrialTree as tree_of;
 ghost use Rattle.cx_commands.specs.declared.stops.Stop.{Stop as StopValue};
 ghost use Rattle.cx_commands.specs.declared.stops.Stop.TheVariants as stops;
-ghost use Rattle.cx_compiler.specs.Compiled.{EmitsWithin, IsShortWithin, KeepsRulesWithin};
+ghost use Rattle.cx_compiler.specs.Compiled.{EmitsWithin, KeepsRulesWithin};
 ghost use Rattle.cx_driver.specs.Leaving.{plain_left};
 ghost use Rattle.cx_driver.specs.Tried as plain;
 ghost use Rattle.cx_driver.specs.Tried.{EndsOnZeros, HasTrialMemory, IsTrialStop, StopsTrial, Tries, counted, trial_line, try_result, words_sum};
@@ -60,7 +60,6 @@ fn try_design(alloc: Global, design: &Checked, seed: u64) -> Result<Vec<u8>, Sto
     requires memory { HasTrialMemory (plain_design design.now) }
     requires rules { KeepsRulesWithin (plain_design design.now) }
     requires net { EmitsWithin (plain_design design.now) }
-    requires short { IsShortWithin (plain_design design.now) }
     ensures answer { IfOk result (λ line. try_result seed (plain_design design.now) ≡ Ok line.items) }
     ensures cause { IfErr result (λ stop. (stop ≡ stops.Memory) ⊎ (try_result seed (plain_design design.now) ≡ Err stop)) }
 {
@@ -75,7 +74,6 @@ fn try_text(alloc: Global, design: &Checked, seed: u64) -> Result<Vec<u8>, Stop>
     requires memory { HasTrialMemory (plain_design design.now) }
     requires rules { KeepsRulesWithin (plain_design design.now) }
     requires net { EmitsWithin (plain_design design.now) }
-    requires short { IsShortWithin (plain_design design.now) }
     requires ends { EndsOnZeros (plain_design design.now) }
     ensures answer { IfOk result (λ line. try_result seed (plain_design design.now) ≡ Ok line.items) }
     ensures cause { IfErr result (λ stop. (stop ≡ stops.Memory) ⊎ (try_result seed (plain_design design.now) ≡ Err stop)) }

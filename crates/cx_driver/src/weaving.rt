@@ -14,9 +14,12 @@ ghost use Rattle.cx_driver.specs.Weaving.{AllListsEnd, IsDesignWoven, IsRunWoven
 use crate::faults::faulted;
 use crate::memories::{dump_of, load};
 use cx_commands::{Stop, numbers};
-use cx_compiler::accepted_design;
+use cx_compiler::design_to_run;
 use cx_compiler::laws::none_ends;
 use cx_design::Checked;
+use cx_flat_texts::laws::{
+    accepted_texts_run_as_meant, what_is_run_is_accepted, what_is_run_is_flat,
+};
 use cx_orders::laws::orders_end;
 use cx_text::{Loaded, Memory};
 use cx_weave::Wove;
@@ -54,10 +57,13 @@ pub fn weave(
         → MatchResult result (λ _. ⊥) (λ stop. (stop ≡ stops.Memory) ⊎ (stop ≡ why)) }
 {
     orders_end();
-    match accepted_design(alloc, text) {
-        Ok(design) => {
+    accepted_texts_run_as_meant();
+    what_is_run_is_accepted();
+    what_is_run_is_flat();
+    match design_to_run(alloc, text) {
+        Ok(run) => {
             none_ends();
-            weave_design(alloc, &design, json, steps, list)
+            weave_design(alloc, &run, json, steps, list)
         }
         Err(stop) => Err(stop),
     }

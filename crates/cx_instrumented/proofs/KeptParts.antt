@@ -25,7 +25,7 @@ use Rattle.cx_instrumented.proofs.DepthLemmas.{statement_moved, stores_shallow}
 use Rattle.cx_instrumented.proofs.WordLemmas.{profile_word}
 
 -- of a design without an entry it is the design
-by_entries : (P : PlainDesign → Type 0) (d : PlainDesign) → P d → P (with_counts d) → P (instrumented d)
+pub by_entries : (P : PlainDesign → Type 0) (d : PlainDesign) → P d → P (with_counts d) → P (instrumented d)
 by_entries P d old new = by (nat_eq (entry_count d) 0)
   where
     by : (b : Bool) → P (if b then d else with_counts d)

@@ -2,4 +2,6 @@ pub mod GuardLemmas
 pub mod DepthLemmas
 pub mod WordLemmas
 pub mod KeptParts
+pub mod KeptEnds
+pub mod KeptNames
 pub mod KeptTexts

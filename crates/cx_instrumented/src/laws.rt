@@ -2,16 +2,19 @@
 
 ghost use Rattle.std.specs.Prelude.{◌<◌, ◌^◌, ℕ, List};
 ghost use Rattle.cx_meaning.specs.Designs.{PlainDesign};
-ghost use Rattle.cx_rules.specs.Accepted.{IsAccepted, KeepsStage};
-ghost use Rattle.cx_rules.specs.Flat.{IsFlat};
+ghost use Rattle.cx_rules.specs.Accepted.{KeepsStage};
+ghost use Rattle.cx_rules.specs.Flat.{ArePlainNames, IsFlat};
 ghost use Rattle.cx_rules.specs.Sizes.{design_size};
 ghost use Rattle.cx_rules.specs.Wellformed.{IsDesign};
 ghost use Rattle.cx_bytes.specs.Laws.{HasGuards};
 ghost use Rattle.cx_bytes.specs.Shallow.{IsShallow};
-ghost use Rattle.cx_compiler.specs.Compiled.{EmitsWithin, IsDesignWritten, IsRealised, IsShortWithin, IsTextOf};
+ghost use Rattle.cx_compiler.specs.Compiled.{IsRealised, IsRunWritten, IsTextOf, RunEmitsWithin};
 ghost use Rattle.cx_compiler.proofs.WrittenNets.{HasWords};
+ghost use Rattle.cx_flattening.specs.Ends.{NoneNamesDone};
+ghost use Rattle.cx_flat_texts.specs.Runnable.{CanBeFlattened, runnable};
 ghost use Rattle.cx_profiling.specs.Instrumented.{instrumented};
 
+use cx_flat_texts::laws::{what_is_run_is_accepted, what_is_run_is_flat};
 use cx_scripts::laws::sources_realise_always;
 
 /// An instrumented design has no static component where its design has none.
@@ -34,13 +37,26 @@ pub fn instrumented_is_shallow()
     ensures { (d : PlainDesign) → IsDesign d → IsShallow d → IsShallow (instrumented d) }
 {}
 
-/// So the net of an instrumented design of an accepted design can be emitted, its text is short, and what spells its source is its
-/// text, where it is within the size that is compiled and keeps the limits.
+/// In an instrumented design nothing looks at the done of a static component's cell, where nothing of its design does.
+pub fn instrumented_names_no_static_done()
+    ensures { (d : PlainDesign) → IsDesign d → NoneNamesDone d → NoneNamesDone (instrumented d) }
+{}
+
+/// No name of a cell or of a port of an instrumented design is empty or holds a point, where none of its design does and 32 bits
+/// count its size.
+pub fn instrumented_has_plain_names()
+    ensures { (d : PlainDesign) → IsDesign d → ArePlainNames d → design_size (instrumented d) < 2 ^ 32 → ArePlainNames (instrumented d) }
+{}
+
+/// So an instrumented design can be flattened where its design can, it keeps the limits and 32 bits count its size; and where it is
+/// within the size that is compiled, the net of what is run of it can be emitted, and what spells the source of that is its text.
 pub fn instrumented_is_written()
-    ensures emitted { (d : PlainDesign) → IsDesign d → IsFlat d → IsAccepted d → KeepsStage 7 (instrumented d) → HasGuards d → HasWords d → EmitsWithin (instrumented d) }
-    ensures short { (d : PlainDesign) → IsDesign d → IsFlat d → IsAccepted d → KeepsStage 7 (instrumented d) → HasGuards d → HasWords d → IsShallow d → IsShortWithin (instrumented d) }
-    ensures text { (d : PlainDesign) → IsDesign d → IsFlat d → IsAccepted d → KeepsStage 7 (instrumented d) → HasGuards d → HasWords d → IsShallow d → IsRealised (instrumented d)
-        → (answer : List ℕ) → IsDesignWritten (instrumented d) answer → IsTextOf (instrumented d) answer }
+    ensures flattens { (d : PlainDesign) → CanBeFlattened d → design_size (instrumented d) < 2 ^ 32 → KeepsStage 7 (instrumented d) → CanBeFlattened (instrumented d) }
+    ensures emitted { (d : PlainDesign) → CanBeFlattened d → design_size (instrumented d) < 2 ^ 32 → KeepsStage 7 (instrumented d) → HasGuards d → HasWords d → RunEmitsWithin (instrumented d) }
+    ensures text { (d : PlainDesign) → CanBeFlattened d → design_size (instrumented d) < 2 ^ 32 → KeepsStage 7 (instrumented d) → HasGuards d → HasWords d → IsRealised (runnable (instrumented d))
+        → (answer : List ℕ) → IsRunWritten (instrumented d) answer → IsTextOf (runnable (instrumented d)) answer }
 {
     sources_realise_always();
+    what_is_run_is_accepted();
+    what_is_run_is_flat();
 }

@@ -9,9 +9,8 @@ tried-requires c = record { targets = text_targets c.args.text.now (plain_tree c
 pub returns-in-Ok : goal.returns-in-Ok
 returns-in-Ok c = record {
   design = tree_design (λ d. plain_design d) c.args.text.now (plain_tree c.in-Ok.tree) c.tried.result c.in-Ok.ensures.tree c.tried.ensures.accepted c.tried.ensures.value;
-  flat = c.tried.ensures.flat;
   cause = tree_refused c.args.text.now (plain_tree c.in-Ok.tree) c.tried.result c.in-Ok.ensures.tree c.tried.ensures.cause;
 }
 
 pub returns-in-Err : goal.returns-in-Err
-returns-in-Err c = record { design = tt; flat = tt; cause = no_tree_refused c.args.text.now c.in-Err.stop c.in-Err.ensures.fault }
+returns-in-Err c = record { design = tt; cause = no_tree_refused c.args.text.now c.in-Err.stop c.in-Err.ensures.fault }

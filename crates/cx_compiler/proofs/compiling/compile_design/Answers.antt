@@ -7,4 +7,4 @@ use Rattle.cx_compiler.proofs.compiling.compile_design.Goals as goal
 pub verilog_of-requires : goal.verilog_of-requires
 verilog_of-requires c =
     let within = subst (λ n. n ≤ COMPILE_SIZE) (c.design_size-size.ensures ∙ ap (λ d. design_size (plain_design d)) c.design.ensures.value) c.if-size-gt-COMPILE_SIZE.false in
-    record { net = c.requires.net within; short = c.requires.short within }
+    record { rules = c.requires.rules within; net = c.requires.net within }

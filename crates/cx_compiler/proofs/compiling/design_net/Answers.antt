@@ -1,9 +1,20 @@
 use Rattle.cx_design.specs.PlainDesigns.{plain_design}
-use Rattle.cx_net.specs.PlainNets.{plain_net}
+use Rattle.cx_net.specs.NetsAsData.{plain_net}
 use Rattle.cx_static.specs.PlainLowered.{plain_lowereds}
 use Rattle.cx_compiler.proofs.Layers.{net_without_holes}
 use Rattle.cx_compiler.proofs.WrittenRows.{net_passed}
 use Rattle.cx_compiler.proofs.compiling.design_net.Goals as goal
+
+pub build-requires : goal.build-requires
+build-requires c = record {
+  lowered = record {
+    design = plain_design c.args.design.now;
+    rules = c.requires.rules.0;
+    flat = c.requires.rules.1;
+    accepted = c.requires.rules.2;
+    is = c.in_ok-lowered.ensures.value;
+  };
+}
 
 pub returns : goal.returns
 returns c =

@@ -1,5 +1,5 @@
 use Rattle.cx_design.specs.PlainDesigns.{plain_design}
-use Rattle.cx_net.specs.PlainNets.{plain_net}
+use Rattle.cx_net.specs.NetsAsData.{plain_net}
 use Rattle.cx_vtree.specs.PlainSources.{plain_source}
 use Rattle.cx_compiler.proofs.Layers.{source_of_net}
 use Rattle.cx_compiler.proofs.WrittenRows.{emits_passed, source_passed}

@@ -1,10 +1,8 @@
-use Rattle.std.proofs.Common.{◌≡◌, ◌≤◌, true, length, subst, sym}
-use Rattle.cx_text.specs.declared.limits.TheConstants.{VERILOG_BYTES}
+use Rattle.std.proofs.Common.{◌≡◌, true, subst, sym}
 use Rattle.cx_design.specs.PlainDesigns.{plain_design}
 use Rattle.cx_vtree.specs.Plain.{PlainSource}
 use Rattle.cx_vtree.specs.PlainSources.{plain_source}
 use Rattle.cx_vtree.specs.Sound.{is_sound}
-use Rattle.cx_vtree.specs.Spelling.{text_of}
 use Rattle.cx_emit.proofs.Soundness.{emitted_sound}
 use Rattle.cx_compiler.specs.Compiled.{written_net}
 use Rattle.cx_compiler.proofs.Layers.{still_realised}
@@ -15,7 +13,7 @@ pub spelled-requires : goal.spelled-requires
 spelled-requires c =
     let same = sym c.in_ok-source.ensures.value in
     let sound = emitted_sound (written_net (plain_design c.args.design.now)) c.requires.net in
-    record { sound = subst (λ (s : PlainSource). is_sound s ≡ true) same sound; short = subst (λ (s : PlainSource). length (text_of s) ≤ VERILOG_BYTES) same c.requires.short }
+    record { sound = subst (λ (s : PlainSource). is_sound s ≡ true) same sound }
 
 pub returns : goal.returns
 returns c =

@@ -28,3 +28,6 @@ pub profiled-requires : goal.profiled-requires
 profiled-requires g c =
     let Within : Command → Type 0 = λ command. IsPossible (asked_of command) in
     record { budget = subst Within c.in-Profile.is c.requires.possible }
+
+pub returns-in-Trial-clause-unread : goal.returns-in-Trial-clause-unread
+returns-in-Trial-clause-unread g c = c.tried.ensures.unread (g.F.Files.failures c.args.files.now)

@@ -24,3 +24,6 @@ pub returns-clause-cause : goal.returns-clause-cause
 returns-clause-cause g c =
     or_memory c.in-Err.why (subst (λ t. IsCompileStop t c.in-Err.why) c.deref.ensures.value c.in-Err.ensures.cause)
     (λ p. record { bytes = c.in_ok-text.text.items; reads = c.in_ok-text.ensures.held; is = p })
+
+pub returns-in_err-text-clause-unread : goal.returns-in_err-text-clause-unread
+returns-in_err-text-clause-unread g c = let p = err_from_is_err_and c.from_residual.result c.from_residual.ensures.1 in rw (p.1, p.2) c.in_err-text.ensures.unread

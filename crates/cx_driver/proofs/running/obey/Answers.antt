@@ -19,12 +19,14 @@ returns-in-Ok-clause-cause g c = λ r. absurd (delivered c.deliver.result c.deli
 
 pub returns-in-Err-clause-read_fault : goal.returns-in-Err-clause-read_fault
 returns-in-Err-clause-read_fault g c = λ e.
-    unread_file (asked_of c.args.command) (g.F.Files.held c.args.files.now) (g.F.Files.faults c.args.files.now) (g.F.Files.faults c.answer.new.files) c.refuse.result c.in-Err.refusal c.refuse.ensures c.in-Err.ensures.cause e
+    unread_file (asked_of c.args.command) (g.F.Files.held c.args.files.now) (g.F.Files.faults c.args.files.now) (g.F.Files.faults c.answer.new.files) (g.F.Files.failures c.args.files.now)
+    (g.F.Files.failures c.answer.new.files) c.refuse.result c.in-Err.refusal c.refuse.ensures c.in-Err.ensures.cause c.in-Err.ensures.unread e
 
 pub returns-in-Err-clause-cause : goal.returns-in-Err-clause-cause
 returns-in-Err-clause-cause g c = λ r.
-    told_why (asked_of c.args.command) (g.F.Files.held c.args.files.now) (g.F.Files.faults c.args.files.now) (g.F.Files.faults c.answer.new.files) c.refuse.result
-    (g.E.Sink.written c.args.err.now) (g.E.Sink.faults c.args.err.now) (g.E.Sink.written c.refuse.new.err) (g.E.Sink.faults c.refuse.new.err) c.in-Err.refusal c.refuse.ensures c.in-Err.ensures.cause r
+    told_why (asked_of c.args.command) (g.F.Files.held c.args.files.now) (g.F.Files.faults c.args.files.now) (g.F.Files.faults c.answer.new.files) (g.F.Files.failures c.args.files.now) (g.F.Files.failures c.answer.new.files)
+    c.refuse.result (g.E.Sink.written c.args.err.now) (g.E.Sink.faults c.args.err.now) (g.E.Sink.written c.refuse.new.err) (g.E.Sink.faults c.refuse.new.err) c.in-Err.refusal c.refuse.ensures
+    c.in-Err.ensures.cause c.in-Err.ensures.unread r
 
 pub returns-in-Ok-clause-quiet : goal.returns-in-Ok-clause-quiet
 returns-in-Ok-clause-quiet g c = λ e. quiet_delivered c.deliver.result c.deliver.ensures.cases e
@@ -64,3 +66,6 @@ pub returns-in-Err-clause-all_files : goal.returns-in-Err-clause-all_files
 returns-in-Err-clause-all_files g c = λ why so never.
     file_refused (g.F.Files.held c.args.files.now) (asked_of c.args.command) (g.F.Files.faults c.args.files.now) (g.F.Files.faults c.answer.new.files) why c.refuse.result
     (g.E.Sink.written c.args.err.now) (g.E.Sink.faults c.args.err.now) (g.E.Sink.written c.refuse.new.err) (g.E.Sink.faults c.refuse.new.err) c.in-Err.refusal c.refuse.ensures c.in-Err.ensures.cause so never
+
+pub returns-in-Err-clause-all_read : goal.returns-in-Err-clause-all_read
+returns-in-Err-clause-all_read g c = λ e. absurd (refused_not_done c.refuse.result c.in-Err.refusal c.refuse.ensures e)

@@ -81,7 +81,7 @@ returns-in-Some-clause-all_lines g c = λ command why asks stopped never.
     let same = one_command c.args.words.now command own asks c.in-Some.ensures in
     let held = g.F.Files.held c.args.files.now in
     let so = stopped_asked held command own why same stopped in
-    line_told held own (g.F.Files.faults c.args.files.now) (g.F.Files.faults c.obey.new.files) why c.obey.result (g.E.Sink.written c.args.err.now) (g.E.Sink.faults c.args.err.now)
+    line_told held own (g.F.Files.faults c.args.files.now) (g.F.Files.faults c.obey.new.files) (g.F.Files.failures c.args.files.now) (g.F.Files.failures c.obey.new.files) why c.obey.result (g.E.Sink.written c.args.err.now) (g.E.Sink.faults c.args.err.now)
     (g.E.Sink.written c.obey.new.err) (g.E.Sink.faults c.obey.new.err) so never (c.obey.ensures.all_stops why so never) c.obey.ensures.cause
 
 pub returns-in-None-clause-all_lines : goal.returns-in-None-clause-all_lines

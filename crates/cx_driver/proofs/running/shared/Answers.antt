@@ -24,3 +24,6 @@ returns-in-Ok-clause-answer g c = record {
 pub returns-clause-cause : goal.returns-clause-cause
 returns-clause-cause g c =
     refused_file IsSharedTree (g.F.Files.held c.args.files.now) c.args.design.now c.in_ok-text.text.items c.in-Err.why c.in_ok-text.ensures.held (subst (λ t. IsTextRefusal t c.in-Err.why) c.deref.ensures.value c.in-Err.ensures.cause)
+
+pub returns-in_err-text-clause-unread : goal.returns-in_err-text-clause-unread
+returns-in_err-text-clause-unread g c = let p = err_from_is_err_and c.from_residual.result c.from_residual.ensures.1 in rw (p.1, p.2) c.in_err-text.ensures.unread

@@ -1,10 +1,11 @@
-use Rattle.std.proofs.Common.{[], ◌∷◌, refl, subst, List, ℕ, Ok, Err}
+use Rattle.std.proofs.Common.{[], ◌∷◌, ◌∙◌, ap, refl, subst, List, ℕ, Ok, Err}
 use Rattle.std.proofs.lemmas.Result.{err_from_is_err_and}
 use Rattle.cx_text.specs.declared.limits.TheConstants.{DATA_BYTES, DESIGN_BYTES}
 use Rattle.cx_commands.specs.Commands.{Wanted, weave}
 use Rattle.cx_commands.specs.Lists.{numbers_in}
 use Rattle.cx_compiler.proofs.Once.{or_memory}
 use Rattle.cx_driver.specs.Weaving.{Weaves, IsWeaveStop}
+use Rattle.cx_driver.specs.Causes.{unread_by}
 use Rattle.cx_driver.proofs.ReadLemmas.{both_read, first_read, second_read}
 use Rattle.cx_driver.proofs.running.woven.Goals as goal
 
@@ -41,3 +42,17 @@ returns-clause-cause g c =
     or_memory c.in-Err.stop (subst ByData c.deref-2.ensures.value (subst ByText c.deref.ensures.value c.in-Err.ensures.cause))
     (λ p. both_read Does (g.F.Files.held c.args.files.now) (g.F.Files.held c.read.new.files) DESIGN_BYTES DATA_BYTES c.args.design.now c.args.json.now c.in_ok-text.text.items c.in_ok-data.data.items
     c.in_ok-text.ensures.held c.read.ensures.kept c.in_ok-data.ensures.held p)
+
+pub returns-in_err-text-clause-unread : goal.returns-in_err-text-clause-unread
+returns-in_err-text-clause-unread g c = let p = err_from_is_err_and c.from_residual.result c.from_residual.ensures.1 in rw (p.1, p.2) c.in_err-text.ensures.unread
+
+pub returns-in_err-data-clause-unread : goal.returns-in_err-data-clause-unread
+returns-in_err-data-clause-unread g c =
+    let p = err_from_is_err_and c.from_residual-in_err-data.result c.from_residual-in_err-data.ensures.1 in
+    rw (p.1, p.2) (c.in_err-data.ensures.unread ∙ ap (unread_by c.in_err-data.field-0.0) c.in_ok-text.ensures.unread)
+
+pub returns-in-Ok-clause-unread : goal.returns-in-Ok-clause-unread
+returns-in-Ok-clause-unread g c = c.in_ok-data.ensures.unread ∙ c.in_ok-text.ensures.unread
+
+pub returns-clause-unread : goal.returns-clause-unread
+returns-clause-unread g c = c.in_ok-data.ensures.unread ∙ c.in_ok-text.ensures.unread

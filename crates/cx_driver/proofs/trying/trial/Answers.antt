@@ -4,10 +4,9 @@ use Rattle.cx_numbering.specs.DesignOf.{design_of}
 use Rattle.cx_design.specs.PlainDesigns.{plain_design}
 use Rattle.cx_names.specs.Targets.{HasTargets}
 use Rattle.cx_compiler.proofs.TextLayers.{tree_rules}
-use Rattle.cx_compiler.proofs.WrittenLength.{tree_short}
 use Rattle.cx_compiler.proofs.WrittenNets.{tree_emitted}
-use Rattle.cx_driver.proofs.TrialDepth.{trial_shallow}
 use Rattle.cx_driver.proofs.TrialMemory.{trial_memory, trial_words}
+use Rattle.cx_driver.proofs.TrialPlaces.{trial_flat}
 use Rattle.cx_driver.proofs.TrialLemmas.{design_told, refusal_told, trial_targets}
 use Rattle.cx_driver.proofs.trying.trial.Goals as goal
 
@@ -21,12 +20,12 @@ try_design-requires c =
     let targets = subst HasTargets (sym c.in-Ok.ensures.value) (trial_targets c.args.seed) in
     let same = c.in-Ok-tried.ensures.value ∙ ap (λ t. design_of t) c.in-Ok.ensures.value in
     let memory = trial_memory c.args.seed d same in
+    let flat = trial_flat c.args.seed d same in
     record {
-      flat = c.in-Ok-tried.ensures.flat;
+      flat = flat;
       memory = memory;
-      rules = tree_rules tree d targets c.in-Ok-tried.ensures.accepted c.in-Ok-tried.ensures.value;
-      net = tree_emitted tree d targets c.in-Ok-tried.ensures.accepted c.in-Ok-tried.ensures.value (trial_words d memory);
-      short = tree_short tree d targets c.in-Ok-tried.ensures.accepted c.in-Ok-tried.ensures.value (trial_words d memory) (trial_shallow c.args.seed d same);
+      rules = tree_rules tree d targets c.in-Ok-tried.ensures.accepted c.in-Ok-tried.ensures.value flat;
+      net = tree_emitted tree d targets c.in-Ok-tried.ensures.accepted c.in-Ok-tried.ensures.value flat (trial_words d memory);
     }
 
 pub returns-in-Ok-tried : goal.returns-in-Ok-tried

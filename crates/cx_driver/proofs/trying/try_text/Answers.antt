@@ -8,7 +8,7 @@ use Rattle.cx_driver.proofs.TrialLemmas.{left_small, leaves_large, simulated_lin
 use Rattle.cx_driver.proofs.trying.try_text.Goals as goal
 
 pub compile_design-requires : goal.compile_design-requires
-compile_design-requires c = record { net = c.requires.net; short = c.requires.short }
+compile_design-requires c = record { rules = c.requires.rules; net = c.requires.net }
 
 pub line_of-requires : goal.line_of-requires
 line_of-requires c =
