@@ -182,7 +182,7 @@ class Port:
 class Statement:
     """`kind` is enable, seq, par, if, while, repeat, invoke or empty; `name` the group or cell; `parts` its statements in order.
 
-    `called` is the name of a cell, with the number of the call behind it where there are more than one.
+    `called` is the name of a cell, with the number of the call behind it where there are more than one; `cycles` what an invoke of a static component takes.
     """
 
     kind: str
@@ -191,6 +191,7 @@ class Statement:
     called: str = ''
     static: bool = False
     length: int = None
+    cycles: int = None
     count: int = 0
     test: Operand = None
     comb: str = ''
@@ -389,8 +390,8 @@ class Reader:
         self.next()
         token = self.name('the name of the component')
         part = Component(token.text, token, first, comb, length)
-        if comb or static:
-            self.is_foreign('comb component' if comb else 'static component', first)
+        if comb:
+            self.is_foreign('comb component', first)
         part.marks = self.marks()
         part.in_ports, part.out_ports = self.ports(), self.ports() if self.takes('->') else []
         self.wants('{')
@@ -399,7 +400,6 @@ class Reader:
         part.control = Statement('empty', self.token)
         if self.takes('control'):
             part.control = self.block(False, part)
-        self.read_calls(part)
         part.last = self.wants('}')
         return part
 
@@ -591,7 +591,7 @@ class Reader:
             made.kind, made.count = 'repeat', self.number()
             made.parts = [self.block(static, part)]
         elif self.takes('invoke'):
-            self.invoke(made, first, static)
+            self.invoke(made, first)
         else:
             made.kind, made.name = 'enable', self.name('a statement or `}`').text
             self.marks()
@@ -619,7 +619,7 @@ class Reader:
             else:
                 made.parts.append(self.block(made.static, part))
 
-    def invoke(self, made, first, static):
+    def invoke(self, made, first):
         made.kind, made.name = 'invoke', self.name('the name of a cell').text
         if self.sees('['):
             self.inside('[', ']')
@@ -631,9 +631,6 @@ class Reader:
             self.is_foreign('invoke with', first)
         else:
             self.wants(';')
-        if static:
-            made.static = False
-            self.is_foreign('static invoke', first)
 
     def binds(self):
         self.wants('(')
@@ -646,14 +643,23 @@ class Reader:
                 self.wants(',', ')')
         return pairs
 
-    def read_calls(self, part):
-        """Behind the groups of a component stand those of its invokes, in the order of the text."""
-        counts = {}
-        for it in part.control.all():
-            if it.kind == 'invoke':
-                counts[it.name] = counts.get(it.name, 0) + 1
-                it.called = it.name if counts[it.name] == 1 else f'{it.name} {counts[it.name]}'
-                group = call_of(it, part.cell(it.name))
+
+def read_calls(it, part):
+    """Behind the groups of a component stand those of its invokes, in the order of the text: a call, or the captures of a static component."""
+    counts = {}
+    for made in part.control.all():
+        if made.kind == 'invoke':
+            counts[made.name] = counts.get(made.name, 0) + 1
+            made.called = made.name if counts[made.name] == 1 else f'{made.name} {counts[made.name]}'
+            cell = part.cell(made.name)
+            called = it.by_name.get(cell.kind) if cell else None
+            is_static = called is not None and called.static is not None
+            if made.static and not is_static:
+                it.foreign.append(Foreign('static invoke', made.token, made.last))
+            made.static = is_static
+            made.cycles = called.static + (1 if made.outputs else 0) if is_static else None
+            group = captures_of(made) if made.static else call_of(made, cell)
+            if group:
                 part.groups[group.name] = group
 
 
@@ -662,6 +668,21 @@ def starts_by(kind):
     if kind.startswith('seq_mem'):
         return 'content_en'
     return 'write_en' if kind == 'std_reg' or '_mem_d' in kind else 'go'
+
+
+def call_name(it):
+    """The name that the group of an invoke has here."""
+    return f'invoke {it.called}'
+
+
+def captures_of(it):
+    """The group that captures the outputs of a static component, in the cycle behind it; None where nothing is captured."""
+    token = it.token
+    assigns = []
+    for name, target in it.outputs:
+        assigns.append(Assign(target, None, Operand(token, token, cell=it.name, port=name.text), token))
+        assigns.append(Assign(Operand(token, token, cell=target.cell, port='write_en'), None, Operand(token, token, literal="1'd1"), token))
+    return Group(call_name(it), False, 1, assigns, [], token, token, it.last or token, it) if assigns else None
 
 
 def call_of(it, cell):
@@ -678,7 +699,7 @@ def call_of(it, cell):
     assigns.append(Assign(port(go), free, one(), token))
     for name, target in it.outputs:
         assigns += [Assign(target, None, port(name.text), token), Assign(port('write_en', target.cell), None, port('done'), token)]
-    name = f'invoke {it.called}'
+    name = call_name(it)
     dones = [Guard('port', operands=[port('done', target.cell)]) for _, target in it.outputs]
     hole = Operand(token, token, group=name, port='done')
     if len(dones) < 2:
@@ -697,6 +718,10 @@ class Design:
         self.parts = reader.file()
         self.by_name = {part.name: part for part in reversed(self.parts)}
         self.foreign, self.imports, self.tokens = reader.foreign, reader.imports, reader.tokens
+        for part in self.parts:
+            if part.name == 'main' and part.static is not None:
+                self.foreign.append(Foreign('static main', part.first, part.token))
+            read_calls(self, part)
 
     def component_at(self, line, column=1):
         """The component in which a place stands, else the last that begins before it."""

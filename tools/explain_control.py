@@ -85,9 +85,21 @@ def of_static_shape(it):
         group = next((group for group in part.groups.values() if group.first.place <= it.place <= group.last.place), None)
         if group and group.length == 0:
             return Message(it.span(), f'static group `{group.name}` has length 0', [('to mend it', '1 at least')])
+        if it.part.static is not None and it.name == it.part.name:
+            return of_part_length(it, it.part)
         return Message(it.span(), 'a static group drives a done: its length says when it ends', [('to mend it', 'cut the assignment')])
     wrong = next(static_breaks(it.design, part, statement), None)
     return wrong or Message(it.span(), f'`{statement.told()}` is no static control')
+
+
+def of_part_length(it, part):
+    """The control of a static component is no one static statement, or has another length than is written."""
+    length, span = footprints.length_of(part, part.control), span_of(part.token)
+    if not isinstance(length, int):
+        return Message(span, f'the control of a static component is one static statement, and `{length.told()}` is none',
+                       [(span_of(length.token), 'it stands here'), ('to mend it', 'put all of it into one `static seq` or `static par`')])
+    return Message(span, f'`static<{part.static}> component {part.name}` has a control of {length} cycle{"" if length == 1 else "s"}',
+                   [('to mend it', f'`static<{length}> component {part.name}`')])
 
 
 def static_breaks(design, part, statement):
@@ -100,8 +112,9 @@ def static_breaks(design, part, statement):
         return
     length = footprints.length_of(part, statement)
     if statement.length is not None and length != statement.length:
+        notes = [('note', sums(part, statement))] if statement.parts else []
         yield Message(span, f'`static<{statement.length}> {statement.kind}` has {length} cycle{"" if length == 1 else "s"}, and not {statement.length}',
-                      [('note', sums(part, statement)), ('to mend it', f'`static<{length}> {statement.kind}`, or `static {statement.kind}`: the length is found without being written')])
+                      [*notes, ('to mend it', f'`static<{length}> {statement.kind}`, or `static {statement.kind}`: the length is found without being written')])
     elif length == 0:
         yield Message(span, f'`{statement.told()}` has no cycle')
     elif statement.kind == 'if':
@@ -123,19 +136,37 @@ def why_dynamic(part, statement):
         return [(span_of(group.token), f'group `{group.name}` has no length'), ('to mend it', f'`static<N> group {group.name}` with its N cycles and without a done, or leave `static` away above it')]
     if statement.kind in ('seq', 'par', 'if', 'repeat'):
         return [('to mend it', f'`static {statement.kind}`, with static groups in it')]
-    return [('to mend it', 'put it before or behind the static statement: there is no static `while` and no static call')]
+    if statement.kind == 'invoke':
+        return [('to mend it', '`static invoke`, of a cell of a static component; or put it before or behind the static statement')]
+    return [('to mend it', 'put it before or behind the static statement: there is no static `while`')]
 
 
 def of_call_shape(it):
     part, group, assign = it.assign()
     call = next((one for one in part.control.all() if one.kind == 'invoke' and one.token.place <= it.place <= one.last.place), None)
     if group is None:
+        if call and call.static:
+            return of_static_invoke(it, part, call)
         if call:
             return Message(it.span(), f'this invoke is no call: `{it.name}`', [('to mend it', 'an input that it binds must not rest on an output of the cell itself')])
         return Message(it.span(), f'`{it.name}` of a component cell is driven outside plain groups', [('to mend it', f'write `invoke {it.name.partition(".")[0]}(..)(..);` in control')])
     cell = it.name.partition('.')[0]
     return Message(it.span(), f'group `{group.name}` drives ports of a component cell, and has not the one form of a call: `{it.name}` breaks it',
                    [('to mend it', f'write `invoke {cell}(..)(..);` in control, or in the group each input once, `c.go = !c.done ? 1\'d1`, and of each output `r.in = c.y; r.write_en = c.done;` with the dones of these registers')])
+
+
+def of_static_invoke(it, part, call):
+    """What of an invoke of a static component breaks the rule."""
+    bound = {token.text: source for token, source in call.inputs}
+    unbound = [name for name in it.design.by_name[part.cell(call.name).kind].inputs if name not in bound]
+    if unbound:
+        return Message(it.span(), f'an invoke of a static component binds each input, and `{unbound[0]}` is not bound', [('to mend it', f'`{unbound[0]} = ..` between the first brackets')])
+    for name, source in bound.items():
+        way = footprints.no_state(it.design, part, source)
+        if way:
+            return Message(span_of(source.first, source.last), f'the source of `{name}` rests on what is no state: it is seen anew in each cycle of `{call.name}`',
+                           [*(('note', text) for text in way), ('to mend it', 'keep it in a register before the invoke')])
+    return Message(it.span(), f'a source of this invoke reads `{call.name}` itself, or what reads it by continuous assignments', [('to mend it', 'keep it in a register before the invoke')])
 
 
 def of_comb_cycle(it):

@@ -2,6 +2,7 @@
 import dataclasses
 
 import cells
+import flattening
 import footprints
 import given
 import messages
@@ -21,7 +22,7 @@ def at(it, data_path, turn):
     text, told = program.compiled(it.text)
     if text is None:
         return None, told
-    return moment.Moment(it, text, words_of(text, given.memories(data_path, text)), turn), ''
+    return moment.Moment(flattening.flattened(it), text, words_of(text, given.memories(data_path, text)), turn), ''
 
 
 def tell(path, it, line, data_path, stream):

@@ -124,6 +124,8 @@ def length_of(part, statement):
     if statement.kind == 'enable':
         group = part.groups.get(statement.name)
         return group.length if group and group.length is not None else statement
+    if statement.kind == 'invoke' and statement.static:
+        return statement.cycles
     if statement.kind in ('while', 'invoke') or not statement.static:
         return statement
     lengths = [length_of(part, it) for it in statement.parts if it.kind != 'empty']

@@ -21,7 +21,7 @@ FORMS = {
     'invoke with': Form('a group that drives the cell as the invoke does, with the assignments of the comb group in it', True),
     'cells handed to an invoke': Form('an external memory in `main`, and its words through ports of the component'),
     'ref cell': Form('an external memory in `main`, and its words through ports of the component'),
-    'static component': Form('a component with dynamic control; static groups in `static seq`, `static par`, `static if` and `static repeat` are read'),
+    'static main': Form('a static component that `main` invokes (docs/STATIC.md)'),
     'static invoke': Form('`invoke`, in dynamic control', True),
     'comb component': Form('its cells and continuous assignments where they are used'),
     'extern': Form('nothing, where its primitives are those of docs/PRIMITIVES.md; else what they do, in those that are there', True),

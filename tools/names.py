@@ -14,6 +14,7 @@ import re
 import sys
 
 import design as designs
+import flattening
 import given
 import numbering
 
@@ -30,10 +31,11 @@ def names(it, part, number, body):
         for at, port in enumerate(listed):
             yield f'cx_{kind}{at}', f'port {port}', []
     for at, cell in enumerate(numbering.all_cells(part)):
-        is_component = cell.kind in it.by_name
-        yield f'cx_i{at}', f'cell {cell.name}' + (f', component {cell.kind}' if is_component else f', {cell.kind} in module cx_m{number}_{at}'), []
+        is_component, is_output = cell.kind in it.by_name, cell.name.endswith('.')
+        told = f'output {cell.name[:-1]}' if is_output else f'cell {cell.name}'
+        yield f'cx_i{at}', told + (f', component {cell.kind}' if is_component else f', {cell.kind} in module cx_m{number}_{at}'), []
         for port, name in enumerate(numbering.port_names(it, cell)):
-            yield f'cx_c{at}_{port}', f'{cell.name}.{name}', []
+            yield f'cx_c{at}_{port}', cell.name[:-1] if is_output and name == 'out' else f'{cell.name}.{name}', []
     regions = dict(numbering.regions(part))
     for at, net in enumerate(numbering.registers(part)):
         yield f'cx_r{at}', net.told(), positions(regions[at]) if at in regions else []
@@ -46,7 +48,7 @@ def names(it, part, number, body):
 def read(path):
     """The design of a file."""
     try:
-        it = designs.read(given.text_of(path, 'latin-1'))
+        it = flattening.flattened(designs.read(given.text_of(path, 'latin-1')))
         numbering.ordered(it)
         return it
     except (designs.Unexpected, KeyError):

@@ -19,6 +19,7 @@ import sys
 
 import activity
 import design as designs
+import flattening
 import given
 import pictures
 import program
@@ -248,7 +249,7 @@ def main():
     text, told = program.compiled(written)
     if text is None:
         sys.exit(told)
-    run = activity.Activity(designs.read(written), text, given.memories(data_path, text), budget)
+    run = activity.Activity(flattening.flattened(designs.read(written)), text, given.memories(data_path, text), budget)
     turns, counts = read_counts(given.text_of(chosen['--counts'])) if '--counts' in chosen else counted(path, data_path, str(budget), run)
     print('\n'.join(report(run, turns, counts)))
     if '--flame' in chosen:

@@ -22,6 +22,7 @@ not by `sim`, and slowly. In GTKWave all stands below `main`, and the instances 
 import sys
 
 import design as designs
+import flattening
 import given
 import names
 import numbering
@@ -151,7 +152,7 @@ def write(to, path, data_path, cycles, wants_words=False, ports=''):
     data = given.memories(data_path, text)
     words = {name: [word % (1 << width) for word in given.flat(data[name]['data'])] for name, _, width, _ in given.externals(text)}
     run = verilog.Run(text, words)
-    waves = Waves(to, run, designs.read(written), numbering.modules_of(text), wants_words, ports.split(',') if ports else [])
+    waves = Waves(to, run, flattening.flattened(designs.read(written)), numbering.modules_of(text), wants_words, ports.split(',') if ports else [])
     to.write('$timescale 1ns $end\n')
     waves.legend()
     waves.declare(run.main, 'main')
