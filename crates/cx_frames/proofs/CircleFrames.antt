@@ -15,8 +15,8 @@ use Rattle.cx_meaning.specs.Active.{Active, nothing, group, capture, Owned, sour
 use Rattle.cx_meaning.specs.Sights.{In, PartPort, Go, AnInput, AnOutput, ItsDone, part_port}
 use Rattle.cx_rules.specs.Footprints.{Mentions, SideLeads, PartLeads, CellLeads, Leads, Depends, at_once, by_way_of}
 use Rattle.cx_rules.specs.Circles.{IsAcyclic, AreAcyclic}
-use Rattle.cx_frames.proofs.RuleLemmas.{OwnerOf, continuous, of_group, owner_of}
 use Rattle.cx_rules.proofs.CirclesLemmas.{own_acyclic}
+use Rattle.cx_rules.proofs.ForeignLemmas.{OwnerOf, continuous, of_group, owner_of}
 
 acting_same : (act other : Active) (p : PortRef) (list : List Owned) → ((o : Owned) → In list o → offset_of act o.owner ≡ offset_of other o.owner) → acting other p list ≡ acting act p list
 acting_same act other p [] h = refl

@@ -14,11 +14,11 @@ use Rattle.cx_rules.specs.Items.{sources_of, Visited, statements_in, test_in}
 use Rattle.cx_rules.specs.Footprints.{AssignNames}
 use Rattle.cx_rules.specs.Wellformed.{IsDesign, IsThere}
 use Rattle.cx_rules.proofs.CircleLemmas.{Reached, a_tree, no_tree, reached}
-use Rattle.cx_frames.proofs.RuleLemmas.{OwnerOf, continuous, of_group, owner_of}
 use Rattle.cx_frames.proofs.InputLemmas.{Own, own_there}
 use Rattle.cx_meaning.proofs.DesignsLemmas.{same_part}
-use Rattle.cx_laws.proofs.SourceLemmas.{source_in}
 use Rattle.cx_rules.proofs.ItemsLemmas.{bare_test}
+use Rattle.cx_rules.proofs.FoundLemmas.{source_in}
+use Rattle.cx_rules.proofs.ForeignLemmas.{OwnerOf, continuous, of_group, owner_of}
 
 pub record Owns (i : Instance) : Type 0 where
   pub sources : (o : Owned) (q : PortRef) → In (source_order (part_of i)) o → AssignNames o.assign q → Own i q

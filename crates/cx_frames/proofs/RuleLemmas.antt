@@ -1,62 +1,31 @@
 -- What an accepted design gives each instance of its tree: its rows, and where its assignments may lead.
-use Rattle.std.proofs.Common.{◌≡◌, ℕ, zero, suc, ◌+◌, ◌<◌, inl, inr, ⊎_elim, true, Some, None, List, [], ◌∷◌, length, refl, sym, ap, ◌∙◌, subst, arith}
+use Rattle.std.proofs.Common.{◌≡◌, ℕ, zero, suc, ◌<◌, inl, inr, ⊎_elim, true, Some, None, List, [], ◌∷◌, length, refl, sym, ap, ◌∙◌, subst, arith}
 use Rattle.std.proofs.lemmas.Bool.{cases_lt}
 use Rattle.std.proofs.lemmas.List.{get_or_past}
 use Rattle.cx_text.specs.declared.rules.Rule.TheVariants.{NotASource, AlwaysEnable}
 use Rattle.cx_prim.specs.declared.ports.Side.TheVariants as sides
 use Rattle.cx_prim.specs.Rows.{Row, is_enable_side}
-use Rattle.cx_meaning.specs.declared.ports.PortRef.{PortRef}
 use Rattle.cx_meaning.specs.declared.ports.PortRef.TheVariants as ports
 use Rattle.cx_meaning.specs.declared.ports.PlacedPort.{PlacedPort}
 use Rattle.cx_meaning.specs.Rows.{side_of}
-use Rattle.cx_meaning.specs.Designs.{PlainGuard, Always, Atom, Negation, All, Any, Compared, Within, PlainGuards, no_guards, a_guard, PlainAssign, PlainKind, OfPrimitive, OfComponent, PlainCell, PlainComponent, PlainDesign, component_at, no_component, group_at}
+use Rattle.cx_meaning.specs.Designs.{PlainAssign, PlainKind, OfPrimitive, OfComponent, PlainCell, PlainComponent, PlainDesign, component_at, no_component, group_at}
 use Rattle.cx_meaning.specs.Instances.{Instance, Node, Cells, no_cells, Nothing, OfRow, cell_at, cells_of, part_of, add_cell, cells_for, tree_within, tree_of, Path, instance_at}
-use Rattle.cx_meaning.specs.Active.{Owned, owned, owned_by_groups, source_order}
-use Rattle.cx_meaning.specs.Sights.{In, GuardNames, AnyNames}
+use Rattle.cx_meaning.specs.Active.{Owned, source_order}
+use Rattle.cx_meaning.specs.Sights.{In}
 use Rattle.cx_rules.specs.Ports.{component_of, enables_cell, is_primitive_enable, is_target_only, path_of}
-use Rattle.cx_rules.specs.Items.{operands_of, operands_in, Visited, statements_in, test_in}
+use Rattle.cx_rules.specs.Items.{Visited, statements_in, test_in}
 use Rattle.cx_rules.specs.Footprints.{AssignNames}
 use Rattle.cx_rules.specs.Spots.{AnAssign, AStatement}
 use Rattle.cx_rules.specs.Accepted.{IsAccepted}
 use Rattle.cx_rules.specs.Wellformed.{IsDesign}
-use Rattle.cx_rules.proofs.ForeignLemmas.{sorted_among, owned_among, split, groups_among}
 use Rattle.cx_rules.proofs.CircleLemmas.{Reached, a_tree, no_tree, reached}
 use Rattle.cx_frames.proofs.EnableLemmas.{HasLawfulRows, tree_lawful}
-use Rattle.cx_meaning.proofs.SightsLaws.{number_in, in_left, in_right}
+use Rattle.cx_meaning.proofs.SightsLaws.{number_in}
 use Rattle.cx_text.proofs.OptionLaws.{none_some}
-use Rattle.cx_laws.proofs.SourceLemmas.{source_in}
 use Rattle.cx_meaning.proofs.InstancesLemmas.{instance_row, nothing_row}
 use Rattle.cx_rules.proofs.ItemsLemmas.{bare_test}
 use Rattle.cx_meaning.proofs.DesignsLemmas.{same_part}
-
--- an assignment is a continuous one, or one of a group
-pub data OwnerOf (part : PlainComponent) (o : Owned) : Type 0 where
-  continuous : o.owner ≡ None → In part.always o.assign → OwnerOf part o
-  of_group : (g : ℕ) → o.owner ≡ Some g → In (group_at part g).assigns o.assign → OwnerOf part o
-
-pub owner_of : (part : PlainComponent) (o : Owned) → In (source_order part) o → OwnerOf part o
-owner_of part o i =
-    ⊎_elim
-    (λ j. let r = owned_among None part.always o j in continuous r.0 r.1)
-    (λ j. let r = groups_among 0 part.groups o j in let e : 0 + r.number ≡ r.number = omega arith in of_group r.number (r.owner ∙ ap Some e) r.stands)
-    (split (owned None part.always) (owned_by_groups 0 part.groups) o (sorted_among _ o i))
-
--- what an assignment names is among its sources
-mutual
-  guard_operand : (g : PlainGuard) (q : PortRef) → GuardNames g q → (p : PlacedPort) × In (operands_of g) p × (p.port ≡ q)
-  guard_operand Always q n = absurd n
-  guard_operand (Atom p) q n = (p, inl refl, n)
-  guard_operand (Negation g) q n = guard_operand g q n
-  guard_operand (All gs) q n = guards_operand gs q n
-  guard_operand (Any gs) q n = guards_operand gs q n
-  guard_operand (Compared c a b) q (inl e) = (a, inl refl, e)
-  guard_operand (Compared c a b) q (inr e) = (b, inr (inl refl), e)
-  guard_operand (Within from to) q n = absurd n
-
-  guards_operand : (gs : PlainGuards) (q : PortRef) → AnyNames gs q → (p : PlacedPort) × In (operands_in gs) p × (p.port ≡ q)
-  guards_operand no_guards q n = absurd n
-  guards_operand (a_guard g gs) q (inl n) = let r = guard_operand g q n in (r.0, in_left (operands_of g) (operands_in gs) r.0 r.1, r.2)
-  guards_operand (a_guard g gs) q (inr n) = let r = guards_operand gs q n in (r.0, in_right (operands_of g) (operands_in gs) r.0 r.1, r.2)
+use Rattle.cx_rules.proofs.FoundLemmas.{source_in}
 
 -- a primitive cell is one whatever stands below the component's other cells
 same_kind : (f g : ℕ → Instance) (kind : PlainKind) (xs ys : Cells) → ((c : ℕ) (row : Row) → cell_at xs c ≡ OfRow row → cell_at ys c ≡ OfRow row) → (c : ℕ) (row : Row) → cell_at (add_cell f kind xs) c ≡ OfRow row → cell_at (add_cell g kind ys) c ≡ OfRow row

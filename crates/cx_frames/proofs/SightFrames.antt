@@ -10,7 +10,7 @@ use Rattle.cx_meaning.specs.declared.sights.Seen.{Seen}
 use Rattle.cx_meaning.specs.Rows.{side_of}
 use Rattle.cx_meaning.specs.Designs.{PlainAssign, PlainComponent, group_at}
 use Rattle.cx_meaning.specs.Instances.{Instance, Cells, At, Nothing, OfRow, OfInstance, cell_at, cell_count, cells_of, part_of, State, Set, under}
-use Rattle.cx_meaning.specs.Active.{Active, nothing, Acting, Owned, source_order, offset_of, if_acting, if_target, acting, same_port, drivers}
+use Rattle.cx_meaning.specs.Active.{Active, nothing, Owned, source_order, offset_of, drivers}
 use Rattle.cx_meaning.specs.Sights.{Look, Below, Held, unheld, PartPort, Go, AnInput, AnOutput, ItsDone, part_port, of_option, output_seen, gather, side_step, part_step, cell_step, step, In, Sees, by_step, seen}
 use Rattle.cx_meaning.specs.Cycles.{Fault, Next, enables, after_enabling, cell_outcome, outcome_of, first_fault, stepped, state_after, unless_fault, cycle_by, every_cell, cycle}
 use Rattle.cx_meaning.specs.Control.{group_drives, groups_drive}
@@ -20,36 +20,13 @@ use Rattle.cx_meaning.proofs.SightsLemmas.{one_sight}
 use Rattle.cx_rules.specs.Footprints.{AssignNames, Mentions, SideLeads, PartLeads, CellLeads, Leads}
 use Rattle.cx_rules.specs.Circles.{IsAcyclic, AcyclicBelow}
 use Rattle.cx_rules.proofs.FoundLemmas.{needs_leads, same_is, seen_found}
-use Rattle.cx_rules.proofs.ForeignLemmas.{foreign_zero}
+use Rattle.cx_rules.proofs.ForeignLemmas.{foreign_zero, OwnerOf, continuous, of_group, owner_of}
 use Rattle.cx_frames.specs.Agreeing.{Agree}
 use Rattle.cx_frames.proofs.AlikeLemmas.{AlikeTurn}
 use Rattle.cx_frames.proofs.QuietLemmas.{quiet_outcome}
-use Rattle.cx_frames.proofs.RuleLemmas.{OwnerOf, continuous, of_group, owner_of, IsKept}
+use Rattle.cx_frames.proofs.RuleLemmas.{IsKept}
 use Rattle.cx_meaning.proofs.ControlLaws.{driver}
-
--- the drivers of a port are the active assignments of it
-record Acts (act : Active) (p : PortRef) (list : List Owned) (b : Acting) : Type 0 where
-  owned : Owned
-  stands : In list owned
-  target : same_port owned.assign.target p ≡ true
-  acts : offset_of act owned.owner ≡ Some b.offset
-  same : owned.assign ≡ b.assign
-
-later_acts : {act : Active} {p : PortRef} {list : List Owned} {b : Acting} (o : Owned) → Acts act p list b → Acts act p (o ∷ list) b
-later_acts o h = record { owned = h.owned; stands = inr h.stands; target = h.target; acts = h.acts; same = h.same }
-
-acting_acts : (act : Active) (p : PortRef) (list : List Owned) (b : Acting) → In (acting act p list) b → Acts act p list b
-acting_acts act p [] b i = absurd i
-acting_acts act p (o ∷ rest) b i = of_target (same_port o.assign.target p) refl i (acting_acts act p rest b)
-  where
-    of_offset : same_port o.assign.target p ≡ true → (k : Option ℕ) → offset_of act o.owner ≡ k → In (if_acting k o.assign (acting act p rest)) b → (In (acting act p rest) b → Acts act p rest b) → Acts act p (o ∷ rest) b
-    of_offset e None f i h = later_acts o (h i)
-    of_offset e (Some k) f (inl g) h = record { owned = o; stands = inl refl; target = e; acts = f ∙ ap (λ a. Some a.offset) g; same = ap (λ a. a.assign) g }
-    of_offset e (Some k) f (inr j) h = later_acts o (h j)
-
-    of_target : (t : Bool) → same_port o.assign.target p ≡ t → In (if_target t act o (acting act p rest)) b → (In (acting act p rest) b → Acts act p rest b) → Acts act p (o ∷ rest) b
-    of_target true e i h = of_offset e (offset_of act o.owner) refl i h
-    of_target false e i h = later_acts o (h i)
+use Rattle.cx_meaning.proofs.ActiveLemmas.{acting_acts}
 
 -- the ports of the cells of a set, and those of the instance itself that may be looked at
 abbrev pub InFrame : (ℕ → Type 0) → PortRef → Type 0

@@ -1,5 +1,5 @@
 -- What leads on under an active set, and circles through several groups.
-use Rattle.std.proofs.Common.{◌≡◌, ℕ, ◌+◌, ◌<◌, inl, inr, ◌⊎◌, ⊎_elim, Bool, true, false, Option, Some, None, List, [], ◌∷◌, ◌++◌, length, refl, sym, ap, ◌∙◌, subst, arith}
+use Rattle.std.proofs.Common.{◌≡◌, ℕ, ◌<◌, inl, inr, ◌⊎◌, ⊎_elim, Bool, true, false, Some, None, length, refl, sym, ap, ◌∙◌, subst}
 use Rattle.std.specs.Prelude.{eqb}
 use Rattle.std.proofs.lemmas.Bool.{eqb-true, eqb-false}
 use Rattle.cx_prim.specs.declared.ports.Side.{Side}
@@ -10,15 +10,15 @@ use Rattle.cx_meaning.specs.declared.ports.PortRef.TheVariants as ports
 use Rattle.cx_meaning.specs.Rows.{side_of}
 use Rattle.cx_meaning.specs.Designs.{PlainComponent, PlainStatement, Placed, Enable, group_at, no_place}
 use Rattle.cx_meaning.specs.Instances.{Instance, At, Nothing, OfRow, OfInstance, cell_at, cells_of, part_of}
-use Rattle.cx_meaning.specs.Active.{Active, Acting, nothing, group, Owned, owned, owned_by_groups, source_order, offset_of, if_acting, if_target, acting, same_port, drivers}
+use Rattle.cx_meaning.specs.Active.{Active, nothing, group, Owned, owned, source_order, offset_of, same_port, drivers}
 use Rattle.cx_meaning.specs.Sights.{In, PartPort, Go, AnInput, AnOutput, ItsDone, part_port}
 use Rattle.cx_meaning.specs.Control.{group_drives}
 use Rattle.cx_rules.specs.Footprints as footprints
 use Rattle.cx_rules.specs.Footprints.{AssignNames, Reads, Mentions, SideLeads, PartLeads, CellLeads, Leads, Depends, at_once, by_way_of}
 use Rattle.cx_rules.specs.Circles.{IsAcyclic}
 use Rattle.cx_rules.proofs.FoundLemmas.{same_is}
-use Rattle.cx_rules.proofs.ForeignLemmas.{sorted_among, owned_among, split, groups_among, assigns_drive_in}
-use Rattle.cx_meaning.proofs.ActiveLemmas.{only_self, acting_has}
+use Rattle.cx_rules.proofs.ForeignLemmas.{assigns_drive_in, OwnerOf, continuous, of_group, owner_of}
+use Rattle.cx_meaning.proofs.ActiveLemmas.{only_self, acting_has, acting_acts}
 use Rattle.cx_meaning.proofs.DesignsLemmas.{group_there}
 
 -- an assignment of a port that is active, and what it names
@@ -30,30 +30,6 @@ pub record Driver (part : PlainComponent) (act : Active) (p q : PortRef) : Type 
   pub acts : offset_of act owned.owner ≡ Some offset
   pub names : AssignNames owned.assign q
 
--- the drivers of a port are the active assignments of it
-record Acts (act : Active) (p : PortRef) (list : List Owned) (b : Acting) : Type 0 where
-  owned : Owned
-  stands : In list owned
-  target : same_port owned.assign.target p ≡ true
-  acts : offset_of act owned.owner ≡ Some b.offset
-  same : owned.assign ≡ b.assign
-
-later_acts : {act : Active} {p : PortRef} {list : List Owned} {b : Acting} (o : Owned) → Acts act p list b → Acts act p (o ∷ list) b
-later_acts o h = record { owned = h.owned; stands = inr h.stands; target = h.target; acts = h.acts; same = h.same }
-
-acting_acts : (act : Active) (p : PortRef) (list : List Owned) (b : Acting) → In (acting act p list) b → Acts act p list b
-acting_acts act p [] b i = absurd i
-acting_acts act p (o ∷ rest) b i = of_target (same_port o.assign.target p) refl i (acting_acts act p rest b)
-  where
-    of_offset : same_port o.assign.target p ≡ true → (k : Option ℕ) → offset_of act o.owner ≡ k → In (if_acting k o.assign (acting act p rest)) b → (In (acting act p rest) b → Acts act p rest b) → Acts act p (o ∷ rest) b
-    of_offset e None f i h = later_acts o (h i)
-    of_offset e (Some k) f (inl g) h = record { owned = o; stands = inl refl; target = e; acts = f ∙ ap (λ a. Some a.offset) g; same = ap (λ a. a.assign) g }
-    of_offset e (Some k) f (inr j) h = later_acts o (h j)
-
-    of_target : (t : Bool) → same_port o.assign.target p ≡ t → In (if_target t act o (acting act p rest)) b → (In (acting act p rest) b → Acts act p rest b) → Acts act p (o ∷ rest) b
-    of_target true e i h = of_offset e (offset_of act o.owner) refl i h
-    of_target false e i h = later_acts o (h i)
-
 pub driver_of : (part : PlainComponent) (act : Active) (p q : PortRef) → Mentions (drivers part act p) q → Driver part act p q
 driver_of part act p q (b, i, n) =
     let r = acting_acts act p (source_order part) b i in
@@ -61,18 +37,6 @@ driver_of part act p q (b, i, n) =
 
 pub mentions_of : (part : PlainComponent) (act : Active) (p q : PortRef) → Driver part act p q → Mentions (drivers part act p) q
 mentions_of part act p q d = (record { offset = d.offset; assign = d.owned.assign }, acting_has act p (source_order part) d.owned d.offset d.stands d.target d.acts, d.names)
-
--- the owner of an assignment
-pub data OwnerOf (part : PlainComponent) (o : Owned) : Type 0 where
-  continuous : o.owner ≡ None → In part.always o.assign → OwnerOf part o
-  of_group : (g : ℕ) → o.owner ≡ Some g → In (group_at part g).assigns o.assign → OwnerOf part o
-
-pub owner_of : (part : PlainComponent) (o : Owned) → In (source_order part) o → OwnerOf part o
-owner_of part o i =
-    ⊎_elim
-    (λ j. let r = owned_among None part.always o j in continuous r.0 r.1)
-    (λ j. let r = groups_among 0 part.groups o j in let e : 0 + r.number ≡ r.number = omega arith in of_group r.number (r.owner ∙ ap Some e) r.stands)
-    (split (owned None part.always) (owned_by_groups 0 part.groups) o (sorted_among (owned None part.always ++ owned_by_groups 0 part.groups) o i))
 
 -- what leads on does so by an active assignment, or as an output of a cell on an input, under every active set
 pub data Link (i : Instance) (act : Active) (p q : PortRef) : Type 0 where

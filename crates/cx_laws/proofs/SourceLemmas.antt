@@ -1,43 +1,24 @@
 -- In an accepted design nothing names an output of the signature or a hole.
-use Rattle.std.proofs.Common.{◌≡◌, ℕ, ◌<◌, inl, inr, true, false, length, refl, sym, subst}
+use Rattle.std.proofs.Common.{◌≡◌, ℕ, ◌<◌, inl, true, false, length, refl, sym, subst}
 use Rattle.cx_text.specs.declared.rules.Rule.TheVariants.{NotASource}
 use Rattle.cx_meaning.specs.declared.ports.PortRef.{PortRef}
 use Rattle.cx_meaning.specs.declared.ports.PortRef.TheVariants as ports
 use Rattle.cx_meaning.specs.declared.ports.PlacedPort.{PlacedPort}
-use Rattle.cx_meaning.specs.Designs.{PlainGuard, Always, Atom, Negation, All, Any, Compared, Within, PlainGuards, no_guards, a_guard, PlainAssign, PlainDesign, component_at}
+use Rattle.cx_meaning.specs.Designs.{PlainDesign, component_at}
 use Rattle.cx_meaning.specs.Active.{Owned, source_order}
-use Rattle.cx_meaning.specs.Sights.{In, GuardNames, AnyNames}
+use Rattle.cx_meaning.specs.Sights.{In}
 use Rattle.cx_rules.specs.Ports.{component_of, is_target_only, path_of}
-use Rattle.cx_rules.specs.Items.{operands_of, operands_in, sources_of}
+use Rattle.cx_rules.specs.Items.{sources_of}
 use Rattle.cx_rules.specs.Footprints.{AssignNames}
 use Rattle.cx_rules.specs.ShapeRules.{is_hole}
 use Rattle.cx_rules.specs.Spots.{AnAssign}
 use Rattle.cx_rules.specs.Accepted.{IsAccepted}
 use Rattle.cx_rules.specs.Wellformed.{IsDesign, StandsIn}
-use Rattle.cx_laws.proofs.EdgeLemmas.{OwnerOf, continuous, of_group, owner_of, IsFit}
-use Rattle.cx_meaning.proofs.SightsLaws.{in_left, in_right, number_in}
+use Rattle.cx_laws.proofs.EdgeLemmas.{IsFit}
+use Rattle.cx_meaning.proofs.SightsLaws.{number_in}
 use Rattle.cx_meaning.proofs.DesignsLemmas.{group_there}
-
--- what an assignment names is among its sources
-mutual
-  guard_operand : (g : PlainGuard) (q : PortRef) → GuardNames g q → (p : PlacedPort) × In (operands_of g) p × (p.port ≡ q)
-  guard_operand Always q n = absurd n
-  guard_operand (Atom p) q n = (p, inl refl, n)
-  guard_operand (Negation g) q n = guard_operand g q n
-  guard_operand (All gs) q n = guards_operand gs q n
-  guard_operand (Any gs) q n = guards_operand gs q n
-  guard_operand (Compared c a b) q (inl e) = (a, inl refl, e)
-  guard_operand (Compared c a b) q (inr e) = (b, inr (inl refl), e)
-  guard_operand (Within from to) q n = absurd n
-
-  guards_operand : (gs : PlainGuards) (q : PortRef) → AnyNames gs q → (p : PlacedPort) × In (operands_in gs) p × (p.port ≡ q)
-  guards_operand no_guards q n = absurd n
-  guards_operand (a_guard g gs) q (inl n) = let r = guard_operand g q n in (r.0, in_left (operands_of g) (operands_in gs) r.0 r.1, r.2)
-  guards_operand (a_guard g gs) q (inr n) = let r = guards_operand gs q n in (r.0, in_right (operands_of g) (operands_in gs) r.0 r.1, r.2)
-
-pub source_in : (a : PlainAssign) (q : PortRef) → AssignNames a q → (p : PlacedPort) × In (sources_of a) p × (p.port ≡ q)
-source_in a q (inl n) = let r = guard_operand a.guard q n in (r.0, inr r.1, r.2)
-source_in a q (inr e) = (a.source, inl refl, e)
+use Rattle.cx_rules.proofs.FoundLemmas.{source_in}
+use Rattle.cx_rules.proofs.ForeignLemmas.{OwnerOf, continuous, of_group, owner_of}
 
 module _ (d : PlainDesign) (design : IsDesign d) (accepted : IsAccepted d) (k : ℕ) (within : k < length d.components) where
   stands_in : (o : Owned) → OwnerOf (component_at d k) o → StandsIn (component_at d k) o.owner o.assign

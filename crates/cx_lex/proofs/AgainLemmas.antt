@@ -9,11 +9,13 @@ use Rattle.cx_ast.specs.declared.tokens.TokenKind.{TokenKind}
 use Rattle.cx_ast.specs.declared.tokens.TokenKind.TheVariants as kinds
 use Rattle.cx_ast.specs.declared.signs.Sign.TheVariants as signs
 use Rattle.cx_lex.specs.declared.faults.LexKind.TheVariants.{BadByte, OpenString, BadLiteral}
-use Rattle.cx_lex.specs.Bytes.{is_blank, is_name_start, is_digit, is_name_byte, goes_on, is_in_line, is_in_string, base_of, is_digit_in, Stops}
+use Rattle.cx_text.specs.Spans.{Stops, front, back}
+use Rattle.cx_text.proofs.SpanLemmas.{front_again, back_again}
+use Rattle.cx_lex.specs.Bytes.{is_blank, is_name_start, is_digit, is_name_byte, goes_on, is_in_line, is_in_string, base_of, is_digit_in}
 use Rattle.cx_lex.specs.Lex.{sign_bytes, IsLongest, IsWord, IsToken, name, number, literal, string, sign, HasNoClose, IsStray, IsGap, blank, line_comment, block_comment}
-use Rattle.cx_lex.specs.Reading.{front, back, Read, name_at, goes_on_at, number_of, literal_of, based_at, behind_digits, numeric_at, behind_body, string_at, after_close, commented, comment_at, short_sign, long_sign, signed, longest_of, sign_at, item_at}
+use Rattle.cx_lex.specs.Reading.{Read, name_at, goes_on_at, number_of, literal_of, based_at, behind_digits, numeric_at, behind_body, string_at, after_close, commented, comment_at, short_sign, long_sign, signed, longest_of, sign_at, item_at}
 use Rattle.cx_lex.proofs.TestLemmas.{pick_true}
-use Rattle.cx_lex.proofs.SpanLemmas.{front_again, back_again, all_digits_pass}
+use Rattle.cx_lex.proofs.DigitLemmas.{all_digits_pass}
 use Rattle.cx_lex.proofs.ByteLemmas.{is_name_start-not_blank, is_digit-not_blank, is_digit-not_name, is_name_start-name_byte, digit_value-is_digit, not_goes_on-digit, not_in_line-not_in_string, no_tick, no_quote_at_end}
 use Rattle.cx_lex.proofs.SignLemmas.{short_or_long, IsShort, IsLong, short_sign-bytes, long_sign-bytes}
 use Rattle.cx_text.proofs.BoolLaws.{by_test, pick_false}

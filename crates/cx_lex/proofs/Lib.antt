@@ -1,5 +1,5 @@
 pub mod TestLemmas
-pub mod SpanLemmas
+pub mod DigitLemmas
 pub mod ByteLemmas
 pub mod SignLemmas
 pub mod AgainLemmas

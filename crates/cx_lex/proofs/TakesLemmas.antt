@@ -9,11 +9,13 @@ use Rattle.cx_ast.specs.declared.tokens.TokenKind.{TokenKind}
 use Rattle.cx_ast.specs.declared.tokens.TokenKind.TheVariants as kinds
 use Rattle.cx_lex.specs.declared.faults.LexKind.{LexKind}
 use Rattle.cx_lex.specs.declared.faults.LexKind.TheVariants.{BadByte, BadLiteral}
-use Rattle.cx_lex.specs.Bytes.{is_blank, is_name_start, is_digit, is_name_byte, goes_on, is_in_line, is_in_string, base_of, is_digit_in, Stops}
+use Rattle.cx_text.specs.Spans.{Stops, front, back}
+use Rattle.cx_text.proofs.SpanLemmas.{front-back, front_passes, back_stops}
+use Rattle.cx_lex.specs.Bytes.{is_blank, is_name_start, is_digit, is_name_byte, goes_on, is_in_line, is_in_string, base_of, is_digit_in}
 use Rattle.cx_lex.specs.Lex.{sign_bytes, IsLongest, IsWord, IsToken, name, number, literal, string, sign, HasNoClose, IsGap, blank, line_comment, block_comment, BeginsNoToken, IsFault, bad_byte, open_comment, open_string, long_string, long_name, bad_literal}
-use Rattle.cx_lex.specs.Reading.{front, back, Read, name_at, goes_on_at, number_of, literal_of, based_at, literal_at, behind_digits, numeric_at, behind_body, string_at, after_close, commented, comment_at, short_sign, long_sign, signed, longest_of, sign_at, item_at}
+use Rattle.cx_lex.specs.Reading.{Read, name_at, goes_on_at, number_of, literal_of, based_at, literal_at, behind_digits, numeric_at, behind_body, string_at, after_close, commented, comment_at, short_sign, long_sign, signed, longest_of, sign_at, item_at}
 use Rattle.cx_lex.proofs.TestLemmas.{chosen, pick_true}
-use Rattle.cx_lex.proofs.SpanLemmas.{front-back, front_passes, back_stops, front_digits}
+use Rattle.cx_lex.proofs.DigitLemmas.{front_digits}
 use Rattle.cx_lex.proofs.ByteLemmas.{is_name_start-name_byte, string_stop, some_of_zero}
 use Rattle.cx_lex.proofs.SignLemmas.{short_or_long, IsShort, IsLong, short_sign-bytes, long_sign-bytes, length-sign_bytes-le}
 use Rattle.cx_lex.proofs.AgainLemmas.{front_at, item_at-digit, token_again, stray_again, open_string_again, long_string_again, long_name_again, close_none}

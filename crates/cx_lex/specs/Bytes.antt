@@ -36,8 +36,3 @@ base_of b = if b == 100 then Some 10 else if b == 98 then Some 2 else if b == 11
 -- a digit of a base; letters of either case are the digits from ten on
 abbrev pub is_digit_in : ℕ → ℕ → Bool
 is_digit_in base b = nat_lt (digit_value b) base
-
--- the text ends here, or the next byte fails the test
-abbrev pub Stops : (ℕ → Bool) → List ℕ → Type 0
-Stops test [] = Unit {0}
-Stops test (b ∷ bs) = test b ≡ false

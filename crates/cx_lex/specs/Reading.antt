@@ -10,19 +10,11 @@ use Rattle.cx_lex.specs.declared.faults.LexKind.{LexKind}
 use Rattle.cx_lex.specs.declared.faults.LexKind.TheVariants.{BadByte, OpenComment, OpenString, BadLiteral, Memory}
 use Rattle.cx_lex.specs.declared.faults.LexFault.{LexFault}
 use Rattle.cx_lex.specs.Bytes.{is_blank, is_name_start, is_digit, is_name_byte, goes_on, is_in_line, is_in_string, base_of, is_digit_in}
+use Rattle.cx_text.specs.Spans.{front, back}
 
 -- what is told where memory is wanting
 abbrev pub memory_fault : LexFault
 memory_fault = record { kind = Memory; place = start }
-
--- the bytes from the front on that pass a test, and those behind them
-abbrev pub front : (ℕ → Bool) → List ℕ → List ℕ
-front test [] = []
-front test (b ∷ bs) = if test b then b ∷ front test bs else []
-
-abbrev pub back : (ℕ → Bool) → List ℕ → List ℕ
-back test [] = []
-back test (b ∷ bs) = if test b then back test bs else b ∷ bs
 
 -- a token, or None for a blank or comment, with the text behind it; or why there is none
 abbrev pub Read : Type 0

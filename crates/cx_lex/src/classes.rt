@@ -3,7 +3,7 @@
 ghost use Rattle.std.specs.Prelude.{◌≡◌, ◌+◌};
 ghost use Rattle.cx_lex.specs.Classes.{passes, HasBase};
 ghost use Rattle.cx_lex.specs.Bytes.{is_name_start};
-ghost use Rattle.cx_lex.specs.Reading.{front, back};
+ghost use Rattle.cx_text.specs.Spans.{front, back};
 
 /// A kind of bytes.
 #[derive(Clone, Copy, Debug, PartialEq, Eq)]

@@ -1,10 +1,13 @@
 -- Facts of what `Active` defines, that several crates above take.
-use Rattle.std.proofs.Common.{◌≡◌, ℕ, if◌then◌else◌, Some, None, refl, ap, inl, inr, Bool, true, false, List, [], ◌∷◌, Option, sym, subst, ◌⊎◌, ⊎_elim}
+use Rattle.std.proofs.Common.{◌≡◌, ℕ, if◌then◌else◌, Some, None, refl, ap, inl, inr, Bool, true, false, List, [], ◌∷◌, Option, sym, subst, ◌⊎◌, ⊎_elim, ◌++◌, ◌+◌, ◌-◌, arith, get_or, suc, zero, ◌∙◌}
 use Rattle.std.proofs.lemmas.Bool.{eq-eqb, eqb-true}
-use Rattle.cx_meaning.specs.Active.{only_at, Owned, no_later, placed_in, Active, offset_of, if_acting, if_target, acting, same_port, Entry, offset_in}
+use Rattle.cx_meaning.specs.Active.{only_at, Owned, no_later, placed_in, Active, offset_of, if_acting, if_target, acting, same_port, Entry, offset_in, by_place, owned, owned_by_groups, source_order, Acting}
 use Rattle.cx_meaning.specs.Sights.{In}
 use Rattle.cx_meaning.specs.declared.ports.PortRef.{PortRef}
 use Rattle.std.specs.Prelude.{nat_eq}
+use Rattle.cx_meaning.specs.Designs.{PlainAssign, PlainGroup, no_group, PlainComponent, group_at}
+use Rattle.cx_meaning.proofs.SightsLaws.{in_left, in_right}
+use Rattle.cx_meaning.proofs.DesignsLemmas.{owned_has}
 
 pub only_self : (g : ℕ) → only_at g g ≡ Some 0
 only_self g = ap (λ b. if b then Some 0 else None) (eq-eqb g g refl)
@@ -62,3 +65,64 @@ entry_of (x ∷ os) g o f = by (nat_eq x.group g) refl f (entry_of os g o)
     by : (b : Bool) → nat_eq x.group g ≡ b → (if b then Some x.offset else offset_in os g) ≡ Some o → (offset_in os g ≡ Some o → (e : Entry) × In os e × (e.group ≡ g)) → (e : Entry) × In (x ∷ os) e × (e.group ≡ g)
     by true h f later_one = (x, inl refl, eqb-true x.group g h)
     by false h f later_one = let k = later_one f in (k.0, inr k.1, k.2)
+
+-- what stands in a component stands in its source order
+pub sorted_has : (list : List Owned) (o : Owned) → In list o → In (by_place list) o
+sorted_has [] o i = i
+sorted_has (a ∷ rest) o (inl e) = subst (In (by_place (a ∷ rest))) e (placed_first a (by_place rest))
+sorted_has (a ∷ rest) o (inr i) = placed_still a (by_place rest) o (sorted_has rest o i)
+
+abbrev or_else : Option ℕ → Option ℕ → Option ℕ
+or_else None later = later
+or_else (Some o) later = Some o
+
+pub offset-both : (xs ys : List Entry) (g : ℕ) → offset_in (xs ++ ys) g ≡ or_else (offset_in xs g) (offset_in ys g)
+offset-both [] ys g = refl
+offset-both (e ∷ xs) ys g = choice (nat_eq e.group g) (offset-both xs ys g)
+  where
+    choice : (b : Bool) → offset_in (xs ++ ys) g ≡ or_else (offset_in xs g) (offset_in ys g) → (if b then Some e.offset else offset_in (xs ++ ys) g) ≡ or_else (if b then Some e.offset else offset_in xs g) (offset_in ys g)
+    choice true ih = refl
+    choice false ih = ih
+
+pub groups_have : (k : ℕ) (groups : List PlainGroup) (g : ℕ) (a : PlainAssign) → In (get_or groups g no_group).assigns a → In (owned_by_groups k groups) (record { owner = Some (k + g); assign = a })
+groups_have k [] g a i = absurd i
+groups_have k (x ∷ groups) zero a i =
+    let e : k ≡ k + 0 = omega arith in
+    in_left (owned (Some k) x.assigns) (owned_by_groups (suc k) groups) _ (subst (λ n. In (owned (Some k) x.assigns) (record { owner = Some n; assign = a })) e (owned_has (Some k) x.assigns a i))
+groups_have k (x ∷ groups) (suc g) a i =
+    let e : suc k + g ≡ k + suc g = omega arith in
+    in_right (owned (Some k) x.assigns) (owned_by_groups (suc k) groups) _ (subst (λ n. In (owned_by_groups (suc k) groups) (record { owner = Some n; assign = a })) e (groups_have (suc k) groups g a i))
+
+-- an assignment of a group stands in source order
+pub group_stands : (part : PlainComponent) (g : ℕ) (a : PlainAssign) → In (group_at part g).assigns a → In (source_order part) (record { owner = Some g; assign = a })
+group_stands part g a i =
+    let e : 0 + g ≡ g = omega arith in
+    sorted_has (owned None part.always ++ owned_by_groups 0 part.groups) _ (in_right (owned None part.always) (owned_by_groups 0 part.groups) _
+    (subst (λ n. In (owned_by_groups 0 part.groups) (record { owner = Some n; assign = a })) e (groups_have 0 part.groups g a i)))
+
+pub always_stands : (part : PlainComponent) (a : PlainAssign) → In part.always a → In (source_order part) (record { owner = None; assign = a })
+always_stands part a i = sorted_has (owned None part.always ++ owned_by_groups 0 part.groups) _ (in_left (owned None part.always) (owned_by_groups 0 part.groups) _ (owned_has None part.always a i))
+
+-- the drivers of a port are the active assignments of it
+pub record Acts (act : Active) (p : PortRef) (list : List Owned) (b : Acting) : Type 0 where
+  pub owned : Owned
+  pub stands : In list owned
+  pub target : same_port owned.assign.target p ≡ true
+  pub acts : offset_of act owned.owner ≡ Some b.offset
+  pub same : owned.assign ≡ b.assign
+
+later_acts : {act : Active} {p : PortRef} {list : List Owned} {b : Acting} (o : Owned) → Acts act p list b → Acts act p (o ∷ list) b
+later_acts o h = record { owned = h.owned; stands = inr h.stands; target = h.target; acts = h.acts; same = h.same }
+
+pub acting_acts : (act : Active) (p : PortRef) (list : List Owned) (b : Acting) → In (acting act p list) b → Acts act p list b
+acting_acts act p [] b i = absurd i
+acting_acts act p (o ∷ rest) b i = of_target (same_port o.assign.target p) refl i (acting_acts act p rest b)
+  where
+    of_offset : same_port o.assign.target p ≡ true → (k : Option ℕ) → offset_of act o.owner ≡ k → In (if_acting k o.assign (acting act p rest)) b → (In (acting act p rest) b → Acts act p rest b) → Acts act p (o ∷ rest) b
+    of_offset e None f i h = later_acts o (h i)
+    of_offset e (Some k) f (inl g) h = record { owned = o; stands = inl refl; target = e; acts = f ∙ ap (λ a. Some a.offset) g; same = ap (λ a. a.assign) g }
+    of_offset e (Some k) f (inr j) h = later_acts o (h j)
+
+    of_target : (t : Bool) → same_port o.assign.target p ≡ t → In (if_target t act o (acting act p rest)) b → (In (acting act p rest) b → Acts act p rest b) → Acts act p (o ∷ rest) b
+    of_target true e i h = of_offset e (offset_of act o.owner) refl i h
+    of_target false e i h = later_acts o (h i)

@@ -1,9 +1,10 @@
 -- Facts of what `Control` defines, that several crates above take.
-use Rattle.std.proofs.Common.{◌≡◌, ℕ, true, ◌||◌, inl, inr, List, [], ◌∷◌, ap, ◌∙◌, Bool, false, refl}
+use Rattle.std.proofs.Common.{◌≡◌, ℕ, true, ◌||◌, inl, inr, List, [], ◌∷◌, ap, ◌∙◌, Bool, false, refl, subst, sym}
 use Rattle.std.proofs.lemmas.Bool.{or_right}
-use Rattle.cx_meaning.specs.Designs.{PlainComponent}
+use Rattle.cx_meaning.specs.Designs.{PlainComponent, PlainStatement, PlainStatements, a_statement, list_of, no_statements}
 use Rattle.cx_meaning.specs.Sights.{In}
-use Rattle.cx_meaning.specs.Control.{group_drives, groups_drive}
+use Rattle.cx_meaning.specs.Control.{group_drives, groups_drive, groups_in_all, groups_of}
+use Rattle.cx_meaning.proofs.SightsLaws.{in_left, in_right}
 
 -- GROUPS: what a group of a statement drives the statement drives
 pub groups_drive_in : (part : PlainComponent) (gs : List ℕ) (g c : ℕ) → In gs g → group_drives part g c ≡ true → groups_drive part gs c ≡ true
@@ -19,3 +20,8 @@ driver part (g ∷ gs) c e = go (group_drives part g c) refl e (driver part gs c
     go : (b : Bool) → group_drives part g c ≡ b → (b || groups_drive part gs c) ≡ true → (groups_drive part gs c ≡ true → (h : ℕ) × In gs h × (group_drives part h c ≡ true)) → (h : ℕ) × In (g ∷ gs) h × (group_drives part h c ≡ true)
     go true here e later = (g, inl refl, here)
     go false here e later = let r = later e in (r.0, inr r.1, r.2)
+
+pub in_parts : (ss : PlainStatements) (s : PlainStatement) (g : ℕ) → In (list_of ss) s → In (groups_of s) g → In (groups_in_all ss) g
+in_parts no_statements s g i j = absurd i
+in_parts (a_statement x xs) s g (inl e) j = in_left (groups_of x) (groups_in_all xs) g (subst (λ y. In (groups_of y) g) (sym e) j)
+in_parts (a_statement x xs) s g (inr i) j = in_right (groups_of x) (groups_in_all xs) g (in_parts xs s g i j)

@@ -1,11 +1,16 @@
 -- What runs over any leaves keep, where the leaves keep it.
-use Rattle.std.proofs.Common.{ℕ, zero, suc}
-use Rattle.cx_meaning.specs.Designs.{PlainForm, Empty, Enable, Seq, Par, If, While, Repeat, StaticSeq, StaticPar, StaticIf, StaticRepeat, Timed, PlainStatement, Placed, PlainStatements, no_statements, a_statement}
+use Rattle.std.proofs.Common.{refl, ℕ, zero, suc, List, Some, [], ap, sym, ◌∙◌, ◌∷◌, ◌≡◌}
+use Rattle.cx_meaning.specs.Designs.{PlainForm, Empty, Enable, Seq, Par, If, While, Repeat, StaticSeq, StaticPar, StaticIf, StaticRepeat, Timed, PlainStatement, Placed, PlainStatements, no_statements, a_statement, PlainAssign}
 use Rattle.cx_meaning.specs.Answers.{rounds}
 use Rattle.cx_meaning.specs.Control as control
 use Rattle.cx_meaning.specs.Control.{run_form, run, run_parts, run_arms}
 use Rattle.cx_meaning.specs.Budgets.{IsSteady, TakesTurns, Leaves}
 use Rattle.cx_meaning.proofs.AnswersLemmas.{steady_then, steady_stay, steady_idle, steady_test, steady_loop, steady_rounds, grows_both, takes_both, takes_then, takes_idle, takes_test, takes_loop, leaves_then, leaves_idle, leaves_test, leaves_loop, leaves_rounds, leaves_both}
+use Rattle.cx_meaning.specs.Instances.{At, Cells, Instance, Nothing, OfInstance, OfRow, cell_at}
+use Rattle.cx_meaning.specs.Calls.{called_in, called_by, if_instance}
+use Rattle.cx_meaning.specs.declared.ports.PortRef.{PortRef}
+use Rattle.cx_meaning.specs.declared.ports.PortRef.TheVariants as ports
+use Rattle.cx_text.proofs.OptionLaws.{none_some, some_inj}
 
 module _ {S F : Type 0} (L : control.Leaves S F) where
   -- the leaves are steady
@@ -109,3 +114,20 @@ module _ {S F : Type 0} (L : control.Leaves S F) where
       leaves_arms : (arms : PlainStatements) (s : S) (n : ℕ) → P s → Leaves P (run_arms L arms s n)
       leaves_arms no_statements s n p = p
       leaves_arms (a_statement first later) s n p = leaves_both P (L.merged (L.driven first)) (keep.merges first) (run L first s n) (run_arms L later s n) (leaves_run first s n p) (leaves_arms later s n p)
+
+-- a cell that is called is a component's
+pub called_child : (cells : Cells) (list : List PlainAssign) (c : ℕ) → called_in cells list ≡ Some c → (child : Instance) × (cell_at cells c ≡ OfInstance child)
+called_child cells [] c e = absurd (none_some c e)
+called_child cells (a ∷ rest) c e = of_target a.target e (called_child cells rest c)
+  where
+    of_at : (at : At) (d : ℕ) → cell_at cells d ≡ at → if_instance at d (called_in cells rest) ≡ Some c → (called_in cells rest ≡ Some c → (child : Instance) × (cell_at cells c ≡ OfInstance child)) → (child : Instance) × (cell_at cells c ≡ OfInstance child)
+    of_at Nothing d is e later = later e
+    of_at (OfRow row) d is e later = later e
+    of_at (OfInstance child) d is e later = (child, ap (cell_at cells) (sym (some_inj d c e)) ∙ is)
+
+    of_target : (p : PortRef) → called_by cells p (called_in cells rest) ≡ Some c → (called_in cells rest ≡ Some c → (child : Instance) × (cell_at cells c ≡ OfInstance child)) → (child : Instance) × (cell_at cells c ≡ OfInstance child)
+    of_target (ports.Cell d n) e later = of_at (cell_at cells d) d refl e later
+    of_target (ports.Input n) e later = later e
+    of_target (ports.Output n) e later = later e
+    of_target (ports.Done g) e later = later e
+    of_target (ports.Literal w v) e later = later e

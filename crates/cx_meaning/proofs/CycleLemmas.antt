@@ -1,5 +1,5 @@
 -- How a cycle ends, by what each of its cells comes to.
-use Rattle.std.proofs.Common.{◌≡◌, ℕ, zero, suc, ◌+◌, ◌<◌, inl, inr, ◌⊎◌, Bool, true, false, List, [], ◌∷◌, length, Option, Some, None, if◌then◌else◌, refl, sym, ap, ◌∙◌, subst, arith}
+use Rattle.std.proofs.Common.{◌≡◌, ℕ, zero, suc, ◌+◌, ◌<◌, inl, inr, ◌⊎◌, Bool, true, false, List, [], ◌∷◌, length, Option, Some, None, if◌then◌else◌, refl, sym, ap, ◌∙◌, subst, arith, ◌≤◌}
 use Rattle.std.proofs.Math.Path.{fun_ext}
 use Rattle.cx_prim.specs.CellStates.{CellState}
 use Rattle.cx_prim.specs.Rows.{Row}
@@ -83,7 +83,7 @@ row_within (a_primitive r rest) (suc c) row at = let lt = row_within rest c row 
 row_within (an_instance child rest) zero row at = absurd (cc)
 row_within (an_instance child rest) (suc c) row at = let lt = row_within rest c row at in omega (arith, lt)
 
-one_more : (child : ℕ → Instance) (kind : PlainKind) (rest : Cells) → cell_count (add_cell child kind rest) ≡ suc (cell_count rest)
+pub one_more : (child : ℕ → Instance) (kind : PlainKind) (rest : Cells) → cell_count (add_cell child kind rest) ≡ suc (cell_count rest)
 one_more child (OfPrimitive p) rest = refl
 one_more child (OfComponent k) rest = refl
 
@@ -146,3 +146,13 @@ state_after-same outcome s c h (e ∷ path) = refl
 -- a cell that is not listed stays as it is
 pub unlisted_stays : (listed : Set) (look : Look) (cells : Cells) (s : State) (c : ℕ) → listed c ≡ false → (below : Path) → state_after (outcome_of listed look cells s) s (c ∷ below) ≡ s (c ∷ below)
 unlisted_stays listed look cells s c off = state_after-same (outcome_of listed look cells s) s c (ap (stepped (s (c ∷ []))) (outcome_unlisted listed look cells s c off))
+
+pub cell_beyond : (cells : Cells) (e : ℕ) → cell_count cells ≤ e → cell_at cells e ≡ Nothing
+cell_beyond no_cells e past = refl
+cell_beyond (a_primitive row rest) zero past = absurd (omega (arith, past))
+cell_beyond (a_primitive row rest) (suc e) past = cell_beyond rest e (omega (arith, past))
+cell_beyond (an_instance child rest) zero past = absurd (omega (arith, past))
+cell_beyond (an_instance child rest) (suc e) past = cell_beyond rest e (omega (arith, past))
+
+pub next_is : (a b : CellState) → Next a ≡ Next b → a ≡ b
+next_is a b e = cc

@@ -7,6 +7,8 @@ use Rattle.std.proofs.lemmas.List.{get_or_past}
 use Rattle.cx_meaning.specs.Sights.{In}
 use Rattle.cx_meaning.specs.Control.{assigns_drive, group_drives}
 use Rattle.cx_meaning.specs.Active.{owned}
+use Rattle.cx_meaning.specs.Designs as plain
+use Rattle.cx_meaning.specs.declared.ports.PlacedPort.{PlacedPort}
 
 pub same_part : (d : PlainDesign) (n k : ℕ) → part_of (tree_within d n k) ≡ component_at d k
 same_part d zero k = refl
@@ -34,3 +36,13 @@ pub owned_has : (owner : Option ℕ) (list : List PlainAssign) (a : PlainAssign)
 owned_has owner [] a i = absurd i
 owned_has owner (x ∷ list) a (inl e) = inl (ap (λ y. record { owner = owner; assign = y }) e)
 owned_has owner (x ∷ list) a (inr i) = inr (owned_has owner list a i)
+
+-- forms of parts that are the same
+pub if_is : {p q : PlacedPort} {c d : Option ℕ} {s t u v : PlainStatement} → p ≡ q → c ≡ d → s ≡ t → u ≡ v → plain.If p c s u ≡ plain.If q d t v
+if_is {q = q} {c = c} {d = d} {s = s} {t = t} {u = u} e f g h = ap (λ x. plain.If x c s u) e ∙ ap (λ x. plain.If q x s u) f ∙ ap (λ x. plain.If q d x u) g ∙ ap (plain.If q d t) h
+
+pub while_is : {p q : PlacedPort} {c d : Option ℕ} {s t : PlainStatement} → p ≡ q → c ≡ d → s ≡ t → plain.While p c s ≡ plain.While q d t
+while_is {q = q} {c = c} {d = d} {s = s} e f g = ap (λ x. plain.While x c s) e ∙ ap (λ x. plain.While q x s) f ∙ ap (plain.While q d) g
+
+pub static_if_is : {p q : PlacedPort} {s t u v : PlainStatement} (written : Option ℕ) → p ≡ q → s ≡ t → u ≡ v → plain.StaticIf written p s u ≡ plain.StaticIf written q t v
+static_if_is {q = q} {s = s} {t = t} {u = u} written e f g = ap (λ x. plain.StaticIf written x s u) e ∙ ap (λ x. plain.StaticIf written q x u) f ∙ ap (plain.StaticIf written q t) g

@@ -1,14 +1,15 @@
 -- Facts of what `Instances` defines, that several crates above take.
-use Rattle.std.proofs.Common.{◌≡◌, ℕ, zero, suc, true, false, refl, ap, [], ◌∷◌, ◌++◌, ◌<◌, arith, Some, length}
-use Rattle.cx_meaning.specs.Instances.{just, Instance, Node, instance_at, Cells, add_cell, cell_at, OfInstance, OfRow, no_cells, Path, a_primitive, an_instance, idle_below, Nothing, cells_for, cells_of, tree_within, paths_of, State, idle_at}
-use Rattle.cx_meaning.specs.Designs.{PlainKind, OfPrimitive, OfComponent, no_component, PlainDesign, component_at}
+use Rattle.std.proofs.Common.{◌≡◌, ℕ, zero, suc, true, false, refl, ap, [], ◌∷◌, ◌++◌, ◌<◌, arith, Some, length, List, inl, inr, ◌∙◌}
+use Rattle.cx_meaning.specs.Instances.{just, Instance, Node, instance_at, Cells, add_cell, cell_at, OfInstance, OfRow, no_cells, Path, a_primitive, an_instance, idle_below, Nothing, cells_for, cells_of, tree_within, paths_of, State, idle_at, child_at, At}
+use Rattle.cx_meaning.specs.Designs.{PlainKind, OfPrimitive, OfComponent, no_component, PlainDesign, component_at, PlainCell}
 use Rattle.cx_prim.specs.Rows.{Row}
 use Rattle.cx_prim.specs.CellStates.{CellState}
 use Rattle.std.specs.List.{slice_get}
 use Rattle.cx_meaning.specs.declared.ports.PortRef.TheVariants as ports
 use Rattle.cx_meaning.specs.declared.sights.Seen.TheVariants.{Value}
 use Rattle.cx_meaning.specs.Active.{Active}
-use Rattle.cx_meaning.specs.Sights.{Held, seen}
+use Rattle.cx_meaning.specs.Sights.{Held, seen, In}
+use Rattle.cx_prim.specs.Table.{row_of}
 
 pub just_true : (k c : ℕ) → just k c ≡ true → k ≡ c
 just_true zero zero e = refl
@@ -93,3 +94,34 @@ main_there (Node part cells) = omega arith
 
 pub main_first : (i : Instance) → slice_get (paths_of i) 0 ≡ Some []
 main_first (Node part cells) = refl
+
+pub child_is : (cells : Cells) (c : ℕ) (child : Instance) → cell_at cells c ≡ OfInstance child → (path : Path) → child_at cells c path ≡ instance_at child path
+child_is no_cells c child e path = absurd (nothing_instance child e)
+child_is (a_primitive row rest) zero child e path = absurd (row_instance row child e)
+child_is (a_primitive row rest) (suc c) child e path = child_is rest c child e path
+child_is (an_instance other rest) zero child e path = ap (λ i. instance_at i path) (instance_is other child e)
+child_is (an_instance other rest) (suc c) child e path = child_is rest c child e path
+
+-- the same trees at the cells of a list
+pub kind_same : (f g : ℕ → Instance) (kind : PlainKind) (rest : Cells) → ((j : ℕ) → kind ≡ OfComponent j → f j ≡ g j) → add_cell f kind rest ≡ add_cell g kind rest
+kind_same f g (OfPrimitive p) rest h = refl
+kind_same f g (OfComponent k) rest h = ap (λ i. an_instance i rest) (h k refl)
+
+pub cells_same : (f g : ℕ → Instance) (cells : List PlainCell) → ((cell : PlainCell) (j : ℕ) → In cells cell → cell.kind ≡ OfComponent j → f j ≡ g j) → cells_for f cells ≡ cells_for g cells
+cells_same f g [] h = refl
+cells_same f g (c ∷ cs) h =
+    ap (add_cell f c.kind) (cells_same f g cs (λ cell j i. h cell j (inr i))) ∙ kind_same f g c.kind (cells_for g cs) (λ j e. h c j (inl refl) e)
+
+abbrev at_kind : (ℕ → Instance) → PlainKind → At
+at_kind child (OfPrimitive primitive) = OfRow (row_of primitive)
+at_kind child (OfComponent k) = OfInstance (child k)
+
+pub first_at : (child : ℕ → Instance) (kind : PlainKind) (rest : Cells) → cell_at (add_cell child kind rest) 0 ≡ at_kind child kind
+first_at child (OfPrimitive primitive) rest = refl
+first_at child (OfComponent k) rest = refl
+
+pub just_other : (c d : ℕ) → (c ≡ d → ⊥) → just c d ≡ false
+just_other zero zero h = absurd (h refl)
+just_other zero (suc d) h = refl
+just_other (suc c) zero h = refl
+just_other (suc c) (suc d) h = just_other c d (λ e. h (ap suc e))

@@ -5,7 +5,7 @@ use Rattle.cx_meaning.specs.declared.kinds.GroupKind.{GroupKind}
 use Rattle.cx_meaning.specs.declared.kinds.GroupKind.TheVariants as kinds
 use Rattle.cx_meaning.specs.Rows.{KeepsIdle}
 use Rattle.cx_meaning.specs.Designs.{PlainForm, Enable, PlainStatement, group_at}
-use Rattle.cx_meaning.specs.Instances.{Instance, Node, Cells, no_cells, a_primitive, an_instance, part_of, State, Path, Set, merge, under, idle_at, idle_below, idle, IsSettled, start_at, start_below}
+use Rattle.cx_meaning.specs.Instances.{Instance, Node, Cells, no_cells, a_primitive, an_instance, part_of, State, Path, Set, merge, under, idle_at, idle_below, idle, IsSettled, start_at, start_below, OfInstance, cell_at}
 use Rattle.cx_meaning.specs.Active.{nothing, capture}
 use Rattle.cx_meaning.specs.Sights.{Held, seen}
 use Rattle.cx_meaning.specs.Cycles.{Fault, cycle}
@@ -18,6 +18,7 @@ use Rattle.cx_meaning.specs.Budgets.{Beyond, Grows, IsSteady, TakesTurns, Leaves
 use Rattle.cx_meaning.specs.Laws.{AllRows, AllRowsBelow}
 use Rattle.cx_meaning.proofs.AnswersLemmas.{steady_idle, steady_turn, steady_turns, grows_turn, grows_then, turn_beyond, takes_last, takes_idle, takes_turn, takes_turns_of, leaves_last, leaves_idle, leaves_turn, leaves_turns}
 use Rattle.cx_meaning.proofs.ControlLemmas.{LeavesAreSteady, steady_run, takes_run, leaves_run}
+use Rattle.cx_meaning.proofs.InstancesLemmas.{instance_is, nothing_instance, row_instance}
 
 -- islands
 module _ (i : Instance) (held : Held) where
@@ -34,7 +35,7 @@ module _ (i : Instance) (held : Held) where
   steady_island form s n m le = steady_cycles (form_flat (part_of i) form 0 []) (form_length (part_of i) form) 0 no_history s n m le
 
 -- calls
-grows_lifted : (c : ℕ) (s : State) (n : ℕ) (o later : Answer State Fault) → Grows n o later → Grows n (lift_answer c s o) (lift_answer c s later)
+pub grows_lifted : (c : ℕ) (s : State) (n : ℕ) (o later : Answer State Fault) → Grows n o later → Grows n (lift_answer c s o) (lift_answer c s later)
 grows_lifted c s n (End own t) later (h, e) = (h, ap (lift_answer c s) e)
 grows_lifted c s n (answers.Fault f t) later (h, e) = (h, ap (lift_answer c s) e)
 grows_lifted c s n More later h = beyond later h
@@ -138,7 +139,7 @@ mutual
 pub idle_settles : (i : Instance) → AllRows KeepsIdle i → (s : State) → IsSettled i (idle i s)
 idle_settles i keep s path = idle_twice i keep path (s path)
 
-merge_settles : (i : Instance) (set : Set) (a b : State) → IsSettled i a → IsSettled i b → IsSettled i (merge set a b)
+pub merge_settles : (i : Instance) (set : Set) (a b : State) → IsSettled i a → IsSettled i b → IsSettled i (merge set a b)
 merge_settles i set a b h k [] = k []
 merge_settles i set a b h k (c ∷ path) = one (set c)
   where
@@ -194,3 +195,18 @@ settles_statement (Node part cells) keep held statement s n settled =
       timed = λ k s1 j h. tt;
     })
     statement s n settled
+
+pub child_runs : (cells : Cells) (c : ℕ) (child : Instance) → cell_at cells c ≡ OfInstance child → (held : Held) (s : State) (n : ℕ) → control_below cells c held s n ≡ run_control child held s n
+child_runs no_cells c child e held s n = absurd (nothing_instance child e)
+child_runs (a_primitive row rest) zero child e held s n = absurd (row_instance row child e)
+child_runs (a_primitive row rest) (suc c) child e held s n = child_runs rest c child e held s n
+child_runs (an_instance other rest) zero child e held s n = ap (λ i. run_control i held s n) (instance_is other child e)
+child_runs (an_instance other rest) (suc c) child e held s n = child_runs rest c child e held s n
+
+-- the control of a child
+pub control_child : (cells : Cells) (c : ℕ) (child : Instance) (held : Held) (s : State) (n : ℕ) → cell_at cells c ≡ OfInstance child → control_below cells c held s n ≡ run_control child held s n
+control_child no_cells c child held s n e = absurd (cc)
+control_child (a_primitive row rest) zero child held s n e = absurd (cc)
+control_child (a_primitive row rest) (suc c) child held s n e = control_child rest c child held s n e
+control_child (an_instance own rest) zero child held s n e = let same : own ≡ child = cc in ap (λ x. run_control x held s n) same
+control_child (an_instance own rest) (suc c) child held s n e = control_child rest c child held s n e

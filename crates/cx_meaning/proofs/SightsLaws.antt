@@ -3,11 +3,12 @@ use Rattle.std.proofs.Common.{◌≡◌, ℕ, zero, suc, inl, inr, List, [], ◌
 use Rattle.std.specs.List.{slice_get}
 use Rattle.cx_meaning.specs.Sights.{In, AnInput, AnOutput, ItsDone, output_port, part_port, of_option}
 use Rattle.cx_meaning.specs.Control.{with_comb}
-use Rattle.std.specs.Prelude.{nat_lt}
+use Rattle.std.specs.Prelude.{nat_lt, flat_map}
 use Rattle.std.proofs.lemmas.Bool.{ltb-true, lt-ltb}
 use Rattle.cx_bits.specs.BitVector.{BitVector}
 use Rattle.cx_meaning.specs.declared.sights.Seen.TheVariants.{Value, Undefined}
 use Rattle.cx_meaning.specs.Designs.{PlainComponent}
+use Rattle.cx_text.proofs.ListLaws.{both_none}
 
 pub number_in : {A : Type 0} (xs : List A) (x : A) → In xs x → (i : ℕ) × (slice_get xs i ≡ Some x)
 number_in [] x h = absurd h
@@ -86,3 +87,12 @@ pub in_image : {A B : Type 0} (f : A → B) (xs : List A) (x : A) → In xs x �
 in_image f [] x i = absurd i
 in_image f (y ∷ ys) x (inl e) = inl (ap f e)
 in_image f (y ∷ ys) x (inr i) = inr (in_image f ys x i)
+
+-- what stands in one list of many
+pub flat_in : {A B : Type 0} (each : A → List B) (xs : List A) (y : B) → In (flat_map each xs) y → (x : A) × In xs x × In (each x) y
+flat_in each [] y i = absurd i
+flat_in each (x ∷ xs) y i = ⊎_elim (λ j. (x, inl refl, j)) (λ j. let r = flat_in each xs y j in (r.0, inr r.1, r.2)) (in_either (each x) (flat_map each xs) y i)
+
+pub flat_is_none : {A B : Type 0} (f : A → List B) (xs : List A) → ((x : A) → In xs x → f x ≡ []) → flat_map f xs ≡ []
+flat_is_none f [] h = refl
+flat_is_none f (x ∷ xs) h = both_none (f x) (flat_map f xs) (h x (inl refl)) (flat_is_none f xs (λ y i. h y (inr i)))

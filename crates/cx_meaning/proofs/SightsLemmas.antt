@@ -1,5 +1,5 @@
 -- A port is seen as one thing.
-use Rattle.std.proofs.Common.{◌≡◌, ℕ, suc, Bool, true, false, inl, inr, List, [], ◌∷◌, refl, sym, ap, ◌∙◌, subst}
+use Rattle.std.proofs.Common.{◌≡◌, ℕ, suc, Bool, true, false, inl, inr, List, [], ◌∷◌, refl, sym, ap, ◌∙◌, subst, zero}
 use Rattle.cx_meaning.specs.declared.ports.PortRef.{PortRef}
 use Rattle.cx_meaning.specs.declared.ports.PortRef.TheVariants as ports
 use Rattle.cx_meaning.specs.declared.sights.Seen.{Seen}
@@ -10,10 +10,11 @@ use Rattle.cx_prim.specs.declared.ports.Side.{Side}
 use Rattle.cx_prim.specs.declared.ports.Side.TheVariants.{Enable, Plain, Output, Registered}
 use Rattle.cx_prim.specs.Rows.{Row}
 use Rattle.cx_meaning.specs.Rows.{side_of}
-use Rattle.cx_meaning.specs.Instances.{Instance, At, Nothing, OfRow, OfInstance, part_of, cells_of, cell_at, State}
-use Rattle.cx_meaning.specs.Active.{Active, Acting, drivers}
+use Rattle.cx_meaning.specs.Instances.{Instance, At, Nothing, OfRow, OfInstance, part_of, cells_of, cell_at, State, Cells, a_primitive, an_instance, no_cells}
+use Rattle.cx_meaning.specs.Active.{Active, Acting, drivers, nothing}
 use Rattle.cx_meaning.specs.Truths.{truth_of, not_truth, and_truth, or_truth, compared}
-use Rattle.cx_meaning.specs.Sights.{Look, Below, Held, bit_of, guard_truth, all_truth, any_truth, Taken, Sources, Stopped, take_guard, taken, agreed, all_agreed, settle, target_seen, gather_one, gather_port, gather, output_seen, PartPort, Go, AnInput, AnOutput, ItsDone, part_port, side_step, part_step, cell_step, step, In, GuardNames, AnyNames, IsTaken, TargetNeeds, SideNeeds, PartNeeds, CellNeeds, Needs, Sees, by_step}
+use Rattle.cx_meaning.specs.Sights.{Look, Below, Held, bit_of, guard_truth, all_truth, any_truth, Taken, Sources, Stopped, take_guard, taken, agreed, all_agreed, settle, target_seen, gather_one, gather_port, gather, output_seen, PartPort, Go, AnInput, AnOutput, ItsDone, part_port, side_step, part_step, cell_step, step, In, GuardNames, AnyNames, IsTaken, TargetNeeds, SideNeeds, PartNeeds, CellNeeds, Needs, Sees, by_step, outputs_below, seen, unheld}
+use Rattle.cx_meaning.proofs.InstancesLemmas.{instance_is}
 
 two_alike : {A B C : Type 0} (f : A → B → C) (a b : A) (x y : B) → a ≡ b → x ≡ y → f a x ≡ f b y
 two_alike f a b x y e h = ap (λ z. f z x) e ∙ ap (f b) h
@@ -106,3 +107,10 @@ one_sight {i} {held} {act} {s} {p} (by_step look below h b e) (by_step more bene
     sym e
     ∙ step_alike look more i held act s below beneath p (λ c port n child is at. one_sight (b c port n child is at) (d c port n child is at)) (λ q n m. one_sight (h q n) (k q m))
     ∙ f
+
+pub outputs_at : (cells : Cells) (states : ℕ → State) (c n : ℕ) (child : Instance) → cell_at cells c ≡ OfInstance child → outputs_below cells states c n ≡ seen child unheld nothing (states c) (ports.Output n)
+outputs_at no_cells states c n child e = absurd (cc)
+outputs_at (a_primitive row rest) states zero n child e = absurd (cc)
+outputs_at (a_primitive row rest) states (suc c) n child e = outputs_at rest (λ k. states (suc k)) c n child e
+outputs_at (an_instance other rest) states zero n child e = ap (λ i. seen i unheld nothing (states 0) (ports.Output n)) (instance_is other child e)
+outputs_at (an_instance other rest) states (suc c) n child e = outputs_at rest (λ k. states (suc k)) c n child e

@@ -6,7 +6,7 @@ use Rattle.cx_meaning.specs.declared.ports.PlacedPort.{PlacedPort}
 use Rattle.cx_meaning.specs.declared.kinds.GroupKind.{GroupKind}
 use Rattle.cx_meaning.specs.declared.kinds.GroupKind.TheVariants as kinds
 use Rattle.cx_meaning.specs.Designs.{PlainDesign, PlainComponent, group_at, Enable, Seq, Par, If, While, Repeat, PlainStatement, Placed, PlainStatements, no_statements, a_statement, list_of}
-use Rattle.cx_meaning.specs.Instances.{Instance, Node, OfInstance, cell_at, cells_of, Cells, no_cells, a_primitive, an_instance, part_of, Path, State, instance_at, child_at, start, tree_of, under, idle, merge}
+use Rattle.cx_meaning.specs.Instances.{Instance, Node, OfInstance, cell_at, cells_of, Cells, part_of, Path, State, instance_at, child_at, start, tree_of, under, idle, merge}
 use Rattle.cx_meaning.specs.Sights.{Held, unheld, In}
 use Rattle.cx_meaning.specs.Cycles.{Fault}
 use Rattle.cx_meaning.specs.Answers.{Answer, End, Meaning, after_turns, then_do, stay, idle_turn, Test, Holds, Fails, chosen, test_turn, loop, rounds, both}
@@ -15,14 +15,14 @@ use Rattle.cx_meaning.specs.Budgets.{Beyond, Grows}
 use Rattle.cx_meaning.specs.Control.{drives, run, run_arms}
 use Rattle.cx_meaning.specs.Calls.{called, captures, fault_below, inputs_of_call, lift_answer, test, after_child, call, call_or_turns, enable_kind}
 use Rattle.cx_meaning.specs.Running.{leaves, run_main, run_control, run_statement, control_below}
-use Rattle.cx_meaning.proofs.RunningLemmas.{steady_statement}
+use Rattle.cx_meaning.proofs.RunningLemmas.{steady_statement, child_runs}
 use Rattle.cx_frames.proofs.AlikeLemmas.{a_fault}
 use Rattle.cx_orders.specs.Open.{Open}
 use Rattle.cx_orders.specs.Steps.{inputs_seen, held_as}
 use Rattle.cx_orders.specs.Alone.{if_dynamic, HasAlone, LeafHasAlone, own, of_arm, of_first, behind_first, of_then, of_else, of_body, behind_body, of_round, behind_round, of_child}
 use Rattle.cx_orders.specs.Woven.{Choices}
 use Rattle.cx_orders.proofs.Runs.{first_at}
-use Rattle.cx_meaning.proofs.InstancesLemmas.{here, instance_is, row_instance, nothing_instance}
+use Rattle.cx_meaning.proofs.InstancesLemmas.{here, child_is}
 
 -- a run that has a fault in one of its first turns
 abbrev pub Faulty : Answer State Fault → ℕ → Type 0
@@ -106,20 +106,6 @@ module _ (rest : State → State) (tests : State → Test Fault) (body : Meaning
   loops_same (suc few) (suc many) s zero less more = refl
   loops_same (suc few) (suc many) s (suc n) less more =
       ap (λ x. chosen (tests s) x (stay (rest s) n)) (behind_same few many (body (rest s) n) n (λ after k within. loops_same few many after k (omega arith) (omega arith)))
-
-child_is : (cells : Cells) (c : ℕ) (child : Instance) → cell_at cells c ≡ OfInstance child → (path : Path) → child_at cells c path ≡ instance_at child path
-child_is no_cells c child e path = absurd (nothing_instance child e)
-child_is (a_primitive row rest) zero child e path = absurd (row_instance row child e)
-child_is (a_primitive row rest) (suc c) child e path = child_is rest c child e path
-child_is (an_instance other rest) zero child e path = ap (λ i. instance_at i path) (instance_is other child e)
-child_is (an_instance other rest) (suc c) child e path = child_is rest c child e path
-
-child_runs : (cells : Cells) (c : ℕ) (child : Instance) → cell_at cells c ≡ OfInstance child → (held : Held) (s : State) (n : ℕ) → control_below cells c held s n ≡ run_control child held s n
-child_runs no_cells c child e held s n = absurd (nothing_instance child e)
-child_runs (a_primitive row rest) zero child e held s n = absurd (row_instance row child e)
-child_runs (a_primitive row rest) (suc c) child e held s n = child_runs rest c child e held s n
-child_runs (an_instance other rest) zero child e held s n = ap (λ i. run_control i held s n) (instance_is other child e)
-child_runs (an_instance other rest) (suc c) child e held s n = child_runs rest c child e held s n
 
 control_is : (i : Instance) (held : Held) (s : State) (n : ℕ) → run_statement i held (part_of i).control s n ≡ run_control i held s n
 control_is (Node part cells) held s n = refl

@@ -1,5 +1,5 @@
 -- Instances of accepted designs, statements inside others, and arms apart.
-use Rattle.std.proofs.Common.{◌≡◌, ℕ, suc, ◌<◌, inl, inr, ◌⊎◌, Bool, true, false, ◌||◌, List, [], ◌∷◌, ◌++◌, Option, Some, None, length, refl, ap, ◌∙◌, subst, arith}
+use Rattle.std.proofs.Common.{◌≡◌, ℕ, suc, ◌<◌, inl, inr, ◌⊎◌, Bool, true, false, ◌||◌, List, [], ◌∷◌, ◌++◌, Some, length, refl, ap, ◌∙◌, subst, arith}
 use Rattle.std.specs.Prelude.{flat_map, slice_get}
 use Rattle.cx_meaning.specs.declared.ports.PlacedPort.{PlacedPort}
 use Rattle.cx_meaning.specs.declared.ports.PortRef.{PortRef}
@@ -25,7 +25,7 @@ use Rattle.cx_frames.proofs.SightFrames.{InFrame, in_frame, IsThrough}
 use Rattle.cx_frames.proofs.StatementFrames.{visited}
 use Rattle.cx_orders.specs.Leaves.{is_among, is_tested}
 use Rattle.cx_meaning.proofs.SightsLaws.{of_joined, in_left, in_right}
-use Rattle.cx_rules.proofs.ItemsLemmas.{tests_flat}
+use Rattle.cx_rules.proofs.ItemsLemmas.{tests_flat, option_in}
 use Rattle.cx_text.proofs.NumberLaws.{suc_zero, zero_suc}
 use Rattle.cx_rules.proofs.CirclesLemmas.{cells_below}
 use Rattle.cx_rules.proofs.InvokesLemmas.{drives_more, reads_more}
@@ -71,11 +71,6 @@ module _ (st : PlainStatement) (gs hs : List ℕ) (vs ws : List Visited) (h : In
 
   pub inside_right : Inside st hs ws
   inside_right = record { groups = λ g j. h.groups g (in_right gs hs g j); forms = λ v j. h.forms v (in_right vs ws v j) }
-
-option_in : (o : Option PlacedPort) (p : PlacedPort) → In (option_list o) p → o ≡ Some p
-option_in None p j = absurd j
-option_in (Some q) p (inl e) = ap Some e
-option_in (Some q) p (inr none) = absurd none
 
 flat_inside : (st : PlainStatement) (vs : List Visited) (p : PlacedPort) → ((v : Visited) → In vs v → In (visit Dynamic st) v) → In (flat_map (λ v. option_list (test_in v.form)) vs) p → In (tests_of st) p
 flat_inside st [] p h j = absurd j

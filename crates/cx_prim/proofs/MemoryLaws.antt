@@ -178,7 +178,7 @@ word_at_below w count sizes inputs words ok =
 abbrev memory_tail : ℕ → List PortRow
 memory_tail w = plain_port WriteData w ∷ enable_port WriteEn ∷ output_port ReadData w ∷ registered_port Done 1 ∷ []
 
-address_count : (w : ℕ) (sizes address_widths : List ℕ) → IsLayout w sizes address_widths → length (address_ports address_widths) ≡ length sizes
+pub address_count : (w : ℕ) (sizes address_widths : List ℕ) → IsLayout w sizes address_widths → length (address_ports address_widths) ≡ length sizes
 address_count w sizes address_widths layout =
     let few = layout.few in let alike = layout.alike in
     length-ports_named (Addr0 ∷ Addr1 ∷ Addr2 ∷ Addr3 ∷ []) address_widths (omega arith) ∙ layout.alike

@@ -12,16 +12,15 @@ use Rattle.cx_rewrites.specs.Beside.{joined, FormBeside, outright, empties, seqs
 use Rattle.cx_rewrites.proofs.BesideLemmas.{run_carries}
 use Rattle.cx_meaning.proofs.SightsLaws.{behind_comb, in_comb}
 
-below_comb : {G : ℕ → Type 0} {P : PlainForm → Type 0} (comb : Option ℕ) (gs : List ℕ) (vs : List Visited) → Holds G P (with_comb comb gs) vs → Holds G P gs vs
+pub below_comb : {G : ℕ → Type 0} {P : PlainForm → Type 0} (comb : Option ℕ) (gs : List ℕ) (vs : List Visited) → Holds G P (with_comb comb gs) vs → Holds G P gs vs
 below_comb comb gs vs h = record { groups = λ g i. h.groups g (behind_comb comb gs g i); forms = h.forms }
 
 -- an arm more at the end
-with_last : PlainStatements → PlainStatement → PlainStatements
+abbrev pub with_last : PlainStatements → PlainStatement → PlainStatements
 with_last no_statements s = a_statement s no_statements
 with_last (a_statement first rest) s = a_statement first (with_last rest s)
 
-joined-with_last : (done : PlainStatements) (s : PlainStatement) (later : PlainStatements) → joined (with_last done s) later ≡ joined done (a_statement s later)
-unfolding with_last
+pub joined-with_last : (done : PlainStatements) (s : PlainStatement) (later : PlainStatements) → joined (with_last done s) later ≡ joined done (a_statement s later)
 joined-with_last no_statements s later = refl
 joined-with_last (a_statement first rest) s later = ap (a_statement first) (joined-with_last rest s later)
 

@@ -8,7 +8,7 @@ use Rattle.cx_meaning.specs.Instances.{Instance, Node, Cells, no_cells, a_primit
 use Rattle.cx_rewrites.specs.Standing.{renumbered, renumbered_below, holds, holds_below, Stands, IsRenumbered, AreRenumbered}
 use Rattle.cx_meaning.proofs.InstancesLemmas.{just_true, idle_below-row}
 
-idle_below-child : (cells : Cells) (c : ℕ) (child : Instance) (path : Path) (d : CellState) → cell_at cells c ≡ OfInstance child → idle_below cells c path d ≡ idle_at child path d
+pub idle_below-child : (cells : Cells) (c : ℕ) (child : Instance) (path : Path) (d : CellState) → cell_at cells c ≡ OfInstance child → idle_below cells c path d ≡ idle_at child path d
 idle_below-child no_cells c child path d e = absurd (cc)
 idle_below-child (a_primitive own rest) zero child path d e = absurd (cc)
 idle_below-child (a_primitive own rest) (suc c) child path d e = idle_below-child rest c child path d e

@@ -171,3 +171,8 @@ module _ (d : PlainDesign) (accepted : IsAccepted d) where
 
   pub instance_group : (path : Path) (g : ℕ) → g < length (part_of (instance_at (tree_of d) path)).groups → IsAcyclic (instance_at (tree_of d) path) (group g)
   instance_group path g h = reached_group g (reached d path (length d.components) d.main) h
+
+-- one step more
+pub depends_then : {i : Instance} {act : Active} {p q r : PortRef} → Depends i act p q → Leads i act q r → Depends i act p r
+depends_then {q = q} (at_once l) m = by_way_of q l (at_once m)
+depends_then (by_way_of s l d) m = by_way_of s l (depends_then d m)

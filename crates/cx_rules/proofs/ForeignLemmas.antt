@@ -5,7 +5,7 @@ use Rattle.cx_prim.specs.Rows.{Row}
 use Rattle.cx_meaning.specs.declared.ports.PortRef.{PortRef}
 use Rattle.cx_meaning.specs.declared.ports.PortRef.TheVariants as ports
 use Rattle.cx_meaning.specs.Rows.{side_of}
-use Rattle.cx_meaning.specs.Designs.{PlainAssign, PlainGroup, group_at, no_group}
+use Rattle.cx_meaning.specs.Designs.{PlainAssign, PlainGroup, group_at, no_group, PlainComponent}
 use Rattle.cx_meaning.specs.Instances.{Instance, Node, OfRow, cell_at, cells_of, part_of, State, under}
 use Rattle.cx_meaning.specs.Active.{Active, Owned, owned, owned_by_groups, by_place, source_order, offset_of, if_acting, if_target, acting, same_port, drivers}
 use Rattle.cx_meaning.specs.Sights.{Look, Below, Held, bit_of, target_seen, cell_step, side_step, step, In, outputs_below, approach, ports_of, seen}
@@ -87,3 +87,15 @@ module _ (i : Instance) (act : Active) (c p : ℕ)
       where
         of_node : (n : Instance) → ((below : Below) → step n held act s (approach n held act s below (length (ports_of n))) below (ports.Cell c p) ≡ bit_of false) → seen n held act s (ports.Cell c p) ≡ bit_of false
         of_node (Node part cells) h = h (outputs_below cells (λ k. under k s))
+
+-- an assignment is a continuous one, or one of a group
+pub data OwnerOf (part : PlainComponent) (o : Owned) : Type 0 where
+  continuous : o.owner ≡ None → In part.always o.assign → OwnerOf part o
+  of_group : (g : ℕ) → o.owner ≡ Some g → In (group_at part g).assigns o.assign → OwnerOf part o
+
+pub owner_of : (part : PlainComponent) (o : Owned) → In (source_order part) o → OwnerOf part o
+owner_of part o i =
+    ⊎_elim
+    (λ j. let r = owned_among None part.always o j in continuous r.0 r.1)
+    (λ j. let r = groups_among 0 part.groups o j in let e : 0 + r.number ≡ r.number = omega arith in of_group r.number (r.owner ∙ ap Some e) r.stands)
+    (split (owned None part.always) (owned_by_groups 0 part.groups) o (sorted_among _ o i))

@@ -7,20 +7,22 @@ use Rattle.cx_prim.specs.Rows.{Row}
 use Rattle.cx_meaning.specs.declared.ports.PortRef.{PortRef}
 use Rattle.cx_meaning.specs.declared.ports.PortRef.TheVariants as ports
 use Rattle.cx_meaning.specs.Rows.{side_of}
-use Rattle.cx_meaning.specs.Designs.{PlainAssign, PlainComponent}
+use Rattle.cx_meaning.specs.Designs.{PlainAssign, PlainComponent, All, Always, Any, Atom, Compared, Negation, PlainGuard, PlainGuards, Within, a_guard, no_guards}
 use Rattle.cx_meaning.specs.Instances.{Instance, Node, Cells, no_cells, a_primitive, an_instance, At, Nothing, OfRow, OfInstance, part_of, cells_of, cell_at, State, under}
 use Rattle.cx_meaning.specs.Active.{Active, nothing, Acting, Owned, source_order, offset_of, if_acting, if_target, acting, same_port, drivers}
 use Rattle.cx_meaning.specs.Truths.{Truth, One, Zero}
 use Rattle.cx_meaning.specs.Truths as truths
-use Rattle.cx_meaning.specs.Sights.{Look, Below, Held, unheld, guard_truth, Taken, Sources, Stopped, take_guard, taken, PartPort, Go, AnInput, AnOutput, ItsDone, part_port, step, In, IsTaken, TargetNeeds, SideNeeds, PartNeeds, CellNeeds, Needs, Sees, by_step, approach, steps_enough, numbered, ports_of_cells, ports_of, seen, outputs_below}
+use Rattle.cx_meaning.specs.Sights.{Look, Below, Held, unheld, guard_truth, Taken, Sources, Stopped, take_guard, taken, PartPort, Go, AnInput, AnOutput, ItsDone, part_port, step, In, IsTaken, TargetNeeds, SideNeeds, PartNeeds, CellNeeds, Needs, Sees, by_step, approach, steps_enough, numbered, ports_of_cells, ports_of, seen, outputs_below, AnyNames, GuardNames}
 use Rattle.cx_meaning.proofs.SightsLemmas.{one_sight}
-use Rattle.cx_rules.specs.Footprints.{Mentions, SideLeads, PartLeads, CellLeads, Leads, Depends, at_once, by_way_of}
+use Rattle.cx_rules.specs.Footprints.{Mentions, SideLeads, PartLeads, CellLeads, Leads, Depends, at_once, by_way_of, AssignNames}
 use Rattle.cx_rules.specs.Circles.{IsAcyclic, AreAcyclic, AcyclicBelow}
 use Rattle.cx_rules.proofs.Finite.{Distinct, distinct_few}
 use Rattle.cx_text.proofs.BoolLaws.{and_both}
 use Rattle.cx_meaning.proofs.InstancesLemmas.{instance_is, row_is, instance_row, row_instance, nothing_instance, nothing_row}
 use Rattle.cx_meaning.proofs.RowsLemmas.{side_below}
-use Rattle.cx_meaning.proofs.SightsLaws.{in_left, in_right}
+use Rattle.cx_meaning.proofs.SightsLaws.{in_left, in_right, in_either}
+use Rattle.cx_meaning.specs.declared.ports.PlacedPort.{PlacedPort}
+use Rattle.cx_rules.specs.Items.{sources_of, operands_in, operands_of}
 
 -- what a step needs leads to the port
 abbrev IsSource : List Acting → PortRef → Type 0
@@ -100,7 +102,7 @@ acting_in act p (o ∷ rest) a i =
     (λ j. let r = acting_in act p rest a j in (r.0, inr r.1, r.2, r.3))
     (if_target_in (same_port o.assign.target p) act o (acting act p rest) a i)
 
-target_in : (list : List Owned) (o : Owned) (p : PortRef) → In list o → o.assign.target ≡ p → In (map (λ x. x.assign.target) list) p
+pub target_in : (list : List Owned) (o : Owned) (p : PortRef) → In list o → o.assign.target ≡ p → In (map (λ x. x.assign.target) list) p
 target_in [] o p i e = absurd i
 target_in (x ∷ rest) o p (inl f) e = inl (ap (λ y. y.assign.target) f ∙ e)
 target_in (x ∷ rest) o p (inr i) e = inr (target_in rest o p i e)
@@ -215,3 +217,46 @@ mutual
 pub seen_solves : (i : Instance) (held : Held) (act : Active) (s : State) → IsAcyclic i act → AcyclicBelow (cells_of i) → (p : PortRef) → seen i held act s p ≡ step i held act s (seen i held act s) (outputs_below (cells_of i) (λ c. under c s)) p
 seen_solves (Node part cells) held act s acyclic deeper p =
     solved (Node part cells) act acyclic held s (outputs_below cells (λ c. under c s)) (below_found cells (λ c. under c s) deeper) (seen (Node part cells) held act s) (seen_found (Node part cells) held act s acyclic deeper) p
+
+-- what a guard names is among its operands
+mutual
+  pub guard_operand : (g : PlainGuard) (q : PortRef) → GuardNames g q → (p : PlacedPort) × In (operands_of g) p × (p.port ≡ q)
+  guard_operand Always q n = absurd n
+  guard_operand (Atom p) q n = (p, inl refl, n)
+  guard_operand (Negation g) q n = guard_operand g q n
+  guard_operand (All gs) q n = guards_operand gs q n
+  guard_operand (Any gs) q n = guards_operand gs q n
+  guard_operand (Compared c a b) q (inl e) = (a, inl refl, e)
+  guard_operand (Compared c a b) q (inr e) = (b, inr (inl refl), e)
+  guard_operand (Within from to) q n = absurd n
+
+  guards_operand : (gs : PlainGuards) (q : PortRef) → AnyNames gs q → (p : PlacedPort) × In (operands_in gs) p × (p.port ≡ q)
+  guards_operand no_guards q n = absurd n
+  guards_operand (a_guard g gs) q (inl n) = let r = guard_operand g q n in (r.0, in_left (operands_of g) (operands_in gs) r.0 r.1, r.2)
+  guards_operand (a_guard g gs) q (inr n) = let r = guards_operand gs q n in (r.0, in_right (operands_of g) (operands_in gs) r.0 r.1, r.2)
+
+-- and each operand is named
+mutual
+  pub operand_named : (g : PlainGuard) (p : PlacedPort) → In (operands_of g) p → GuardNames g p.port
+  operand_named Always p i = absurd i
+  operand_named (Atom x) p (inl e) = ap (λ (y : PlacedPort). y.port) e
+  operand_named (Atom x) p (inr i) = absurd i
+  operand_named (Negation g) p i = operand_named g p i
+  operand_named (All gs) p i = operands_named gs p i
+  operand_named (Any gs) p i = operands_named gs p i
+  operand_named (Compared c a b) p (inl e) = inl (ap (λ (y : PlacedPort). y.port) e)
+  operand_named (Compared c a b) p (inr (inl e)) = inr (ap (λ (y : PlacedPort). y.port) e)
+  operand_named (Compared c a b) p (inr (inr i)) = absurd i
+  operand_named (Within from to) p i = absurd i
+
+  operands_named : (gs : PlainGuards) (p : PlacedPort) → In (operands_in gs) p → AnyNames gs p.port
+  operands_named no_guards p i = absurd i
+  operands_named (a_guard g gs) p i = ⊎_elim (λ j. inl (operand_named g p j)) (λ j. inr (operands_named gs p j)) (in_either (operands_of g) (operands_in gs) p i)
+
+pub source_in : (a : PlainAssign) (q : PortRef) → AssignNames a q → (p : PlacedPort) × In (sources_of a) p × (p.port ≡ q)
+source_in a q (inl n) = let r = guard_operand a.guard q n in (r.0, inr r.1, r.2)
+source_in a q (inr e) = (a.source, inl refl, e)
+
+pub source_named : (a : PlainAssign) (p : PlacedPort) → In (sources_of a) p → AssignNames a p.port
+source_named a p (inl e) = inr (ap (λ (x : PlacedPort). x.port) e)
+source_named a p (inr i) = inl (operand_named a.guard p i)

@@ -120,3 +120,26 @@ pick_false t x y e = ap (λ t. if t then x else y) e
 pub if_same : {A : Type 0} (b : Bool) (x : A) → (if b then x else x) ≡ x
 if_same true x = refl
 if_same false x = refl
+
+pub neither_first : (a b : Bool) → (a || b) ≡ false → a ≡ false
+neither_first true b e = e
+neither_first false b e = refl
+
+pub neither_second : (a b : Bool) → (a || b) ≡ false → b ≡ false
+neither_second true b e = absurd (cc)
+neither_second false b e = e
+
+pub all_three : (a b c : Bool) → (a && b && c) ≡ true → (a ≡ true) × (b ≡ true) × (c ≡ true)
+all_three true true true e = (refl, refl, refl)
+all_three true true false e = absurd (cc)
+all_three true false true e = absurd (cc)
+all_three true false false e = absurd (cc)
+all_three false true true e = absurd (cc)
+all_three false true false e = absurd (cc)
+all_three false false true e = absurd (cc)
+all_three false false false e = absurd (cc)
+
+pub bools_same : (a b : Bool) → (a ≡ true → b ≡ true) → (b ≡ true → a ≡ true) → a ≡ b
+bools_same true b one other = sym (one refl)
+bools_same false true one other = other refl
+bools_same false false one other = refl

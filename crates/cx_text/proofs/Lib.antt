@@ -5,3 +5,4 @@ pub mod BoolLaws
 pub mod NumberLaws
 pub mod ListLaws
 pub mod LoadingLemmas
+pub mod SpanLemmas

@@ -1,11 +1,12 @@
 -- Facts of lists: members, places, what stands where.
-use Rattle.std.proofs.Common.{◌≡◌, ℕ, zero, suc, ◌<◌, List, [], ◌∷◌, length, Some, arith, refl, get_or, option_map, map, ap, ◌∙◌, ◌++◌, ◌+◌, take, ◌⊎◌, inl, inr, ⊎_elim, ◌≢◌, set, drop, drop-cons, sym, add-one, replicate, Bool, true, false, ◌&&◌, if◌then◌else◌, ◌-◌, ◌≤◌, slice_set}
+use Rattle.std.proofs.Common.{◌≡◌, ℕ, zero, suc, ◌<◌, List, [], ◌∷◌, length, Some, arith, refl, get_or, option_map, map, ap, ◌∙◌, ◌++◌, ◌+◌, take, ◌⊎◌, inl, inr, ⊎_elim, ◌≢◌, set, drop, drop-cons, sym, add-one, replicate, Bool, true, false, ◌&&◌, if◌then◌else◌, ◌-◌, ◌≤◌, slice_set, ap₂, append_assoc}
 use Rattle.std.specs.Prelude.{slice_get}
 use Rattle.std.proofs.lemmas.Option.{slice_get-map, slice_get_read}
 use Rattle.std.proofs.Math.Seq.{take-append_seam}
-use Rattle.std.specs.List.{list_all}
+use Rattle.std.specs.List.{list_all, range_with_len}
 use Rattle.std.proofs.lemmas.Bool.{cases_eq}
 use Rattle.std.proofs.lemmas.List.{get_or-set_same, get_or-set_other}
+use Rattle.std.proofs.lemmas.List.FromFn.{map-range_with_len_more}
 
 pub there_below : {A : Type 0} (xs : List A) (n : ℕ) (x : A) → slice_get xs n ≡ Some x → n < length xs
 there_below [] n x e = absurd (cc)
@@ -130,3 +131,28 @@ take_all [] zero le = refl
 take_all [] (suc k) le = refl
 take_all (x ∷ xs) zero le = absurd (let h : suc (length xs) ≤ 0 = le in omega (arith, h))
 take_all (x ∷ xs) (suc k) le = ap (λ ys. x ∷ ys) (take_all xs k (let h : suc (length xs) ≤ suc k = le in omega (arith, h)))
+
+pub same_map : {A : Type 0} (f : A → A) → ((x : A) → f x ≡ x) → (xs : List A) → map f xs ≡ xs
+same_map f h [] = refl
+same_map f h (x ∷ xs) = ap (λ y. y ∷ map f xs) (h x) ∙ ap (λ ys. x ∷ ys) (same_map f h xs)
+
+pub at_map : {A B : Type 0} (f : A → B) (list : List A) (n : ℕ) (y : B) → slice_get (map f list) n ≡ Some y → (x : A) × (slice_get list n ≡ Some x) × (f x ≡ y)
+at_map f [] n y e = absurd (cc)
+at_map f (x ∷ xs) zero y e = (x, refl, cc)
+at_map f (x ∷ xs) (suc n) y e = at_map f xs n y e
+
+pub nothing_more : {A : Type 0} (xs : List A) → xs ++ [] ≡ xs
+nothing_more [] = refl
+nothing_more (x ∷ xs) = ap (λ list. x ∷ list) (nothing_more xs)
+
+pub both_none : {A : Type 0} (xs ys : List A) → xs ≡ [] → ys ≡ [] → xs ++ ys ≡ []
+both_none xs ys e h = ap₂ ◌++◌ e h
+
+-- an item for each number, behind a list
+range_appended : {A : Type 0} (f : ℕ → A) (old xs ys : List A) (x : A) (n : ℕ) → ys ≡ xs ++ x ∷ [] → xs ≡ old ++ map f (range_with_len 0 n) → x ≡ f n → ys ≡ old ++ map f (range_with_len 0 (n + 1))
+range_appended f old xs ys x n pushed so_far is =
+    pushed ∙ ap (λ l. l ++ x ∷ []) so_far ∙ ap (λ y. (old ++ map f (range_with_len 0 n)) ++ y ∷ []) is ∙ append_assoc old (map f (range_with_len 0 n)) (f n ∷ [])
+    ∙ ap (λ l. old ++ l) (sym (map-range_with_len_more f 0 n n (omega arith)))
+
+pub range_pushed : {A : Type 0} (f : ℕ → A) (xs ys : List A) (x : A) (n : ℕ) → ys ≡ xs ++ x ∷ [] → xs ≡ map f (range_with_len 0 n) → x ≡ f n → ys ≡ map f (range_with_len 0 (n + 1))
+range_pushed f xs ys x n = range_appended f [] xs ys x n

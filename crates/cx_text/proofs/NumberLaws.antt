@@ -92,3 +92,6 @@ same_choice j n x y u v f g =
 
 pub true_false_also : {A : Type 0} → true ≡ false → A
 true_false_also e = absurd cc
+
+pub eq_next : (c d : ℕ) → nat_eq c d ≡ nat_eq (suc c) (suc d)
+eq_next c d = grind (arith, tests)

@@ -1,5 +1,6 @@
 -- Facts of options.
-use Rattle.std.proofs.Common.{◌≡◌, Option, Some, None, option_map, refl, option_and_then, ℕ, IsSome, Bool, true, false, if◌then◌else◌, sym, subst}
+use Rattle.std.proofs.Common.{◌≡◌, Option, Some, None, option_map, refl, option_and_then, ℕ, IsSome, Bool, true, false, if◌then◌else◌, sym, subst, is_some, true≢false}
+use Rattle.std.specs.Option.{option_or}
 
 pub map_some : {A B : Type 0} (f : A → B) (o : Option A) (y : B) → option_map f o ≡ Some y → (x : A) × (o ≡ Some x) × (f x ≡ y)
 map_some f None y e = absurd (cc)
@@ -57,3 +58,14 @@ more_choice false a b c d y one other e = other e
 
 pub some_by : {A : Type 0} (o : Option A) (x : A) → o ≡ Some x → IsSome o
 some_by o x e = subst IsSome (sym e) refl
+
+pub none_of : {A : Type 0} (o : Option A) → is_some o ≡ false → o ≡ None
+none_of None h = refl
+none_of (Some x) h = absurd (true≢false h)
+
+pub none_or_some : {A : Type 0} (o : Option A) (x : A) → o ≡ None → o ≡ Some x → ⊥
+none_or_some o x e f = cc
+
+pub option_or-none : {A : Type 0} (o : Option A) → option_or o None ≡ o
+option_or-none None = refl
+option_or-none (Some x) = refl

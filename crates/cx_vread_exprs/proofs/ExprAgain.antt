@@ -13,14 +13,15 @@ use Rattle.cx_vtree.specs.Plain.{PlainExpr, Named, Number, Part, Word, Applied, 
 use Rattle.cx_vtree.specs.Sound.{nests_over}
 use Rattle.cx_vread_exprs.specs.Places as Places
 use Rattle.cx_vread_exprs.specs.Places.{Place, Reads, then_reads, then_at, after_text, begins}
-use Rattle.cx_vread_exprs.specs.Tokens.{front, back, name_at, is_digit_in, is_numeral, digits_at, number_at, capped, no_more, kept_small, kept_literal, misnamed, miswidened, small_at, literal_at}
+use Rattle.cx_text.specs.Spans.{front, back, Stops}
+use Rattle.cx_text.proofs.SpanLemmas.{front_again, back_again}
+use Rattle.cx_vread_exprs.specs.Tokens.{name_at, is_digit_in, is_numeral, digits_at, number_at, capped, no_more, kept_small, kept_literal, misnamed, miswidened, small_at, literal_at}
 use Rattle.cx_vread_exprs.specs.Exprs.{operator_at, is_part, part_by, item_by, bracketed_by, named_by, behind_by, applied_by, chosen_by, round_by, inverted_by, brackets_by, by_first, expr_at, inner_at, nested_at}
 use Rattle.cx_vread_exprs.specs.Holds.{numbers_fit}
 use Rattle.cx_vread_exprs.proofs.Kept.{kept_expr}
 use Rattle.cx_vread_exprs.proofs.Numerals.{capped_some, capped_none}
 use Rattle.cx_vread_exprs.proofs.Levels.{expr_at_is}
 use Rattle.cx_vread_exprs.proofs.NumberAgain.{clean, digits_again, number_again, text_digits, text_numeral, text_value}
-use Rattle.cx_vread_exprs.proofs.Spans.{Stops, front_again, back_again}
 
 -- neither a name nor an expression goes on
 pub record Ends (rest : List ℕ) : Type 0 where

@@ -15,9 +15,10 @@ use Rattle.cx_vtree.specs.Layout.{is_name_byte, is_word, is_name}
 use Rattle.cx_vtree.specs.Lines.{glyph, number_text}
 use Rattle.cx_vread_exprs.specs.Numbers.{IsBase}
 use Rattle.cx_vread_exprs.specs.Places.{Place, Reads, moved, then_reads, then_at, after, after_text, at_bytes}
-use Rattle.cx_vread_exprs.specs.Tokens.{front, back, word_at, name_at, is_digit_in, is_numeral, digits_at}
+use Rattle.cx_text.specs.Spans.{front, back}
+use Rattle.cx_text.proofs.SpanLemmas.{front-back, front_passes}
+use Rattle.cx_vread_exprs.specs.Tokens.{word_at, name_at, is_digit_in, is_numeral, digits_at}
 use Rattle.cx_vread_exprs.proofs.Numerals.{all_below}
-use Rattle.cx_vread_exprs.proofs.Spans.{front-back, front_passes}
 use Rattle.cx_vread_exprs.proofs.NumbersLemmas.{two_least}
 
 -- a text stands at a place, and another place behind it

@@ -1,4 +1,3 @@
-pub mod Spans
 pub mod Texts
 pub mod Numerals
 pub mod Levels

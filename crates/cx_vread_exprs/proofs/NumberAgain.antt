@@ -12,8 +12,9 @@ use Rattle.std.proofs.lemmas.Str.{digit_value-digit_char}
 use Rattle.cx_vtree.specs.Lines.{glyph, number_text}
 use Rattle.cx_vread_exprs.specs.Numbers.{IsBase}
 use Rattle.cx_vread_exprs.specs.Places.{Place, then_reads}
-use Rattle.cx_vread_exprs.specs.Tokens.{back, is_digit_in, is_numeral, digits_at, number_at, any_number_at, capped}
-use Rattle.cx_vread_exprs.proofs.Spans.{Stops, front_again, back_again}
+use Rattle.cx_text.specs.Spans.{back, Stops}
+use Rattle.cx_text.proofs.SpanLemmas.{front_again, back_again}
+use Rattle.cx_vread_exprs.specs.Tokens.{is_digit_in, is_numeral, digits_at, number_at, any_number_at, capped}
 use Rattle.cx_vtree.proofs.LinesLemmas.{positive_text}
 use Rattle.cx_vread_exprs.proofs.NumbersLemmas.{two_least}
 

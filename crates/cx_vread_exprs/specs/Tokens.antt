@@ -4,15 +4,7 @@ use Rattle.std.specs.Str.Parse.{digits_value}
 use Rattle.cx_vtree.specs.Layout.{is_name_byte, is_word, is_name}
 use Rattle.cx_vtree.specs.Plain.{PlainExpr, Named, Number, Joined}
 use Rattle.cx_vread_exprs.specs.Places.{Place, Reads, moved, then_reads, then_at, after}
-
--- the bytes from the front on that pass a test, and those behind them
-abbrev pub front : (ℕ → Bool) → List ℕ → List ℕ
-front test [] = []
-front test (b ∷ bs) = if test b then b ∷ front test bs else []
-
-abbrev pub back : (ℕ → Bool) → List ℕ → List ℕ
-back test [] = []
-back test (b ∷ bs) = if test b then back test bs else b ∷ bs
+use Rattle.cx_text.specs.Spans.{front, back}
 
 abbrev pub word_at : Place → Reads (List ℕ)
 word_at p = if is_word (front is_name_byte p.rest) then Some (front is_name_byte p.rest, moved p (back is_name_byte p.rest)) else None

@@ -3,7 +3,8 @@
 ghost use Rattle.std.specs.Prelude.{◌≡◌};
 ghost use Rattle.cx_vtree.specs.Layout as layout;
 ghost use Rattle.cx_vread_exprs.specs.Answers.{Gives, place_of};
-ghost use Rattle.cx_vread_exprs.specs.Tokens.{front, back, word_at, name_at};
+ghost use Rattle.cx_text.specs.Spans.{front, back};
+ghost use Rattle.cx_vread_exprs.specs.Tokens.{word_at, name_at};
 
 use crate::faults::Fault;
 use crate::places::ReadPoint;

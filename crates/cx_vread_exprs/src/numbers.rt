@@ -4,6 +4,7 @@ ghost use Rattle.std.specs.Prelude.{◌≡◌, ◌≤◌, ◌<◌, ◌^◌, true
 ghost use Rattle.std.specs.Char.{digit_value};
 ghost use Rattle.std.specs.List.{list_all};
 ghost use Rattle.std.specs.Str.Parse.{digits_value};
+ghost use Rattle.cx_text.specs.Spans.{front, back};
 ghost use Rattle.cx_vtree.specs.Plain.{Number};
 ghost use Rattle.cx_vtree.specs.PlainParts.{plain_expr};
 ghost use Rattle.cx_vread_exprs.specs.Answers.{Gives, place_of};
@@ -29,7 +30,7 @@ fn is_digit(base: u32, byte: u8) -> bool
 
 /// The bytes after the digits that the bytes begin with.
 fn behind(base: u32, text: &[u8]) -> &[u8]
-    ensures { result.now ≡ tokens.back (tokens.is_digit_in base) text.now }
+    ensures { result.now ≡ back (tokens.is_digit_in base) text.now }
 {
     let mut rest = text;
     while let Some((byte, after)) = rest.split_first() {
@@ -43,8 +44,8 @@ fn behind(base: u32, text: &[u8]) -> &[u8]
 
 /// The digits that the bytes begin with, and those behind them.
 fn span(base: u32, text: &[u8]) -> (&[u8], &[u8])
-    ensures front { result.0.now ≡ tokens.front (tokens.is_digit_in base) text.now }
-    ensures back { result.1.now ≡ tokens.back (tokens.is_digit_in base) text.now }
+    ensures front { result.0.now ≡ front (tokens.is_digit_in base) text.now }
+    ensures back { result.1.now ≡ back (tokens.is_digit_in base) text.now }
 {
     let rest = behind(base, text);
     (&text[..text.len() - rest.len()], rest)
@@ -62,7 +63,7 @@ fn is_numeral(digits: &[u8]) -> bool
 }
 
 /// The digits of the number that the bytes begin with.
-#[tactic(auto, using(crate::proofs::Spans::front_passes))]
+#[tactic(auto, using(cx_text::proofs::SpanLemmas::front_passes))]
 fn digits<'a>(base: u32, at: ReadPoint<'a>) -> Result<(&'a [u8], ReadPoint<'a>), Fault>
     ensures digits { IfOk result (λ x. list_all (tokens.is_digit_in base) x.0.now ≡ true) }
     ensures some { IfOk result (λ x. tokens.is_numeral x.0.now ≡ true) }

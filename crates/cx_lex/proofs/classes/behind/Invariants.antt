@@ -1,6 +1,6 @@
 use Rattle.std.proofs.Common.{◌≡◌, length}
 use Rattle.cx_lex.specs.Classes.{passes}
-use Rattle.cx_lex.specs.Reading.{back}
+use Rattle.cx_text.specs.Spans.{back}
 use Rattle.cx_lex.proofs.classes.behind.Given as goal
 
 abbrev pub invariant-loop-byte : goal.invariant-loop-byte

@@ -1,7 +1,7 @@
 use Rattle.std.proofs.Common.{◌≡◌, ◌-◌, ◌≤◌, length, take, sym, subst}
 use Rattle.cx_lex.specs.Classes.{passes}
-use Rattle.cx_lex.specs.Reading.{front}
-use Rattle.cx_lex.proofs.SpanLemmas.{length-back-le, front_is_take}
+use Rattle.cx_text.specs.Spans.{front}
+use Rattle.cx_text.proofs.SpanLemmas.{length-back-le, front_is_take}
 use Rattle.cx_lex.proofs.classes.span.Goals as goal
 
 pub slice_bounds-result-count : goal.slice_bounds-result-count

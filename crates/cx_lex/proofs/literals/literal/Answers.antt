@@ -1,6 +1,6 @@
 use Rattle.std.proofs.Common.{sym, subst}
 use Rattle.std.specs.Str.Parse.{AllDigits}
-use Rattle.cx_lex.proofs.SpanLemmas.{front_digits}
+use Rattle.cx_lex.proofs.DigitLemmas.{front_digits}
 use Rattle.cx_lex.proofs.literals.literal.Goals as goal
 
 pub valued-requires-clause-digits : goal.valued-requires-clause-digits

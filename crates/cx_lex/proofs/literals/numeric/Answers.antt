@@ -1,6 +1,6 @@
 use Rattle.std.proofs.Common.{sym, subst}
 use Rattle.std.specs.Str.Parse.{AllDigits}
-use Rattle.cx_lex.proofs.SpanLemmas.{front_digits}
+use Rattle.cx_lex.proofs.DigitLemmas.{front_digits}
 use Rattle.cx_lex.proofs.literals.numeric.Goals as goal
 
 pub literal-requires : goal.literal-requires

@@ -1,6 +1,6 @@
 use Rattle.std.proofs.Common.{◌≡◌, length}
 use Rattle.cx_vtree.specs.Layout.{is_name_byte}
-use Rattle.cx_vread_exprs.specs.Tokens.{back}
+use Rattle.cx_text.specs.Spans.{back}
 use Rattle.cx_vread_exprs.proofs.names.behind.Given as goal
 
 abbrev pub invariant-loop-byte : goal.invariant-loop-byte

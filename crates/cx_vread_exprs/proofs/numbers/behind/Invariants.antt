@@ -1,5 +1,6 @@
 use Rattle.std.proofs.Common.{◌≡◌, length}
-use Rattle.cx_vread_exprs.specs.Tokens.{back, is_digit_in}
+use Rattle.cx_text.specs.Spans.{back}
+use Rattle.cx_vread_exprs.specs.Tokens.{is_digit_in}
 use Rattle.cx_vread_exprs.proofs.numbers.behind.Given as goal
 
 abbrev pub invariant-loop-byte : goal.invariant-loop-byte

@@ -1,6 +1,7 @@
 use Rattle.std.proofs.Common.{◌≡◌, ◌-◌, ◌≤◌, length, take, sym, subst}
-use Rattle.cx_vread_exprs.specs.Tokens.{front, is_digit_in}
-use Rattle.cx_vread_exprs.proofs.Spans.{length-back-le, front_is_take}
+use Rattle.cx_text.specs.Spans.{front}
+use Rattle.cx_text.proofs.SpanLemmas.{length-back-le, front_is_take}
+use Rattle.cx_vread_exprs.specs.Tokens.{is_digit_in}
 use Rattle.cx_vread_exprs.proofs.numbers.span.Goals as goal
 
 pub slice_bounds-result-count : goal.slice_bounds-result-count

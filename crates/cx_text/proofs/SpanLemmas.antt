@@ -1,15 +1,10 @@
--- The bytes from the front on that pass a test, and those behind them.
+-- The bytes from the front of a text on that pass a test, and those behind them, are the text; and where such a front stands before what fails the test, they are told apart again.
 use Rattle.std.proofs.Common.{◌≡◌, ℕ, ◌-◌, ◌≤◌, Bool, true, false, List, [], ◌∷◌, ◌++◌, length, take, refl, ◌∙◌, ap, subst, arith, length-append, if◌then◌else◌}
 use Rattle.std.proofs.lemmas.Bool.{and_parts}
 use Rattle.std.proofs.lemmas.List.{take_at}
 use Rattle.std.specs.List.{list_all}
-use Rattle.cx_vread_exprs.specs.Tokens.{front, back}
+use Rattle.cx_text.specs.Spans.{front, back, Stops}
 use Rattle.cx_text.proofs.ListLaws.{kept, spliced}
-
--- no byte that passes stands first
-abbrev pub Stops : (ℕ → Bool) → List ℕ → Type 0
-Stops test [] = Unit {0}
-Stops test (b ∷ bs) = test b ≡ false
 
 -- together they are the text
 pub front-back : (test : ℕ → Bool) (text : List ℕ) → front test text ++ back test text ≡ text
@@ -31,6 +26,15 @@ front_is_take test text =
 pub front_passes : (test : ℕ → Bool) (text : List ℕ) → list_all test (front test text) ≡ true
 front_passes test [] = refl
 front_passes test (b ∷ bs) = kept (test b) test b (front test bs) refl (front_passes test bs)
+
+stops_there : (t : Bool) (test : ℕ → Bool) (b : ℕ) (xs ys : List ℕ) → test b ≡ t → Stops test ys → Stops test (if t then ys else b ∷ xs)
+stops_there true test b xs ys e h = h
+stops_there false test b xs ys e h = e
+
+-- what stands behind does not pass
+pub back_stops : (test : ℕ → Bool) (text : List ℕ) → Stops test (back test text)
+back_stops test [] = tt
+back_stops test (b ∷ bs) = stops_there (test b) test b bs (back test bs) refl (back_stops test bs)
 
 -- where such a front stands before what does not pass, these are the two
 pub front_again : (test : ℕ → Bool) (bytes rest : List ℕ) → list_all test bytes ≡ true → Stops test rest → front test (bytes ++ rest) ≡ bytes
