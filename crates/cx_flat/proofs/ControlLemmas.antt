@@ -1,19 +1,10 @@
--- Parts of guards and of statements, moved and copied one by one; control whose invokes become what is given is flat control.
+-- Statements one by one; control whose invokes become what is given is flat control.
 use Rattle.std.proofs.Common.{◌≡◌, ℕ, List, [], ◌∷◌, map, refl, ap, ◌∙◌}
 use Rattle.cx_meaning.specs.declared.ports.PortRef.{PortRef}
-use Rattle.cx_meaning.specs.Designs.{PlainGuard, a_guard, guards_of, PlainForm, Empty, Enable, Seq, Par, If, While, Repeat, StaticSeq, StaticPar, StaticIf, StaticRepeat, Timed, PlainStatement, Placed, PlainStatements, no_statements, a_statement, statements_of, PlainComponent}
-use Rattle.cx_rewrites.specs.Moving.{moved_port, moved_guard, moved_guards}
-use Rattle.cx_flattening.specs.Copies.{copied_statement, copied_statements}
+use Rattle.cx_meaning.specs.Designs.{PlainForm, Empty, Enable, Seq, Par, If, While, Repeat, StaticSeq, StaticPar, StaticIf, StaticRepeat, Timed, PlainStatement, Placed, PlainStatements, no_statements, a_statement, statements_of, PlainComponent}
+use Rattle.cx_rewrites.specs.Moving.{moved_port}
 use Rattle.cx_flattening.specs.Flattened.{Kids, own_port, flat_form, flat_statement, flat_statements}
 use Rattle.cx_flat.specs.Controls.{form_by, statement_by, statements_by, inlined_at}
-
-pub guards_of-moved : (move : PortRef → PortRef) (gs : List PlainGuard) → guards_of (map (moved_guard move) gs) ≡ moved_guards move (guards_of gs)
-guards_of-moved move [] = refl
-guards_of-moved move (g ∷ gs) = ap (a_guard (moved_guard move g)) (guards_of-moved move gs)
-
-pub statements_of-copied : (move : PortRef → PortRef) (copy : ℕ → ℕ) (ss : List PlainStatement) → statements_of (map (copied_statement move copy) ss) ≡ copied_statements move copy (statements_of ss)
-statements_of-copied move copy [] = refl
-statements_of-copied move copy (s ∷ ss) = ap (a_statement (copied_statement move copy s)) (statements_of-copied move copy ss)
 
 pub statements_of-by : (move : PortRef → PortRef) (inline : ℕ → PlainForm) (ss : List PlainStatement) → statements_of (map (statement_by move inline) ss) ≡ statements_by move inline (statements_of ss)
 statements_of-by move inline [] = refl

@@ -1,8 +1,8 @@
 -- How many groups are enabled below a number, by a list that ends above all of them.
-use Rattle.std.proofs.Common.{◌≡◌, ℕ, zero, suc, ◌+◌, ◌-◌, ◌<◌, ◌≤◌, Bool, true, false, nat_eq, List, [], ◌∷◌, ◌++◌, ⊎_elim, length, get_or, map, refl, sym, ap, ◌∙◌, arith}
+use Rattle.std.proofs.Common.{◌≡◌, ℕ, zero, suc, ◌+◌, ◌-◌, ◌<◌, ◌≤◌, Bool, true, false, nat_eq, List, ◌∷◌, ⊎_elim, length, get_or, map, refl, sym, ap, ◌∙◌, arith}
 use Rattle.std.specs.List.{range_with_len}
 use Rattle.std.proofs.lemmas.Bool.{cases_lt, eqb-true}
-use Rattle.std.proofs.lemmas.List.FromFn.{map-range_with_len_more, get_or-map-range_with_len, length-map-range_with_len}
+use Rattle.std.proofs.lemmas.List.FromFn.{get_or-map-range_with_len, length-map-range_with_len}
 use Rattle.std.proofs.lemmas.Option.{slice_get-get_or, slice_get_past}
 use Rattle.cx_meaning.specs.Designs.{PlainGroup}
 use Rattle.cx_rules.specs.Counts.{is_one_of, group_if}
@@ -49,8 +49,3 @@ below_is used below bound count g all is counted = ⊎_elim within past (cases_l
 -- ONE GROUP MORE of those that are enabled
 pub enabled_step : (used : List ℕ) (g m : ℕ) (x : PlainGroup) (xs : List PlainGroup) → m ≡ g + 1 → enabled_groups used g (x ∷ xs) ≡ group_if (is_one_of g used) x (enabled_groups used m xs)
 enabled_step used g m x xs e = ap (λ n. group_if (is_one_of g used) x (enabled_groups used n xs)) (let same : suc g ≡ m = omega (arith, e) in same)
-
--- an item for each number
-pub range_pushed : {A : Type 0} (f : ℕ → A) (xs ys : List A) (x : A) (n : ℕ) → ys ≡ xs ++ x ∷ [] → xs ≡ map f (range_with_len 0 n) → x ≡ f n → ys ≡ map f (range_with_len 0 (n + 1))
-range_pushed f xs ys x n pushed so_far is =
-    pushed ∙ ap (λ l. l ++ x ∷ []) so_far ∙ ap (λ y. map f (range_with_len 0 n) ++ y ∷ []) is ∙ sym (map-range_with_len_more f 0 n n (omega arith))

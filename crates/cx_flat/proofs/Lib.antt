@@ -9,8 +9,8 @@ pub mod KidLemmas
 pub mod OrderLemmas
 pub mod InvokeLemmas
 pub mod WalkLemmas
-pub mod EdgeLemmas
 pub mod DesignLemmas
 pub mod AlwaysLemmas
 pub mod MarkLemmas
 pub mod TableLemmas
+pub mod KeptLemmas

@@ -12,7 +12,7 @@ use Rattle.cx_flattening.specs.Flattened.{Kids, flat_component}
 use Rattle.cx_flattening.specs.FlatDesign.{flat_of, is_reached, renumbered_part}
 use Rattle.cx_design_sizes.specs.Orders.{IsChildrenFirst}
 use Rattle.cx_flat.specs.Tables.{kids_of}
-use Rattle.cx_flat.specs.Reaching.{AreMadeOf}
+use Rattle.cx_design_copies.specs.Reaching.{AreMadeOf}
 use Rattle.cx_flat.specs.Flats.{kid_of, AreKids, kept_for, part_if, numbers_of, renumbered_by}
 use Rattle.cx_meaning.specs.Sights.{In}
 use Rattle.cx_flat.proofs.FlatLemmas.{below}

@@ -12,14 +12,14 @@ use Rattle.cx_flattening.specs.Whole.{is_static}
 use Rattle.cx_flattening.specs.Flattened.{Kids, kid_if, flat_component, flat_part}
 use Rattle.cx_flattening.specs.FlatDesign.{flat_of}
 use Rattle.cx_flat.specs.Tables.{kids_of}
-use Rattle.cx_flat.specs.Reaching.{IsMadeOf}
+use Rattle.cx_design_copies.specs.Reaching.{IsMadeOf}
 use Rattle.cx_flat.specs.Flats.{kid_of}
 use Rattle.cx_rules.specs.Counts.{is_one_of}
 use Rattle.std.specs.Prelude.{◌||◌, nat_eq}
 use Rattle.std.proofs.lemmas.Bool.{eqb-true, eq-eqb}
 use Rattle.std.proofs.lemmas.Option.{slice_get_within}
-use Rattle.cx_flattening.proofs.TreeLevels.{cells_same}
 use Rattle.cx_flat.proofs.FlatLemmas.{kids_for, kids_below, kids_by}
+use Rattle.cx_meaning.proofs.InstancesLemmas.{cells_same}
 
 pub in_slice : (xs : List ℕ) (n : ℕ) → In xs n → (i : ℕ) × (slice_get xs i ≡ Some n)
 in_slice [] n i = absurd i

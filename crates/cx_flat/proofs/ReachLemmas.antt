@@ -1,5 +1,5 @@
 -- THE COMPONENTS THAT THE FLAT MAIN REACHES are those that main is made of and that are not static.
-use Rattle.std.proofs.Common.{◌≡◌, ℕ, zero, suc, ◌+◌, ◌-◌, ◌<◌, ◌≤◌, Bool, true, false, ◌||◌, nat_eq, List, [], ◌∷◌, ◌⊎◌, inl, inr, ⊎_elim, length, refl, sym, ap, ◌∙◌, subst, arith}
+use Rattle.std.proofs.Common.{◌≡◌, ℕ, zero, suc, ◌+◌, ◌-◌, ◌<◌, ◌≤◌, Bool, true, false, nat_eq, List, [], ◌∷◌, ◌⊎◌, inl, inr, ⊎_elim, length, refl, sym, ap, ◌∙◌, subst, arith}
 use Rattle.std.proofs.lemmas.Bool.{eqb-true}
 use Rattle.cx_meaning.specs.Designs.{PlainKind, OfPrimitive, OfComponent, PlainCell, PlainDesign, component_at}
 use Rattle.cx_meaning.specs.Sights.{In}
@@ -12,17 +12,14 @@ use Rattle.cx_flattening.specs.Whole.{is_static}
 use Rattle.cx_flattening.specs.FlatDesign.{kind_of, any_of, flat_of, leads_within, is_reached}
 use Rattle.cx_flattening.proofs.Reached.{itself, leads_far, leads_further}
 use Rattle.cx_flattening.proofs.TreeLevels.{few_below, child_there}
-use Rattle.cx_flat.specs.Reaching.{IsMadeOf}
+use Rattle.cx_design_copies.specs.Reaching.{IsMadeOf}
 use Rattle.cx_flat.proofs.FlatLemmas.{Has, stands_in, below, own_has, child_has}
-
-either : (a b : Bool) → a || b ≡ true → (a ≡ true) ⊎ (b ≡ true)
-either true b e = inl refl
-either false b e = inr e
+use Rattle.cx_text.proofs.BoolLaws.{either_true}
 
 -- one of the cells is of a component with the property
 any_is : (property : ℕ → Bool) (cs : List PlainCell) → any_of property cs ≡ true → (j : ℕ) × Has cs j × (property j ≡ true)
 any_is property [] e = absurd (cc)
-any_is property (c ∷ cs) e = ⊎_elim (λ h. here c.kind refl h) (λ h. let r = any_is property cs h in (r.0, (r.1.0, inr r.1.1, r.1.2), r.2)) (either (kind_of property c.kind) (any_of property cs) e)
+any_is property (c ∷ cs) e = ⊎_elim (λ h. here c.kind refl h) (λ h. let r = any_is property cs h in (r.0, (r.1.0, inr r.1.1, r.1.2), r.2)) (either_true (kind_of property c.kind) (any_of property cs) e)
   where
     here : (kind : PlainKind) → c.kind ≡ kind → kind_of property kind ≡ true → (j : ℕ) × Has (c ∷ cs) j × (property j ≡ true)
     here (OfPrimitive primitive) is h = absurd (cc)
@@ -42,7 +39,7 @@ module _ (d : PlainDesign) (rules : IsDesign d) where
       ⊎_elim
       (λ h. let same : j ≡ k = eqb-true j k h in (inl same, subst (λ x. is_static (component_of d x) ≡ false) same dynamic))
       (λ h. next (λ i there dynamic more. leads_under n k i there dynamic more) (any_is (leads_within d n k) (flat_of d j).cells h))
-      (either (nat_eq j k) (any_of (leads_within d n k) (flat_of d j).cells) e)
+      (either_true (nat_eq j k) (any_of (leads_within d n k) (flat_of d j).cells) e)
     where
       join : (i : ℕ) → LeadsTo d j i → IsUnder i k → IsUnder j k
       join i leads (inl same, dyn) = (inr (subst (LeadsTo d j) same leads), dyn)

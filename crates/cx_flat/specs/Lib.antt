@@ -5,5 +5,5 @@ pub mod Enabling
 pub mod Callers
 pub mod Controls
 pub mod Levels
-pub mod Reaching
 pub mod Flats
+pub mod Keeping

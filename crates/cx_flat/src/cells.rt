@@ -5,9 +5,9 @@ ghost use Rattle.cx_design.specs.PlainForms.{plain_cell, plain_component, plain_
 ghost use Rattle.cx_flattening.specs.Flattened.{block, blocks, flat_cells, inner_cell, kept, point, wire_of};
 ghost use Rattle.cx_flat.specs.Tables.{kids_of, plain_table};
 
-use crate::copies::copied_name;
 use crate::kids::kid;
 use cx_design::{Cell, CellKind, Component, PortDecl};
+use cx_design_copies::{copied_cell, copied_kind, copied_name};
 use cx_names_scopes::primitive_row;
 use cx_prim::PrimitiveName;
 use cx_text::{Memory, Name};
@@ -40,28 +40,6 @@ fn kept_cells(
         }
     }
     Ok(all)
-}
-
-/// The same kind again.
-fn copied_kind(kind: &CellKind) -> CellKind
-    ensures value { plain_kind result ≡ plain_kind kind.now }
-{
-    match kind {
-        CellKind::Prim(primitive) => CellKind::Prim(primitive.copied()),
-        CellKind::Part(part) => CellKind::Part(*part),
-    }
-}
-
-/// The same cell again.
-fn copied_cell(alloc: Global, cell: &Cell) -> Result<Cell, Memory>
-    ensures value { IfOk result (λ copy. plain_cell copy ≡ plain_cell cell.now) }
-{
-    Ok(Cell {
-        name: copied_name(alloc, &cell.name)?,
-        kind: copied_kind(&cell.kind),
-        external: cell.external,
-        place: cell.place,
-    })
 }
 
 /// Appends the blocks of static children.

@@ -10,12 +10,12 @@ ghost use Rattle.cx_flat.specs.Tables.{kids_of, plain_table};
 use crate::callers::Caller;
 use crate::cells::cells_again;
 use crate::control::flat_statement_again;
-use crate::copies::{copied_name, copied_ports, with_assigns};
 use crate::groups::groups_again;
 use crate::kids::kid;
 use crate::ports::PortMap;
 use crate::stands::{Stand, stands};
 use cx_design::{Assign, Component, Statement};
+use cx_design_copies::{copied_name, copied_ports, with_moved_assigns};
 use cx_text::Memory;
 use std::alloc::Global;
 
@@ -72,7 +72,7 @@ fn always_again(alloc: Global, caller: Caller<'_>) -> Result<Vec<Assign>, Memory
     ensures value { IfOk result (λ all. plain_assigns all.items ≡ map (moved_assign (own_port (kids_in caller.entry) (part_of caller.entry))) (part_of caller.entry).always ++ always_from (kids_in caller.entry) (part_of caller.entry) 0 (kids_in caller.entry)) }
 {
     let own = PortMap::Own(caller.stands);
-    let all = with_assigns(alloc, Vec::new(alloc), own, &caller.part.always)?;
+    let all = with_moved_assigns(alloc, Vec::new(alloc), &own, &caller.part.always)?;
     with_inner_always(alloc, all, caller)
 }
 
@@ -106,7 +106,7 @@ fn with_cell_always(
     let cell = &caller.part.cells[number];
     match (kid(caller.table, &cell.kind), caller.stands.get(number)) {
         (Some(child), Some(Stand::Inlined(block))) => {
-            with_assigns(alloc, front, PortMap::Inner(*block), &child.always)
+            with_moved_assigns(alloc, front, &PortMap::Inner(*block), &child.always)
         }
         (None, _) => Ok(front),
         (Some(_), Some(Stand::Kept(_)) | None) => Err(Memory),

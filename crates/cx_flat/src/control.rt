@@ -8,8 +8,9 @@ ghost use Rattle.cx_flat.specs.Stands.{own_by};
 
 use crate::callers::Caller;
 use crate::invokes::inlined_form;
-use crate::ports::{PortMap, placed_port};
+use crate::ports::PortMap;
 use cx_design::{Form, Statement};
+use cx_design_copies::moved_placed;
 use cx_text::Memory;
 use std::alloc::Global;
 
@@ -53,13 +54,13 @@ fn flat_form_again(
             yes,
             no,
         } => Ok(Form::If {
-            test: placed_port(PortMap::Own(caller.stands), *test)?,
+            test: moved_placed(&PortMap::Own(caller.stands), *test)?,
             comb: *comb,
             yes: flat_box_again(alloc, caller, firsts, yes)?,
             no: flat_box_again(alloc, caller, firsts, no)?,
         }),
         Form::While { test, comb, body } => Ok(Form::While {
-            test: placed_port(PortMap::Own(caller.stands), *test)?,
+            test: moved_placed(&PortMap::Own(caller.stands), *test)?,
             comb: *comb,
             body: flat_box_again(alloc, caller, firsts, body)?,
         }),
@@ -82,7 +83,7 @@ fn flat_form_again(
             no,
         } => Ok(Form::StaticIf {
             length: *length,
-            test: placed_port(PortMap::Own(caller.stands), *test)?,
+            test: moved_placed(&PortMap::Own(caller.stands), *test)?,
             yes: flat_box_again(alloc, caller, firsts, yes)?,
             no: flat_box_again(alloc, caller, firsts, no)?,
         }),

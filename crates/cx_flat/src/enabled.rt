@@ -8,8 +8,8 @@ ghost use Rattle.cx_design.specs.PlainForms.{plain_form, plain_statement, plain_
 ghost use Rattle.cx_flattening.specs.Copies.{count_if, enabled_below};
 ghost use Rattle.cx_flat.specs.Enabling.{below_by, copy_by};
 
-use crate::numbers::sum;
 use cx_design::{Form, Statement};
+use cx_design_copies::{GroupMoves, sum};
 use cx_text::Memory;
 use std::alloc::Global;
 
@@ -51,12 +51,29 @@ pub(crate) fn is_enabled(groups: &[u32], group: u32) -> bool
 }
 
 /// The number of the copy of a group, where that of the first is given.
-pub(crate) fn copy_number(first: u32, enabled: &Enabled, group: u32) -> Result<u32, Memory>
+fn copy_number(first: u32, enabled: &Enabled, group: u32) -> Result<u32, Memory>
     ensures value { IfOk result (λ n. n ≡ copy_by first enabled.now group) }
 {
     match enabled.below.get(group as usize) {
         Some(below) => sum(first, *below),
         None => sum(first, enabled.count),
+    }
+}
+
+/// Gives each group the number of its copy, where that of the first is given.
+#[derive(Clone, Copy)]
+pub(crate) struct CopyNumbers<'a> {
+    pub first: u32,
+    pub enabled: &'a Enabled,
+}
+
+impl GroupMoves for CopyNumbers<'_> {
+    ghost use Rattle.cx_flat.specs.Enabling.{copy_by};
+
+    ghost numbering = { λ copies. copy_by copies.first copies.enabled.now };
+
+    fn group(&self, group: u32) -> Result<u32, Memory> {
+        copy_number(self.first, self.enabled, group)
     }
 }
 

@@ -5,23 +5,24 @@ ghost use Rattle.cx_design.specs.PlainForms.{plain_cell, plain_component, plain_
 ghost use Rattle.cx_design.specs.PlainDesigns.{plain_design};
 ghost use Rattle.cx_design_sizes.specs.Orders.{IsChildrenFirst};
 ghost use Rattle.cx_rules.specs.Accepted.{IsAccepted};
+ghost use Rattle.cx_rules.specs.Externals.{external_rows};
 ghost use Rattle.cx_rules.specs.Flat.{ArePlainNames, IsFlat};
 ghost use Rattle.cx_flattening.specs.Ends.{NoneNamesDone};
 ghost use Rattle.cx_flattening.specs.FlatDesign as definitions;
 ghost use Rattle.cx_flattening.specs.Flattened.{flat_component, kid_if};
 ghost use Rattle.cx_flat.specs.Flats.{AreKids, AreKidsTo, AreMarks, cell_by, kept_for, kind_by, numbers_of, renumbered_by};
-ghost use Rattle.cx_flat.specs.Reaching.{AreMadeOf};
+ghost use Rattle.cx_design_copies.specs.Reaching.{AreMadeOf};
+ghost use Rattle.cx_flat.specs.Keeping.{TellsAs};
 ghost use Rattle.cx_flat.specs.Tables.{kids_of, plain_table};
 
 use crate::components::component_again;
-use crate::copies::copied_name;
 use crate::levels::fits;
-use crate::numbers::sum;
-use crate::reaching::made_of;
 use cx_design::{Cell, CellKind, Checked, Component, Design};
+use cx_design_copies::{copied_name, made_of, sum};
 use cx_design_sizes::children_first;
 use cx_flattening::laws::{
-    flat_designs_are_accepted, flat_designs_are_designs, flat_designs_are_flat,
+    accepted_designs_keep_their_runs, flat_designs_are_accepted, flat_designs_are_designs,
+    flat_designs_are_flat,
 };
 use cx_text::Memory;
 use std::alloc::Global;
@@ -29,16 +30,24 @@ use std::alloc::Global;
 /// Control that nests deeper than so many levels is not made.
 const LEVELS: u32 = 1024;
 
-/// The flat design of an accepted one: it is accepted, and no component of it is static. Want of memory is answered too where 32 bits
-/// do not number the parts of a flat component, and where control would nest deeper than 1,024 levels.
+/// The flat design of an accepted one: it is accepted, no component of it is static, and it does what the design does. It has the
+/// external memories of the design, and on all data and under each budget its run tells what the design tells by its own meaning: the
+/// same turns and words, the same kind of fault at the port of the same name in the same turn, or that more turns are needed.
+///
+/// It asks for what the design of every text keeps: that no name of a cell or a port is empty or holds a point (`ArePlainNames`), and that
+/// nothing looks at the done of a static component's cell (`NoneNamesDone`). Want of memory is answered too where 32 bits do not number
+/// the parts of a flat component, and where control would nest deeper than 1,024 levels.
 pub fn flatten(alloc: Global, design: &Checked) -> Result<Checked, Memory>
     requires undone { NoneNamesDone (plain_design design.now) }
     requires plain { ArePlainNames (plain_design design.now) }
     ensures design { IfOk result (λ flat. plain_design flat ≡ definitions.flat_design (plain_design design.now)) }
     ensures flat { IfOk result (λ flat. IsFlat (plain_design flat)) }
+    ensures rows { IfOk result (λ flat. external_rows (plain_design flat) ≡ external_rows (plain_design design.now)) }
+    ensures runs { IfOk result (λ flat. TellsAs (plain_design flat) (plain_design design.now)) }
 {
     flat_designs_are_flat();
     flat_designs_are_accepted();
+    accepted_designs_keep_their_runs();
     let flat = flat_design(alloc, design.design())?;
     Ok(Checked::new(flat))
 }

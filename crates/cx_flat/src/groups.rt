@@ -10,14 +10,13 @@ ghost use Rattle.cx_flat.specs.Callers.{AreFirsts, IsCaller, kids_in, part_of};
 ghost use Rattle.cx_flat.specs.Maps.{map_by};
 
 use crate::callers::Caller;
-use crate::copies::{moved_group_again, unnamed_group_again};
 use crate::enabled::{groups_enabled, is_enabled};
 use crate::invokes::invoked;
 use crate::kids::kid_at_cell;
-use crate::numbers::{number, sum};
 use crate::ports::PortMap;
 use cx_design::{Component, Group, StaticInvoke};
-use cx_text::Memory;
+use cx_design_copies::{moved_assigns, moved_groups, number, sum};
+use cx_text::{Memory, Name};
 use std::alloc::Global;
 
 /// The groups of a flat component, and for each static invoke the number of the first copy.
@@ -47,18 +46,7 @@ fn own_groups(alloc: Global, caller: Caller<'_>) -> Result<Vec<Group>, Memory>
     requires caller { IsCaller caller }
     ensures value { IfOk result (λ all. map plain_group all.items ≡ map (moved_group (own_port (kids_in caller.entry) (part_of caller.entry))) (part_of caller.entry).groups) }
 {
-    moved_groups(alloc, PortMap::Own(caller.stands), &caller.part.groups)
-}
-
-/// Groups with their ports where they stand.
-fn moved_groups(alloc: Global, moves: PortMap<'_>, groups: &[Group]) -> Result<Vec<Group>, Memory>
-    ensures value { IfOk result (λ all. map plain_group all.items ≡ map (moved_group (map_by moves.entry)) (map plain_group groups.now)) }
-{
-    let mut all = Vec::with_capacity(alloc, groups.len())?;
-    for group in groups {
-        all.push(moved_group_again(alloc, moves, group)?)?;
-    }
-    Ok(all)
+    moved_groups(alloc, &PortMap::Own(caller.stands), &caller.part.groups)
 }
 
 /// Appends the copies for an invoke.
@@ -112,4 +100,16 @@ fn with_enabled_copies(
         number = sum(number, 1)?;
     }
     Ok(all)
+}
+
+/// A copy of the group for an invoke, which has no name.
+fn unnamed_group_again(alloc: Global, moves: PortMap<'_>, group: &Group) -> Result<Group, Memory>
+    ensures value { IfOk result (λ copy. plain_group copy ≡ copied_group (map_by moves.entry) (plain_group group.now)) }
+{
+    Ok(Group {
+        name: Name::from_bytes(alloc, &[])?,
+        kind: group.kind,
+        assigns: moved_assigns(alloc, &moves, &group.assigns)?,
+        place: group.place,
+    })
 }

@@ -6,17 +6,17 @@ ghost use Rattle.cx_meaning.specs.Designs.{Empty, PlainComponent};
 ghost use Rattle.cx_design.specs.PlainForms.{plain_component, plain_form, plain_invoke, plain_statement};
 ghost use Rattle.cx_flattening.specs.Flattened.{first_copy, inlined, invoke_port, kid_at, with_capture};
 ghost use Rattle.cx_flat.specs.Callers.{AreFirsts, IsCaller, kids_in, part_of};
-ghost use Rattle.cx_flattening.specs.Copies.{copied_statement, enabled_below};
+ghost use Rattle.cx_flattening.specs.Copies.{copied_statement as statement_copied, enabled_below};
 ghost use Rattle.cx_flat.specs.Controls.{inlined_at};
 ghost use Rattle.cx_flat.specs.Maps.{map_by};
 
 use crate::callers::Caller;
-use crate::enabled::enabled_counts;
+use crate::enabled::{CopyNumbers, enabled_counts};
 use crate::kids::kid_at_cell;
 use crate::ports::PortMap;
 use crate::stands::Stand;
-use crate::statements::{Copying, copied_statement_again};
 use cx_design::{Component, Form, Statement, StaticInvoke};
+use cx_design_copies::copied_statement;
 use cx_text::{Memory, Place};
 use std::alloc::Global;
 
@@ -74,16 +74,15 @@ fn copied_control(
 ) -> Result<Statement, Memory>
     requires caller { IsCaller caller }
     requires child { kid_at (kids_in caller) invoke.now.cell ≡ Some (plain_component child.now) }
-    ensures value { IfOk result (λ s. plain_statement s ≡ copied_statement (invoke_port (kids_in caller.entry) (part_of caller.entry) (plain_component child.now) (plain_invoke invoke.now)) (λ g. first + enabled_below (groups_of (plain_component child.now).control) g) (plain_component child.now).control) }
+    ensures value { IfOk result (λ s. plain_statement s ≡ statement_copied (invoke_port (kids_in caller.entry) (part_of caller.entry) (plain_component child.now) (plain_invoke invoke.now)) (λ g. first + enabled_below (groups_of (plain_component child.now).control) g) (plain_component child.now).control) }
 {
     let enabled = enabled_counts(alloc, &child.control)?;
     let moves = invoked(caller, invoke)?;
-    let copying = Copying {
-        moves,
+    let groups = CopyNumbers {
         first,
         enabled: &enabled,
     };
-    copied_statement_again(alloc, copying, &child.control)
+    copied_statement(alloc, &moves, &groups, &child.control)
 }
 
 /// Where the ports of the static child at the cell of an invoke stand.

@@ -4,14 +4,13 @@ ghost use Rattle.std.specs.Prelude.{◌≡◌, ℕ, IfOk};
 ghost use Rattle.cx_meaning.specs.declared.ports.PortRef.TheVariants as ports;
 ghost use Rattle.cx_meaning.specs.Active.{same_port as is_same_port};
 ghost use Rattle.cx_design.specs.PlainForms.{plain_assigns};
-ghost use Rattle.cx_rewrites.specs.Moving.{moved_port};
 ghost use Rattle.cx_flattening.specs.Events.{source_in, source_to};
 ghost use Rattle.cx_flat.specs.Stands.{block_by, own_by, stand_port};
 ghost use Rattle.cx_flat.specs.Maps.{map_by, sources_by};
 
-use crate::numbers::sum;
 use crate::stands::{Block, Stand};
-use cx_design::{Assign, PlacedPort, PortRef, StaticInvoke};
+use cx_design::{Assign, PortRef, StaticInvoke};
+use cx_design_copies::{PortMoves, sum};
 use cx_text::Memory;
 
 /// A map of ports to those of a flat component.
@@ -25,18 +24,18 @@ pub(crate) enum PortMap<'a> {
     Invoked(Block, &'a [Stand], &'a StaticInvoke),
 }
 
-/// Where a placed port stands.
-pub(crate) fn placed_port(moves: PortMap<'_>, placed: PlacedPort) -> Result<PlacedPort, Memory>
-    ensures value { IfOk result (λ moved. moved ≡ moved_port (map_by moves.entry) placed) }
-{
-    Ok(PlacedPort {
-        port: moved(moves, placed.port)?,
-        place: placed.place,
-    })
+impl PortMoves for PortMap<'_> {
+    ghost use Rattle.cx_flat.specs.Maps.{map_by};
+
+    ghost moving = { map_by };
+
+    fn port(&self, port: PortRef) -> Result<PortRef, Memory> {
+        moved(*self, port)
+    }
 }
 
 /// Where a port stands.
-pub(crate) fn moved(moves: PortMap<'_>, port: PortRef) -> Result<PortRef, Memory>
+fn moved(moves: PortMap<'_>, port: PortRef) -> Result<PortRef, Memory>
     ensures value { IfOk result (λ moved. moved ≡ map_by moves.entry port) }
 {
     match moves {

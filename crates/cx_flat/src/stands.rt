@@ -7,8 +7,8 @@ ghost use Rattle.cx_flat.specs.Stands as definitions;
 ghost use Rattle.cx_flat.specs.Tables.{kids_of, plain_table};
 
 use crate::kids::kid;
-use crate::numbers::{number, sum};
 use cx_design::{Cell, Component};
+use cx_design_copies::{number, sum};
 use cx_text::Memory;
 use std::alloc::Global;
 

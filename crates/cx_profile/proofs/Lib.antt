@@ -1,4 +1,3 @@
-pub mod CopyLemmas
 pub mod DoneLemmas
 pub mod CountLemmas
 pub mod ShownPorts

@@ -1,136 +1,38 @@
--- Which components main is made of, by the edges from each component to those of its cells.
-use Rattle.std.proofs.Common.{◌≡◌, ℕ, zero, suc, ◌<◌, ◌≤◌, Bool, true, false, inl, inr, ◌⊎◌, ⊎_elim, List, [], ◌∷◌, ◌++◌, length, get_or, Some, refl, sym, ap, ◌∙◌, subst, arith}
+-- The components that main is made of are those that are reached.
+use Rattle.std.proofs.Common.{◌≡◌, ℕ, ◌<◌, Bool, true, false, List, length, get_or, Some, refl, sym, ap, ◌∙◌, subst}
 use Rattle.std.specs.List.{slice_get}
-use Rattle.std.proofs.Math.Logic.{∥∥₁_elim}
-use denote.Struct.Props.{props}
-use Rattle.std.proofs.lemmas.Bool.{cases_lt}
-use Rattle.std.proofs.lemmas.List.{length-map}
-use Rattle.std.proofs.lemmas.Option.{slice_get-get_or}
-use Rattle.cx_graphs.specs.Graphs as graphs
 use Rattle.std.specs.Prelude.{Result, Ok, Err, IfOk}
 use Rattle.std.specs.declared.vec.Vec.{Vec}
-use Rattle.cx_design.proofs.DesignFacts.{main_there}
-use Rattle.cx_graphs.specs.Graphs.{IsGraph, Bounded, targets_of, IsReached, at_start, by_edge, Marked, edges_of}
-use Rattle.cx_meaning.specs.Designs.{PlainKind, OfPrimitive, OfComponent, PlainCell, PlainComponent, no_component, PlainDesign, component_at}
-use Rattle.cx_meaning.specs.Sights.{In}
-use Rattle.cx_rules.specs.Wellformed.{LeadsTo, by_cell, by_way_of, IsDesign}
-use Rattle.cx_profiling.specs.Instrumented.{component_of_kind, components_of, is_reached}
-use Rattle.cx_profiling.proofs.TreeLemmas.{child_there}
+use Rattle.std.proofs.Math.Logic.{∥∥₁_elim}
+use denote.Struct.Props.{props}
+use Rattle.std.proofs.lemmas.Option.{slice_get-get_or}
+use Rattle.cx_meaning.specs.Designs.{PlainDesign}
+use Rattle.cx_rules.specs.Wellformed.{IsDesign}
+use Rattle.cx_profiling.specs.Instrumented.{is_reached}
 use Rattle.cx_profiling.proofs.ReachedLemmas.{is_reached-from, is_reached-to}
-use Rattle.cx_profile.specs.Gains.{edges_between, AreReached}
-
--- EDGES are from a component to those of its cells
-targets-are : (parts : List PlainComponent) (m : ℕ) → targets_of (edges_between parts) m ≡ components_of (get_or parts m no_component).cells
-targets-are [] m = refl
-targets-are (p ∷ parts) zero = refl
-targets-are (p ∷ parts) (suc m) = targets-are parts m
-
-in_front : (xs ys : List ℕ) (n : ℕ) → graphs.In xs n → graphs.In (xs ++ ys) n
-in_front [] ys n i = absurd i
-in_front (x ∷ xs) ys n (inl e) = inl e
-in_front (x ∷ xs) ys n (inr i) = inr (in_front xs ys n i)
-
-in_behind : (xs ys : List ℕ) (n : ℕ) → graphs.In ys n → graphs.In (xs ++ ys) n
-in_behind [] ys n i = i
-in_behind (x ∷ xs) ys n i = inr (in_behind xs ys n i)
-
-cell_edge : (cells : List PlainCell) (cell : PlainCell) (j : ℕ) → In cells cell → cell.kind ≡ OfComponent j → graphs.In (components_of cells) j
-cell_edge [] cell j i e = absurd i
-cell_edge (c ∷ cs) cell j (inl same) e = in_front (component_of_kind c.kind) (components_of cs) j (subst (λ kind. graphs.In (component_of_kind kind) j) (sym (ap (λ x. x.kind) same ∙ e)) (inl refl))
-cell_edge (c ∷ cs) cell j (inr i) e = in_behind (component_of_kind c.kind) (components_of cs) j (cell_edge cs cell j i e)
-
-abbrev HasCell : List PlainCell → ℕ → Type 0
-HasCell cells j = (cell : PlainCell) × In cells cell × (cell.kind ≡ OfComponent j)
-
-edge_cell : (cells : List PlainCell) (j : ℕ) → graphs.In (components_of cells) j → HasCell cells j
-edge_cell [] j i = absurd i
-edge_cell (c ∷ cs) j i = by c.kind refl i (edge_cell cs j)
-  where
-    later : HasCell cs j → HasCell (c ∷ cs) j
-    later (cell, i, e) = (cell, inr i, e)
-
-    by : (kind : PlainKind) → c.kind ≡ kind → graphs.In (component_of_kind kind ++ components_of cs) j → (graphs.In (components_of cs) j → HasCell cs j) → HasCell (c ∷ cs) j
-    by (OfPrimitive p) e i more = later (more i)
-    by (OfComponent m) e (inl same) more = (c, inl refl, e ∙ ap OfComponent same)
-    by (OfComponent m) e (inr i) more = later (more i)
+use Rattle.cx_design_copies.specs.Reaching.{AreMadeOf}
+use Rattle.cx_profile.specs.Gains.{AreReached}
 
 module _ (d : PlainDesign) where
-  abbrev edges : List (List ℕ)
-  edges = edges_between d.components
-
-  edge_leads : (m n : ℕ) → graphs.In (targets_of edges m) n → LeadsTo d m n
-  edge_leads m n i = by (edge_cell (component_at d m).cells n (subst (λ ns. graphs.In ns n) (targets-are d.components m) i))
+  marks-are : IsDesign d → (marks : List Bool) → AreMadeOf d marks → (k : ℕ) → k < length marks → get_or marks k false ≡ is_reached d k
+  marks-are rules marks made k less = by (get_or marks k false) refl (is_reached d k) refl
     where
-      by : HasCell (component_at d m).cells n → LeadsTo d m n
-      by (cell, i, e) = by_cell n cell i e
+      at : slice_get marks k ≡ Some (get_or marks k false)
+      at = slice_get-get_or marks k false less
 
-  -- REACHED by edges is what main leads to
-  reached_leads : (n : ℕ) → IsReached edges (d.main ∷ []) n → (d.main ≡ n) ⊎ LeadsTo d d.main n
-  reached_leads n (at_start (inl e)) = inl e
-  reached_leads n (at_start (inr i)) = absurd i
-  reached_leads n (by_edge m r i) = inr (by (reached_leads m r) (edge_leads m n i))
-    where
-      by : (d.main ≡ m) ⊎ LeadsTo d d.main m → LeadsTo d m n → LeadsTo d d.main n
-      by (inl e) l = subst (λ x. LeadsTo d x n) (sym e) l
-      by (inr a) l = by_way_of m a l
-
-  leads_reached : (m n : ℕ) → LeadsTo d m n → IsReached edges (d.main ∷ []) m → IsReached edges (d.main ∷ []) n
-  leads_reached m n (by_cell j cell i e) r = by_edge m r (subst (λ ns. graphs.In ns n) (sym (targets-are d.components m)) (cell_edge (component_at d m).cells cell n i e))
-  leads_reached m n (by_way_of k a b) r = leads_reached k n b (leads_reached m k a r)
-
-  module _ (rules : IsDesign d) where
-    edges_within : (m n : ℕ) → graphs.In (targets_of edges m) n → n < length edges
-    edges_within m n i = subst (λ c. n < c) (sym (length-map d.components (λ (part : PlainComponent). components_of part.cells))) (by (edge_cell (component_at d m).cells n (subst (λ ns. graphs.In ns n) (targets-are d.components m) i)))
-      where
-        none : (parts : List PlainComponent) (m : ℕ) → length parts ≤ m → (get_or parts m no_component).cells ≡ []
-        none [] m le = refl
-        none (p ∷ parts) zero le = absurd (omega arith)
-        none (p ∷ parts) (suc m) le = none parts m (omega arith)
-
-        by : HasCell (component_at d m).cells n → n < length d.components
-        by (cell, i, e) = ⊎_elim (λ less. child_there d rules m n cell less i e) (λ past. absurd (subst (λ cs. In cs cell) (none d.components m past) i)) (cases_lt m (length d.components))
-
-    marks-are : (marks : List Bool) (k : ℕ) → k < length marks → ((n : ℕ) → Marked marks n → IsReached edges (d.main ∷ []) n) → ((n : ℕ) → IsReached edges (d.main ∷ []) n → Marked marks n)
-        → get_or marks k false ≡ is_reached d k
-    marks-are marks k less sound all = by (get_or marks k false) refl (is_reached d k) refl
-      where
-        at : slice_get marks k ≡ Some (get_or marks k false)
-        at = slice_get-get_or marks k false less
-
-        by : (a : Bool) → get_or marks k false ≡ a → (b : Bool) → is_reached d k ≡ b → a ≡ b
-        by true e true f = refl
-        by false e false f = refl
-        by true e false f = sym (is_reached-from d rules k (reached_leads k (sound k (at ∙ ap (λ x. Some x) e)))) ∙ f
-        by false e true f = absurd (let m : Some false ≡ Some true = sym (at ∙ ap (λ x. Some x) e) ∙ all k (lead (is_reached-to d rules k f)) in cc)
-          where
-            lead : (d.main ≡ k) ⊎ LeadsTo d d.main k → IsReached edges (d.main ∷ []) k
-            lead (inl s) = at_start (inl s)
-            lead (inr l) = leads_reached d.main k l (at_start (inl refl))
-
-  -- the edges are those of a graph
-  pub is_graph : ∥ IsDesign d ∥₁ → IsGraph edges
-  is_graph keeps m n i = ∥∥₁_elim keeps (hlevel props) (λ rules. edges_within rules m n i)
+      by : (a : Bool) → get_or marks k false ≡ a → (b : Bool) → is_reached d k ≡ b → a ≡ b
+      by true e true f = refl
+      by false e false f = refl
+      by true e false f = sym (is_reached-from d rules k (made.sound k (at ∙ ap (λ x. Some x) e))) ∙ f
+      by false e true f = absurd (let m : Some false ≡ Some true = sym (at ∙ ap (λ x. Some x) e) ∙ made.all k (is_reached-to d rules k f) in cc)
 
   -- the marks tell which components are reached
-  pub are_reached : ∥ IsDesign d ∥₁ → (marks : List Bool) → length marks ≡ length d.components → ((n : ℕ) → Marked marks n → IsReached edges (d.main ∷ []) n)
-      → ((n : ℕ) → IsReached edges (d.main ∷ []) n → Marked marks n) → AreReached d marks
-  are_reached keeps marks sized sound all k less =
-      let there : k < length marks = omega arith in
-      let same : get_or marks k false ≡ is_reached d k = ∥∥₁_elim keeps (hlevel props) (λ rules. marks-are rules marks k there sound all) in
+  are_reached : ∥ IsDesign d ∥₁ → (marks : List Bool) → AreMadeOf d marks → AreReached d marks
+  are_reached keeps marks made k less =
+      let there : k < length marks = subst (λ n. k < n) (sym made.sized) less in
+      let same : get_or marks k false ≡ is_reached d k = ∥∥₁_elim keeps (hlevel props) (λ rules. marks-are rules marks made k there) in
       slice_get-get_or marks k false there ∙ ap (λ x. Some x) same
 
-  -- by a graph as it lies in memory
-  edges-length : {A : Type 0} (graph : List (Vec ℕ A)) → edges_of graph ≡ edges → length graph ≡ length d.components
-  edges-length graph same =
-      sym (length-map graph (λ (list : Vec ℕ _). list.items)) ∙ ap length same ∙ length-map d.components (λ (part : PlainComponent). components_of part.cells)
-
-  pub starts_within : {A : Type 0} → ∥ IsDesign d ∥₁ → (graph : List (Vec ℕ A)) → edges_of graph ≡ edges → Bounded (length graph) (d.main ∷ [])
-  starts_within keeps graph same n (inl e) = subst (λ m. m < length graph) e (subst (λ k. d.main < k) (sym (edges-length graph same)) (main_there d keeps))
-  starts_within keeps graph same n (inr i) = absurd i
-
-  pub marked_reached : {A B E : Type 0} → ∥ IsDesign d ∥₁ → (graph : List (Vec ℕ A)) → edges_of graph ≡ edges → (r : Result (Vec Bool B) E)
-      → IfOk r (λ marks. length marks.items ≡ length graph) → IfOk r (λ marks. (n : ℕ) → Marked marks.items n → IsReached (edges_of graph) (d.main ∷ []) n)
-      → IfOk r (λ marks. (n : ℕ) → IsReached (edges_of graph) (d.main ∷ []) n → Marked marks.items n) → IfOk r (λ marks. AreReached d marks.items)
-  marked_reached keeps graph same (Ok marks) len sound all =
-      are_reached keeps marks.items (len ∙ edges-length graph same) (λ n m. subst (λ es. IsReached es (d.main ∷ []) n) same (sound n m)) (λ n h. all n (subst (λ es. IsReached es (d.main ∷ []) n) (sym same) h))
-  marked_reached keeps graph same (Err e) len sound all = tt
+  pub marked_reached : {B E : Type 0} → ∥ IsDesign d ∥₁ → (r : Result (Vec Bool B) E) → IfOk r (λ marks. AreMadeOf d marks.items) → IfOk r (λ marks. AreReached d marks.items)
+  marked_reached keeps (Ok marks) made = are_reached keeps marks.items made
+  marked_reached keeps (Err e) made = tt

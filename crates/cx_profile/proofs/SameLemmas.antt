@@ -1,11 +1,12 @@
 -- A component whose ports all stay is the same one.
-use Rattle.std.proofs.Common.{◌≡◌, List, [], ◌∷◌, map, refl, ap, ◌∙◌}
+use Rattle.std.proofs.Common.{◌≡◌, List, [], map, refl, ap, ◌∙◌}
 use Rattle.cx_meaning.specs.declared.ports.PortRef.{PortRef}
 use Rattle.cx_meaning.specs.Designs.{PlainGuard, Always, Atom, Negation, All, Any, Compared, Within, PlainGuards, no_guards, a_guard, PlainAssign, PlainGroup, PlainInvoke, PlainForm, Empty, Enable, Seq, Par, If, While, Repeat, StaticSeq, StaticPar, StaticIf, StaticRepeat, Timed, PlainStatement, Placed, PlainStatements, no_statements, a_statement, PlainComponent}
 use Rattle.cx_rewrites.specs.Moving.{moved_guard, moved_guards, moved_assign, moved_group, moved_form, moved_statement, moved_statements}
 use Rattle.cx_profile.specs.Renumbering.{renumber}
 use Rattle.cx_profile.specs.Growing.{moved_invoke, kept_part}
 use Rattle.cx_profile.proofs.DoneLemmas.{renumber-none}
+use Rattle.cx_text.proofs.ListLaws.{same_map}
 
 abbrev stay : PortRef → PortRef
 stay p = p
@@ -46,15 +47,11 @@ mutual
   statements-same no_statements = refl
   statements-same (a_statement s ss) = ap (λ x. a_statement x (moved_statements stay ss)) (statement-same s) ∙ ap (a_statement s) (statements-same ss)
 
-all-same : {A : Type 0} (f : A → A) → ((x : A) → f x ≡ x) → (xs : List A) → map f xs ≡ xs
-all-same f same [] = refl
-all-same f same (x ∷ xs) = ap (λ y. y ∷ map f xs) (same x) ∙ ap (λ l. x ∷ l) (all-same f same xs)
-
 assign-same : (a : PlainAssign) → moved_assign stay a ≡ a
 assign-same a = ap (λ g. record { target = a.target; guard = g; source = a.source; place = a.place }) (guard-same a.guard)
 
 assigns-same : (assigns : List PlainAssign) → map (moved_assign stay) assigns ≡ assigns
-assigns-same = all-same (moved_assign stay) assign-same
+assigns-same = same_map (moved_assign stay) assign-same
 
 group-same : (g : PlainGroup) → moved_group stay g ≡ g
 group-same g = ap (λ l. record { name = g.name; kind = g.kind; assigns = l; place = g.place }) (assigns-same g.assigns)
@@ -64,8 +61,8 @@ invoke-same v = ap (λ l. record { cell = v.cell; written = v.written; length = 
 
 part-same : (part : PlainComponent) → kept_part stay part ≡ part
 part-same part =
-    ap (λ gs. made gs (map (moved_invoke stay) part.invokes) (map (moved_assign stay) part.always) (moved_statement stay part.control)) (all-same (moved_group stay) group-same part.groups)
-    ∙ ap (λ vs. made part.groups vs (map (moved_assign stay) part.always) (moved_statement stay part.control)) (all-same (moved_invoke stay) invoke-same part.invokes)
+    ap (λ gs. made gs (map (moved_invoke stay) part.invokes) (map (moved_assign stay) part.always) (moved_statement stay part.control)) (same_map (moved_group stay) group-same part.groups)
+    ∙ ap (λ vs. made part.groups vs (map (moved_assign stay) part.always) (moved_statement stay part.control)) (same_map (moved_invoke stay) invoke-same part.invokes)
     ∙ ap (λ l. made part.groups part.invokes l (moved_statement stay part.control)) (assigns-same part.always)
     ∙ ap (made part.groups part.invokes part.always) (statement-same part.control)
   where

@@ -19,9 +19,6 @@ range_appended f old xs ys x n pushed so_far is =
     pushed ∙ ap (λ l. l ++ x ∷ []) so_far ∙ ap (λ y. (old ++ map f (range_with_len 0 n)) ++ y ∷ []) is ∙ append_assoc old (map f (range_with_len 0 n)) (f n ∷ [])
     ∙ ap (λ l. old ++ l) (sym (map-range_with_len_more f 0 n n (omega arith)))
 
-pub range_pushed : {A : Type 0} (f : ℕ → A) (xs ys : List A) (x : A) (n : ℕ) → ys ≡ xs ++ x ∷ [] → xs ≡ map f (range_with_len 0 n) → x ≡ f n → ys ≡ map f (range_with_len 0 (n + 1))
-range_pushed f xs ys x n = range_appended f [] xs ys x n
-
 -- where what is pushed is seen by a map
 pub range_seen : {A B : Type 0} (see : B → A) (f : ℕ → A) (old : List A) (xs ys : List B) (x : B) (n : ℕ) → ys ≡ xs ++ x ∷ [] → map see xs ≡ old ++ map f (range_with_len 0 n) → see x ≡ f n
     → map see ys ≡ old ++ map f (range_with_len 0 (n + 1))

@@ -1,17 +1,13 @@
 -- Which components are reached, and how many counts each shows, in lists by the numbers of the components.
-use Rattle.std.specs.Prelude.{◌≡◌, ℕ, ◌+◌, ◌<◌, Bool, true, List, [], ◌∷◌, Some, get_or, length, map, slice_get}
+use Rattle.std.specs.Prelude.{◌≡◌, ℕ, ◌+◌, ◌<◌, Bool, true, List, [], ◌∷◌, Some, get_or, length, slice_get}
 use Rattle.cx_meaning.specs.Designs.{PlainKind, OfPrimitive, OfComponent, PlainCell, PlainComponent, PlainDesign, component_at}
 use Rattle.cx_meaning.specs.Instances.{Node, cells_for}
 use Rattle.cx_rules.specs.Ports.{component_of}
 use Rattle.cx_profiling.specs.Counters.{shown_in, entry_count}
-use Rattle.cx_profiling.specs.Instrumented.{components_of, is_reached}
+use Rattle.cx_profiling.specs.Instrumented.{is_reached}
 use Rattle.cx_profile.specs.declared.gained.Gains.{Gains}
 use Rattle.cx_profile.specs.Counted.{counted_among}
 use Rattle.cx_profile.specs.Renumbering.{AreGained}
-
--- an edge from each component to those of its cells
-abbrev pub edges_between : List PlainComponent → List (List ℕ)
-edges_between parts = map (λ part. components_of part.cells) parts
 
 abbrev pub AreReached : PlainDesign → List Bool → Type 0
 AreReached d marks = (k : ℕ) → k < length d.components → slice_get marks k ≡ Some (is_reached d k)

@@ -12,10 +12,10 @@ use crate::counted::counted;
 use crate::free_names::free_names;
 use crate::gained::Gains;
 use crate::growing::{child_component, kept_component, main_component};
-use crate::numbers::{number, sum};
 use crate::outputs::shown_ports;
 use crate::renumbering::{NewDone, renumbered_cells};
 use cx_design::{Component, Design, PortRef};
+use cx_design_copies::{number, sum};
 use cx_text::Memory;
 use std::alloc::Global;
 

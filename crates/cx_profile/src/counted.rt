@@ -4,8 +4,8 @@ ghost use Rattle.std.specs.Prelude.{◌≡◌, IfOk, map};
 ghost use Rattle.cx_design.specs.PlainForms.{plain_assigns, plain_cell, plain_group};
 ghost use Rattle.cx_profile.specs.Counted as specs;
 
-use crate::numbers::sum;
 use cx_design::{Assign, Cell, CellKind, Group, GroupKind, PortRef};
+use cx_design_copies::sum;
 use cx_text::Memory;
 
 /// Whether a group is counted: it is of the source, and static, or plain and calls nothing. The group of an `invoke` has no

@@ -7,11 +7,10 @@ ghost use Rattle.cx_profiling.specs.Instrumented as instrumented;
 ghost use Rattle.cx_profile.specs.Renumbering.{renumber};
 ghost use Rattle.cx_profile.specs.Growing as growing;
 
-use crate::copies::{copied_name, moved_assigns_again, moved_group_again};
 use crate::counted::is_counted;
-use crate::numbers::{number, sum};
-use crate::renumbering::NewDone;
+use crate::renumbering::{NewDone, NewPorts};
 use cx_design::{Assign, Cell, CellKind, Component, Group, Guard, PlacedPort, PortRef};
+use cx_design_copies::{copied_name, moved_assigns, moved_group, number, sum};
 use cx_names_scopes::primitive_row;
 use cx_prim::PrimitiveName;
 use cx_text::{Memory, Name, Place};
@@ -56,7 +55,7 @@ fn grown_group(
 ) -> Result<Group, Memory>
     ensures value { IfOk result (λ g. plain_group g ≡ growing.grown_group (renumber dones.now) place register (plain_group group.now)) }
 {
-    let assigns = moved_assigns_again(alloc, dones, &group.assigns)?;
+    let assigns = moved_assigns(alloc, &NewPorts { dones }, &group.assigns)?;
     let assigns = with_counter(assigns, place, register)?;
     let name = copied_name(alloc, &group.name)?;
     Ok(Group {
@@ -80,7 +79,7 @@ fn counted_group(
     if is_counted(&part.cells, group) {
         grown_group(alloc, dones, part.place, group, register)
     } else {
-        moved_group_again(alloc, dones, group)
+        moved_group(alloc, &NewPorts { dones }, group)
     }
 }
 

@@ -9,8 +9,8 @@ ghost use Rattle.cx_profile.specs.Walks.{IsPast, IsPastCells, counted_row, count
 ghost use Rattle.cx_profile.specs.Rows as rows;
 
 use crate::counted::is_counted;
-use crate::numbers::sum;
 use cx_design::{Cell, CellKind, Component, Design, Group};
+use cx_design_copies::sum;
 use cx_text::{Memory, Name};
 use std::alloc::Global;
 

@@ -6,9 +6,8 @@ ghost use Rattle.cx_names_scopes.specs.Numbered.{AreNumbersOf};
 ghost use Rattle.cx_profiling.specs.FreeNames as specs;
 ghost use Rattle.cx_profile.specs.Naming.{first_free};
 
-use crate::copies::copied_name;
-use crate::numbers::{number, sum};
 use cx_design::{Cell, Component, Group, PortDecl};
+use cx_design_copies::{copied_name, number, sum};
 use cx_names_scopes::Numbers;
 use cx_text::{Memory, Name};
 use itoa::Buffer;

@@ -9,9 +9,8 @@ ghost use Rattle.cx_profile.specs.Gains as specs;
 ghost use Rattle.cx_profile.specs.Renumbering.{AreGained};
 
 use crate::counted::counted;
-use crate::numbers::sum;
-use crate::reaching::reached_components;
 use cx_design::{Cell, CellKind, Component, Design};
+use cx_design_copies::{made_of, sum};
 use cx_design_sizes::children_first;
 use cx_text::Memory;
 use std::alloc::Global;
@@ -40,6 +39,13 @@ pub(crate) fn gains_of(alloc: Global, design: &Design) -> Result<Gains, Memory>
         outputs,
         entries,
     })
+}
+
+/// Of each component whether main has an instance of it, or is it.
+fn reached_components(alloc: Global, design: &Design) -> Result<Vec<bool>, Memory>
+    ensures value { IfOk result (λ marks. specs.AreReached (plain_design design.now) marks.items) }
+{
+    made_of(alloc, design)
 }
 
 /// The outputs that each component gains, by which are reached and the counts of these.

@@ -2,37 +2,25 @@
 
 ghost use Rattle.std.specs.Prelude.{◌≡◌, ◌+◌, ◌*◌, ◌++◌, ◌∷◌, [], IfOk, length, map};
 ghost use Rattle.cx_design.specs.PlainForms.{plain_assigns, plain_cell, plain_component, plain_group, plain_statement};
-ghost use Rattle.cx_rewrites.specs.Moving.{moved_assign, moved_group, moved_statement};
+ghost use Rattle.cx_rewrites.specs.Moving.{moved_assign, moved_statement as statement_moved};
 ghost use Rattle.cx_profiling.specs.Instrumented as instrumented;
 ghost use Rattle.cx_profile.specs.Renumbering.{renumber};
 ghost use Rattle.cx_profile.specs.Growing as growing;
 
-use crate::copies::{
-    copied_cells, copied_name, copied_ports, moved_assigns_again, moved_group_again,
-    moved_invokes_again,
-};
 use crate::counters::{counted_groups, name_again, with_counter_cells};
-use crate::numbers::{number, sum};
+use crate::invokes::moved_invokes;
 use crate::outputs::{with_output_assigns, with_outputs};
-use crate::renumbering::NewDone;
-use crate::statements::moved_statement_again;
+use crate::renumbering::{NewDone, NewPorts};
 use crate::stores::{
     CountMemory, FirstStore, address_width, memory_cell, then_stores, with_stores,
 };
 use cx_design::{Assign, Cell, Component, Group, PortDecl, PortRef, Statement};
+use cx_design_copies::{
+    copied_cells, copied_name, copied_ports, moved_assigns, moved_groups, moved_statement, number,
+    sum,
+};
 use cx_text::{Memory, Name};
 use std::alloc::Global;
-
-/// The groups with renumbered ports.
-fn kept_groups(alloc: Global, dones: &[NewDone], groups: &[Group]) -> Result<Vec<Group>, Memory>
-    ensures value { IfOk result (λ copies. map plain_group copies.items ≡ map (moved_group (renumber dones.now)) (map plain_group groups.now)) }
-{
-    let mut copies = Vec::with_capacity(alloc, groups.len())?;
-    for group in groups {
-        copies.push(moved_group_again(alloc, dones, group)?)?;
-    }
-    Ok(copies)
-}
 
 /// The component with renumbered ports, which is all that a component without an instance needs.
 pub(crate) fn kept_component(
@@ -48,10 +36,10 @@ pub(crate) fn kept_component(
         inputs: copied_ports(alloc, &part.inputs)?,
         outputs: copied_ports(alloc, &part.outputs)?,
         cells: copied_cells(alloc, &part.cells)?,
-        groups: kept_groups(alloc, dones, &part.groups)?,
-        invokes: moved_invokes_again(alloc, dones, &part.invokes)?,
-        always: moved_assigns_again(alloc, dones, &part.always)?,
-        control: moved_statement_again(alloc, dones, &part.control)?,
+        groups: moved_groups(alloc, &NewPorts { dones }, &part.groups)?,
+        invokes: moved_invokes(alloc, dones, &part.invokes)?,
+        always: moved_assigns(alloc, &NewPorts { dones }, &part.always)?,
+        control: moved_statement(alloc, &NewPorts { dones }, &part.control)?,
         place: part.place,
     })
 }
@@ -93,7 +81,7 @@ fn always_with_counts(
 ) -> Result<Vec<Assign>, Memory>
     ensures value { IfOk result (λ always. plain_assigns always.items ≡ map (moved_assign (renumber dones.now)) (plain_assigns part.now.always.items) ++ growing.port_assigns part.now.place (length part.now.outputs.items) ports.now) }
 {
-    let always = moved_assigns_again(alloc, dones, &part.always)?;
+    let always = moved_assigns(alloc, &NewPorts { dones }, &part.always)?;
     let first = number(part.outputs.len())?;
     with_output_assigns(always, part.place, first, ports)
 }
@@ -116,9 +104,9 @@ pub(crate) fn child_component(
         outputs: outputs_with_counts(alloc, part, names, own, ports)?,
         cells: cells_with_counters(alloc, part, names, own)?,
         groups: counted_groups(alloc, dones, part)?,
-        invokes: moved_invokes_again(alloc, dones, &part.invokes)?,
+        invokes: moved_invokes(alloc, dones, &part.invokes)?,
         always: always_with_counts(alloc, dones, part, ports)?,
-        control: moved_statement_again(alloc, dones, &part.control)?,
+        control: moved_statement(alloc, &NewPorts { dones }, &part.control)?,
         place: part.place,
     })
 }
@@ -187,9 +175,9 @@ fn control_with_stores(
     part: &Component,
     count: u32,
 ) -> Result<Statement, Memory>
-    ensures value { IfOk result (λ s. plain_statement s ≡ growing.then_stores part.now.place (moved_statement (renumber dones.now) (plain_statement part.now.control)) (length part.now.groups.items) count) }
+    ensures value { IfOk result (λ s. plain_statement s ≡ growing.then_stores part.now.place (statement_moved (renumber dones.now) (plain_statement part.now.control)) (length part.now.groups.items) count) }
 {
-    let control = moved_statement_again(alloc, dones, &part.control)?;
+    let control = moved_statement(alloc, &NewPorts { dones }, &part.control)?;
     let first = number(part.groups.len())?;
     then_stores(alloc, part.place, control, first, count)
 }
@@ -213,8 +201,8 @@ pub(crate) fn main_component(
         outputs: copied_ports(alloc, &part.outputs)?,
         cells: cells_with_memory(alloc, part, names, own, count)?,
         groups: groups_with_stores(alloc, dones, part, names, own, ports)?,
-        invokes: moved_invokes_again(alloc, dones, &part.invokes)?,
-        always: moved_assigns_again(alloc, dones, &part.always)?,
+        invokes: moved_invokes(alloc, dones, &part.invokes)?,
+        always: moved_assigns(alloc, &NewPorts { dones }, &part.always)?,
         control: control_with_stores(alloc, dones, part, count)?,
         place: part.place,
     })

@@ -2,7 +2,6 @@
 #![tactic(auto)]
 
 mod components;
-mod copies;
 mod counted;
 mod counters;
 mod entries;
@@ -10,11 +9,9 @@ mod free_names;
 mod gained;
 mod growing;
 mod instrumenting;
-mod numbers;
+mod invokes;
 mod outputs;
-mod reaching;
 mod renumbering;
-mod statements;
 mod stores;
 
 pub use entries::ProfiledGroup;

@@ -7,9 +7,9 @@ ghost use Rattle.cx_profile.specs.Renumbering.{AreGained, AreThere, IsThereKind}
 ghost use Rattle.cx_profile.specs.Growing as growing;
 
 use crate::counters::{drive, name_again};
-use crate::numbers::{number, sum};
 use crate::renumbering::first_gained;
 use cx_design::{Assign, Cell, CellKind, Component, Design, PortDecl, PortRef};
+use cx_design_copies::{number, sum};
 use cx_text::{Memory, Name, Place};
 use std::alloc::Global;
 

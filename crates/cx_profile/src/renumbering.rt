@@ -3,12 +3,11 @@
 ghost use Rattle.std.specs.Prelude.{◌≡◌, IfOk, length, map};
 ghost use Rattle.cx_design.specs.PlainForms.{plain_cell, plain_component, plain_kind};
 ghost use Rattle.cx_design.specs.PlainDesigns.{plain_design};
-ghost use Rattle.cx_rewrites.specs.Moving.{moved_port};
 ghost use Rattle.cx_profiling.specs.Counters as counters;
 ghost use Rattle.cx_profile.specs.Renumbering as renumbering;
 
-use crate::numbers::{number, sum};
-use cx_design::{Cell, CellKind, Component, Design, PlacedPort, PortRef};
+use cx_design::{Cell, CellKind, Component, Design, PortRef};
+use cx_design_copies::{PortMoves, number, sum};
 use cx_text::Memory;
 use std::alloc::Global;
 
@@ -17,6 +16,22 @@ use std::alloc::Global;
 pub(crate) struct NewDone {
     pub old: u32,
     pub new: u32,
+}
+
+/// Gives each port the one with its new number, by the new numbers of the ports of cells.
+#[derive(Clone, Copy)]
+pub(crate) struct NewPorts<'a> {
+    pub dones: &'a [NewDone],
+}
+
+impl PortMoves for NewPorts<'_> {
+    ghost use Rattle.cx_profile.specs.Renumbering.{renumber};
+
+    ghost moving = { λ new. renumber new.dones.now };
+
+    fn port(&self, port: PortRef) -> Result<PortRef, Memory> {
+        Ok(renumbered(self.dones, port))
+    }
 }
 
 /// Of each cell of a component the number of its done, and the new one. A primitive's ports keep their numbers.
@@ -64,7 +79,7 @@ pub(crate) fn first_gained(part: &Component) -> Result<u32, Memory>
 }
 
 /// A port with its new number.
-pub(crate) fn renumbered(cells: &[NewDone], port: PortRef) -> PortRef
+fn renumbered(cells: &[NewDone], port: PortRef) -> PortRef
     ensures value { result ≡ renumbering.renumber cells.now port }
 {
     match port {
@@ -73,15 +88,5 @@ pub(crate) fn renumbered(cells: &[NewDone], port: PortRef) -> PortRef
             _ => PortRef::Cell(cell, number),
         },
         PortRef::Input(_) | PortRef::Output(_) | PortRef::Done(_) | PortRef::Literal(_, _) => port,
-    }
-}
-
-/// A placed port with its new number.
-pub(crate) fn renumbered_placed(cells: &[NewDone], placed: PlacedPort) -> PlacedPort
-    ensures value { result ≡ moved_port (renumbering.renumber cells.now) placed }
-{
-    PlacedPort {
-        port: renumbered(cells, placed.port),
-        place: placed.place,
     }
 }

@@ -7,8 +7,8 @@ ghost use Rattle.cx_profiling.specs.Instrumented as instrumented;
 ghost use Rattle.cx_profile.specs.Growing as growing;
 
 use crate::counters::{drive, name_again, new_cell};
-use crate::numbers::sum;
 use cx_design::{Assign, Cell, Form, Group, GroupKind, PortRef, Statement};
+use cx_design_copies::sum;
 use cx_prim::PrimitiveName;
 use cx_text::{Memory, Name, Place};
 use std::alloc::Global;

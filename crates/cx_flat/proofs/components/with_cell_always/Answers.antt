@@ -28,12 +28,12 @@ returns-in-Some-Some-Inlined c =
     kid_of_cell (plain_table c.args.caller.table.now) c.args.caller.part.now.cells.items n c.index-cell.result.now at ∙ sym c.in-Some-Some-Inlined.ensures.value in
     let stands : slice_get c.args.caller.stands.now n ≡ Some (Inlined block) = grind (arith, common_steps, gets) in
     record {
-      value = IfOk-weaker c.with_assigns.result _ (λ all. plain_assigns all.items ≡ front ++ always_if kids part (kid_at kids n) n)
+      value = IfOk-weaker c.with_moved_assigns.result _ (λ all. plain_assigns all.items ≡ front ++ always_if kids part (kid_at kids n) n)
           (λ all is.
           is ∙ ap (λ assigns. front ++ map (moved_assign (block_by block (λ m. ports.Input m))) (plain_assigns assigns)) c.deref.ensures.value
           ∙ ap (λ move. front ++ map (moved_assign move) child.always) (inner_map kids part c.args.caller.stands.now c.requires.caller n child block stands its)
           ∙ ap (λ k. front ++ always_if kids part k n) (sym its))
-          c.with_assigns.ensures.value;
+          c.with_moved_assigns.ensures.value;
     }
 
 pub returns-in-None-default : goal.returns-in-None-default

@@ -1,8 +1,8 @@
 use Rattle.std.proofs.Common.{◌≡◌, ◌∙◌, ◌+◌, suc, ap, arith}
 use Rattle.cx_rules.specs.Counts.{is_one_of}
 use Rattle.cx_flattening.specs.Copies.{count_if, enabled_below}
-use Rattle.cx_flat.proofs.EnableLemmas.{range_pushed}
 use Rattle.cx_flat.proofs.enabled.counts_below.Goals as goal
+use Rattle.cx_text.proofs.ListLaws.{range_pushed}
 
 pub loop-group-preserved : goal.loop-group-preserved
 loop-group-preserved c =

@@ -8,9 +8,9 @@ use Rattle.cx_design.specs.declared.components.Component.{Component}
 use Rattle.cx_design.specs.PlainForms.{plain_component}
 use Rattle.cx_design.specs.PlainDesigns.{plain_design}
 use Rattle.cx_flattening.specs.FlatDesign.{is_reached}
-use Rattle.cx_flat.proofs.EnableLemmas.{range_pushed}
 use Rattle.cx_flat.proofs.MarkLemmas.{kept_is}
 use Rattle.cx_flat.proofs.flattening.dynamic_marks.Goals as goal
+use Rattle.cx_text.proofs.ListLaws.{range_pushed}
 
 pub loop-number-preserved : goal.loop-number-preserved
 loop-number-preserved c =

@@ -2,9 +2,9 @@ use Rattle.std.proofs.Common.{◌≡◌, ◌∙◌, ◌<◌, get_or, length, ap,
 use Rattle.std.specs.Vec.{vec_len}
 use Rattle.cx_flattening.specs.Flattened.{first_copy}
 use Rattle.cx_flat.specs.Callers.{kids_in, part_of}
-use Rattle.cx_flat.proofs.EnableLemmas.{range_pushed}
 use Rattle.cx_flat.proofs.GroupLemmas.{first_is, firsts_told, groups_more}
 use Rattle.cx_flat.proofs.groups.groups_again.Goals as goal
+use Rattle.cx_text.proofs.ListLaws.{range_pushed}
 
 pub loop-invoke-preserved : goal.loop-invoke-preserved
 loop-invoke-preserved c =

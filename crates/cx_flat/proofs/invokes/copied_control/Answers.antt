@@ -15,7 +15,7 @@ returns c =
     let move = invoke_port (kids_in c.args.caller) (part_of c.args.caller) child (plain_invoke c.args.invoke.now) in
     let same : map_by c.in_ok-moves.moves ≡ move = c.in_ok-moves.ensures.value child c.requires.child in
     record {
-      value = IfOk-weaker c.copied_statement_again.result _ (λ s. plain_statement s ≡ copied_statement move (λ g. c.args.first + enabled_below (groups_of child.control) g) child.control)
+      value = IfOk-weaker c.copied_statement.result _ (λ s. plain_statement s ≡ copied_statement move (λ g. c.args.first + enabled_below (groups_of child.control) g) child.control)
           (λ s is. is ∙ copied_by (map_by c.in_ok-moves.moves) move c.args.first c.in_ok-enabled.enabled (groups_of child.control) child.control same c.in_ok-enabled.ensures.value)
-          c.copied_statement_again.ensures.value;
+          c.copied_statement.ensures.value;
     }

@@ -3,9 +3,9 @@ use Rattle.std.proofs.lemmas.List.{length-map}
 use Rattle.cx_design.specs.PlainForms.{plain_component}
 use Rattle.cx_design.specs.PlainDesigns.{plain_design}
 use Rattle.cx_profiling.specs.Instrumented.{gained}
-use Rattle.cx_profile.proofs.StepLemmas.{range_pushed}
 use Rattle.cx_profile.proofs.GainLemmas.{are_gained}
 use Rattle.cx_profile.proofs.gained.gained_outputs.Goals as goal
+use Rattle.cx_text.proofs.ListLaws.{range_pushed}
 
 pub loop-number-preserved : goal.loop-number-preserved
 loop-number-preserved c = record {

@@ -1,7 +1,7 @@
 use Rattle.std.proofs.Common.{◌≡◌, ◌+◌, ◌*◌, ap, arith}
 use Rattle.cx_meaning.specs.declared.ports.PortRef.TheVariants as ports
-use Rattle.cx_profile.proofs.StepLemmas.{range_pushed}
 use Rattle.cx_profile.proofs.outputs.register_ports.Goals as goal
+use Rattle.cx_text.proofs.ListLaws.{range_pushed}
 
 pub loop-number-preserved : goal.loop-number-preserved
 loop-number-preserved c =
