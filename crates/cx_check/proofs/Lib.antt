@@ -1,4 +1,2 @@
-pub mod BuiltLemmas
-pub mod PlaceLemmas
 mod StageLemmas
 pub mod Verdicts

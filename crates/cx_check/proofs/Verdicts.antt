@@ -1,5 +1,5 @@
 -- A tree has one verdict.
-use Rattle.std.proofs.Common.{◌≡◌, ℕ, List, Option, Some, None, inl, inr, refl, sym, ap, ◌∙◌, subst}
+use Rattle.std.proofs.Common.{◌≡◌, ℕ, List, Some, None, inl, inr, refl, sym, ap, subst}
 use Rattle.std.specs.Prelude.{Result, Ok, Err, IfOk, IfErr, MatchResult}
 use Rattle.cx_text.specs.declared.places.Place.{Place}
 use Rattle.cx_text.specs.declared.rules.Rule.{Rule}
@@ -17,7 +17,7 @@ use Rattle.cx_design.specs.declared.refusals.Refusal.TheVariants as refusals
 use Rattle.cx_check.specs.Verdicts.{IsRefusal, IsSame, TellsAs}
 use Rattle.cx_names.specs.Refused.{IfRule}
 use Rattle.cx_check.specs.Acceptance.{IsAcceptedTree, TreeBreak, IsTreeRefusal}
-use Rattle.cx_text.proofs.OptionLaws.{one_value}
+use Rattle.cx_text.proofs.OptionLaws.{one_value, none_or_some}
 
 -- THE FIRST BREAK of a design is one
 one_first : (d : PlainDesign) (a b : Diagnostic) → FirstBreak d a → FirstBreak d b → IsSame d a b
@@ -67,11 +67,9 @@ first_told d told (refusals.Rule own) b h = one_first d own told h b
 first_told d told refusals.Memory b h = tt
 
 -- A TREE
-not_both : {A : Type 0} (o : Option A) (x : A) → o ≡ None → o ≡ Some x → ⊥
-not_both o x e f = cc
 
 pub accepted_once : (tree : PlainTree) (told : Diagnostic) → IsAcceptedTree tree → TreeBreak tree told → ⊥
-accepted_once tree told h (inl b) = not_both (names_break tree) told h.named b
+accepted_once tree told h (inl b) = none_or_some (names_break tree) told h.named b
 accepted_once tree told h (inr b) = none_first (design_of tree) told h.accepted b.1
 
 as_one : (d : PlainDesign) (a b : Diagnostic) → a ≡ b → IsSame d a b
@@ -79,8 +77,8 @@ as_one d a b e = record { rule = ap (λ t. t.rule) e; place = ap (λ t. t.place)
 
 pub refused_once : (tree : PlainTree) (a b : Diagnostic) → TreeBreak tree a → TreeBreak tree b → IsSame (design_of tree) a b
 refused_once tree a b (inl h) (inl k) = as_one (design_of tree) a b (one_value (names_break tree) a b h k)
-refused_once tree a b (inl h) (inr k) = absurd (not_both (names_break tree) a k.0 h)
-refused_once tree a b (inr h) (inl k) = absurd (not_both (names_break tree) b h.0 k)
+refused_once tree a b (inl h) (inr k) = absurd (none_or_some (names_break tree) a k.0 h)
+refused_once tree a b (inr h) (inl k) = absurd (none_or_some (names_break tree) b h.0 k)
 refused_once tree a b (inr h) (inr k) = one_first (design_of tree) a b h.1 k.1
 
 -- a refusal of a tree tells as each that is true of it

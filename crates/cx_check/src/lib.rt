@@ -6,9 +6,7 @@ pub mod accept_laws;
 mod accepting;
 mod checking;
 mod shapes;
-mod statics;
 
 pub use accepting::accept;
 pub use checking::{Refused, check};
 pub use shapes::check_shapes;
-pub use statics::{first_unbuilt, left_out};

@@ -9,7 +9,6 @@ use Rattle.cx_ast.specs.declared.statements.BindItem.{BindItem}
 use Rattle.cx_ast.specs.PlainStatements as statements
 use Rattle.cx_ast.specs.PlainTree as ast
 use Rattle.cx_ast.specs.PlainTree.{PlainTree}
-use Rattle.cx_meaning.specs.declared.ports.PlacedPort.{PlacedPort}
 use Rattle.cx_meaning.specs.Designs.{PlainStatement, PlainStatements, Placed, no_statements, a_statement}
 use Rattle.cx_meaning.specs.Designs as plain
 use Rattle.cx_meaning.specs.Instances.{Instance}
@@ -18,6 +17,7 @@ use Rattle.cx_rewrites.specs.Beside.{joined}
 use Rattle.cx_promotion.specs.Made.{IsRun, no_more, one_more, FormMade, empty, enable, seq, collapsed, par, if_made, while_made, repeat_made, static, timed, StatementMade, placed, PartsMade, no_parts, a_part, a_run, ArmsMade, no_arms, an_arm}
 use Rattle.cx_promotion.specs.Rewriting.{PIECE, BELOW_CONTROL, is_run, close, cut, cut_if, promote_form, promote_else, promote_all, promote_block, made_tree}
 use Rattle.cx_promoted_trees.proofs.PartsPromoted.{twin, placed-made, group_names-made, static-made, past-made, first-made}
+use Rattle.cx_meaning.proofs.DesignsLemmas.{if_is, while_is, static_if_is}
 
 -- INVOKES of control stay
 invokes_first : (s : statements.PlainStatement) (ss : statements.PlainStatements) → invokes_all (statements.StatementThen s ss) ≡ invokes_all (statements.StatementThen s statements.NoStatements) ++ invokes_all ss
@@ -79,16 +79,6 @@ module _ (long : List ℕ → Bool) where
 
     pub block_invokes : (below : ℕ) (in_order : Bool) (block : statements.PlainBlock) → invokes_of (promote_block long below in_order block) ≡ invokes_of block
     block_invokes below in_order (statements.Braces ss place) = invokes_cut_if (in_order && nat_lt 0 below) (promote_all long below ss) ∙ all_invokes below ss
-
--- forms of parts that are the same
-if_is : {p q : PlacedPort} {c d : Option ℕ} {s t u v : PlainStatement} → p ≡ q → c ≡ d → s ≡ t → u ≡ v → plain.If p c s u ≡ plain.If q d t v
-if_is {q = q} {c = c} {d = d} {s = s} {t = t} {u = u} e f g h = ap (λ x. plain.If x c s u) e ∙ ap (λ x. plain.If q x s u) f ∙ ap (λ x. plain.If q d x u) g ∙ ap (plain.If q d t) h
-
-while_is : {p q : PlacedPort} {c d : Option ℕ} {s t : PlainStatement} → p ≡ q → c ≡ d → s ≡ t → plain.While p c s ≡ plain.While q d t
-while_is {q = q} {c = c} {d = d} {s = s} e f g = ap (λ x. plain.While x c s) e ∙ ap (λ x. plain.While q x s) f ∙ ap (plain.While q d) g
-
-static_if_is : {p q : PlacedPort} {s t u v : PlainStatement} (written : Option ℕ) → p ≡ q → s ≡ t → u ≡ v → plain.StaticIf written p s u ≡ plain.StaticIf written q t v
-static_if_is {q = q} {s = s} {t = t} {u = u} written e f g = ap (λ x. plain.StaticIf written x s u) e ∙ ap (λ x. plain.StaticIf written q x u) f ∙ ap (plain.StaticIf written q t) g
 
 module _ (tree : PlainTree) (part : ast.PlainComponent) (i : Instance) where
   abbrev other : ast.PlainComponent

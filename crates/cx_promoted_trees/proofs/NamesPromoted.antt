@@ -30,14 +30,10 @@ use Rattle.cx_names.proofs.Kept.{KeptPart, kept, kept_part}
 use Rattle.cx_promotion.specs.Promotable.{promotable}
 use Rattle.cx_promotion.specs.Rewriting.{PIECE, BELOW_CONTROL, place_of, is_hole_item, bare_enable, promote_assigns, promote_group, is_run, close, cut, cut_if, promote_form, promote_else, promote_all, promote_block, length_of, is_long, enables, promote_component, components_from, made_tree}
 use Rattle.cx_promoted_trees.proofs.PartsPromoted.{component_names-made, MadeKind, neither, a_primitive, a_component, cell_of-made, go_of, latency-made, ports-made, twin, made_group, groups_in-made, always_in-made, name_made, group_names-made}
+use Rattle.cx_text.proofs.ListLaws.{both_none}
+use Rattle.cx_meaning.proofs.SightsLaws.{flat_is_none}
 
 -- LISTS OF BREAKS that are empty
-pub both_none : {A : Type 0} (xs ys : List A) → xs ≡ [] → ys ≡ [] → xs ++ ys ≡ []
-both_none xs ys e h = ap₂ ◌++◌ e h
-
-pub flat_is_none : {A B : Type 0} (f : A → List B) (xs : List A) → ((x : A) → In xs x → f x ≡ []) → flat_map f xs ≡ []
-flat_is_none f [] h = refl
-flat_is_none f (x ∷ xs) h = both_none (f x) (flat_map f xs) (h x (inl refl)) (flat_is_none f xs (λ y i. h y (inr i)))
 
 -- the same test, told alike
 retold : (a b : Bool) (rule : Rule) (place : Place) (name : List ℕ) → a ≡ b → tell_if b rule place name ≡ [] → tell_if a rule place name ≡ []

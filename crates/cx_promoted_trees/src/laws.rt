@@ -13,7 +13,6 @@ ghost use Rattle.cx_promotion.specs.Made.{DesignMade, Quickens};
 ghost use Rattle.cx_promotion.specs.Rewriting.{IsPromotedTree, made_tree};
 ghost use Rattle.cx_names.specs.Targets.{HasTargets};
 ghost use Rattle.cx_check.specs.Acceptance.{IsAcceptedTree};
-ghost use Rattle.cx_check.specs.Unbuilt.{first_unbuilt};
 
 /// The design of a promoted tree is one that promotion makes of the tree's design.
 pub fn promoted_trees_have_promoted_designs()
@@ -21,12 +20,10 @@ pub fn promoted_trees_have_promoted_designs()
 {}
 
 /// The promoted tree of an accepted tree without static components is accepted, and has no static component. The tree that is made,
-/// whatever its size, has no word `static` of a component or an invoke, breaks no rule on names and has no target that is a literal, where
-/// the tree has and breaks none.
+/// whatever its size, breaks no rule on names and has no target that is a literal, where the tree breaks and has none.
 pub fn promoted_is_accepted()
     ensures accepted { (tree new : PlainTree) (rows : List PromotedRow) → IsDesign (design_of tree) → IsFlat (design_of tree) → IsAcceptedTree tree → IsPromotedTree tree new rows → IsAcceptedTree new }
     ensures flat { (tree new : PlainTree) (rows : List PromotedRow) → IsFlat (design_of tree) → IsPromotedTree tree new rows → IsFlat (design_of new) }
-    ensures built { (tree : PlainTree) → first_unbuilt tree ≡ None → first_unbuilt (made_tree tree) ≡ None }
     ensures named { (tree : PlainTree) → names_break tree ≡ None → names_break (made_tree tree) ≡ None }
     ensures targets { (tree : PlainTree) → HasTargets tree → HasTargets (made_tree tree) }
 {}

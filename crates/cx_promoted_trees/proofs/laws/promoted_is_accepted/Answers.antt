@@ -1,4 +1,4 @@
-use Rattle.cx_promoted_trees.proofs.AcceptedPromoted.{promoted_tree_accepted, promoted_tree_flat, unbuilt_made}
+use Rattle.cx_promoted_trees.proofs.AcceptedPromoted.{promoted_tree_accepted, promoted_tree_flat}
 use Rattle.cx_promoted_trees.proofs.NamesPromoted.{names_made}
 use Rattle.cx_promoted_trees.proofs.TargetsPromoted.{made_tree_has_targets}
 use Rattle.cx_promoted_trees.proofs.laws.promoted_is_accepted.Goals as goal
@@ -8,9 +8,6 @@ returns-clause-accepted c = λ tree new rows design flat accepted is. promoted_t
 
 pub returns-clause-flat : goal.returns-clause-flat
 returns-clause-flat c = λ tree new rows flat is. promoted_tree_flat tree new rows flat is
-
-pub returns-clause-built : goal.returns-clause-built
-returns-clause-built c = λ tree none. unbuilt_made tree none
 
 pub returns-clause-named : goal.returns-clause-named
 returns-clause-named c = λ tree none. names_made tree none
