@@ -1,22 +1,18 @@
 -- Guards of a flat design have such parts as those of the design: each is one of the design, with moved ports.
-use Rattle.std.proofs.Common.{◌≡◌, ℕ, zero, suc, ◌<◌, ◌≤◌, Bool, true, false, List, [], ◌∷◌, ◌++◌, length, map, flat_map, Option, Some, None, get_or, inl, inr, ⊎_elim, refl, sym, ap, ◌∙◌, subst, arith}
+use Rattle.std.proofs.Common.{◌≡◌, ℕ, zero, suc, ◌<◌, Bool, true, false, List, [], ◌∷◌, length, map, flat_map, Option, Some, None, get_or, inl, inr, ⊎_elim, refl, sym, ap, subst, arith}
 use Rattle.std.proofs.lemmas.Bool.{cases_lt}
 use Rattle.std.proofs.lemmas.List.{length-map, get_or_past, get_or-map}
 use Rattle.std.proofs.lemmas.Option.{get_or_from_slice_get}
-use Rattle.cx_meaning.specs.Active.{Owned, owned, owned_by_groups, by_place, source_order}
 use Rattle.cx_meaning.specs.Designs.{PlainAssign, PlainGroup, PlainInvoke, PlainGuard, Always, Atom, Negation, All, Any, Compared, Within, PlainGuards, no_guards, a_guard, PlainCell, PlainKind, OfPrimitive, OfComponent, PlainComponent, PlainDesign, component_at, no_component, group_at, no_group}
 use Rattle.cx_meaning.specs.declared.ports.PortRef.{PortRef}
 use Rattle.cx_meaning.specs.declared.ports.PortRef.TheVariants as ports
 use Rattle.cx_meaning.specs.Control.{groups_of}
 use Rattle.cx_meaning.specs.Instances.{Instance, Node, Cells, no_cells, a_primitive, an_instance, add_cell, cells_for, tree_within}
 use Rattle.cx_meaning.specs.Sights.{In}
-use Rattle.cx_meaning.proofs.ActiveLemmas.{placed_first, placed_still}
-use Rattle.cx_meaning.proofs.DesignsLemmas.{group_there, owned_has}
-use Rattle.cx_rules.specs.Counts.{is_one_of, group_if}
+use Rattle.cx_meaning.proofs.ActiveLemmas.{group_stands, always_stands}
+use Rattle.cx_meaning.proofs.DesignsLemmas.{group_there}
 use Rattle.cx_rewrites.specs.Moving.{moved_guard, moved_guards, moved_assign, moved_group}
-use Rattle.cx_names.proofs.Base.{in_left, in_map, flat_in, in_either, in_at, at_in, some_at}
-use Rattle.cx_laws.proofs.EdgeLemmas.{OwnerOf, continuous, of_group, owner_of}
-use Rattle.cx_control.proofs.BesideLemmas.{group_stands}
+use Rattle.cx_names.proofs.Base.{in_map, flat_in, in_either, in_at, at_in, some_at}
 use Rattle.cx_wiring.specs.Nesting.{IsPart, AreParts, HasParts}
 use Rattle.cx_flattening.specs.Copies.{copied_group, enabled_groups}
 use Rattle.cx_flattening.specs.Fair.{IsAssignOf}
@@ -24,6 +20,8 @@ use Rattle.cx_flattening.specs.FlatDesign.{reached_from, flat_of, renumbered_par
 use Rattle.cx_flattening.specs.Flattened.{Kids, kid_at, kid_if, own_port, child_port, invoke_port, always_if, always_from, copies_if, copies, flat_component, flat_part, flat_kids}
 use Rattle.cx_flattening.specs.Whole.{is_static}
 use Rattle.cx_bytes.specs.Laws.{HasGuards}
+use Rattle.cx_flattening.proofs.FlatKeeps.{enabled_in}
+use Rattle.cx_rules.proofs.ForeignLemmas.{OwnerOf, continuous, of_group, owner_of}
 
 -- A MOVED GUARD has the parts of the guard
 module _ (move : PortRef → PortRef) where
@@ -68,15 +66,6 @@ abbrev mutual
 
 abbrev KidsGuards : Kids → Type 0
 KidsGuards kids = (c : ℕ) (child : PlainComponent) → kid_at kids c ≡ Some child → GuardsIn child
-
-enabled_in : (used : List ℕ) (g : ℕ) (xs : List PlainGroup) (x : PlainGroup) → In (enabled_groups used g xs) x → In xs x
-enabled_in used g [] x i = absurd i
-enabled_in used g (y ∷ ys) x i = by (is_one_of g used) (λ j. enabled_in used (suc g) ys x j) i
-  where
-    by : (b : Bool) → (In (enabled_groups used (suc g) ys) x → In ys x) → In (group_if b y (enabled_groups used (suc g) ys)) x → In (y ∷ ys) x
-    by true later (inl e) = inl e
-    by true later (inr j) = inr (later j)
-    by false later j = inr (later j)
 
 module _ (kids : Kids) (part : PlainComponent) (all : KidsGuards kids) (own : GuardsIn part) where
   child_always : (k : Option PlainComponent) (c : ℕ) → ((child : PlainComponent) → k ≡ Some child → GuardsIn child) → (a : PlainAssign) → In (always_if kids part k c) a → HasParts a.guard
@@ -123,14 +112,6 @@ mutual
   kids_guards (an_instance i rest) h (suc c) child e = kids_guards rest h.1 c child e
 
 -- OF A DESIGN
-sorted_has : (list : List Owned) (o : Owned) → In list o → In (by_place list) o
-sorted_has [] o i = i
-sorted_has (a ∷ rest) o (inl e) = subst (In (by_place (a ∷ rest))) e (placed_first a (by_place rest))
-sorted_has (a ∷ rest) o (inr i) = placed_still a (by_place rest) o (sorted_has rest o i)
-
-always_stands : (part : PlainComponent) (a : PlainAssign) → In part.always a → In (source_order part) (record { owner = None; assign = a })
-always_stands part a i =
-    sorted_has (owned None part.always ++ owned_by_groups 0 part.groups) _ (in_left (owned None part.always) (owned_by_groups 0 part.groups) _ (owned_has None part.always a i))
 
 module _ (d : PlainDesign) (guards : HasGuards d) where
   component_guards : (k : ℕ) → GuardsIn (component_at d k)

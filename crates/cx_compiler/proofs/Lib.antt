@@ -9,7 +9,6 @@ pub mod WrittenShape
 pub mod WrittenCells
 pub mod WrittenUses
 pub mod TextLayers
-pub mod TextWords
 pub mod TextGuards
 pub mod WrittenNets
 pub mod TextDepth

@@ -23,6 +23,7 @@ use Rattle.cx_names.proofs.There.{component_is}
 use Rattle.cx_commands.specs.Unread.{HasTree}
 use Rattle.cx_bytes.specs.Shallow.{FormShallow, Shallow, PartsShallow, IsShallow}
 use Rattle.cx_compiler.specs.Texts.{IsDesignOf}
+use Rattle.cx_flat_texts.proofs.TextNames.{Each, each_in}
 
 -- BLOCKS one in the other: no more than so many, the block itself among them
 abbrev mutual
@@ -116,15 +117,6 @@ module _ (whole : PlainTree) (part : ast.PlainComponent) where
   control_shallow (Some block) h = block_shallow false block (first whole part) 64 64 (omega arith) h
 
 -- FROM THE GRAMMAR TO THE TREE: what holds of all that a grammar spells
-abbrev pub Each : {A : Type 0} → (A → Type 0) → List A → Type 0
-Each P [] = Unit {0}
-Each P (x ∷ xs) = P x × Each P xs
-
-pub each_in : {A : Type 0} (P : A → Type 0) (xs : List A) (x : A) → Each P xs → In xs x → P x
-each_in P [] x h i = absurd i
-each_in P (y ∷ xs) x h (inl e) = subst P e h.0
-each_in P (y ∷ xs) x h (inr i) = each_in P xs x h.1 i
-
 abbrev pub StatementFits : ℕ → tree.PlainStatement → Type 0
 StatementFits n (tree.Placed attributes form place) = FormFits n form
 

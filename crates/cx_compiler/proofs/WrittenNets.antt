@@ -53,9 +53,9 @@ use Rattle.cx_wiring.proofs.FitTargets.{targets_there}
 use Rattle.cx_compiler.proofs.TextGuards.{guards_hold}
 use Rattle.cx_compiler.proofs.TextLayers.{tree_rules}
 use Rattle.cx_compiler.proofs.TextLemmas.{text_targets}
-use Rattle.cx_compiler.proofs.TextWords.{cells_named}
 use Rattle.cx_text.proofs.ListLaws.{there_at}
 use Rattle.cx_meaning.proofs.SightsLaws.{in_at as in_slice}
+use Rattle.cx_flat_texts.proofs.TextNames.{cells_named}
 
 -- FROM THE TEXT: no part of a guard is Always, and external memories have words for names
 pub design_parts : (tree : PlainTree) (d : PlainDesign) → d ≡ design_of tree → (k : ℕ) → k < length d.components → PartsHold (component_at d k)

@@ -1,7 +1,7 @@
 -- An instance of a design's tree beside its component with all that is below it: the same cells, as far as the tree goes down,
 -- and the rules that its assignments, groups and statements keep.
-use Rattle.std.proofs.Common.{◌≡◌, ℕ, zero, suc, ◌+◌, ◌<◌, ◌⊎◌, inl, inr, ⊎_elim, true, false, ◌&&◌, List, [], ◌∷◌, ◌++◌, Option, Some, None, length, refl, sym, ap, ◌∙◌, subst, arith}
-use Rattle.std.specs.Prelude.{slice_get, get_or}
+use Rattle.std.proofs.Common.{◌≡◌, ℕ, zero, suc, ◌<◌, ◌⊎◌, inl, inr, ⊎_elim, true, false, ◌&&◌, List, [], ◌∷◌, Option, Some, length, refl, sym, ap, ◌∙◌, subst, arith}
+use Rattle.std.specs.Prelude.{slice_get}
 use Rattle.std.proofs.lemmas.Bool.{cases_lt}
 use Rattle.std.proofs.lemmas.List.{get_or_past}
 use Rattle.cx_text.specs.declared.rules.Rule.TheVariants.{CallShape}
@@ -12,9 +12,9 @@ use Rattle.cx_prim.specs.Table.{PrimitiveRow, row_of}
 use Rattle.cx_meaning.specs.declared.ports.PortRef.{PortRef}
 use Rattle.cx_meaning.specs.declared.ports.PortRef.TheVariants as ports
 use Rattle.cx_meaning.specs.Rows.{side_of}
-use Rattle.cx_meaning.specs.Designs.{PlainAssign, PlainGroup, PlainKind, OfPrimitive, OfComponent, PlainCell, PlainComponent, PlainDesign, component_at, no_component, group_at, no_group}
+use Rattle.cx_meaning.specs.Designs.{PlainKind, OfPrimitive, OfComponent, PlainCell, PlainComponent, PlainDesign, component_at, no_component, group_at}
 use Rattle.cx_meaning.specs.Instances.{Instance, At, Nothing, OfRow, OfInstance, cell_at, cells_of, part_of, add_cell, cells_for, tree_within, tree_of, Path, instance_at}
-use Rattle.cx_meaning.specs.Active.{Active, same_port, Owned, owned, owned_by_groups, placed_in, by_place, source_order, drivers}
+use Rattle.cx_meaning.specs.Active.{Active, same_port, Owned, source_order, drivers}
 use Rattle.cx_meaning.specs.Sights.{In, PartPort, Go, AnInput, AnOutput, ItsDone, part_port}
 use Rattle.cx_rules.specs.Ports.{component_of, path_of}
 use Rattle.cx_rules.specs.Items.{is_plain}
@@ -26,9 +26,8 @@ use Rattle.cx_rules.specs.InvokeShape.{is_static_port}
 use Rattle.cx_rules.specs.Accepted.{IsAccepted}
 use Rattle.cx_rules.proofs.CircleLemmas.{Reached, a_tree, no_tree, reached}
 use Rattle.cx_meaning.proofs.InstancesLemmas.{row_instance, instance_row, instance_is}
-use Rattle.cx_meaning.proofs.ActiveLemmas.{placed_still, placed_first}
-use Rattle.cx_meaning.proofs.DesignsLemmas.{owned_has, same_part}
-use Rattle.cx_meaning.proofs.SightsLaws.{in_left, in_right, number_in}
+use Rattle.cx_meaning.proofs.DesignsLemmas.{same_part}
+use Rattle.cx_meaning.proofs.SightsLaws.{number_in}
 
 pub record IsBeside (i whole : Instance) : Type 0 where
   pub same : part_of i ≡ part_of whole
@@ -116,26 +115,6 @@ module _ (i whole : Instance) (beside : IsBeside i whole) (act : Active) where
   pub depends_too : {p q : PortRef} → Depends i act p q → Depends whole act p q
   depends_too {p} {q} (at_once l) = at_once (leads_too p q l)
   depends_too {p} {q} (by_way_of r l deeper) = by_way_of r (leads_too p r l) (depends_too deeper)
-
-sorted_has : (list : List Owned) (o : Owned) → In list o → In (by_place list) o
-sorted_has [] o i = i
-sorted_has (a ∷ rest) o (inl e) = subst (In (placed_in a (by_place rest))) e (placed_first a (by_place rest))
-sorted_has (a ∷ rest) o (inr i) = placed_still a (by_place rest) o (sorted_has rest o i)
-
-groups_have : (k : ℕ) (groups : List PlainGroup) (g : ℕ) (a : PlainAssign) → In (get_or groups g no_group).assigns a → In (owned_by_groups k groups) (record { owner = Some (k + g); assign = a })
-groups_have k [] g a i = absurd i
-groups_have k (x ∷ groups) zero a i =
-    let e : k ≡ k + 0 = omega arith in
-    in_left (owned (Some k) x.assigns) (owned_by_groups (suc k) groups) _ (subst (λ n. In (owned (Some k) x.assigns) (record { owner = Some n; assign = a })) e (owned_has (Some k) x.assigns a i))
-groups_have k (x ∷ groups) (suc g) a i =
-    let e : suc k + g ≡ k + suc g = omega arith in
-    in_right (owned (Some k) x.assigns) (owned_by_groups (suc k) groups) _ (subst (λ n. In (owned_by_groups (suc k) groups) (record { owner = Some n; assign = a })) e (groups_have (suc k) groups g a i))
-
-pub group_stands : (part : PlainComponent) (g : ℕ) (a : PlainAssign) → In (group_at part g).assigns a → In (source_order part) (record { owner = Some g; assign = a })
-group_stands part g a i =
-    let e : 0 + g ≡ g = omega arith in
-    sorted_has (owned None part.always ++ owned_by_groups 0 part.groups) _ (in_right (owned None part.always) (owned_by_groups 0 part.groups) _
-    (subst (λ n. In (owned_by_groups 0 part.groups) (record { owner = Some n; assign = a })) e (groups_have 0 part.groups g a i)))
 
 -- THE RULES ON CALLS, of an instance beside its component
 pub record KeepsCalls (i whole : Instance) : Type 0 where

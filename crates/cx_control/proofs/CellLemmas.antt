@@ -14,10 +14,9 @@ use Rattle.cx_meaning.specs.Active.{Active, Owned, source_order, drivers, offset
 use Rattle.cx_meaning.specs.Sights.{Look, In, Gathered, Given, Lacks, gather}
 use Rattle.cx_meaning.specs.Cycles.{Next, Stops, after_edge, after_data, after_enabling, enables, looks_at, cell_outcome}
 use Rattle.cx_rules.specs.Ports.{width_of}
-use Rattle.cx_rules.proofs.ForeignLemmas.{assigns_drive_in, acting_none}
+use Rattle.cx_rules.proofs.ForeignLemmas.{assigns_drive_in, acting_none, OwnerOf, continuous, of_group, owner_of}
 use Rattle.cx_frames.specs.Rests.{IsUndriven}
 use Rattle.cx_control.specs.Flows.{Values, zero_of, first_on, given, Around, side_flow, cell_flow, Solves}
-use Rattle.cx_control.proofs.InstanceLemmas.{OwnerOf, continuous, of_group, owner_of}
 use Rattle.cx_control.proofs.TargetFlows.{Right}
 use Rattle.cx_control.proofs.PortFlows.{stands}
 use Rattle.cx_meaning.proofs.RowsLemmas.{side_at}

@@ -7,13 +7,12 @@ use Rattle.cx_meaning.specs.declared.ports.PortRef.TheVariants as ports
 use Rattle.cx_meaning.specs.declared.ports.PlacedPort.{PlacedPort}
 use Rattle.cx_meaning.specs.declared.kinds.GroupKind.{GroupKind}
 use Rattle.cx_meaning.specs.declared.kinds.GroupKind.TheVariants as kinds
-use Rattle.cx_meaning.specs.Designs.{PlainAssign, PlainComponent, PlainForm, Empty, Enable, Seq, Par, If, While, Repeat, StaticSeq, StaticPar, StaticIf, StaticRepeat, Timed, PlainStatement, Placed, group_at, list_of}
-use Rattle.cx_meaning.specs.Instances as instances
-use Rattle.cx_meaning.specs.Instances.{Instance, Node, Cells, no_cells, a_primitive, an_instance, Nothing, OfRow, OfInstance, cell_at, cells_of, part_of, Path, State, instance_at, child_at}
+use Rattle.cx_meaning.specs.Designs.{PlainComponent, PlainForm, Empty, Enable, Seq, Par, If, While, Repeat, StaticSeq, StaticPar, StaticIf, StaticRepeat, Timed, PlainStatement, Placed, group_at, list_of}
+use Rattle.cx_meaning.specs.Instances.{Instance, Node, Cells, no_cells, a_primitive, an_instance, OfInstance, cell_at, cells_of, part_of, Path, State, instance_at, child_at}
 use Rattle.cx_meaning.specs.Sights.{Held, In}
 use Rattle.cx_meaning.specs.Control.{with_comb, drives, groups_of, run}
 use Rattle.cx_meaning.specs.Islands.{island, kind_length}
-use Rattle.cx_meaning.specs.Calls.{if_instance, called_by, called_in, called, captures, call_or_turns, enable_kind, test}
+use Rattle.cx_meaning.specs.Calls.{called_by, called_in, called, captures, call_or_turns, enable_kind, test}
 use Rattle.cx_meaning.specs.Running.{leaves, control_below, run_control}
 use Rattle.cx_rules.specs.Items.{Dynamic, visit, test_in}
 use Rattle.cx_rules.specs.Footprints.{Reads}
@@ -42,27 +41,12 @@ use Rattle.cx_meaning.proofs.InstancesLemmas.{here as itself_at, nothing_instanc
 use Rattle.cx_text.proofs.OptionLaws.{none_some, some_inj}
 use Rattle.cx_text.proofs.NumberLaws.{end_is, false_true}
 use Rattle.cx_rules.proofs.CirclesLemmas.{cells_below, own_acyclic}
+use Rattle.cx_meaning.proofs.ControlLemmas.{called_child}
 
 -- the islands of an instance do what they mean
 abbrev pub IslandsDo : Instance → Type 1
 IslandsDo i = (form : PlainForm) (place : Place) → Stands i (Placed form place) → is_island_form (part_of i) form ≡ true
     → Does (world_of i) (Rests i) (island_machine i form) (spots_of (drives (part_of i) (Placed form place))) (reads_spot (Reads (part_of i) (Placed form place))) (λ held. island i held form)
-
-pub called_child : (cells : Cells) (list : List PlainAssign) (c : ℕ) → called_in cells list ≡ Some c → (child : Instance) × (cell_at cells c ≡ OfInstance child)
-called_child cells [] c e = absurd (none_some c e)
-called_child cells (a ∷ rest) c e = of_target a.target e (called_child cells rest c)
-  where
-    of_at : (at : instances.At) (d : ℕ) → cell_at cells d ≡ at → if_instance at d (called_in cells rest) ≡ Some c → (called_in cells rest ≡ Some c → (child : Instance) × (cell_at cells c ≡ OfInstance child)) → (child : Instance) × (cell_at cells c ≡ OfInstance child)
-    of_at Nothing d is f later = later f
-    of_at (OfRow row) d is f later = later f
-    of_at (OfInstance child) d is f later = (child, subst (λ k. cell_at cells k ≡ OfInstance child) (some_inj d c f) is)
-
-    of_target : (p : PortRef) → called_by cells p (called_in cells rest) ≡ Some c → (called_in cells rest ≡ Some c → (child : Instance) × (cell_at cells c ≡ OfInstance child)) → (child : Instance) × (cell_at cells c ≡ OfInstance child)
-    of_target (ports.Cell d n) f later = of_at (cell_at cells d) d refl f later
-    of_target (ports.Input n) f later = later f
-    of_target (ports.Output n) f later = later f
-    of_target (ports.Done g) f later = later f
-    of_target (ports.Literal w v) f later = later f
 
 pub stands_at : (i : Instance) (s : PlainStatement) → PlainComponent.control (part_of i) ≡ s → Stands i s
 stands_at i (Placed form place) e = subst (λ s. In (visit Dynamic s) (record { context = Dynamic; form = form; place = place })) (sym e) (inl refl)

@@ -1,6 +1,6 @@
 -- ALL THAT CONTROL NEEDS, of every instance of an accepted design's tree.
-use Rattle.std.proofs.Common.{◌≡◌, ℕ, zero, suc, ◌-◌, ◌<◌, ◌⊎◌, inl, inr, ⊎_elim, Bool, true, false, ◌||◌, List, [], ◌∷◌, Option, Some, None, length, if◌then◌else◌, refl, sym, ap, ◌∙◌, subst, arith}
-use Rattle.std.specs.Prelude.{is_some, slice_get}
+use Rattle.std.proofs.Common.{◌≡◌, ℕ, suc, ◌-◌, ◌<◌, ◌⊎◌, inl, inr, ⊎_elim, Bool, true, false, ◌||◌, [], Option, Some, None, length, if◌then◌else◌, refl, sym, ap, ◌∙◌, subst, arith}
+use Rattle.std.specs.Prelude.{is_some}
 use Rattle.std.proofs.lemmas.Bool.{cases_lt, lt-ltb}
 use Rattle.std.proofs.lemmas.List.{get_or_past}
 use Rattle.cx_text.specs.declared.places.Place.{Place}
@@ -51,7 +51,7 @@ use Rattle.cx_control.specs.InstanceRules.{InstanceRules, Stands}
 use Rattle.cx_control.specs.CallRules.{CallForm, CallRules}
 use Rattle.cx_control.specs.ControlRules.{ControlRules}
 use Rattle.cx_control.proofs.BesideLemmas.{KeepsCalls, StandsFor, of_component, of_nothing, instance_stands, keeps_calls}
-use Rattle.cx_control.proofs.ShapeLemmas.{drives_driving, in_some, none_outside, plain_group, calls_what_it_drives, child, is_a_plain_group, no_output, right_enable, right_go, right_done}
+use Rattle.cx_control.proofs.ShapeLemmas.{drives_driving, none_outside, plain_group, calls_what_it_drives, child, is_a_plain_group, no_output, right_enable, right_go, right_done}
 use Rattle.cx_control.proofs.TargetLemmas.{group_acts}
 use Rattle.cx_control.proofs.HeldLemmas.{IsGiven, held_same}
 use Rattle.cx_control.proofs.RegisterLemmas.{register_is_row, Captured, captured_is}
@@ -64,6 +64,8 @@ use Rattle.cx_rules.proofs.CirclesLemmas.{cells_below}
 use Rattle.cx_text.proofs.NumberLaws.{false_true}
 use Rattle.cx_meaning.proofs.InstancesLemmas.{instance_row}
 use Rattle.cx_meaning.proofs.ControlLaws.{driver}
+use Rattle.cx_meaning.proofs.SightsLaws.{in_at}
+use Rattle.cx_rules.proofs.ShapeRulesLemmas.{a_target}
 
 plain_is : (kind : GroupKind) → is_plain kind ≡ true → kind ≡ kinds.Plain
 plain_is kinds.Plain e = refl
@@ -73,14 +75,6 @@ plain_is (kinds.Timed n) e = absurd (false_true e)
 reg_primitive : (kind : PlainKind) → is_reg_kind kind ≡ true → (p : PrimitiveRow) × (kind ≡ OfPrimitive p) × (is_reg_name p.name ≡ true)
 reg_primitive (OfPrimitive p) e = (p, refl, e)
 reg_primitive (OfComponent k) e = absurd (false_true e)
-
-member : {A : Type 0} (list : List A) (n : ℕ) (x : A) → slice_get list n ≡ Some x → In list x
-member {A} [] n x e = absurd (cc)
-member {A} (y ∷ list) zero x e = inl (same y x e)
-  where
-    same : (a b : A) → ◌≡◌ {A = Option A} (Some a) (Some b) → a ≡ b
-    same a b h = cc
-member (y ∷ list) (suc n) x e = inr (member list n x e)
 
 -- an input of a component cell is no output of it
 input_is_not_given : (port : PartPort) (n : ℕ) → port ≡ AnInput n → ((m : ℕ) × (port ≡ AnOutput m)) ⊎ (port ≡ ItsDone) → ⊥
@@ -143,7 +137,7 @@ module _ (part : PlainComponent) (cells more : Cells) (keeps : KeepsCalls (Node 
     right_enable = λ a j r p row target at enables. right_enable i whole keeps g c e a j r p row target at enables;
     registers = λ r cell stands is_reg.
         let kind = reg_primitive cell.kind is_reg in
-        let row = register_is_row kind.0 kind.2 (rows cell (member part.cells r cell stands) kind.0 kind.1) in
+        let row = register_is_row kind.0 kind.2 (rows cell (in_at part.cells r cell stands) kind.0 kind.1) in
         (row.0, (KeepsCalls.beside keeps).primitives c (child i whole keeps g c e).0 (child i whole keeps g c e).1 r cell kind.0 stands kind.1 ∙ ap OfRow row.1);
   }
 
@@ -151,7 +145,7 @@ module _ (part : PlainComponent) (cells more : Cells) (keeps : KeepsCalls (Node 
   captured_driven : (cap : captures i g ≡ true) (r : ℕ) (j : In (captured part (group_at part g).assigns) r) → (leaf_drives part (Enable g) r ≡ true) × (r ≡ c → ⊥)
   captured_driven cap r j =
       let it = captured_is (group_at part g).assigns part.cells 0 r j in
-      let a = in_some (same_port (write_en_of r)) (group_at part g).assigns (Captured.driven it) in (
+      let a = a_target (same_port (write_en_of r)) (group_at part g).assigns (Captured.driven it) in (
         ap (λ b. b || false) (assigns_drive_in (group_at part g).assigns a.0 r 1 a.1 (sym (same_is (write_en_of r) a.0.target a.2))),
         λ same. instance_row (child i whole keeps g c e).0 (register_row (Register.width (register i g c capture_rules cap r j))) (sym (child i whole keeps g c e).1 ∙ ap (cell_at cells) (sym same) ∙ Register.at (register i g c capture_rules cap r j)),
       )

@@ -15,15 +15,12 @@ use Rattle.cx_meaning.specs.Instances.{Instance, At, Nothing, OfRow, OfInstance,
 use Rattle.cx_meaning.specs.Active.{Active, nothing}
 use Rattle.cx_meaning.specs.Sights.{Look, Below, Held, unheld, PartPort, Go, AnInput, AnOutput, ItsDone, part_port, of_option, output_seen, gather, side_step, part_step, cell_step, step, Sees, by_step, seen, outputs_below}
 use Rattle.cx_meaning.proofs.SightsLemmas.{one_sight}
-use Rattle.cx_rules.specs.Footprints.{Leads, Depends, at_once, by_way_of}
+use Rattle.cx_rules.specs.Footprints.{Leads, at_once}
 use Rattle.cx_rules.specs.Circles.{IsAcyclic, AcyclicBelow}
 use Rattle.cx_rules.proofs.FoundLemmas.{needs_leads, seen_found, below_found}
 use Rattle.cx_control.specs.Flows.{Reaches}
 use Rattle.cx_meaning.proofs.InstancesLemmas.{instance_is, instance_row}
-
-pub depends_then : {i : Instance} {act : Active} {p q r : PortRef} → Depends i act p q → Leads i act q r → Depends i act p r
-depends_then {i} {act} {p} {q} {r} (at_once l) m = by_way_of q l (at_once m)
-depends_then {i} {act} {p} {q} {r} (by_way_of x l deeper) m = by_way_of x l (depends_then deeper m)
+use Rattle.cx_rules.proofs.CircleLemmas.{depends_then}
 
 reaches_then : (i : Instance) (act : Active) (p q r : PortRef) → Reaches i act p q → Leads i act q r → Reaches i act p r
 reaches_then i act p q r (inl e) l = inr (at_once (subst (λ x. Leads i act x r) (sym e) l))

@@ -23,13 +23,12 @@ use Rattle.cx_rules.proofs.FoundLemmas.{same_is, seen_solves}
 use Rattle.cx_frames.proofs.CircleFrames.{capture_acyclic}
 use Rattle.cx_control.proofs.LeafLaws.{is_one_of}
 use Rattle.cx_control.proofs.ConjunctLemmas.{conjuncts_hold, conjunction_holds, AreOnce, wanted_are_in, wanted_are_all}
-use Rattle.cx_control.proofs.ShapeLemmas.{in_some}
 use Rattle.cx_control.proofs.TargetLemmas.{TakenFrom, target_one, target_all, in_filter, of_filter, group_acts, ActsAlone, acts_alone}
 use Rattle.cx_control.proofs.RegisterLemmas.{set, rest_is_not_done, written_is_done, cycle_steps, Captured, captured_is, captured_has, dones_once, done_of_one, one_of_dones}
 use Rattle.cx_text.proofs.BoolLaws.{and_both, or_either}
 use Rattle.cx_meaning.proofs.ActiveLemmas.{only_self}
 use Rattle.cx_text.proofs.NumberLaws.{false_true, equal}
-use Rattle.cx_rules.proofs.ShapeRulesLemmas.{some_in}
+use Rattle.cx_rules.proofs.ShapeRulesLemmas.{some_in, a_target, always_is}
 use Rattle.cx_frames.proofs.CycleLemmas.{idle_at-row}
 
 -- an assignment that enables a primitive cell
@@ -65,15 +64,6 @@ enabling cells (a ∷ rest) e = of_target a.target refl e (λ f. more (enabling 
     of_target (ports.Output n) is f later = later f
     of_target (ports.Done g) is f later = later f
     of_target (ports.Literal w v) is f later = later f
-
-always_is : (g : PlainGuard) → is_always g ≡ true → g ≡ Always
-always_is Always e = refl
-always_is (Atom p) e = absurd (false_true e)
-always_is (Negation g) e = absurd (false_true e)
-always_is (All gs) e = absurd (false_true e)
-always_is (Any gs) e = absurd (false_true e)
-always_is (Compared c a b) e = absurd (false_true e)
-always_is (Within from to) e = absurd (false_true e)
 
 -- the last port of a component cell is its done
 pub last_is_done : (part : PlainComponent) → part_port part (suc (length part.inputs + length part.outputs)) ≡ ItsDone
@@ -290,7 +280,7 @@ module _ (i : Instance) (g c : ℕ) (rules : CaptureRules i g c) (captures : cap
         ∙ of_list (with_target (ports.Cell r 1) assigns) refl right
       where
         driving : (a : PlainAssign) × In assigns a × (same_port (write_en_of r) a.target ≡ true)
-        driving = in_some (same_port (write_en_of r)) assigns (Register.driven (register r j))
+        driving = a_target (same_port (write_en_of r)) assigns (Register.driven (register r j))
 
         target_is : driving.0.target ≡ ports.Cell r 1
         target_is = sym (same_is (write_en_of r) driving.0.target driving.2)

@@ -1,6 +1,6 @@
 -- What an accepted design gives each instance of its tree: rows of the table, enabling ports of one bit, and dones that their
 -- own groups drive.
-use Rattle.std.proofs.Common.{◌≡◌, ℕ, zero, suc, ◌+◌, ◌<◌, ◌⊎◌, inl, inr, ⊎_elim, false, Some, None, List, [], ◌∷◌, ◌++◌, length, refl, sym, ap, ◌∙◌, subst, arith}
+use Rattle.std.proofs.Common.{◌≡◌, ℕ, zero, suc, ◌<◌, ◌⊎◌, inl, inr, ⊎_elim, false, Some, None, List, [], ◌∷◌, length, refl, sym, ap, ◌∙◌, subst, arith}
 use Rattle.std.specs.Prelude.{slice_get}
 use Rattle.std.proofs.lemmas.Bool.{cases_lt}
 use Rattle.std.proofs.lemmas.List.{get_or_past}
@@ -10,22 +10,21 @@ use Rattle.cx_prim.specs.Rows.{Row}
 use Rattle.cx_prim.specs.Table.{PrimitiveRow, row_of}
 use Rattle.cx_meaning.specs.declared.ports.PortRef.TheVariants as ports
 use Rattle.cx_meaning.specs.Rows.{side_from}
-use Rattle.cx_meaning.specs.Designs.{PlainGuard, Always, Atom, Negation, All, Any, Compared, Within, PlainGuards, no_guards, a_guard, PlainGroup, PlainKind, OfPrimitive, OfComponent, PlainCell, PlainComponent, PlainDesign, component_at, no_component, group_at, no_group}
+use Rattle.cx_meaning.specs.Designs.{PlainGroup, PlainKind, OfPrimitive, OfComponent, PlainCell, PlainComponent, PlainDesign, component_at, no_component, group_at, no_group}
 use Rattle.cx_meaning.specs.Instances.{Instance, Cells, OfRow, OfInstance, cell_at, cells_of, part_of, add_cell, cells_for, tree_within, tree_of, Path, instance_at}
-use Rattle.cx_meaning.specs.Active.{Owned, owned, owned_by_groups, source_order}
-use Rattle.cx_meaning.specs.Sights.{In, GuardNames, AnyNames, Go, part_port}
+use Rattle.cx_meaning.specs.Active.{Owned, source_order}
+use Rattle.cx_meaning.specs.Sights.{In, Go, part_port}
 use Rattle.cx_rules.specs.Ports.{component_of, is_target_only, path_of, part_width, width_of, cell_width}
 use Rattle.cx_rules.specs.Accepted.{IsAccepted}
 use Rattle.cx_text.specs.declared.rules.Rule.TheVariants.{NotASource}
-use Rattle.cx_meaning.specs.declared.ports.PortRef.{PortRef}
 use Rattle.cx_meaning.specs.declared.ports.PlacedPort.{PlacedPort}
-use Rattle.cx_rules.specs.Items.{operands_of, operands_in, sources_of}
+use Rattle.cx_rules.specs.Items.{sources_of}
 use Rattle.cx_rules.specs.ShapeRules.{is_hole}
 use Rattle.cx_rules.specs.Spots.{AnAssign}
 use Rattle.cx_rules.specs.Wellformed.{IsDesign, StandsIn}
 use Rattle.cx_rules.proofs.CircleLemmas.{Reached, a_tree, no_tree, reached}
-use Rattle.cx_rules.proofs.ForeignLemmas.{sorted_among, owned_among, split, groups_among}
-use Rattle.cx_meaning.proofs.SightsLaws.{number_in, in_left, in_right}
+use Rattle.cx_rules.proofs.ForeignLemmas.{OwnerOf, continuous, of_group, owner_of}
+use Rattle.cx_meaning.proofs.SightsLaws.{number_in}
 use Rattle.cx_meaning.proofs.InstancesLemmas.{row_is}
 use Rattle.cx_meaning.proofs.DesignsLemmas.{same_part}
 
@@ -94,18 +93,6 @@ instance_within d path = reached_within d (reached d path (length d.components) 
 pub go_narrow : (i : Instance) (c p : ℕ) (child : Instance) → cell_at (cells_of i) c ≡ OfInstance child → part_port (part_of child) p ≡ Go → width_of i (ports.Cell c p) ≡ Some 1
 go_narrow i c p child at is_go = ap (λ x. cell_width x p) at ∙ ap (part_width (part_of child)) is_go
 
--- an assignment is a continuous one, or one of a group
-pub data OwnerOf (part : PlainComponent) (o : Owned) : Type 0 where
-  continuous : o.owner ≡ None → In part.always o.assign → OwnerOf part o
-  of_group : (g : ℕ) → o.owner ≡ Some g → In (group_at part g).assigns o.assign → OwnerOf part o
-
-pub owner_of : (part : PlainComponent) (o : Owned) → In (source_order part) o → OwnerOf part o
-owner_of part o i =
-    ⊎_elim
-    (λ j. let r = owned_among None part.always o j in continuous r.0 r.1)
-    (λ j. let r = groups_among 0 part.groups o j in let e : 0 + r.number ≡ r.number = omega arith in of_group r.number (r.owner ∙ ap Some e) r.stands)
-    (split (owned None part.always) (owned_by_groups 0 part.groups) o (sorted_among (owned None part.always ++ owned_by_groups 0 part.groups) o i))
-
 -- ASSIGNMENTS of an instance stand in its component, and each keeps the rule Keeps, where those of the components do
 pub there_below : (part : PlainComponent) (g : ℕ) → (g < length part.groups) ⊎ (group_at part g ≡ no_group)
 there_below part g = ⊎_elim (λ h. inl h) (λ h. inr (get_or_past part.groups g no_group h)) (cases_lt g (length part.groups))
@@ -162,20 +149,3 @@ is_source_only d accepted k within o i p stands n is =
 
 pub instance_outputs : (d : PlainDesign) → IsAccepted d → (path : Path) → AllKeep (λ o. (p : PlacedPort) → In (sources_of o.assign) p → (n : ℕ) → p.port ≡ ports.Output n → ⊥) (part_of (instance_at (tree_of d) path))
 instance_outputs d accepted = instance_keeps d (λ o. (p : PlacedPort) → In (sources_of o.assign) p → (n : ℕ) → p.port ≡ ports.Output n → ⊥) (λ k within o i stands. is_source_only d accepted k within o i)
-
--- what an assignment names is among its sources
-mutual
-  guard_operand : (g : PlainGuard) (q : PortRef) → GuardNames g q → (p : PlacedPort) × In (operands_of g) p × (p.port ≡ q)
-  guard_operand Always q n = absurd n
-  guard_operand (Atom p) q n = (p, inl refl, n)
-  guard_operand (Negation g) q n = guard_operand g q n
-  guard_operand (All gs) q n = guards_operand gs q n
-  guard_operand (Any gs) q n = guards_operand gs q n
-  guard_operand (Compared c a b) q (inl e) = (a, inl refl, e)
-  guard_operand (Compared c a b) q (inr e) = (b, inr (inl refl), e)
-  guard_operand (Within from to) q n = absurd n
-
-  guards_operand : (gs : PlainGuards) (q : PortRef) → AnyNames gs q → (p : PlacedPort) × In (operands_in gs) p × (p.port ≡ q)
-  guards_operand no_guards q n = absurd n
-  guards_operand (a_guard g gs) q (inl n) = let r = guard_operand g q n in (r.0, in_left (operands_of g) (operands_in gs) r.0 r.1, r.2)
-  guards_operand (a_guard g gs) q (inr n) = let r = guards_operand gs q n in (r.0, in_right (operands_of g) (operands_in gs) r.0 r.1, r.2)

@@ -38,8 +38,9 @@ use Rattle.cx_control.proofs.RestLaws.{number_idle_at-zero, number_idle_below-ze
 use Rattle.cx_control.proofs.CallLaws.{ChildLaws}
 use Rattle.cx_control.proofs.StaticRuns.{IsLeaf, runs_leaf}
 use Rattle.cx_control.proofs.LeafLaws.{true_false, is_one_of, not_one_of, ActsAs, kind_acts, IsQuietEnd, turn_number, island_ends, kind_ends, island_number, kind_number}
-use Rattle.cx_control.proofs.ControlLaws.{IslandsDo, called_child, control_coded, leaves_end, stands_at, leaves_are_lawful, node_does, child_does}
+use Rattle.cx_control.proofs.ControlLaws.{IslandsDo, control_coded, leaves_end, stands_at, leaves_are_lawful, node_does, child_does}
 use Rattle.cx_meaning.proofs.InstancesLemmas.{just_same, not_just, nothing_instance, row_instance}
+use Rattle.cx_meaning.proofs.ControlLemmas.{called_child}
 
 -- the invariant of what stands at a cell
 abbrev pub KeepsBelow : Cells → ℕ → Type 0

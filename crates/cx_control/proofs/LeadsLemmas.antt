@@ -13,12 +13,11 @@ use Rattle.cx_meaning.specs.Sights.{In, IsWanted, PartPort, Go, AnInput, AnOutpu
 use Rattle.cx_rules.specs.Footprints.{AssignNames, Reads, named, through, Mentions, SideLeads, PartLeads, CellLeads, Leads, Depends, at_once, by_way_of}
 use Rattle.cx_rules.specs.Circles.{IsAcyclic}
 use Rattle.cx_rules.specs.ShapeRules.{is_hole}
-use Rattle.cx_rules.proofs.FoundLemmas.{same_is}
-use Rattle.cx_rules.proofs.ForeignLemmas.{assigns_drive_in}
+use Rattle.cx_rules.proofs.FoundLemmas.{same_is, source_in}
+use Rattle.cx_rules.proofs.ForeignLemmas.{assigns_drive_in, OwnerOf, continuous, of_group, owner_of}
 use Rattle.cx_control.specs.Apart.{HasLess, IsApart, IsOf, of_cell, of_done}
 use Rattle.cx_control.specs.Flows.{Reaches}
-use Rattle.cx_control.proofs.InstanceLemmas.{OwnerOf, continuous, of_group, owner_of, KeepsPorts}
-use Rattle.cx_laws.proofs.SourceLemmas.{source_in}
+use Rattle.cx_control.proofs.InstanceLemmas.{KeepsPorts}
 
 -- ACTIVE ASSIGNMENTS: each is one of the list, with its owner active
 pub record Stands (act : Active) (p : PortRef) (list : List Owned) (a : Acting) : Type 0 where

@@ -22,12 +22,10 @@ use Rattle.cx_control.proofs.TargetFlows.{Right, target_flows, value_is}
 use Rattle.cx_meaning.proofs.ActiveLemmas.{only_self}
 use Rattle.cx_rules.proofs.FrameLemmas.{acting_alike}
 use Rattle.cx_meaning.proofs.SightsLaws.{undefined_value, option_is}
+use Rattle.cx_meaning.proofs.PortsLemmas.{given_is}
 
 conflict_value : (b : BitVector) → Conflict ≡ Value b → ⊥
 conflict_value b e = cc
-
-given_is : (a b : Inputs) → Given a ≡ Given b → a ≡ b
-given_is a b e = cc
 
 given_lacks : (a : Inputs) (p : ℕ) (x : Seen) → Lacks p x ≡ Given a → ⊥
 given_lacks a p x e = cc

@@ -21,7 +21,7 @@ use Rattle.cx_meaning.specs.Truths.{One, Zero, truth_of}
 use Rattle.cx_meaning.specs.Truths as truths
 use Rattle.cx_meaning.specs.Sights.{Look, Held, In, of_option, Given, with_entry, gather_one, gather_port, gather, seen}
 use Rattle.cx_meaning.specs.Cycles.{Next, enables, after_data, after_enabling, cell_outcome, outcome_of, Goes, every_cell, cycle}
-use Rattle.cx_meaning.proofs.CycleLemmas.{each_steps, row_within, outcome_listed}
+use Rattle.cx_meaning.proofs.CycleLemmas.{each_steps, row_within, outcome_listed, next_is}
 use Rattle.cx_rules.specs.ShapeRules.{some_target}
 use Rattle.cx_rules.specs.CallShape.{is_reg_name, is_reg_kind, write_en_of, register_done, captured_from}
 use Rattle.cx_control.proofs.ConjunctLemmas.{AreOnce}
@@ -110,10 +110,6 @@ rest_is_not_done w (states.SequentialMemory words read done) rests one = unknown
 rest_is_not_done w (states.Multiplier run product) rests one = unknown_is_not_one one
 rest_is_not_done w (states.Divider run quotient remainder) rests one = unknown_is_not_one one
 rest_is_not_done w (states.Timer count done) rests one = unknown_is_not_one one
-
--- where its write_en is 1 and it goes on it is written, and done
-next_is : (a b : CellState) → Next a ≡ Next b → a ≡ b
-next_is a b e = cc
 
 pub written_is_done : (w r : ℕ) (look : Look) (d after : CellState) → look (ports.Cell r 1) ≡ Value set → cell_outcome look r (register_row w) d ≡ Next after → of_option (register_output w after 3) ≡ Value set
 written_is_done w r look d after on goes =

@@ -19,21 +19,13 @@ use Rattle.cx_rules.specs.ShapeRules.{is_hole_of, some_target}
 use Rattle.cx_rules.specs.InvokeShape.{latency_at, is_static_port}
 use Rattle.cx_rules.proofs.FoundLemmas.{same_is}
 use Rattle.cx_rules.specs.CallShape.{is_port_of, Calls, go_port, is_right_go, wrong_go, done_port, is_register_enable, with_target, is_right_enable, captured, wanted_dones, is_right_done, CallBreak, another_cell, input_by_output, wrong_enable, wrong_done}
-use Rattle.cx_control.proofs.BesideLemmas.{IsBeside, depends_too, group_stands, KeepsCalls}
-use Rattle.cx_control.proofs.ControlLaws.{called_child as called_instance}
+use Rattle.cx_control.proofs.BesideLemmas.{IsBeside, depends_too, KeepsCalls}
 use Rattle.cx_text.proofs.NumberLaws.{equal}
-use Rattle.cx_rules.proofs.ShapeRulesLemmas.{some_in}
+use Rattle.cx_rules.proofs.ShapeRulesLemmas.{some_in, a_target}
 use Rattle.cx_meaning.proofs.InstancesLemmas.{just_true}
 use Rattle.cx_text.proofs.OptionLaws.{none_some, some_inj}
-
--- and the other way
-pub in_some : (test : PortRef → Bool) (list : List PlainAssign) → some_target test list ≡ true → (a : PlainAssign) × In list a × (test a.target ≡ true)
-in_some test [] e = absurd (cc)
-in_some test (x ∷ list) e = by (test x.target) refl e (in_some test list)
-  where
-    by : (b : Bool) → test x.target ≡ b → (b || some_target test list) ≡ true → (some_target test list ≡ true → (a : PlainAssign) × In list a × (test a.target ≡ true)) → (a : PlainAssign) × In (x ∷ list) a × (test a.target ≡ true)
-    by true here f later = (x, inl refl, here)
-    by false none f later = let r = later f in (r.0, inr r.1, r.2)
+use Rattle.cx_meaning.proofs.ControlLemmas.{called_child as called_instance}
+use Rattle.cx_meaning.proofs.ActiveLemmas.{group_stands}
 
 -- an assignment of a port of a component cell
 pub record Driving (cells : Cells) (list : List PlainAssign) (c : ℕ) : Type 0 where
@@ -208,7 +200,7 @@ module _ (i whole : Instance) (keeps : KeepsCalls i whole) where
       pub right_go : g < length (PlainComponent.groups part) → is_right_go (done_port c child.0) (with_target (go_port c) assigns) ≡ true
       right_go there =
           let driven = true_from_ne_false _ (λ lacks. keeps.driven g there is_a_plain_group c calls lacks) in
-          let go = in_some (same_port (go_port c)) assigns (and_first (some_target (same_port (go_port c)) assigns) _ driven) in
+          let go = a_target (same_port (go_port c)) assigns (and_first (some_target (same_port (go_port c)) assigns) _ driven) in
           true_from_ne_false _ (λ none. no_break go.0 go.1
           (subst (CallBreak whole g c (Calls.child calls)) (same_is (go_port c) go.0.target go.2)
           (wrong_go (ap (λ d. is_right_go d (with_target (go_port c) assigns)) same_done ∙ none))))
@@ -221,7 +213,7 @@ module _ (i whole : Instance) (keeps : KeepsCalls i whole) where
       pub right_done : g < length (PlainComponent.groups part) → is_right_done (wanted_dones (done_port c child.0) (captured part assigns)) (with_target (ports.Done g) assigns) ≡ true
       right_done there =
           let driven = true_from_ne_false _ (λ lacks. keeps.driven g there is_a_plain_group c calls lacks) in
-          let hole = in_some (is_hole_of g) assigns (and_second _ (some_target (is_hole_of g) assigns) driven) in
+          let hole = a_target (is_hole_of g) assigns (and_second _ (some_target (is_hole_of g) assigns) driven) in
           true_from_ne_false _ (λ none. no_break hole.0 hole.1
           (subst (CallBreak whole g c (Calls.child calls)) (sym (is_hole hole.0.target hole.2))
           (wrong_done (ap (λ d. is_right_done (wanted_dones d (captured part assigns)) (with_target (ports.Done g) assigns)) same_done ∙ none))))

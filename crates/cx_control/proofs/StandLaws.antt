@@ -5,7 +5,7 @@ use Rattle.cx_meaning.specs.declared.ports.PlacedPort.{PlacedPort}
 use Rattle.cx_meaning.specs.Designs.{PlainComponent, PlainStatement, Placed, PlainStatements, no_statements, a_statement, list_of}
 use Rattle.cx_meaning.specs.Instances.{Instance, part_of, State, merge}
 use Rattle.cx_meaning.specs.Sights.{In, Held}
-use Rattle.cx_meaning.specs.Control.{groups_of, groups_in_all, group_drives, groups_drive, drives}
+use Rattle.cx_meaning.specs.Control.{groups_of, group_drives, groups_drive, drives}
 use Rattle.cx_rules.specs.Items.{Dynamic, Visited, visit, visit_all, statements_in, test_in, option_list, tests_of}
 use Rattle.cx_rules.specs.Footprints as footprints
 use Rattle.cx_rules.specs.Footprints.{Reads}
@@ -15,7 +15,7 @@ use Rattle.cx_lockstep.specs.Lawful.{IsPart, of_seq, of_par, then_branch, else_b
 use Rattle.cx_control.specs.Spots.{Spot, Cell, Number, Input, shown, spots_of, reads_spot}
 use Rattle.cx_control.specs.InstanceRules.{Stands}
 use Rattle.cx_meaning.proofs.SightsLaws.{number_in, behind_comb, in_left, in_right}
-use Rattle.cx_meaning.proofs.ControlLaws.{groups_drive_in}
+use Rattle.cx_meaning.proofs.ControlLaws.{groups_drive_in, in_parts}
 use Rattle.cx_text.proofs.NumberLaws.{suc_zero, zero_suc, false_true}
 use Rattle.cx_rules.proofs.InvokesLemmas.{drives_more, reads_more}
 
@@ -47,15 +47,9 @@ pub parts_stand : (i : Instance) (s whole : PlainStatement) → IsPart s whole �
 parts_stand i (Placed form place) (Placed f p) part stands =
     visited Dynamic (part_of i).control (record { context = Dynamic; form = f; place = p }) (as_visited (Placed form place)) stands (visits_part part (as_visited (Placed form place)) (itself (Placed form place)))
 
--- its groups are groups of the whole
-pub groups_all : (ss : PlainStatements) (s : PlainStatement) (g : ℕ) → In (list_of ss) s → In (groups_of s) g → In (groups_in_all ss) g
-groups_all no_statements s g i j = absurd i
-groups_all (a_statement t ts) s g (inl e) j = in_left (groups_of t) (groups_in_all ts) g (subst (λ x. In (groups_of x) g) (sym e) j)
-groups_all (a_statement t ts) s g (inr i) j = in_right (groups_of t) (groups_in_all ts) g (groups_all ts s g i j)
-
 pub groups_part : {s whole : PlainStatement} → IsPart s whole → (g : ℕ) → In (groups_of s) g → In (groups_of whole) g
-groups_part (of_seq {s} {parts} {place} i) g j = groups_all parts s g i j
-groups_part (of_par {s} {arms} {place} i) g j = groups_all arms s g i j
+groups_part (of_seq {s} {parts} {place} i) g j = in_parts parts s g i j
+groups_part (of_par {s} {arms} {place} i) g j = in_parts arms s g i j
 groups_part (then_branch {test} {comb} {a} {b} {place}) g j = behind_comb comb (groups_of a ++ groups_of b) g (in_left (groups_of a) (groups_of b) g j)
 groups_part (else_branch {test} {comb} {a} {b} {place}) g j = behind_comb comb (groups_of a ++ groups_of b) g (in_right (groups_of a) (groups_of b) g j)
 groups_part (of_while {test} {comb} {a} {place}) g j = behind_comb comb (groups_of a) g j

@@ -15,10 +15,9 @@ use Rattle.cx_meaning.specs.Truths as truths
 use Rattle.cx_meaning.specs.Sights.{Look, In, bit_of, guard_truth, Taken, Sources, Stopped, with_source, take_guard, taken, agreed, all_agreed, settle, target_seen}
 use Rattle.cx_rules.specs.CallShape.{with_target}
 use Rattle.cx_rules.proofs.FoundLemmas.{same_is}
-use Rattle.cx_frames.proofs.RuleLemmas.{OwnerOf, continuous, of_group, owner_of}
 use Rattle.cx_control.proofs.LeadsLemmas.{Stands, acting_stands}
-use Rattle.cx_control.proofs.BesideLemmas.{group_stands}
-use Rattle.cx_meaning.proofs.ActiveLemmas.{acting_has}
+use Rattle.cx_meaning.proofs.ActiveLemmas.{acting_has, group_stands}
+use Rattle.cx_rules.proofs.ForeignLemmas.{OwnerOf, continuous, of_group, owner_of}
 
 -- it is 1 only where a source is
 pub record TakenFrom (look : Look) (acts : List Acting) : Type 0 where

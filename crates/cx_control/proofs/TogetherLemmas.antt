@@ -6,13 +6,13 @@ use Rattle.std.proofs.lemmas.List.{get_or_past}
 use Rattle.cx_text.specs.declared.rules.Rule.TheVariants.{Race}
 use Rattle.cx_meaning.specs.declared.ports.PortRef.{PortRef}
 use Rattle.cx_meaning.specs.declared.ports.PortRef.TheVariants as ports
-use Rattle.cx_meaning.specs.Designs.{PlainDesign, PlainComponent, PlainGroup, component_at, no_component, group_at, no_group, Par, StaticPar, PlainStatement, PlainStatements, no_statements, a_statement, list_of}
+use Rattle.cx_meaning.specs.Designs.{PlainDesign, PlainComponent, PlainGroup, component_at, no_component, group_at, no_group, Par, StaticPar, PlainStatement}
 use Rattle.cx_meaning.specs.Instances.{Instance, part_of, tree_of, Path, instance_at}
 use Rattle.cx_meaning.specs.Active.{Active, nothing, only_at, group, comb, entries, Owned, source_order, drivers, offset_of}
 use Rattle.cx_meaning.specs.Sights.{In}
 use Rattle.cx_meaning.specs.Control.{with_comb, groups_of, group_drives, drives}
 use Rattle.cx_rules.specs.Footprints.{AssignNames, Reads, Mentions, Depends, at_once, by_way_of, Leads}
-use Rattle.cx_rules.specs.Items.{Context, InStatic, Branch, below_dynamic, Visited, visit, visit_all, statements_in}
+use Rattle.cx_rules.specs.Items.{Context, InStatic, Branch, below_dynamic, Visited, visit, statements_in}
 use Rattle.cx_rules.specs.RaceRule.{Arms, arms_of, IsShared}
 use Rattle.cx_rules.specs.Ports.{component_of}
 use Rattle.cx_rules.specs.Spots.{AStatement}
@@ -21,16 +21,17 @@ use Rattle.cx_rules.specs.Circles.{IsAcyclic}
 use Rattle.cx_rules.proofs.CircleLemmas.{Reached, a_tree, no_tree, reached}
 use Rattle.cx_control.specs.Apart.{IsApart, HasLess}
 use Rattle.cx_control.specs.Together.{or_else, union, IsTogether, at_rest, enabled, in_seq, at_if, in_then, in_else, at_while, in_while, in_repeat, at_offset, in_static_seq, in_static_par, in_static_then, in_static_else, in_static_repeat, in_par, AreTogether, no_arm, an_arm}
-use Rattle.cx_control.proofs.InstanceLemmas.{KeepsPorts, OwnerOf, continuous, of_group, owner_of, there_below}
+use Rattle.cx_control.proofs.InstanceLemmas.{KeepsPorts, there_below}
 use Rattle.cx_control.proofs.LeadsLemmas.{less_acyclic, leads_by}
 use Rattle.cx_control.proofs.UnionLemmas.{union_acyclic}
 use Rattle.cx_meaning.proofs.SightsLaws.{behind_comb, in_left, in_right, number_in}
 use Rattle.cx_text.proofs.OptionLaws.{none_some}
-use Rattle.cx_control.proofs.StandLaws.{groups_all}
 use Rattle.cx_meaning.proofs.DesignsLemmas.{same_part}
 use Rattle.cx_rules.proofs.FrameLemmas.{acting_alike}
-use Rattle.cx_meaning.proofs.ControlLaws.{groups_drive_in}
+use Rattle.cx_meaning.proofs.ControlLaws.{groups_drive_in, in_parts}
 use Rattle.cx_rules.proofs.InvokesLemmas.{drives_more, reads_more}
+use Rattle.cx_rules.proofs.ItemsLemmas.{part_in}
+use Rattle.cx_rules.proofs.ForeignLemmas.{OwnerOf, continuous, of_group, owner_of}
 
 only_is : (g h o : ℕ) → only_at g h ≡ Some o → g ≡ h
 only_is g h o e = by (nat_eq g h) refl e
@@ -59,7 +60,7 @@ mutual
   pub together_groups : {s : PlainStatement} {act : Active} → IsTogether s act → (g o : ℕ) → act.offset g ≡ Some o → In (groups_of s) g
   together_groups at_rest g o e = absurd (none_some o e)
   together_groups (enabled {g}) k o e = inl (only_is g k o e)
-  together_groups (in_seq {parts} {place} {s} i t) g o e = groups_all parts s g i (together_groups t g o e)
+  together_groups (in_seq {parts} {place} {s} i t) g o e = in_parts parts s g i (together_groups t g o e)
   together_groups (at_if {test} {c} {a} {b}) g o e = comb_in c (groups_of a ++ groups_of b) g o e
   together_groups (in_then {test} {c} {a} {b} t) g o e = behind_comb c (groups_of a ++ groups_of b) g (in_left (groups_of a) (groups_of b) g (together_groups t g o e))
   together_groups (in_else {test} {c} {a} {b} t) g o e = behind_comb c (groups_of a ++ groups_of b) g (in_right (groups_of a) (groups_of b) g (together_groups t g o e))
@@ -67,12 +68,12 @@ mutual
   together_groups (in_while {test} {c} {a} t) g o e = behind_comb c (groups_of a) g (together_groups t g o e)
   together_groups (in_repeat t) g o e = together_groups t g o e
   together_groups (at_offset {g} {place} n) k o e = inl (entry_is g n k o e)
-  together_groups (in_static_seq {n} {parts} {place} {s} i t) g o e = groups_all parts s g i (together_groups t g o e)
-  together_groups (in_static_par {n} {arms} t) g o e = let it = arms_groups t g o e in groups_all arms it.arm g it.stands it.has
+  together_groups (in_static_seq {n} {parts} {place} {s} i t) g o e = in_parts parts s g i (together_groups t g o e)
+  together_groups (in_static_par {n} {arms} t) g o e = let it = arms_groups t g o e in in_parts arms it.arm g it.stands it.has
   together_groups (in_static_then {n} {test} {a} {b} t) g o e = in_left (groups_of a) (groups_of b) g (together_groups t g o e)
   together_groups (in_static_else {n} {test} {a} {b} t) g o e = in_right (groups_of a) (groups_of b) g (together_groups t g o e)
   together_groups (in_static_repeat t) g o e = together_groups t g o e
-  together_groups (in_par {arms} t) g o e = let it = arms_groups t g o e in groups_all arms it.arm g it.stands it.has
+  together_groups (in_par {arms} t) g o e = let it = arms_groups t g o e in in_parts arms it.arm g it.stands it.has
 
   arms_groups : {ss : List PlainStatement} {act : Active} → AreTogether ss act → (g o : ℕ) → act.offset g ≡ Some o → OfArm ss g
   arms_groups no_arm g o e = absurd (none_some o e)
@@ -143,18 +144,13 @@ entry_less h k g o e = (0, by (nat_eq h g) refl)
 abbrev NoneShared : PlainComponent → List Visited → Type 0
 NoneShared part visited = (v : Visited) → In visited v → Unshared part (arms_of v.form)
 
-visited_in : (context : Context) (ss : PlainStatements) (s : PlainStatement) → In (list_of ss) s → (v : Visited) → In (visit context s) v → In (visit_all context ss) v
-visited_in context no_statements s i v j = absurd i
-visited_in context (a_statement t ss) s (inl e) v j = in_left (visit context t) (visit_all context ss) v (subst (λ x. In (visit context x) v) (sym e) j)
-visited_in context (a_statement t ss) s (inr i) v j = in_right (visit context t) (visit_all context ss) v (visited_in context ss s i v j)
-
 module _ (i : Instance) (keeps : (o : Owned) → In (source_order (part_of i)) o → KeepsPorts o) (no_output : (o : Owned) → In (source_order (part_of i)) o → (n : ℕ) → AssignNames o.assign (ports.Output n) → ⊥)
     (bare : IsAcyclic i nothing) (each : (g : ℕ) → IsAcyclic i (group g)) where
   mutual
     pub together_acyclic : {s : PlainStatement} {act : Active} → IsTogether s act → (context : Context) → NoneShared (part_of i) (visit context s) → IsAcyclic i act
     together_acyclic at_rest context none = bare
     together_acyclic (enabled {g}) context none = each g
-    together_acyclic (in_seq {parts} {place} {s} j t) context none = together_acyclic t (below_dynamic context) (λ v k. none v (inr (visited_in (below_dynamic context) parts s j v k)))
+    together_acyclic (in_seq {parts} {place} {s} j t) context none = together_acyclic t (below_dynamic context) (λ v k. none v (inr (part_in (below_dynamic context) parts s j v k)))
     together_acyclic (at_if {test} {c}) context none = comb_acyclic i bare each c
     together_acyclic (in_then {test} {c} {a} {b} t) context none = together_acyclic t (below_dynamic context) (λ v k. none v (inr (in_left (visit (below_dynamic context) a) (visit (below_dynamic context) b) v k)))
     together_acyclic (in_else {test} {c} {a} {b} t) context none = together_acyclic t (below_dynamic context) (λ v k. none v (inr (in_right (visit (below_dynamic context) a) (visit (below_dynamic context) b) v k)))
@@ -162,14 +158,14 @@ module _ (i : Instance) (keeps : (o : Owned) → In (source_order (part_of i)) o
     together_acyclic (in_while t) context none = together_acyclic t (below_dynamic context) (λ v k. none v (inr k))
     together_acyclic (in_repeat t) context none = together_acyclic t (below_dynamic context) (λ v k. none v (inr k))
     together_acyclic (at_offset {g} {place} k) context none = less_acyclic (entries (record { group = g; offset = k } ∷ [])) (group g) (entry_less g k) i (each g)
-    together_acyclic (in_static_seq {n} {parts} {place} {s} j t) context none = together_acyclic t InStatic (λ v k. none v (inr (visited_in InStatic parts s j v k)))
+    together_acyclic (in_static_seq {n} {parts} {place} {s} j t) context none = together_acyclic t InStatic (λ v k. none v (inr (part_in InStatic parts s j v k)))
     together_acyclic (in_static_par {n} {arms} {place} t) context none =
-        arms_acyclic t InStatic (λ s j v k. none v (inr (visited_in InStatic arms s j v k))) (none (record { context = context; form = StaticPar n arms; place = place }) (inl refl))
+        arms_acyclic t InStatic (λ s j v k. none v (inr (part_in InStatic arms s j v k))) (none (record { context = context; form = StaticPar n arms; place = place }) (inl refl))
     together_acyclic (in_static_then {n} {test} {a} {b} t) context none = together_acyclic t Branch (λ v k. none v (inr (in_left (visit Branch a) (visit Branch b) v k)))
     together_acyclic (in_static_else {n} {test} {a} {b} t) context none = together_acyclic t Branch (λ v k. none v (inr (in_right (visit Branch a) (visit Branch b) v k)))
     together_acyclic (in_static_repeat t) context none = together_acyclic t InStatic (λ v k. none v (inr k))
     together_acyclic (in_par {arms} {place} t) context none =
-        arms_acyclic t (below_dynamic context) (λ s j v k. none v (inr (visited_in (below_dynamic context) arms s j v k))) (none (record { context = context; form = Par arms; place = place }) (inl refl))
+        arms_acyclic t (below_dynamic context) (λ s j v k. none v (inr (part_in (below_dynamic context) arms s j v k))) (none (record { context = context; form = Par arms; place = place }) (inl refl))
 
     arms_acyclic : {ss : List PlainStatement} {act : Active} → AreTogether ss act → (context : Context) → ((s : PlainStatement) → In ss s → NoneShared (part_of i) (visit context s)) → Unshared (part_of i) ss → IsAcyclic i act
     arms_acyclic no_arm context none apart = bare

@@ -14,14 +14,13 @@ use Rattle.cx_meaning.specs.Control.{groups_of}
 use Rattle.cx_rules.specs.Footprints.{AssignNames, Reads, driven, Mentions, SideLeads, PartLeads, CellLeads, Leads, Depends, at_once, by_way_of}
 use Rattle.cx_rules.specs.Circles.{IsAcyclic}
 use Rattle.cx_rules.specs.ShapeRules.{is_hole}
-use Rattle.cx_rules.proofs.FoundLemmas.{same_is}
-use Rattle.cx_rules.proofs.ForeignLemmas.{assigns_drive_in}
+use Rattle.cx_rules.proofs.FoundLemmas.{same_is, source_in}
+use Rattle.cx_rules.proofs.ForeignLemmas.{assigns_drive_in, OwnerOf, continuous, of_group, owner_of}
 use Rattle.cx_control.specs.Apart.{IsApart}
 use Rattle.cx_control.specs.Together.{or_else, union}
-use Rattle.cx_control.proofs.InstanceLemmas.{OwnerOf, continuous, of_group, owner_of, KeepsPorts}
+use Rattle.cx_control.proofs.InstanceLemmas.{KeepsPorts}
 use Rattle.cx_control.proofs.LeadsLemmas.{Stands, acting_stands, leads_by, Inside, leads_inside}
 use Rattle.cx_meaning.proofs.ControlLaws.{groups_drive_in}
-use Rattle.cx_laws.proofs.SourceLemmas.{source_in}
 use Rattle.cx_rules.proofs.FrameLemmas.{acting_alike}
 
 -- an assignment of the list whose owner is active is an active one

@@ -8,13 +8,10 @@ use Rattle.cx_ast.specs.PlainGuards.{PlainGuard, guards_of, Or, And, Compare, No
 use Rattle.cx_ast.specs.PlainStatements.{PlainForm, statements_of, Enable, Seq, Par, StaticSeq, StaticPar, If, StaticIf, While, Repeat, StaticRepeat, Invoke, StaticInvoke, PlainElse, NoElse, Else, PlainStatement, Placed, PlainStatements, NoStatements, StatementThen, PlainBlock, Braces}
 use Rattle.cx_ast.specs.PlainTree.{PlainAssign, PlainGroup, PlainWire, Group, Assign}
 use Rattle.cx_copies.specs.Naming.{named_operand_form, named_operand, named_guard, named_guards, named_assign, named_group, named_wire, named_bind, named_form, named_else, named_statement, named_statements, named_block}
+use Rattle.cx_text.proofs.ListLaws.{same_map}
 
 abbrev itself : List ℕ → List ℕ
 itself cell = cell
-
-same_map : {A : Type 0} (f : A → A) → ((x : A) → f x ≡ x) → (xs : List A) → map f xs ≡ xs
-same_map f h [] = refl
-same_map f h (x ∷ xs) = ap (λ y. y ∷ map f xs) (h x) ∙ ap (λ ys. x ∷ ys) (same_map f h xs)
 
 same_operand_form : (o : OperandForm) → named_operand_form itself o ≡ o
 same_operand_form (operands.Own port) = refl

@@ -1,5 +1,5 @@
 -- What leads on does so by an assignment of the port, or as a combinational output on an input that it reads.
-use Rattle.std.proofs.Common.{◌≡◌, ℕ, zero, suc, ◌+◌, inl, inr, ◌⊎◌, ⊎_elim, Bool, true, false, true≢false, Option, Some, None, List, [], ◌∷◌, ◌++◌, get_or, nat_eq, nat_lt, refl, sym, ap, ◌∙◌, subst, arith}
+use Rattle.std.proofs.Common.{◌≡◌, ℕ, ◌+◌, inl, inr, ◌⊎◌, ⊎_elim, Bool, true, false, true≢false, Option, Some, None, List, [], ◌∷◌, ◌++◌, nat_eq, nat_lt, refl, sym, ap, ◌∙◌, subst, arith}
 use Rattle.std.specs.Prelude.{if◌then◌else◌}
 use Rattle.std.proofs.lemmas.Bool.{eqb-true}
 use Rattle.cx_prim.specs.declared.ports.Side.{Side}
@@ -8,9 +8,9 @@ use Rattle.cx_prim.specs.Rows.{Row, is_output_side}
 use Rattle.cx_meaning.specs.declared.ports.PortRef.{PortRef}
 use Rattle.cx_meaning.specs.declared.ports.PortRef.TheVariants as ports
 use Rattle.cx_meaning.specs.Rows.{side_of}
-use Rattle.cx_meaning.specs.Designs.{PlainAssign, PlainGroup, PlainComponent, group_at, no_group}
+use Rattle.cx_meaning.specs.Designs.{PlainAssign, PlainComponent, group_at}
 use Rattle.cx_meaning.specs.Instances.{Instance, At, Nothing, OfRow, OfInstance, cell_at, cells_of, part_of}
-use Rattle.cx_meaning.specs.Active.{Active, Acting, nothing, group, only_at, Owned, owned, owned_by_groups, placed_in, by_place, source_order, offset_of, if_acting, if_target, acting, same_port, drivers}
+use Rattle.cx_meaning.specs.Active.{Active, Acting, nothing, group, only_at, Owned, owned, owned_by_groups, source_order, offset_of, if_acting, if_target, acting, same_port, drivers}
 use Rattle.cx_meaning.specs.Sights.{In, PartPort, Go, AnInput, AnOutput, ItsDone, part_port}
 use Rattle.cx_rules.specs.Footprints.{AssignNames, Mentions, SideLeads, PartLeads, CellLeads, Leads}
 use Rattle.cx_rules.specs.Ports.{is_source_only, is_cell_output, is_part_output}
@@ -20,33 +20,8 @@ use Rattle.cx_rules.proofs.ForeignLemmas.{sorted_among, owned_among, split, grou
 use Rattle.cx_design_leads.specs.Nodes.{below, node_of}
 use Rattle.cx_design_leads.specs.Edges.{LeadsInGroup, ReadsInRow}
 use Rattle.cx_meaning.proofs.PortsLemmas.{same_self}
-use Rattle.cx_meaning.proofs.ActiveLemmas.{only_self, placed_still, placed_first}
+use Rattle.cx_meaning.proofs.ActiveLemmas.{only_self, group_stands, always_stands}
 use Rattle.cx_text.proofs.OptionLaws.{none_some_also}
-use Rattle.cx_meaning.proofs.DesignsLemmas.{owned_has}
-use Rattle.cx_meaning.proofs.SightsLaws.{in_left, in_right}
-
-sorted_has : (list : List Owned) (o : Owned) → In list o → In (by_place list) o
-sorted_has [] o i = i
-sorted_has (a ∷ rest) o (inl e) = subst (In (placed_in a (by_place rest))) e (placed_first a (by_place rest))
-sorted_has (a ∷ rest) o (inr i) = placed_still a (by_place rest) o (sorted_has rest o i)
-
-groups_have : (k : ℕ) (groups : List PlainGroup) (g : ℕ) (a : PlainAssign) → In (get_or groups g no_group).assigns a → In (owned_by_groups k groups) (record { owner = Some (k + g); assign = a })
-groups_have k [] g a i = absurd i
-groups_have k (x ∷ groups) zero a i =
-    let e : k ≡ k + 0 = omega arith in
-    in_left (owned (Some k) x.assigns) (owned_by_groups (suc k) groups) _ (subst (λ n. In (owned (Some k) x.assigns) (record { owner = Some n; assign = a })) e (owned_has (Some k) x.assigns a i))
-groups_have k (x ∷ groups) (suc g) a i =
-    let e : suc k + g ≡ k + suc g = omega arith in
-    in_right (owned (Some k) x.assigns) (owned_by_groups (suc k) groups) _ (subst (λ n. In (owned_by_groups (suc k) groups) (record { owner = Some n; assign = a })) e (groups_have (suc k) groups g a i))
-
-always_stands : (part : PlainComponent) (a : PlainAssign) → In part.always a → In (source_order part) (record { owner = None; assign = a })
-always_stands part a i = sorted_has (owned None part.always ++ owned_by_groups 0 part.groups) _ (in_left (owned None part.always) (owned_by_groups 0 part.groups) _ (owned_has None part.always a i))
-
-group_stands : (part : PlainComponent) (g : ℕ) (a : PlainAssign) → In (group_at part g).assigns a → In (source_order part) (record { owner = Some g; assign = a })
-group_stands part g a i =
-    let e : 0 + g ≡ g = omega arith in
-    sorted_has (owned None part.always ++ owned_by_groups 0 part.groups) _
-    (in_right (owned None part.always) (owned_by_groups 0 part.groups) _ (subst (λ n. In (owned_by_groups 0 part.groups) (record { owner = Some n; assign = a })) e (groups_have 0 part.groups g a i)))
 
 -- DRIVERS of a port, as what stands in source order and is active
 pub record Driver (part : PlainComponent) (act : Active) (p q : PortRef) : Type 0 where

@@ -16,11 +16,11 @@ use Rattle.cx_meaning.specs.declared.ports.PlacedPort.{PlacedPort}
 use Rattle.cx_meaning.specs.Rows.{side_of}
 use Rattle.cx_design.specs.declared.groups.Group.{Group}
 use Rattle.cx_design.specs.PlainForms.{plain_assigns, plain_group}
-use Rattle.cx_meaning.specs.Designs.{no_group, PlainGuard, Always, Atom, Negation, All, Any, Compared, Within, PlainGuards, no_guards, a_guard, PlainAssign, group_at}
+use Rattle.cx_meaning.specs.Designs.{no_group, PlainAssign, group_at}
 use Rattle.cx_meaning.specs.Instances.{Instance, OfRow, cell_at, cells_of, part_of}
 use Rattle.cx_meaning.specs.Active.{nothing}
-use Rattle.cx_meaning.specs.Sights.{In, GuardNames, AnyNames}
-use Rattle.cx_rules.specs.Items.{operands_of, operands_in}
+use Rattle.cx_meaning.specs.Sights.{In}
+use Rattle.cx_rules.specs.Items.{operands_of}
 use Rattle.cx_rules.specs.Footprints.{Leads}
 use Rattle.cx_rules.specs.Ports.{is_source_only}
 use Rattle.cx_design_leads.specs.Nodes.{node_of, node_count, cell_count}
@@ -31,41 +31,9 @@ use Rattle.cx_design_leads.proofs.DriverLemmas.{bare_drives, drives_bare, leads_
 use Rattle.cx_meaning.proofs.SightsLaws.{in_either, in_left, in_right}
 use Rattle.cx_meaning.proofs.RowsLemmas.{side_below}
 use Rattle.cx_text.proofs.OptionLaws.{none_some_also}
+use Rattle.cx_rules.proofs.FoundLemmas.{guard_operand, operand_named}
 
 -- OPERANDS of a guard are what it names
-mutual
-  guard_operand : (g : PlainGuard) (q : PortRef) → GuardNames g q → (p : PlacedPort) × In (operands_of g) p × (p.port ≡ q)
-  guard_operand Always q n = absurd n
-  guard_operand (Atom p) q n = (p, inl refl, n)
-  guard_operand (Negation g) q n = guard_operand g q n
-  guard_operand (All gs) q n = guards_operand gs q n
-  guard_operand (Any gs) q n = guards_operand gs q n
-  guard_operand (Compared c a b) q (inl e) = (a, inl refl, e)
-  guard_operand (Compared c a b) q (inr e) = (b, inr (inl refl), e)
-  guard_operand (Within from to) q n = absurd n
-
-  guards_operand : (gs : PlainGuards) (q : PortRef) → AnyNames gs q → (p : PlacedPort) × In (operands_in gs) p × (p.port ≡ q)
-  guards_operand no_guards q n = absurd n
-  guards_operand (a_guard g gs) q (inl n) = let r = guard_operand g q n in (r.0, in_left (operands_of g) (operands_in gs) r.0 r.1, r.2)
-  guards_operand (a_guard g gs) q (inr n) = let r = guards_operand gs q n in (r.0, in_right (operands_of g) (operands_in gs) r.0 r.1, r.2)
-
-mutual
-  operand_named : (g : PlainGuard) (p : PlacedPort) → In (operands_of g) p → GuardNames g p.port
-  operand_named Always p i = absurd i
-  operand_named (Atom r) p (inl e) = ap (λ x. x.port) e
-  operand_named (Atom r) p (inr i) = absurd i
-  operand_named (Negation g) p i = operand_named g p i
-  operand_named (All gs) p i = operands_named gs p i
-  operand_named (Any gs) p i = operands_named gs p i
-  operand_named (Compared c a b) p (inl e) = inl (ap (λ x. x.port) e)
-  operand_named (Compared c a b) p (inr (inl e)) = inr (ap (λ x. x.port) e)
-  operand_named (Compared c a b) p (inr (inr i)) = absurd i
-  operand_named (Within from to) p i = absurd i
-
-  operands_named : (gs : PlainGuards) (p : PlacedPort) → In (operands_in gs) p → AnyNames gs p.port
-  operands_named no_guards p i = absurd i
-  operands_named (a_guard g gs) p i = ⊎_elim (λ j. inl (operand_named g p j)) (λ j. inr (operands_named gs p j)) (in_either (operands_of g) (operands_in gs) p i)
-
 -- LISTS that grow
 in_none : {A : Type 0} (xs : List A) (x : A) → In (take 0 xs) x → ⊥
 in_none xs x i = i

@@ -1,11 +1,11 @@
 -- Each port that is there has a node of its own.
-use Rattle.std.proofs.Common.{◌≡◌, ◌≢◌, ℕ, zero, suc, ◌+◌, ◌≤◌, ◌<◌, ⊎_elim, Bool, true, false, Some, None, List, [], ◌∷◌, length, nat_lt, refl, sym, ap, ◌∙◌, subst, arith}
+use Rattle.std.proofs.Common.{◌≡◌, ◌≢◌, ℕ, zero, suc, ◌+◌, ◌≤◌, ◌<◌, ⊎_elim, Bool, true, false, Some, None, List, length, nat_lt, refl, sym, ap, ◌∙◌, subst, arith}
 use Rattle.std.specs.Prelude.{if◌then◌else◌}
 use Rattle.std.proofs.lemmas.Bool.{cases_lt}
 use Rattle.cx_meaning.specs.declared.ports.PortRef.{PortRef}
 use Rattle.cx_meaning.specs.declared.ports.PortRef.TheVariants as ports
-use Rattle.cx_meaning.specs.Designs.{PlainKind, OfPrimitive, OfComponent, PlainCell, PlainDesign, component_at}
-use Rattle.cx_meaning.specs.Instances.{Instance, Cells, no_cells, a_primitive, an_instance, Nothing, cell_at, cells_of, part_of, add_cell, cells_for, tree_within}
+use Rattle.cx_meaning.specs.Designs.{PlainDesign, component_at}
+use Rattle.cx_meaning.specs.Instances.{Instance, Cells, no_cells, a_primitive, an_instance, Nothing, cell_at, cells_of, part_of, tree_within}
 use Rattle.cx_rules.specs.Ports.{component_of}
 use Rattle.cx_design.specs.declared.components.Component.{Component}
 use Rattle.cx_design.specs.PlainForms.{plain_component, plain_parts}
@@ -15,13 +15,14 @@ use Rattle.cx_design_leads.specs.Nodes.{ports_before, cell_count, first_input, f
 use Rattle.cx_text.proofs.OptionLaws.{some_is}
 use Rattle.cx_text.proofs.NumberLaws.{lt_true as true_lt, true_lt as lt_true}
 use Rattle.cx_rules.proofs.PortsLemmas.{part_is as component_part}
+use Rattle.cx_meaning.proofs.CycleLemmas.{count_for}
 
 -- below
-record IsBelow (count first n m : ℕ) : Type 0 where
-  lt : n < count
-  is : m ≡ first + n
+pub record IsBelow (count first n m : ℕ) : Type 0 where
+  pub lt : n < count
+  pub is : m ≡ first + n
 
-is_below : (count first n m : ℕ) → below count first n ≡ Some m → IsBelow count first n m
+pub is_below : (count first n m : ℕ) → below count first n ≡ Some m → IsBelow count first n m
 is_below count first n m e = choice (nat_lt n count) refl e
   where
     choice : (b : Bool) → nat_lt n count ≡ b → (if b then Some (first + n) else None) ≡ Some m → IsBelow count first n m
@@ -136,21 +137,12 @@ module _ (i : Instance) where
   has_node (ports.Done g) there d = (first_done i + g, below_is (length (part_of i).groups) (first_done i) g there)
   has_node (ports.Literal w v) there d = absurd (d w v refl)
 
--- the cells of a component of a design
-count_kind : (child : ℕ → Instance) (kind : PlainKind) (rest : Cells) → cell_count (add_cell child kind rest) ≡ suc (cell_count rest)
-count_kind child (OfPrimitive p) rest = refl
-count_kind child (OfComponent k) rest = refl
-
-count_cells : (child : ℕ → Instance) (cells : List PlainCell) → cell_count (cells_for child cells) ≡ length cells
-count_cells child [] = refl
-count_cells child (cell ∷ cells) = count_kind child cell.kind (cells_for child cells) ∙ ap suc (count_cells child cells)
-
 pub component_cells : (d : PlainDesign) (k : ℕ) → k < length d.components → cell_count (cells_of (component_of d k)) ≡ length (component_at d k).cells
 component_cells d k h = choice (length d.components) h
   where
     choice : (n : ℕ) → k < n → cell_count (cells_of (tree_within d n k)) ≡ length (component_at d k).cells
     choice zero h = absurd (omega (arith, h))
-    choice (suc n) h = count_cells (tree_within d n) (component_at d k).cells
+    choice (suc n) h = count_for (tree_within d n) (component_at d k).cells
 
 pub cells_of_part : (components : List Component) (main k : ℕ) (part : Component) → k < length components → plain_component part ≡ component_at (plain_parts components main) k
     → length part.cells.items ≡ cell_count (cells_of (component_of (plain_parts components main) k))

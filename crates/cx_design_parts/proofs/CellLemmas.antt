@@ -1,5 +1,5 @@
 -- What stands at a cell of a component of a design.
-use Rattle.std.proofs.Common.{◌≡◌, ℕ, zero, suc, ◌<◌, ◌≤◌, ◌+◌, List, [], ◌∷◌, Option, Some, None, length, map, get_or, slice_get, inl, inr, refl, sym, ap, ◌∙◌, subst, arith}
+use Rattle.std.proofs.Common.{◌≡◌, ℕ, zero, suc, ◌<◌, List, [], ◌∷◌, Option, Some, None, length, map, get_or, slice_get, inl, inr, refl, sym, ap, ◌∙◌, subst, arith}
 use denote.Struct.Props.{props}
 use Rattle.std.proofs.Math.Logic.{∥∥₁_elim}
 use Rattle.std.proofs.lemmas.Option.{get_or_from_slice_get}
@@ -11,10 +11,10 @@ use Rattle.cx_prim.specs.declared.ports.Side.TheVariants.{Registered}
 use Rattle.cx_prim.specs.Table.{row_of}
 use Rattle.cx_meaning.specs.Rows.{side_from}
 use Rattle.cx_meaning.specs.Designs.{PlainKind, OfPrimitive, OfComponent, PlainCell, PlainDesign, component_at}
-use Rattle.cx_meaning.specs.Instances.{Instance, Cells, At, Nothing, OfRow, OfInstance, part_of, cells_of, cell_at, add_cell, cells_for, tree_within}
+use Rattle.cx_meaning.specs.Instances.{Instance, At, Nothing, OfRow, OfInstance, part_of, cells_of, cell_at, cells_for, tree_within}
 use Rattle.cx_rules.specs.Ports.{component_of}
 use Rattle.cx_meaning.proofs.DesignsLemmas.{same_part}
-use Rattle.cx_meaning.proofs.InstancesLemmas.{kind_skip}
+use Rattle.cx_meaning.proofs.InstancesLemmas.{kind_skip, first_at}
 
 abbrev side_or : Side → Option PortRow → Side
 side_or other None = other
@@ -33,13 +33,9 @@ abbrev pub at_cell : (ℕ → Instance) → Option PlainCell → At
 at_cell child None = Nothing
 at_cell child (Some cell) = at_kind child cell.kind
 
-at_first : (child : ℕ → Instance) (kind : PlainKind) (rest : Cells) → cell_at (add_cell child kind rest) 0 ≡ at_kind child kind
-at_first child (OfPrimitive p) rest = refl
-at_first child (OfComponent j) rest = refl
-
 at_number : (child : ℕ → Instance) (cells : List PlainCell) (c : ℕ) → cell_at (cells_for child cells) c ≡ at_cell child (slice_get cells c)
 at_number child [] c = refl
-at_number child (cell ∷ cells) zero = at_first child cell.kind (cells_for child cells)
+at_number child (cell ∷ cells) zero = first_at child cell.kind (cells_for child cells)
 at_number child (cell ∷ cells) (suc c) = kind_skip child cell.kind (cells_for child cells) c ∙ at_number child cells c
 
 -- what stands at a cell is what its kind says, by instances of the design's components

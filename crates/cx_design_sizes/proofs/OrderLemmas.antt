@@ -8,7 +8,7 @@ use Rattle.std.proofs.Math.Seq.{take-append_seam}
 use Rattle.std.proofs.lemmas.List.{length-set, length-append, length-map, take-append-le}
 use Rattle.cx_meaning.specs.Designs.{PlainKind, OfPrimitive, OfComponent, PlainCell, PlainDesign, component_at}
 use Rattle.cx_meaning.specs.Sights.{In}
-use Rattle.cx_rules.specs.Wellformed.{IsDesign, IsKind, LeadsTo, by_cell, by_way_of}
+use Rattle.cx_rules.specs.Wellformed.{IsDesign, LeadsTo, by_cell, by_way_of}
 use Rattle.cx_rules.proofs.Finite.{Distinct}
 use Rattle.cx_design_sizes.specs.declared.order.Step.{Step}
 use Rattle.cx_design_sizes.specs.Orders.{IsChildrenFirst, if_unplaced, unplaced, ArePlaced, IsNext}
@@ -16,6 +16,7 @@ use Rattle.cx_design_sizes.proofs.Places.{slice_get-replicate, in_snoc, snoc_pla
 use Rattle.cx_meaning.proofs.SightsLaws.{in_left, in_right, in_at, number_in, in_either}
 use Rattle.cx_text.proofs.OptionLaws.{none_is_some}
 use Rattle.cx_text.proofs.ListLaws.{set_same, set_other, there_below}
+use Rattle.cx_rules.proofs.ItemsLemmas.{kind_there}
 
 -- a component that is cut off from others
 abbrev pub comps : List Step → List ℕ
@@ -69,10 +70,6 @@ pub record IsUnderWay (d : PlainDesign) (placed : List Bool) (order : List ℕ) 
 
 not_recursive : (d : PlainDesign) → ∥ IsDesign d ∥₁ → (k : ℕ) → LeadsTo d k k → ⊥
 not_recursive d keeps k l = ∥∥₁_elim keeps (hlevel props) (λ h. h.not_recursive k l)
-
-kind_there : (d : PlainDesign) (kind : PlainKind) (j : ℕ) → IsKind d kind → kind ≡ OfComponent j → j < length d.components
-kind_there d (OfPrimitive p) j h e = absurd (cc)
-kind_there d (OfComponent k) j h e = let f : k ≡ j = cc in subst (λ x. x < length d.components) f h
 
 child_there : (d : PlainDesign) → ∥ IsDesign d ∥₁ → (k j : ℕ) (cell : PlainCell) → k < length d.components → In (component_at d k).cells cell → cell.kind ≡ OfComponent j → j < length d.components
 child_there d keeps k j cell lt i e = ∥∥₁_elim keeps (hlevel props) (λ h. kind_there d cell.kind j (((h.components k lt).cells cell i).kind) e)

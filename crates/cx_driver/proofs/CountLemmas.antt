@@ -27,10 +27,7 @@ use Rattle.cx_compiler.proofs.WrittenNets.{design_parts, design_words}
 use Rattle.cx_driver.specs.Counted.{IsProfiled}
 use Rattle.cx_driver.specs.Counting.{CanCount, CountBreak}
 use Rattle.cx_driver.specs.Profiling.{group_paths}
-
--- a design that keeps the limits exceeds none
-kept_exceeds : (d : PlainDesign) (told : Diagnostic) → KeepsStage 7 d → IsFirstOf 7 d told → ⊥
-kept_exceeds d told keeps f = keeps told.rule f.spot told.place told.name f.in_stage f.breaks
+use Rattle.cx_profile.proofs.LimitLemmas.{none_exceeded}
 
 -- the first limit that a design exceeds is one
 not_a_source : (d : PlainDesign) (rule : Rule) → stage_of rule ≡ 7 → rule ≡ NotASource → IsPlaced d
@@ -51,7 +48,7 @@ count_once text a b (inr h) (inr k) =
 pub counted_once : (text : List ℕ) (d : PlainDesign) (told : Diagnostic) → IsDesignOf text d → KeepsStage 7 (instrumented d) → CountBreak text told → ⊥
 counted_once text d told is keeps (inl h) = accepted_once text told (text_of_design text d is) h
 counted_once text d told is keeps (inr h) =
-    kept_exceeds (instrumented d) told keeps (subst (λ (e : PlainDesign). IsFirstOf 7 (instrumented e) told) (one_design text h.0 d h.1 is) h.2)
+    none_exceeded (instrumented d) told keeps (subst (λ (e : PlainDesign). IsFirstOf 7 (instrumented e) told) (one_design text h.0 d h.1 is) h.2)
 
 -- THE DESIGN OF A TEXT can be counted
 pub text_counts : (text : List ℕ) (d : PlainDesign) → IsDesignOf text d → ∥ IsDesign d ∥₁ → CanCount d

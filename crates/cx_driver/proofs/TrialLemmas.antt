@@ -29,7 +29,7 @@ use Rattle.cx_compiler.specs.Texts.{IsTreeStop}
 use Rattle.cx_compiler.proofs.Once.{Told, not_both, same_stop, all_answered, all_stopped}
 use Rattle.cx_compiler.proofs.OneSource.{one_source_of}
 use Rattle.cx_compiler.proofs.BelowLemmas.{loaded_fits}
-use Rattle.cx_compiler.proofs.TextDepth.{Each, each_in}
+use Rattle.cx_flat_texts.proofs.TextNames.{Each, each_in}
 use Rattle.cx_driver.specs.Tried.{HasTrialMemory, words_sum, zeros, line_of, line_result, try_result, TreeTries, Tries}
 use Rattle.cx_driver.proofs.SimLemmas.{left_answers, no_stop}
 use Rattle.cx_driver.proofs.TrialMemory.{shapes_stay, small_sum}

@@ -25,7 +25,7 @@ use Rattle.cx_check.proofs.Verdicts.{refused_once}
 use Rattle.cx_trial.specs.TrialParts.{up_to, indexed, step_name}
 use Rattle.cx_trial.specs.TrialControl.{enable, seq_of, par_of, repeated, rounds, step_of, arm_of, quarter_of, all_arms, whole_control}
 use Rattle.cx_trial.specs.TrialTree.{all_groups, trial_part, trial_tree}
-use Rattle.cx_compiler.proofs.TextDepth.{Each, each_in}
+use Rattle.cx_flat_texts.proofs.TextNames.{Each, each_in}
 use Rattle.cx_driver.proofs.TrialWires.{OfGroup, each_up_to, groups_each, none_always, all_hold}
 
 -- NOTHING IS INVOKED in its control

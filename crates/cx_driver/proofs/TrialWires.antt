@@ -6,7 +6,7 @@ use Rattle.cx_ast.specs.declared.operands.OperandItem.{OperandItem}
 use Rattle.cx_numbering.specs.Names.{groups_in, always_in}
 use Rattle.cx_trial.specs.TrialParts.{up_to, indexed, step_name, port_of, literal, drive, finish, sum_group, step_group, store_group}
 use Rattle.cx_trial.specs.TrialTree.{step_groups, arm_groups, all_groups}
-use Rattle.cx_compiler.proofs.TextDepth.{Each}
+use Rattle.cx_flat_texts.proofs.TextNames.{Each}
 
 -- LISTS
 pub both : {A : Type 0} (P : A → Type 0) (xs ys : List A) → Each P xs → Each P ys → Each P (xs ++ ys)

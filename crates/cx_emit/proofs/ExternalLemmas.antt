@@ -1,5 +1,5 @@
 -- The external memories of a net's source are those cells of main, and hold what was loaded.
-use Rattle.std.proofs.Common.{◌≡◌, inl, inr, ℕ, zero, suc, ◌+◌, ◌<◌, ◌≤◌, true, false, List, [], ◌∷◌, length, map, Option, Some, slice_get, option_map, refl, ap, sym, ◌∙◌, subst, if◌then◌else◌, arith}
+use Rattle.std.proofs.Common.{◌≡◌, inl, inr, ℕ, zero, suc, ◌+◌, ◌<◌, ◌≤◌, true, List, [], ◌∷◌, length, map, Option, Some, slice_get, option_map, refl, ap, sym, ◌∙◌, subst, if◌then◌else◌, arith}
 use Rattle.std.specs.Prelude.{slice_index}
 use Rattle.std.specs.Option.{option_map_or}
 use Rattle.std.proofs.lemmas.Option.{slice_get-map}
@@ -7,7 +7,6 @@ use Rattle.cx_prim.specs.CellStates.{CellState, AreWords, IsState, TakesWords}
 use Rattle.cx_prim.specs.CellStates as cell_states
 use Rattle.cx_prim.specs.Table.{PrimitiveRow, row_of}
 use Rattle.cx_meaning.specs.Designs.{PlainCell}
-use Rattle.cx_meaning.specs.Instances.{just}
 use Rattle.cx_state.proofs.Shapes.{IsMemoryOf}
 use Rattle.cx_vtree.specs.Plain.{PlainInstance, PlainModule, PlainSource}
 use Rattle.cx_vtree.specs.InstanceTree.{Placed, main_instance}
@@ -34,12 +33,6 @@ use Rattle.cx_emit.proofs.Standing.{number-same, tree, comp_there, own, main_pla
 use Rattle.cx_prim.proofs.CellStatesLemmas.{memory_with, sequential_with, words_fit, sequential_words_fit}
 use Rattle.cx_vlaws.proofs.Parts.{instances_fresh}
 use Rattle.cx_text.proofs.OptionLaws.{one_value}
-
-pub just_other : (c d : ℕ) → (c ≡ d → ⊥) → just c d ≡ false
-just_other zero zero h = absurd (h refl)
-just_other zero (suc d) h = refl
-just_other (suc c) zero h = refl
-just_other (suc c) (suc d) h = just_other c d (λ e. h (ap suc e))
 
 pub are_words : (p : PrimitiveRow) (d : CellState) (width count : ℕ) → IsMemoryOf (row_of p).shape width count → IsState (row_of p).shape d → AreWords width count (cell_states.words_of d)
 are_words p d width count (inl e) h = words_fit width count d (subst (λ s. IsState s d) e h)

@@ -13,8 +13,7 @@ use Rattle.cx_vtree.specs.InstanceTree.{Placed}
 use Rattle.cx_vtree.specs.SimRun.{is_memory, loaded_word}
 use Rattle.cx_emit.specs.Numbered.{lists_from}
 use Rattle.cx_emit.specs.Sources.{external_of, cell_externals}
-use Rattle.cx_emit.proofs.ExternalLemmas.{just_other}
-use Rattle.cx_meaning.proofs.InstancesLemmas.{just_same}
+use Rattle.cx_meaning.proofs.InstancesLemmas.{just_same, just_other}
 
 -- c is the number of a cell, j that of its instance, and `array` the name of its array
 module _ (tree : List Placed) (j c : ℕ) (array : List ℕ) (d : CellState) where

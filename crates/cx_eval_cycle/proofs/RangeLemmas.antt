@@ -16,9 +16,9 @@ use Rattle.cx_prim.specs.RegisterRow.{register_row}
 use Rattle.cx_prim.specs.PipeRows.{multiplier_row, divider_row, timer_row}
 use Rattle.cx_prim.specs.Table.{PrimitiveRow, HasRow, at_width, constant_at, slice_at, pad_at, memory_at, timer_at, row_at, no_row, row_of}
 use Rattle.cx_design_sizes.specs.Dimensions.{dimensions_of}
-use Rattle.cx_design_sizes.proofs.WordLemmas.{one_name}
 use Rattle.cx_eval_cycle.specs.Ranges.{enable_of, out_by}
 use Rattle.cx_text.proofs.BoolLaws.{and_both}
+use Rattle.cx_prim.proofs.NameLemmas.{one_name}
 
 -- by the row that was found, where one was
 abbrev range_of : Option Row → Inputs → Option ℕ

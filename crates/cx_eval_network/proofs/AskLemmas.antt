@@ -1,5 +1,5 @@
 -- The place of a port that is found, and its step.
-use Rattle.std.proofs.Common.{◌≡◌, ℕ, zero, suc, ◌≤◌, ◌<◌, nat_eq, nat_lt, nat_le, Bool, true, false, Option, Some, None, List, [], get_or, length, refl, sym, ap, ◌∙◌, subst, arith}
+use Rattle.std.proofs.Common.{◌≡◌, ℕ, ◌≤◌, ◌<◌, nat_eq, nat_lt, nat_le, Bool, true, false, Option, Some, None, List, [], get_or, length, refl, sym, ap, ◌∙◌, subst, arith}
 use Rattle.std.specs.Prelude.{slice_get, option_map, if◌then◌else◌}
 use Rattle.std.proofs.Math.Path.{fun_ext}
 use Rattle.cx_bits.specs.BitVector.{BitVector}
@@ -12,7 +12,7 @@ use Rattle.cx_meaning.specs.declared.sights.Seen.TheVariants.{Undefined, Value}
 use Rattle.cx_meaning.specs.Rows.{side_of}
 use Rattle.cx_meaning.specs.Active as plain
 use Rattle.cx_meaning.specs.Designs.{PlainComponent, PlainDesign, component_at}
-use Rattle.cx_meaning.specs.Instances.{Instance, Cells, no_cells, a_primitive, an_instance, OfRow, OfInstance, State, cell_at, cells_of, part_of, tree_of}
+use Rattle.cx_meaning.specs.Instances.{Instance, OfRow, OfInstance, State, cell_at, cells_of, part_of, tree_of}
 use Rattle.cx_meaning.specs.Sights.{Below, Held, Look, step, unheld}
 use Rattle.cx_rules.specs.Footprints.{CellLeads, Leads, SideLeads}
 use Rattle.cx_rules.specs.Ports.{cell_width, component_of, width_of}
@@ -28,7 +28,7 @@ use Rattle.cx_state.specs.ReadStates.{state_in}
 use Rattle.cx_eval_drives.specs.Drivers.{AreDrivers}
 use Rattle.cx_eval_network.specs.declared.marks.NodeMark.{NodeMark}
 use Rattle.cx_eval_network.specs.Demands.{AreKnown}
-use Rattle.cx_design_leads.specs.Nodes.{cell_count, node_of}
+use Rattle.cx_design_leads.specs.Nodes.{node_of}
 use Rattle.cx_design_leads.proofs.NodeLemmas.{component_cells}
 use Rattle.cx_eval_network.specs.declared.numbering.NodePort.{NodePort}
 use Rattle.cx_eval_network.specs.declared.numbering.Nodes.{Nodes}
@@ -48,6 +48,7 @@ use Rattle.cx_text.proofs.NumberLaws.{from_eq, lt_true}
 use Rattle.cx_prim.proofs.PortsLemmas.{port_below}
 use Rattle.cx_text.proofs.OptionLaws.{same_width}
 use Rattle.cx_rules.proofs.PortsLemmas.{part_is as component_part}
+use Rattle.cx_meaning.proofs.CycleLemmas.{row_within}
 
 pub active_there : (a : Asked) (active : Active) (k : ℕ) → a.active ≡ plain_active (networks.instance_of a a.instance) active → (i : Instance) → i ≡ networks.instance_of a k
     → plain_active i (active_in a.instance active k) ≡ active_at a k
@@ -71,17 +72,10 @@ held_wide a k part wide = choice (nat_eq k a.instance)
     choice true = wide
     choice false = λ n x e. absurd (let no : Undefined ≡ Value x = e in cc)
 
-cell_below : (cells : Cells) (c : ℕ) (row : Row) → cell_at cells c ≡ OfRow row → c < cell_count cells
-cell_below no_cells c row e = absurd (cc)
-cell_below (a_primitive x rest) zero row e = omega arith
-cell_below (a_primitive x rest) (suc c) row e = let h = cell_below rest c row e in omega (arith, h)
-cell_below (an_instance x rest) zero row e = absurd (cc)
-cell_below (an_instance x rest) (suc c) row e = let h = cell_below rest c row e in omega (arith, h)
-
 is_there : (d : PlainDesign) (k c n : ℕ) (row : Row) (port : PortRow) → k < length d.components → cell_at (cells_of (component_of d k)) c ≡ OfRow row → slice_get row.ports n ≡ Some port
     → IsThere (component_of d k) (ports.Cell c n)
 is_there d k c n row port lt e f = (
-  subst (λ (part : PlainComponent). c < length part.cells) (sym (component_part d k)) (subst (λ m. c < m) (component_cells d k lt) (cell_below (cells_of (component_of d k)) c row e)),
+  subst (λ (part : PlainComponent). c < length part.cells) (sym (component_part d k)) (subst (λ m. c < m) (component_cells d k lt) (row_within (cells_of (component_of d k)) c row e)),
   subst (λ at. n < port_count at) (sym e) (port_below row.ports n port f),
 )
 

@@ -1,5 +1,5 @@
 -- The ports of a component, one behind the other.
-use Rattle.std.proofs.Common.{◌≡◌, ℕ, ◌+◌, ◌≤◌, ◌<◌, ⊎_elim, Bool, true, false, Some, None, List, [], ◌∷◌, ◌++◌, length, nat_lt, refl, sym, ap, ◌∙◌, subst, arith}
+use Rattle.std.proofs.Common.{◌≡◌, ℕ, ◌+◌, ◌≤◌, ⊎_elim, Bool, true, false, Some, None, List, [], ◌∷◌, ◌++◌, length, nat_lt, refl, sym, ap, ◌∙◌, subst, arith}
 use Rattle.std.specs.Prelude.{if◌then◌else◌}
 use Rattle.std.proofs.lemmas.List.{length-append}
 use Rattle.cx_meaning.specs.declared.ports.PortRef.{PortRef}
@@ -7,24 +7,6 @@ use Rattle.cx_meaning.specs.Instances.{Instance}
 use Rattle.cx_graphs.proofs.Lists.{get_last}
 use Rattle.cx_design_leads.specs.Nodes.{below, node_of}
 use Rattle.cx_eval_network.specs.Parts.{ArePorts}
-
--- a number below a count
-pub record IsBelow (count first n m : ℕ) : Type 0 where
-  pub lt : n < count
-  pub is : m ≡ first + n
-
-pub is_below : (count first n m : ℕ) → below count first n ≡ Some m → IsBelow count first n m
-is_below count first n m e = choice (nat_lt n count) refl e
-  where
-    choice : (b : Bool) → nat_lt n count ≡ b → (if b then Some (first + n) else None) ≡ Some m → IsBelow count first n m
-    choice true f g = record { lt = lt_true f; is = sym (some_is g) }
-      where
-        lt_true : nat_lt n count ≡ true → n < count
-        lt_true e = grind arith
-
-        some_is : Some (first + n) ≡ Some m → first + n ≡ m
-        some_is e = cc
-    choice false f g = absurd (cc)
 
 pub not_below : (count first n : ℕ) → below count first n ≡ None → count ≤ n
 not_below count first n e = choice (nat_lt n count) refl e

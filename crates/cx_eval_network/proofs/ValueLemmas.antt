@@ -1,5 +1,5 @@
 -- The value of a node by one step from what marks show.
-use Rattle.std.proofs.Common.{◌≡◌, ℕ, zero, suc, ◌+◌, ◌<◌, ◌≤◌, ◌⊎◌, inl, inr, ⊎_elim, Bool, true, false, nat_le, Option, Some, None, List, [], ◌∷◌, ◌++◌, length, map, slice_get, refl, sym, ap, ◌∙◌, subst, append_assoc, arith}
+use Rattle.std.proofs.Common.{◌≡◌, ℕ, ◌+◌, ◌<◌, ◌≤◌, ◌⊎◌, inl, inr, ⊎_elim, Bool, true, false, nat_le, Option, Some, None, List, [], ◌∷◌, ◌++◌, length, map, slice_get, refl, sym, ap, ◌∙◌, subst, append_assoc, arith}
 use Rattle.std.proofs.Math.Path.{fun_ext}
 use Rattle.std.specs.Prelude.{option_map, option_to_list, if◌then◌else◌}
 use Rattle.cx_prim.specs.declared.ports.PortRow.{PortRow}
@@ -11,7 +11,7 @@ use Rattle.cx_meaning.specs.declared.ports.PortRef.TheVariants as ports
 use Rattle.cx_meaning.specs.declared.ports.PlacedPort.{PlacedPort}
 use Rattle.cx_meaning.specs.declared.sights.Seen.TheVariants.{Undefined, Value}
 use Rattle.cx_meaning.specs.Designs.{PlainAssign, PlainComponent, PlainDesign, component_at, group_at}
-use Rattle.cx_meaning.specs.Instances.{Instance, Cells, no_cells, a_primitive, an_instance, At, Nothing, OfRow, OfInstance, Path, State, cell_at, cells_of, instance_at, part_of, tree_of, under}
+use Rattle.cx_meaning.specs.Instances.{Instance, At, Nothing, OfRow, OfInstance, Path, State, cell_at, cells_of, instance_at, part_of, tree_of, under}
 use Rattle.cx_meaning.specs.Active.{Active, nothing}
 use Rattle.cx_meaning.specs.Sights.{In, Below, Held, Look, PartPort, Go, AnInput, AnOutput, ItsDone, part_port, side_step, part_step, cell_step, step, seen, unheld, outputs_below}
 use Rattle.cx_rules.specs.Footprints.{AssignNames, Leads}
@@ -47,6 +47,7 @@ use Rattle.cx_laws.proofs.TreeLemmas.{output_there}
 use Rattle.cx_meaning.proofs.InstancesLemmas.{literal_is}
 use Rattle.cx_meaning.proofs.SightsLaws.{in_left, in_right}
 use Rattle.cx_rules.proofs.PortsLemmas.{part_is}
+use Rattle.cx_meaning.proofs.SightsLemmas.{outputs_at}
 
 -- WHAT IS LED TO is a literal, or has a node
 pub record IsLiteral (q : PortRef) : Type 0 where
@@ -125,16 +126,6 @@ same_step i held act s look one other (ports.Input n) h = refl
 same_step i held act s look one other (ports.Output n) h = refl
 same_step i held act s look one other (ports.Done g) h = refl
 same_step i held act s look one other (ports.Literal w v) h = refl
-
-outputs_at : (cells : Cells) (states : ℕ → State) (c n : ℕ) (child : Instance) → cell_at cells c ≡ OfInstance child → outputs_below cells states c n ≡ seen child unheld nothing (states c) (ports.Output n)
-outputs_at no_cells states c n child e = absurd (cc)
-outputs_at (a_primitive row rest) states zero n child e = absurd (cc)
-outputs_at (a_primitive row rest) states (suc c) n child e = outputs_at rest (λ k. states (suc k)) c n child e
-outputs_at (an_instance first rest) states zero n child e = ap (λ i. seen i unheld nothing (states 0) (ports.Output n)) (same_child e)
-  where
-    same_child : OfInstance first ≡ OfInstance child → first ≡ child
-    same_child e = cc
-outputs_at (an_instance first rest) states (suc c) n child e = outputs_at rest (λ k. states (suc k)) c n child e
 
 in_nodes : (a : Asked) (n m : ℕ) (qs : List PortRef) (q : PortRef) → In qs q → node_at a.design a.rows n q ≡ Some m → In (nodes_of a n qs) m
 in_nodes a n m [] q i e = absurd i

@@ -27,7 +27,6 @@ use Rattle.cx_numbering.specs.Names.{same_name, is_among, number_of, signature_p
 use Rattle.cx_numbering.specs.DesignOf.{Invoke, Next, number_or_0, own_port, cell_port, port_of, placed_of, guard_or_always, assign_of, group_of, input_assign, go_guard, go_assign, register_of, register_done, capture_assigns, done_assign, invoke_group, is_static_invoke, static_capture, capture_group, after, invoke_form, seq_form, captures_for, groups_for, invoke_groups, static_for, static_invokes, first, invokes_of, control_invokes, control_of, kind_or, decl_of, plain_cell_of, component_of, design_of, form_of}
 use Rattle.cx_numbering.specs.NameRules as rules
 use Rattle.cx_numbering.specs.NameRules.{Standing, standing, Visited, visit_block, names_break, is_static_end, is_clock, is_left_out, is_unknown, unknown, source_breaks, guard_operands, with_breaks, form_breaks, is_reg, found_reg, is_register_in, output_names, output_breaks}
-use Rattle.cx_laws.proofs.SourceLemmas.{source_in}
 use Rattle.cx_names_scopes.proofs.NameLemmas.{same_name-refl}
 use Rattle.cx_names.proofs.Base.{append_none, flat_none, tell_none, in_left, in_right, in_at, in_map, map_in, in_flat, flat_in, in_either, at_either, some_at}
 use Rattle.cx_names.proofs.Kept.{KeptPart, kept, kept_part}
@@ -40,6 +39,7 @@ use Rattle.cx_names.proofs.Splits.{split_all}
 use Rattle.cx_names.proofs.Statements.{HoldsEach, block_whole, invoke_of_block, visited_of, same_breaks}
 use Rattle.cx_flattening.specs.Fair.{IsAssignOf}
 use Rattle.cx_flattening.specs.Ends.{is_done, is_done_at, is_static_done, NamesNoDone, NoneNamesDone}
+use Rattle.cx_rules.proofs.FoundLemmas.{source_in}
 
 and_false : (b : Bool) → (b && false) ≡ false
 and_false true = refl

@@ -34,7 +34,7 @@ abbrev AreWords : List Token → Type 0
 AreWords [] = Unit {0}
 AreWords (x ∷ ts) = IsWordKind x.kind × AreWords ts
 
-kind_word : {bytes rest : List ℕ} {kind : TokenKind} → IsToken bytes rest kind → IsWordKind kind
+pub kind_word : {bytes rest : List ℕ} {kind : TokenKind} → IsToken bytes rest kind → IsWordKind kind
 kind_word (name {first = first} {more = more} w short) =
     let letter : is_letter first ≡ true = w.begins in
     let each : list_all is_name_byte (first ∷ more) ≡ true = and_from (is_name_byte first) (list_all is_name_byte more) (or_left (is_letter first) (nat_le 48 first && nat_le first 57) letter) w.each in
@@ -45,7 +45,7 @@ kind_word (literal width letter base digits wide width_fits eb numeral fits stop
 kind_word (string bytes each short) = tt
 kind_word (sign s longest) = tt
 
-tokens_words : {place : Place} {text : List ℕ} {tokens : List Token} → HasTokens place text tokens → AreWords tokens
+pub tokens_words : {place : Place} {text : List ℕ} {tokens : List Token} → HasTokens place text tokens → AreWords tokens
 tokens_words ended = tt
 tokens_words (gap bytes rest g more) = tokens_words more
 tokens_words (token bytes rest kind is more) = (kind_word is, tokens_words more)
@@ -57,11 +57,12 @@ Keeps {A = A} spelling P = (ts : List Token) (x : A) (rest : List Token) → Are
 abbrev Anything : {A : Type 0} → A → Type 0
 Anything x = Unit {0}
 
-abbrev Each : {A : Type 0} → (A → Type 0) → List A → Type 0
+-- what holds of each
+abbrev pub Each : {A : Type 0} → (A → Type 0) → List A → Type 0
 Each P [] = Unit {0}
 Each P (x ∷ xs) = P x × Each P xs
 
-each_in : {A : Type 0} (P : A → Type 0) (xs : List A) (x : A) → Each P xs → In xs x → P x
+pub each_in : {A : Type 0} (P : A → Type 0) (xs : List A) (x : A) → Each P xs → In xs x → P x
 each_in P [] x h i = absurd i
 each_in P (y ∷ xs) x h (inl e) = subst P e h.0
 each_in P (y ∷ xs) x h (inr i) = each_in P xs x h.1 i
@@ -82,7 +83,7 @@ pub record HasWords (part : PlainComponent) : Type 0 where
   pub outputs : Each IsPort part.outputs
 
 -- a token that stands for a name is a word
-no_sign : (s : Sign) → is_in (sign_terminal s) (t.Name ∷ []) ≡ false
+pub no_sign : (s : Sign) → is_in (sign_terminal s) (t.Name ∷ []) ≡ false
 no_sign signs.OpenBrace = refl
 no_sign signs.CloseBrace = refl
 no_sign signs.OpenParen = refl
@@ -108,7 +109,7 @@ no_sign signs.LessEqual = refl
 no_sign signs.GreaterEqual = refl
 no_sign signs.Arrow = refl
 
-name_word : (x : Token) → IsWordKind x.kind → is_in (terminal_of x.kind) (t.Name ∷ []) ≡ true → is_word (calyx.word_of x.kind) ≡ true
+pub name_word : (x : Token) → IsWordKind x.kind → is_in (terminal_of x.kind) (t.Name ∷ []) ≡ true → is_word (calyx.word_of x.kind) ≡ true
 name_word x h e = by x.kind h e
   where
     by : (kind : TokenKind) → IsWordKind kind → is_in (terminal_of kind) (t.Name ∷ []) ≡ true → is_word (calyx.word_of kind) ≡ true
@@ -269,7 +270,7 @@ module _ (spelled : (n : Nest) → Spelling (Nested n)) where
         (gives_pair (λ c cs. c ∷ cs) component components HasWords (Each HasWords) (Each HasWords) is_component are_components (λ c cs h k. (h, k)))
         (λ is cs h. h)
 
-nested_within : (levels : ℕ) (n : Nest) → Keeps (spelled_within levels n) Anything
+pub nested_within : (levels : ℕ) (n : Nest) → Keeps (spelled_within levels n) Anything
 nested_within zero n ts x rest w s = absurd s
 nested_within (suc levels) n ts x rest w s = anything (spelled_within levels) (nested_within levels) (nest n) ts x rest w s
 

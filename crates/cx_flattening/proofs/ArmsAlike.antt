@@ -15,7 +15,7 @@ use Rattle.cx_rules.specs.RaceRule.{IsShared}
 use Rattle.cx_rules.specs.Invokes.{invokes_of, captures_of, invokes_cell, drives_all, driven}
 use Rattle.cx_rules.specs.Counts.{is_one_of}
 use Rattle.cx_rules.proofs.ForeignLemmas.{assigns_drive_in}
-use Rattle.cx_text.proofs.BoolLaws.{or_either}
+use Rattle.cx_text.proofs.BoolLaws.{or_either, bools_same}
 use Rattle.cx_rewrites.specs.Moving.{moved_assign, moved_group}
 use Rattle.cx_flattening.specs.Events.{the_invoke, source_to}
 use Rattle.cx_flattening.specs.Copies.{copied_statement}
@@ -40,11 +40,6 @@ cell_of (ports.Input n) = 0
 cell_of (ports.Output n) = 0
 cell_of (ports.Done g) = 0
 cell_of (ports.Literal w v) = 0
-
-same_bool : (a b : Bool) → (a ≡ true → b ≡ true) → (b ≡ true → a ≡ true) → a ≡ b
-same_bool true b forth back = sym (forth refl)
-same_bool false true forth back = back refl
-same_bool false false forth back = refl
 
 not_true : (b : Bool) → (b ≡ true → ⊥) → b ≡ false
 not_true true none = absurd (none refl)
@@ -215,7 +210,7 @@ module _ (part : PlainComponent) (cells : Cells) (fair : IsFair (Node part cells
     -- THE FLAT STATEMENT drives what the statement drives
     pub drives_alike : DrivesAlike (Node part cells) flat s
     drives_alike = record {
-      kept = λ c less none. same_bool (drives (part_of flat) (flat_statement kids part s) (kept_at kids c)) (drives_all part s c) (kept_back c less none) (kept_forth c none);
+      kept = λ c less none. bools_same (drives (part_of flat) (flat_statement kids part s) (kept_at kids c)) (drives_all part s c) (kept_back c less none) (kept_forth c none);
       block = λ c e child less its inside undriven.
           not_true (drives (part_of flat) (flat_statement kids part s) (start_of kids part c + e))
           (λ h. let none : false ≡ true = sym undriven ∙ block_back c e child its inside h in cc);

@@ -6,12 +6,13 @@ use Rattle.cx_meaning.specs.Sights.{In}
 use Rattle.cx_meaning.proofs.SightsLaws.{in_left, in_right}
 use Rattle.cx_meaning.proofs.DesignsLemmas.{same_part}
 use Rattle.cx_rules.specs.Items.{Context, Dynamic, InStatic, Branch, below_dynamic, Visited, visit, visit_parts, visit_all}
-use Rattle.cx_rules.specs.Wellformed.{IsForm, IsKind, IsDesign}
+use Rattle.cx_rules.specs.Wellformed.{IsForm, IsDesign}
 use Rattle.cx_rules.specs.Flat.{IsFlat}
 use Rattle.cx_flattening.specs.Forms.{HasForms}
 use Rattle.cx_flattening.specs.Whole.{is_static}
 use Rattle.cx_flattening.proofs.BareIslands.{Bare, BareOne, BareAll, NoStatic}
 use Rattle.cx_flattening.proofs.BareRuns.{BareTree, BareCells}
+use Rattle.cx_rules.proofs.ItemsLemmas.{kind_there}
 
 -- no statement among these takes its cycles by a number
 abbrev pub NoneTimed : List Visited → Type 0
@@ -92,11 +93,6 @@ module _ (d : PlainDesign) (has : HasForms d) (flat : IsFlat d) where
 
 pub bare_forms : (d : PlainDesign) → HasForms d → IsFlat d → BareTree (tree_of d)
 bare_forms d has flat = bare_tree d has flat (length d.components) d.main has.main
-
--- each design has them
-kind_there : (d : PlainDesign) (kind : PlainKind) (j : ℕ) → IsKind d kind → kind ≡ OfComponent j → j < length d.components
-kind_there d (OfPrimitive primitive) j h e = absurd (cc)
-kind_there d (OfComponent k) j h e = let same : k ≡ j = cc in subst (λ n. n < length d.components) same h
 
 forms_of : (d : PlainDesign) → IsDesign d → HasForms d
 forms_of d design = record {

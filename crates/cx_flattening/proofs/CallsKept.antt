@@ -38,7 +38,7 @@ use Rattle.cx_flattening.proofs.LevelSights.{kid-static, flat-inputs, flat-outpu
 use Rattle.cx_flattening.proofs.FlatOutputs.{ports_like}
 use Rattle.cx_flattening.proofs.RestingPorts.{OfOne, owner_of}
 use Rattle.cx_flattening.proofs.AcceptedTrees.{IsGood}
-use Rattle.cx_flattening.proofs.FlatKinds.{IsTimed, in_groups, OwnGroup, own_or_timed, plain_untimed, hole_stays, assigned_less}
+use Rattle.cx_flattening.proofs.FlatKinds.{IsTimed, in_groups, OwnGroup, own_or_timed, hole_stays, assigned_less}
 use Rattle.cx_flattening.proofs.FlatNumbers.{IsMade, made}
 use Rattle.cx_flattening.proofs.FlatRanges.{slice_in}
 use Rattle.cx_flattening.proofs.FlatStages.{good_component}
@@ -47,6 +47,7 @@ use Rattle.cx_flattening.proofs.MovedCalls.{IsAlone, alone_right, with_target-mo
 use Rattle.cx_flattening.proofs.FlatCaptures.{own_one, cell_alone, done_alone, register_kept, captured_moved, captured_one}
 use Rattle.cx_flattening.proofs.FlatDepends.{depends_back}
 use Rattle.cx_flattening.proofs.FlatCallees.{AtKinds, tree_kinds, part_callee, PlainCall, plain_calls}
+use Rattle.cx_rules.proofs.ItemsLemmas.{plain_untimed}
 
 -- what drives a port
 abbrev Drives : (PortRef → Bool) → List PlainAssign → Type 0

@@ -6,11 +6,11 @@ use Rattle.std.proofs.lemmas.Option.{slice_get-get_or}
 use Rattle.cx_meaning.specs.declared.ports.PlacedPort.{PlacedPort}
 use Rattle.cx_text.specs.declared.places.Place.{Place}
 use Rattle.cx_meaning.specs.Designs.{PlainComponent, PlainForm, StaticSeq, StaticPar, StaticIf, StaticRepeat, Timed, PlainStatement, Placed, form_of, PlainStatements, no_statements, a_statement, list_of}
-use Rattle.cx_meaning.specs.Control.{groups_in, groups_of, groups_in_all, group_drives, groups_drive, drives}
+use Rattle.cx_meaning.specs.Control.{groups_in, groups_of, group_drives, groups_drive, drives}
 use Rattle.cx_meaning.specs.Sights.{In}
 use Rattle.cx_meaning.proofs.SightsLaws.{in_left, in_right}
 use Rattle.cx_meaning.proofs.ControlLaws.{groups_drive_in}
-use Rattle.cx_rules.specs.Items.{Context, Dynamic, InStatic, Branch, Visited, visit, visit_all, statements_in, option_list}
+use Rattle.cx_rules.specs.Items.{Context, Dynamic, InStatic, Branch, Visited, visit, statements_in, option_list}
 use Rattle.cx_rules.specs.Footprints.{AssignNames, Reads}
 use Rattle.cx_rules.specs.Footprints as plain
 use Rattle.cx_rules.specs.Invokes.{invoke_at, invoke_in, invokes_of, capture_of, captures_of, is_cell_of, invokes_cell, drives_all, ReadsAll, driven, named, captured, through}
@@ -23,6 +23,7 @@ use Rattle.cx_flattening.specs.Controlled.{timed_in, timed_of, timed_all}
 use Rattle.cx_flattening.specs.FedOnce.{one_more, count_fed}
 use Rattle.cx_flattening.proofs.Statements.{timed_one}
 use Rattle.cx_flattening.proofs.FlatDeeds.{lower}
+use Rattle.cx_rules.proofs.ItemsLemmas.{part_in}
 
 -- lists of deeds
 pub own-both : (xs ys : List Deed) → own_entries (xs ++ ys) ≡ own_entries xs ++ own_entries ys
@@ -78,17 +79,6 @@ pub lower-elsewhere : (c d : ℕ) (kds : List Deed) → (c ≡ d → ⊥) → de
 lower-elsewhere c d [] apart = refl
 lower-elsewhere c d (Acts at x ∷ rest) apart = ap (λ b. deed_if b (Acts at x) (deeds_below d (map (lower (c ∷ [])) rest))) (ne_eqb c d apart) ∙ lower-elsewhere c d rest apart
 lower-elsewhere c d (Fed at f inputs ∷ rest) apart = ap (λ b. deed_if b (Fed at f inputs) (deeds_below d (map (lower (c ∷ [])) rest))) (ne_eqb c d apart) ∙ lower-elsewhere c d rest apart
-
--- the parts of a statement are visited
-part_in : (context : Context) (ss : PlainStatements) (s : PlainStatement) → In (list_of ss) s → (v : Visited) → In (visit context s) v → In (visit_all context ss) v
-part_in context no_statements s i v j = absurd i
-part_in context (a_statement x xs) s (inl e) v j = in_left (visit context x) (visit_all context xs) v (subst (λ y. In (visit context y) v) (sym e) j)
-part_in context (a_statement x xs) s (inr i) v j = in_right (visit context x) (visit_all context xs) v (part_in context xs s i v j)
-
-pub in_parts : (ss : PlainStatements) (s : PlainStatement) (g : ℕ) → In (list_of ss) s → In (groups_of s) g → In (groups_in_all ss) g
-in_parts no_statements s g i j = absurd i
-in_parts (a_statement x xs) s g (inl e) j = in_left (groups_of x) (groups_in_all xs) g (subst (λ y. In (groups_of y) g) (sym e) j)
-in_parts (a_statement x xs) s g (inr i) j = in_right (groups_of x) (groups_in_all xs) g (in_parts xs s g i j)
 
 pub timed_parts : (ss : PlainStatements) (s : PlainStatement) (k : ℕ) → In (list_of ss) s → In (timed_of s) k → In (timed_all ss) k
 timed_parts no_statements s k i j = absurd i

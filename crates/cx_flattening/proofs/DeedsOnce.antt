@@ -23,9 +23,10 @@ use Rattle.cx_flattening.specs.FedOnce.{one_more, count_fed, FedOnce, FedOnceBel
 use Rattle.cx_flattening.specs.Seeing.{NoCircle, NoneBelow}
 use Rattle.cx_flattening.proofs.FlatDeeds.{lower}
 use Rattle.cx_flattening.proofs.DeedSources.{Does, rests, a_group, a_part, all_arms, one_branch, other_branch, a_round, an_invoke, a_capture, DoesArms, no_arms, an_arm}
-use Rattle.cx_flattening.proofs.DeedsApart.{own-both, fed-both, below-both, own-lower, fed-lower, lower-there, lower-elsewhere, in_parts, timed_parts, Stands, stands_whole, stands_part, stands_arm, stands_one, stands_other, stands_round, IsOwned, IsFedBy, owned_more, fed_more, owned_drives, fed_drives, owned_reads}
+use Rattle.cx_flattening.proofs.DeedsApart.{own-both, fed-both, below-both, own-lower, fed-lower, lower-there, lower-elsewhere, timed_parts, Stands, stands_whole, stands_part, stands_arm, stands_one, stands_other, stands_round, IsOwned, IsFedBy, owned_more, fed_more, owned_drives, fed_drives, owned_reads}
 use Rattle.cx_flattening.proofs.FlatDeeper.{still_entries}
 use Rattle.cx_flattening.proofs.Ruled.{IsRuled, AllRuled, AllRuledBelow}
+use Rattle.cx_meaning.proofs.ControlLaws.{in_parts}
 
 module _ (part : PlainComponent) (cells : Cells) where
   abbrev i : Instance

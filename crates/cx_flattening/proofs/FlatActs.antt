@@ -21,19 +21,12 @@ use Rattle.cx_flattening.proofs.FlatGroups.{enabled_grows, enabled_get, copies_f
 use Rattle.cx_flattening.proofs.LevelSights.{kid-static}
 use Rattle.cx_flattening.proofs.FlatDeeds.{lower, entry_by, Pairs, none_done, own_group, an_invoke}
 use Rattle.cx_flattening.proofs.StillActs.{still_acts}
+use Rattle.cx_meaning.proofs.ActiveLemmas.{offset-both}
 
 -- OFFSETS in lists
 abbrev or_else : Option ℕ → Option ℕ → Option ℕ
 or_else None later = later
 or_else (Some o) later = Some o
-
-offset-both : (xs ys : List Entry) (g : ℕ) → offset_in (xs ++ ys) g ≡ or_else (offset_in xs g) (offset_in ys g)
-offset-both [] ys g = refl
-offset-both (e ∷ xs) ys g = choice (nat_eq e.group g) (offset-both xs ys g)
-  where
-    choice : (b : Bool) → offset_in (xs ++ ys) g ≡ or_else (offset_in xs g) (offset_in ys g) → (if b then Some e.offset else offset_in (xs ++ ys) g) ≡ or_else (if b then Some e.offset else offset_in xs g) (offset_in ys g)
-    choice true ih = refl
-    choice false ih = ih
 
 -- of entries by their copies, where the groups are among these
 offset-copied : (copy : ℕ → ℕ) (P : ℕ → Type 0) (g : ℕ) → ((m : ℕ) → P m → nat_eq (copy m) (copy g) ≡ nat_eq m g) → (list : List Entry) → ((e : Entry) → In list e → P e.group) → offset_in (map (entry_by copy) list) (copy g) ≡ offset_in list g

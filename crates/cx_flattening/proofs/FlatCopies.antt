@@ -19,9 +19,10 @@ use Rattle.cx_flattening.specs.Flattened.{Kids, kid_if, own_port, child_port, in
 use Rattle.cx_flattening.specs.Controlled.{IsControlled, AllControlled, AllControlledBelow}
 use Rattle.cx_flattening.proofs.LevelSights.{kid-static}
 use Rattle.cx_flattening.proofs.FlatGroups.{in_one_of, one_of_in, copies_flat}
-use Rattle.cx_flattening.proofs.FlatCounts.{CountsAlike, bools_same, inner_there, own_needed, own_used, copy_used, numbered, counts_below}
+use Rattle.cx_flattening.proofs.FlatCounts.{CountsAlike, inner_there, own_needed, own_used, copy_used, numbered, counts_below}
 use Rattle.cx_flattening.proofs.CopiedSizes.{assigns_size-append, groups_size-append, groups_size-copied}
 use Rattle.cx_flattening.proofs.Ruled.{IsRuled, AllRuled, AllRuledBelow}
+use Rattle.cx_text.proofs.BoolLaws.{bools_same}
 
 -- CONTINUOUS ASSIGNMENTS
 abbrev AlwaysAlike : Instance → Type 0

@@ -38,17 +38,13 @@ use Rattle.cx_flattening.proofs.FlatStages.{good_component}
 use Rattle.cx_flattening.proofs.FlatCircles.{enabled_back, invoke_back}
 use Rattle.cx_flattening.proofs.Statements.{timed_one}
 use Rattle.cx_flattening.proofs.Ruled.{invoke_found, IsRuled, AllRuled, AllRuledBelow}
+use Rattle.cx_text.proofs.BoolLaws.{bools_same}
 
 zero_plus : (a : ℕ) → 0 + a ≡ a
 zero_plus a = omega arith
 
 next : (a b : ℕ) → suc a + b ≡ a + suc b
 next a b = omega arith
-
-pub bools_same : (a b : Bool) → (a ≡ true → b ≡ true) → (b ≡ true → a ≡ true) → a ≡ b
-bools_same true b one other = sym (one refl)
-bools_same false true one other = other refl
-bools_same false false one other = refl
 
 in_flat : {A B : Type 0} (f : A → List B) (xs : List A) (x : A) (y : B) → In xs x → In (f x) y → In (flat_map f xs) y
 in_flat f [] x y i j = absurd i

@@ -15,7 +15,9 @@ use Rattle.cx_flattening.specs.Fair.{AllFair, AllFairBelow}
 use Rattle.cx_flattening.proofs.Standing.{TwinAt, embedded_row, embedded_static, embedded_dynamic, wire_there, acyclic_child}
 use Rattle.cx_flattening.proofs.LevelSights.{kid-static, flat-outputs}
 use Rattle.cx_flattening.proofs.StillActs.{still_tops}
-use Rattle.cx_flattening.proofs.FlatSafe.{Which, a_kept, of_block, which, kid_from, cell_beyond, flat_acyclic}
+use Rattle.cx_flattening.proofs.FlatSafe.{Which, a_kept, of_block, which, kid_from, flat_acyclic}
+use Rattle.cx_rules.proofs.CirclesLemmas.{cells_below}
+use Rattle.cx_meaning.proofs.CycleLemmas.{cell_beyond}
 
 -- A DYNAMIC CHILD of a flat instance is the flat instance of one of the tree
 record IsTwin (t : Instance) : Type 0 where
@@ -30,9 +32,6 @@ fair_child (a_primitive row rest) zero child h e = absurd (cc)
 fair_child (a_primitive row rest) (suc c) child h e = fair_child rest c child h e
 fair_child (an_instance other rest) zero child h e = let same : other ≡ child = cc in subst AllFair same h.0
 fair_child (an_instance other rest) (suc c) child h e = fair_child rest c child h.1 e
-
-below_of : (i : Instance) → AreAcyclic i → AcyclicBelow (cells_of i)
-below_of (Node part cells) h = h.1
 
 circle_below : (i : Instance) (act : Active) (deeds : List Deed) → NoCircle i act deeds → AcyclicBelow (cells_of i)
 circle_below (Node part cells) act deeds h = h.1
@@ -102,7 +101,7 @@ module _ (host : Cells) where
     twins_below (an_instance other rest) part cells c tail fair calm first embedded zero child f static =
         subst (λ k. TwinsIn child (first + start_of (flat_kids cells) part k)) (sym (zero_plus c))
         (subst (λ k. TwinsIn k (first + start_of (flat_kids cells) part c)) same
-        (twins_in other fair.0 (below_of other calm.0) (first + start_of (flat_kids cells) part c) (embedded.0 (ap is_static same ∙ static)).0))
+        (twins_in other fair.0 (cells_below other calm.0) (first + start_of (flat_kids cells) part c) (embedded.0 (ap is_static same ∙ static)).0))
       where
         zero_plus : (a : ℕ) → a + 0 ≡ a
         zero_plus a = omega arith
@@ -156,7 +155,7 @@ mutual
   are_acyclic : (t i : Instance) → IsFlattened i t → AllFair i → AreAcyclic i → AreAcyclic t
   are_acyclic (Node part cells) i flattened fair calm = (
     flat_acyclic i (Node part cells) flattened fair nothing nothing [] (still_tops i) (still_circle i calm),
-    all_acyclic cells (cells_twins i (Node part cells) flattened fair (below_of i calm)),
+    all_acyclic cells (cells_twins i (Node part cells) flattened fair (cells_below i calm)),
   )
 
   all_acyclic : (cells : Cells) → ((e : ℕ) (t : Instance) → cell_at cells e ≡ OfInstance t → IsTwin t) → AcyclicBelow cells

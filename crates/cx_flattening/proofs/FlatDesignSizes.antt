@@ -1,5 +1,5 @@
 -- THE SIZE of the flat design is at most that counted of the design: each component that the flat main reaches is not static, and stands there once.
-use Rattle.std.proofs.Common.{◌≡◌, ℕ, zero, suc, ◌+◌, ◌<◌, ◌≤◌, ◌⊎◌, inl, inr, ⊎_elim, Bool, true, false, ◌||◌, nat_eq, is_some, if◌then◌else◌, List, [], ◌∷◌, length, map, Option, Some, None, refl, sym, ap, ◌∙◌, subst, arith}
+use Rattle.std.proofs.Common.{◌≡◌, ℕ, zero, suc, ◌+◌, ◌<◌, ◌≤◌, ◌⊎◌, inl, inr, ⊎_elim, Bool, true, false, nat_eq, is_some, if◌then◌else◌, List, [], ◌∷◌, length, map, None, refl, sym, ap, ◌∙◌, subst, arith}
 use Rattle.std.proofs.lemmas.Bool.{eqb-true}
 use Rattle.std.proofs.lemmas.List.{length-map}
 use Rattle.cx_meaning.specs.Designs.{PlainKind, OfPrimitive, OfComponent, PlainCell, PlainComponent, PlainDesign, component_at}
@@ -23,6 +23,8 @@ use Rattle.cx_flattening.proofs.FlatStages.{good_component}
 use Rattle.cx_flattening.proofs.FlatWeights.{flat_size}
 use Rattle.cx_flattening.proofs.Reached.{itself}
 use Rattle.cx_flattening.proofs.TreeLevels.{IsWay, further, way_is_short}
+use Rattle.cx_text.proofs.BoolLaws.{either_true}
+use Rattle.cx_text.proofs.OptionLaws.{none_of}
 
 -- A CELL THAT IS KEPT is of no static component
 kept_dynamic : (trees : ℕ → Instance) (cs : List PlainCell) (cell : PlainCell) (x : ℕ) → In (kept (flat_kids (cells_for trees cs)) cs) cell → cell.kind ≡ OfComponent x → is_static (trees x) ≡ false
@@ -43,14 +45,6 @@ kept_dynamic trees (c ∷ cs) cell x i e = by c.kind refl i (λ j. kept_dynamic 
     by (OfPrimitive p) is (inl same) later = let clash : OfPrimitive p ≡ OfComponent x = sym is ∙ ap (λ (k : PlainCell). k.kind) same ∙ e in absurd (cc)
     by (OfPrimitive p) is (inr j) later = later j
     by (OfComponent y) is j later = of_child y is (is_static (trees y)) refl j later
-
-none_of : (o : Option ℕ) → is_some o ≡ false → o ≡ None
-none_of None e = refl
-none_of (Some n) e = absurd (let clash : true ≡ false = e in cc)
-
-either : (a b : Bool) → a || b ≡ true → (a ≡ true) ⊎ (b ≡ true)
-either true b e = inl refl
-either false b e = inr e
 
 renumbered_size : (d : PlainDesign) (p : PlainComponent) → size_of (renumbered_part d p) ≡ size_of p
 renumbered_size d p = size_alike (renumbered_part d p) p (λ g. refl) refl refl (length-map p.cells (renumbered_cell d)) refl refl refl
@@ -85,7 +79,7 @@ module _ (d : PlainDesign) (design : IsDesign d) where
       let cell = kind_in (flat_of d j).cells r.0 (OfComponent r.1) r.2 in
       let f : IsFound d design j = found d design j reached in
       leads_dynamic k n r.1 (also_reached d design j r.1 reached cell).1 (cell_dynamic (length d.components) f.path j f.way (omega arith) r.1 cell) r.3)
-      (either (nat_eq j k) (any_of (leads_within d n k) (flat_of d j).cells) leads)
+      (either_true (nat_eq j k) (any_of (leads_within d n k) (flat_of d j).cells) leads)
 
   pub reached_dynamic : (k : ℕ) → is_reached d k ≡ true → (component_at d k).latency ≡ None
   reached_dynamic k reached = leads_dynamic k (length d.components) d.main (itself d (length d.components) d.main) design.main_dynamic reached

@@ -1,13 +1,13 @@
 -- THE FORMS of a statement and of all in it, wherever they stand; and where those of a flat statement come from.
 use Rattle.std.proofs.Common.{◌≡◌, ℕ, zero, suc, inl, inr, ⊎_elim, List, [], ◌∷◌, ◌++◌, map, Option, Some, None, refl, sym, ap, ap₂, ◌∙◌, subst}
-use Rattle.std.specs.Prelude.{flat_map, slice_get}
+use Rattle.std.specs.Prelude.{slice_get}
 use Rattle.std.proofs.lemmas.List.{map-append}
 use Rattle.cx_meaning.specs.declared.ports.PortRef.{PortRef}
 use Rattle.cx_meaning.specs.declared.ports.PlacedPort.{PlacedPort}
 use Rattle.cx_meaning.specs.Designs.{PlainComponent, PlainForm, Empty, Enable, Seq, Par, If, While, Repeat, StaticSeq, StaticPar, StaticIf, StaticRepeat, Timed, PlainStatement, Placed, PlainStatements, no_statements, a_statement, list_of, no_place}
 use Rattle.cx_meaning.specs.Control.{groups_in, groups_of, groups_in_all}
 use Rattle.cx_meaning.specs.Sights.{In}
-use Rattle.cx_meaning.proofs.SightsLaws.{in_either, in_left, in_right, in_image, image_in, behind_comb}
+use Rattle.cx_meaning.proofs.SightsLaws.{in_either, in_left, in_right, in_image, image_in, behind_comb, flat_in}
 use Rattle.cx_rules.specs.Items.{Context, Dynamic, InStatic, Branch, below_dynamic, Visited, visit, visit_parts, visit_all, test_in, option_list, tests_of}
 use Rattle.cx_rules.specs.RaceRule.{Arms, arms_of, enabled_group, enabled_in}
 use Rattle.cx_laws.proofs.TogetherLemmas.{in_flat}
@@ -16,7 +16,8 @@ use Rattle.cx_flattening.specs.Events.{the_invoke}
 use Rattle.cx_flattening.specs.Copies.{copied_form, copied_statement, copied_statements}
 use Rattle.cx_flattening.specs.Flattened.{Kids, kid_at, own_port, invoke_port, copy_of, with_capture, inlined, flat_form, flat_statement, flat_statements}
 use Rattle.cx_flattening.specs.Controlled.{timed_in, timed_of, timed_all}
-use Rattle.cx_flattening.proofs.DeedsApart.{in_parts, timed_parts}
+use Rattle.cx_flattening.proofs.DeedsApart.{timed_parts}
+use Rattle.cx_meaning.proofs.ControlLaws.{in_parts}
 
 -- a statement's own form first
 abbrev mutual
@@ -73,11 +74,6 @@ form_visited context s v i = subst (λ l. In l v.form) (one_same context s) (in_
 
 pub visited_at : (context : Context) (s : PlainStatement) (x : PlainForm) → In (forms_of s) x → (v : Visited) × In (visit context s) v × (v.form ≡ x)
 visited_at context s x i = image_in visited_form (visit context s) x (subst (λ l. In l x) (sym (one_same context s)) i)
-
--- what stands in one list of many
-flat_in : {A B : Type 0} (each : A → List B) (xs : List A) (y : B) → In (flat_map each xs) y → (x : A) × In xs x × In (each x) y
-flat_in each [] y i = absurd i
-flat_in each (x ∷ xs) y i = ⊎_elim (λ j. (x, inl refl, j)) (λ j. let r = flat_in each xs y j in (r.0, inr r.1, r.2)) (in_either (each x) (flat_map each xs) y i)
 
 -- the groups that a statement enables, and its conditions
 pub enabled_form : (s : PlainStatement) (g : ℕ) → In (enabled_in s) g → (x : PlainForm) × In (forms_of s) x × In (enabled_group x) g

@@ -1,7 +1,7 @@
 -- WHERE A FLAT CELL STANDS: it is one that is kept, or in the block of a static child, of one cell of the tree alone; where what flat
 -- groups drive and look at comes from; and that all that is looked at stands in the flat component.
-use Rattle.std.proofs.Common.{◌≡◌, ℕ, zero, suc, ◌+◌, ◌<◌, inl, inr, ⊎_elim, Bool, true, false, nat_lt, length, map, Option, Some, None, refl, sym, ap, ◌∙◌, subst, arith}
-use Rattle.std.specs.Prelude.{◌-◌, flat_map, if◌then◌else◌}
+use Rattle.std.proofs.Common.{◌≡◌, ℕ, zero, suc, ◌+◌, ◌<◌, inl, inr, ⊎_elim, Bool, true, false, length, map, Option, Some, None, refl, sym, ap, ◌∙◌, subst, arith}
+use Rattle.std.specs.Prelude.{◌-◌, flat_map}
 use Rattle.std.proofs.lemmas.Bool.{cases_eq, eq-eqb, eqb-true}
 use Rattle.std.proofs.lemmas.List.{get_or_append_left, get_or-map, length-map}
 use Rattle.cx_meaning.specs.declared.ports.PortRef.{PortRef}
@@ -10,8 +10,8 @@ use Rattle.cx_meaning.specs.declared.ports.PlacedPort.{PlacedPort}
 use Rattle.cx_meaning.specs.Designs.{PlainAssign, PlainGroup, PlainComponent, group_at, no_group, PlainForm, Timed, PlainStatement, Placed, form_of}
 use Rattle.cx_meaning.specs.Instances.{Instance, Node, Cells, no_cells, a_primitive, an_instance, At, Nothing, OfRow, OfInstance, part_of, cell_at}
 use Rattle.cx_meaning.specs.Control.{groups_in, groups_of}
-use Rattle.cx_meaning.specs.Sights.{In, AnInput, AnOutput, part_port, output_port}
-use Rattle.cx_meaning.proofs.SightsLaws.{in_either, image_in, output_is}
+use Rattle.cx_meaning.specs.Sights.{In}
+use Rattle.cx_meaning.proofs.SightsLaws.{in_either, image_in}
 use Rattle.cx_rules.specs.Footprints.{AssignNames}
 use Rattle.cx_rules.specs.Items.{Dynamic, test_in, option_list, tests_of}
 use Rattle.cx_rules.specs.Counts.{is_one_of}
@@ -41,6 +41,8 @@ use Rattle.cx_flattening.proofs.FlatForms as forms
 use Rattle.cx_flattening.proofs.DeedsApart.{IsOwned}
 use Rattle.cx_flattening.proofs.FairParts.{HasCells, AllHave, AllHaveBelow, named}
 use Rattle.cx_flattening.proofs.Ruled.{IsRuled, AllRuled, AllRuledBelow}
+use Rattle.cx_laws.proofs.TreeLemmas.{output_there}
+use Rattle.cx_rules.proofs.ItemsLemmas.{option_in}
 
 abbrev cell_of : PortRef → ℕ
 cell_of (ports.Cell c p) = c
@@ -48,14 +50,6 @@ cell_of (ports.Input n) = 0
 cell_of (ports.Output n) = 0
 cell_of (ports.Done g) = 0
 cell_of (ports.Literal w v) = 0
-
-output_there : (part : PlainComponent) (p n : ℕ) → part_port part p ≡ AnOutput n → n < length part.outputs
-output_there part zero n e = absurd (cc)
-output_there part (suc m) n e = by (nat_lt m (length part.inputs)) e
-  where
-    by : (t : Bool) → (if t then AnInput m else output_port (length part.outputs) (m - length part.inputs)) ≡ AnOutput n → n < length part.outputs
-    by true f = absurd (cc)
-    by false f = output_is (length part.outputs) (m - length part.inputs) n f
 
 module _ (kids : Kids) (part : PlainComponent) where
   -- CELL c of the tree stands for flat cell x, or has it in its block
@@ -84,11 +78,6 @@ pub record IsInside (K : PlainComponent) : Type 0 where
   pub groups : (g : ℕ) (a : PlainAssign) (q : PortRef) → In (groups_of K.control) g → In (group_at K g).assigns a → AssignNames a q → IsLooked K q
   pub tests : (p : PlacedPort) → In (tests_of K.control) p → IsLooked K p.port
   pub drives : (g n : ℕ) (a : PlainAssign) → In (groups_of K.control) g → In (group_at K g).assigns a → a.target ≡ ports.Output n → ⊥
-
-only_test : (o : Option PlacedPort) (p : PlacedPort) → In (option_list o) p → o ≡ Some p
-only_test None p i = absurd i
-only_test (Some q) p (inl e) = ap Some e
-only_test (Some q) p (inr i) = absurd i
 
 module _ (part : PlainComponent) (cells : Cells) (fair : IsFair (Node part cells)) (controlled : IsControlled (Node part cells)) where
   abbrev i : Instance
@@ -250,7 +239,7 @@ module _ (part : PlainComponent) (cells : Cells) (fair : IsFair (Node part cells
     test_named p k =
         let r = tested_form part.control p k in
         let v = visited_at Dynamic part.control r.0 r.1 in
-        named part cells ruled has p.port (ruled.tests v.0 p v.1 (only_test (test_in v.0.form) p (subst (λ y. In (option_list (test_in y)) p) (sym v.2) r.2)))
+        named part cells ruled has p.port (ruled.tests v.0 p v.1 (option_in (test_in v.0.form) p (subst (λ y. In (option_list (test_in y)) p) (sym v.2) r.2)))
 
     module _ (below : (c : ℕ) (child : PlainComponent) → kid_at kids c ≡ Some child → IsInside child) where
       inside_always : (a : PlainAssign) (q : PortRef) → In K.always a → AssignNames a q → IsLooked K q

@@ -48,6 +48,7 @@ use Rattle.cx_flattening.proofs.FlatNumbers.{IsMade, made}
 use Rattle.cx_flattening.proofs.FlatRanges.{slice_in}
 use Rattle.cx_flattening.proofs.FlatStages.{good_component}
 use Rattle.cx_flattening.proofs.Ruled.{in_order, IsRuled, AllRuled, AllRuledBelow}
+use Rattle.cx_rules.proofs.ItemsLemmas.{plain_untimed}
 
 zero_plus : (a : ℕ) → 0 + a ≡ a
 zero_plus a = omega arith
@@ -156,11 +157,6 @@ own_or_timed (Node part cells) ruled has controlled g less =
     inl (there, get_or_append_left (map (moved_group (own_port kids part)) part.groups) (flat_map (copies kids part) part.invokes) no_group g l ∙ get_or-map (moved_group (own_port kids part)) part.groups g no_group no_group there))
     (λ h. inr (copies_timed part cells ruled.0 has.0 controlled.0 (λ c child at is. timed_below cells ruled.1 has.1 controlled.1 c child at is) (group_at (flat_part (Node part cells)) g) h))
     (first_or_second (map (moved_group (own_port kids part)) part.groups) (flat_map (copies kids part) part.invokes) g less)
-
-pub plain_untimed : (kind : GroupKind) → is_plain kind ≡ true → is_some (kind_length kind) ≡ true → ⊥
-plain_untimed kinds.Plain e f = absurd (let clash : false ≡ true = f in cc)
-plain_untimed kinds.Comb e f = absurd (let clash : false ≡ true = f in cc)
-plain_untimed (kinds.Timed n) e f = absurd (let clash : false ≡ true = e in cc)
 
 comb_untimed : (kind : GroupKind) → is_comb kind ≡ true → is_some (kind_length kind) ≡ true → ⊥
 comb_untimed kinds.Plain e f = absurd (let clash : false ≡ true = f in cc)

@@ -26,10 +26,11 @@ use Rattle.cx_flattening.proofs.PortLemmas.{own-kept}
 use Rattle.cx_flattening.proofs.FlatDrivers.{own_drivers, idle_drivers}
 use Rattle.cx_flattening.proofs.StillPorts.{own_still, block_still}
 use Rattle.cx_flattening.proofs.MovedTwice.{moved_twice, moved_still}
-use Rattle.cx_flattening.proofs.Standing.{TwinAt, embedded_row, embedded_static, embedded_dynamic, stands_row, stands_static, stands_dynamic, wire_there, in_flat_cells, within_child, acyclic_child, outputs_at}
+use Rattle.cx_flattening.proofs.Standing.{TwinAt, embedded_row, embedded_static, embedded_dynamic, stands_row, stands_static, stands_dynamic, wire_there, in_flat_cells, within_child, acyclic_child}
 use Rattle.cx_flattening.proofs.RestingPorts.{Resting, an_output, at_rest, is_read, none_drives, resting_closed}
 use Rattle.cx_flattening.proofs.LevelSights.{kid-static, kid-dynamic, flat-inputs, flat-outputs, level_seen}
 use Rattle.cx_flattening.specs.Flattened.{kept, blocks}
+use Rattle.cx_meaning.proofs.SightsLemmas.{outputs_at}
 
 -- a wire gives what it is given
 pub wire_gives : (host : Instance) (held : Held) (more : Active) (z : State) → IsAcyclic host more → AcyclicBelow (cells_of host) → (w width : ℕ) → cell_at (cells_of host) w ≡ OfRow (wire_row width)

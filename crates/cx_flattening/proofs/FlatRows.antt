@@ -15,6 +15,7 @@ use Rattle.cx_flattening.specs.Whole.{is_static}
 use Rattle.cx_flattening.specs.Copies.{count_if}
 use Rattle.cx_flattening.specs.Flattened.{Kids, kid_if, kept_if, kept, block, blocks, inner_cell, wire_of, flat_part, flat_kids}
 use Rattle.cx_flattening.specs.FlatDesign.{any_of, flat_of, leads_within, is_reached, reached_from, reached_below, renumbered_kind, renumbered_cell, renumbered_part, flat_design}
+use Rattle.cx_rules.proofs.SizesLemmas.{rows-both}
 
 -- NO STATIC COMPONENTS
 flat_is_flat : (i : Instance) → IsFlatPart (flat_part i)
@@ -100,13 +101,6 @@ module _ (d : PlainDesign) where
       zero_sum a = omega arith
 
 -- ROWS of external memories
-rows-both : (xs ys : List PlainCell) → rows_of (xs ++ ys) ≡ rows_of xs ++ rows_of ys
-rows-both [] ys = refl
-rows-both (c ∷ cs) ys = choice c.external (rows-both cs ys)
-  where
-    choice : (b : Bool) → rows_of (cs ++ ys) ≡ rows_of cs ++ rows_of ys → if_external b c (rows_of (cs ++ ys)) ≡ if_external b c (rows_of cs) ++ rows_of ys
-    choice true ih = ap (λ l. row_for c ∷ l) ih
-    choice false ih = ih
 
 row-renumbered : (d : PlainDesign) (c : PlainCell) → row_for (renumbered_cell d c) ≡ row_for c
 row-renumbered d c = by_kind c.kind

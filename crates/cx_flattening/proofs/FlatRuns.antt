@@ -11,20 +11,13 @@ use Rattle.cx_flattening.specs.Embedded.{Stands}
 use Rattle.cx_flattening.specs.Runs.{AnswerAs}
 use Rattle.cx_flattening.specs.Asking.{RunAsks, TreeAsks, ChildrenAsk}
 use Rattle.cx_flattening.proofs.Standing.{stands_dynamic}
-use Rattle.cx_flattening.proofs.IdleStands.{idle-child}
 use Rattle.cx_flattening.proofs.FlatArms.{plus, zero_plus}
 use Rattle.cx_flattening.proofs.FlatStatements.{statement_as, twin_place}
-
--- the control of a child is that at its cell
-child_runs : (cells : Cells) (c : ℕ) (child : Instance) → cell_at cells c ≡ OfInstance child → (held : Held) (s : State) (n : ℕ) → control_below cells c held s n ≡ run_control child held s n
-child_runs no_cells c child e held s n = absurd (cc)
-child_runs (a_primitive row rest) zero child e held s n = absurd (cc)
-child_runs (a_primitive row rest) (suc c) child e held s n = child_runs rest c child e held s n
-child_runs (an_instance other rest) zero child e held s n = let same : other ≡ child = cc in ap (λ x. run_control x held s n) same
-child_runs (an_instance other rest) (suc c) child e held s n = child_runs rest c child e held s n
+use Rattle.cx_meaning.proofs.RunningLemmas.{child_runs}
+use Rattle.cx_rewrites.proofs.StandingLemmas.{idle_below-child}
 
 child_settled : (part : PlainComponent) (cells : Cells) (c : ℕ) (child : Instance) (z : State) → cell_at cells c ≡ OfInstance child → IsSettled (Node part cells) z → IsSettled child (under c z)
-child_settled part cells c child z at settled path = sym (idle-child cells c child path (z (c ∷ path)) at) ∙ settled (c ∷ path)
+child_settled part cells c child z at settled path = sym (idle_below-child cells c child path (z (c ∷ path)) at) ∙ settled (c ∷ path)
 
 first_zero : (a : ℕ) → 0 + a ≡ a
 first_zero a = omega arith

@@ -5,7 +5,7 @@ use Rattle.std.proofs.lemmas.List.{length-append}
 use Rattle.cx_meaning.specs.declared.ports.PortRef.{PortRef}
 use Rattle.cx_meaning.specs.declared.ports.PortRef.TheVariants as ports
 use Rattle.cx_meaning.specs.Designs.{PlainCell, PlainInvoke, PlainComponent}
-use Rattle.cx_meaning.specs.Instances.{Instance, Node, Cells, no_cells, a_primitive, an_instance, Nothing, OfInstance, part_of, cells_of, cell_at, cell_count}
+use Rattle.cx_meaning.specs.Instances.{Instance, Node, Cells, no_cells, a_primitive, an_instance, OfInstance, part_of, cells_of, cell_at}
 use Rattle.cx_meaning.specs.Active.{Active, entries, Owned, source_order, offset_of, drivers}
 use Rattle.cx_meaning.specs.Sights.{In}
 use Rattle.cx_meaning.proofs.InstancesLemmas.{row_instance}
@@ -38,6 +38,7 @@ use Rattle.cx_flattening.proofs.FlatSeen.{Alive, none_fed}
 use Rattle.cx_flattening.proofs.Safe.{Safe, safe, acyclic_safe, safe_acyclic}
 use Rattle.cx_flattening.proofs.SafeLevels.{IsSafeLevel, level_safe}
 use Rattle.cx_flattening.proofs.SafeOutputs.{IsSeat, OutputLeads, OutputsSafe, wire_beyond, seat_row, seat_twin, seat_wire, child_seat, child_leads, wire_input_safe, wire_safe, kids_safe}
+use Rattle.cx_meaning.proofs.CycleLemmas.{cell_beyond}
 
 -- IT ACTS THERE as the instance does: inner acts of the flat component, as act does of the instance
 pub record IsPlace (host : Instance) (more : Active) (i : Instance) (first : ℕ) (f : PortRef → PortRef) (act inner : Active) (inputs outputs holes : ℕ → Type 0) : Type 0 where
@@ -379,13 +380,6 @@ module _ (host : Instance) (more : Active) where
 
 abbrev all_numbers : ℕ → Type 0
 all_numbers n = Unit {0}
-
-pub cell_beyond : (cells : Cells) (e : ℕ) → cell_count cells ≤ e → cell_at cells e ≡ Nothing
-cell_beyond no_cells e past = refl
-cell_beyond (a_primitive row rest) zero past = absurd (omega (arith, past))
-cell_beyond (a_primitive row rest) (suc e) past = cell_beyond rest e (omega (arith, past))
-cell_beyond (an_instance child rest) zero past = absurd (omega (arith, past))
-cell_beyond (an_instance child rest) (suc e) past = cell_beyond rest e (omega (arith, past))
 
 module _ (part : PlainComponent) (cells : Cells) (flat : Instance) (flattened : IsFlattened (Node part cells) flat) (fair : AllFair (Node part cells)) (act more : Active) (deeds : List Deed)
     (does : ActsAs (Node part cells) act deeds more) (calm : NoCircle (Node part cells) act deeds) where

@@ -5,9 +5,9 @@ use Rattle.cx_prim.specs.CellStates.{CellState, with_words}
 use Rattle.cx_prim.specs.Rows.{Row}
 use Rattle.cx_meaning.specs.declared.kinds.PortDecl.{PortDecl}
 use Rattle.cx_meaning.specs.Designs.{PlainKind, OfPrimitive, OfComponent, PlainCell, PlainComponent, PlainDesign, component_at}
-use Rattle.cx_meaning.specs.Instances.{Instance, Node, Cells, no_cells, a_primitive, an_instance, OfRow, OfInstance, part_of, cells_of, cell_at, add_cell, cells_for, tree_within, tree_of, Path, State, under, just, start_at, start_below, if_external, externals_from, externals_of, loaded_at, start}
+use Rattle.cx_meaning.specs.Instances.{Instance, Node, Cells, no_cells, a_primitive, an_instance, OfRow, OfInstance, part_of, cells_of, cell_at, add_cell, cells_for, tree_within, tree_of, Path, State, under, just, start_below, if_external, externals_from, externals_of, loaded_at, start}
 use Rattle.cx_meaning.specs.Sights.{In}
-use Rattle.cx_meaning.proofs.InstancesLemmas.{just_same, not_just, instance_is, row_is}
+use Rattle.cx_meaning.proofs.InstancesLemmas.{just_same, not_just, instance_is}
 use Rattle.cx_meaning.proofs.DesignsLemmas.{same_part}
 use Rattle.cx_rules.specs.Wellformed.{IsExternal, IsDesign}
 use Rattle.cx_flattening.specs.Whole.{is_static}
@@ -18,6 +18,7 @@ use Rattle.cx_flattening.proofs.LevelSights.{kid-row}
 use Rattle.cx_flattening.proofs.Standing.{embedded_row}
 use Rattle.cx_flattening.proofs.Reached.{itself, flat_component_is}
 use Rattle.cx_flattening.proofs.FlatTrees.{flat_tree}
+use Rattle.cx_meaning.proofs.CyclesLemmas.{start_inside, start_row}
 
 zero_plus : (a : ℕ) → 0 + a ≡ a
 zero_plus a = omega arith
@@ -29,15 +30,6 @@ next : (a b : ℕ) → suc a + b ≡ a + suc b
 next a b = omega arith
 
 -- STARTS of a row and below a child
-start_row : (cells : Cells) (c : ℕ) (row : Row) → cell_at cells c ≡ OfRow row → start_below cells c [] ≡ row.start
-start_row no_cells c row e = absurd (cc)
-start_row (a_primitive other rest) zero row e = ap (λ (r : Row). r.start) (row_is other row e)
-start_row (a_primitive other rest) (suc c) row e = start_row rest c row e
-start_row (an_instance child rest) zero row e = absurd (cc)
-start_row (an_instance child rest) (suc c) row e = start_row rest c row e
-
-start_inside : (i : Instance) (c : ℕ) (path : Path) → start_at i (c ∷ path) ≡ start_below (cells_of i) c path
-start_inside (Node part cells) c path = refl
 
 start_child : (cells : Cells) (c : ℕ) (child : Instance) (e : ℕ) (path : Path) → cell_at cells c ≡ OfInstance child → start_below cells c (e ∷ path) ≡ start_below (cells_of child) e path
 start_child no_cells c child e path is = absurd (cc)

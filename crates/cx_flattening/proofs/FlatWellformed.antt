@@ -1,5 +1,5 @@
 -- THE FLAT DESIGN IS A DESIGN: of a design with plain names that is accepted, in which nothing looks at the done of a static component's cell.
-use Rattle.std.proofs.Common.{◌≡◌, ◌≢◌, ℕ, zero, suc, ◌<◌, ◌≤◌, inl, inr, ⊎_elim, true, false, List, [], ◌∷◌, ◌++◌, length, map, get_or, Option, Some, None, refl, sym, ap, ◌∙◌, subst, arith}
+use Rattle.std.proofs.Common.{◌≡◌, ◌≢◌, ℕ, zero, suc, ◌<◌, ◌≤◌, ⊎_elim, true, false, List, [], ◌∷◌, ◌++◌, length, map, get_or, Option, Some, None, refl, sym, ap, ◌∙◌, subst, arith}
 use Rattle.std.specs.Prelude.{◌^◌, flat_map, slice_get}
 use Rattle.std.proofs.lemmas.Bool.{cases_lt}
 use Rattle.std.proofs.lemmas.List.{get_or_past}
@@ -7,16 +7,15 @@ use Rattle.cx_meaning.specs.declared.kinds.PortDecl.{PortDecl}
 use Rattle.cx_meaning.specs.declared.ports.PortRef.{PortRef}
 use Rattle.cx_meaning.specs.declared.ports.PortRef.TheVariants as ports
 use Rattle.cx_meaning.specs.declared.ports.PlacedPort.{PlacedPort}
-use Rattle.cx_meaning.specs.Designs.{PlainGuard, Always, Atom, Negation, All, Any, Compared, Within, PlainGuards, no_guards, a_guard, PlainAssign, PlainGroup, PlainInvoke, PlainCell, PlainForm, Empty, Enable, Seq, Par, If, While, Repeat, StaticSeq, StaticPar, StaticIf, StaticRepeat, Timed, PlainComponent, PlainDesign, component_at, no_component, group_at, no_group}
+use Rattle.cx_meaning.specs.Designs.{PlainAssign, PlainGroup, PlainInvoke, PlainCell, PlainForm, Empty, Enable, Seq, Par, If, While, Repeat, StaticSeq, StaticPar, StaticIf, StaticRepeat, Timed, PlainComponent, PlainDesign, component_at, no_component, group_at, no_group}
 use Rattle.cx_meaning.specs.Instances.{Instance, Node, Nothing, part_of, cells_of, cell_at, tree_within, tree_of}
 use Rattle.cx_meaning.specs.Control.{groups_of}
-use Rattle.cx_meaning.specs.Sights.{In, GuardNames, AnyNames}
-use Rattle.cx_meaning.proofs.SightsLaws.{in_either, image_in}
+use Rattle.cx_meaning.specs.Sights.{In}
+use Rattle.cx_meaning.proofs.SightsLaws.{image_in}
 use Rattle.cx_meaning.proofs.DesignsLemmas.{same_part}
 use Rattle.cx_rules.specs.Accepted.{IsAccepted}
 use Rattle.cx_rules.specs.Flat.{ArePlainNames}
-use Rattle.cx_rules.specs.Footprints.{AssignNames}
-use Rattle.cx_rules.specs.Items.{operands_of, operands_in, sources_of, is_comb, Dynamic, Visited, statements_in, test_in}
+use Rattle.cx_rules.specs.Items.{is_comb, Dynamic, Visited, statements_in, test_in}
 use Rattle.cx_rules.specs.Ports.{component_of}
 use Rattle.cx_rules.specs.ShapeRules.{is_hole}
 use Rattle.cx_rules.specs.Sizes.{design_size, weight_below}
@@ -47,29 +46,9 @@ use Rattle.cx_flattening.proofs.Reached.{itself, flat_there, flat_component_is}
 use Rattle.cx_flattening.proofs.TreeLevels.{no_way}
 use Rattle.cx_flattening.proofs.TypedTests.{Tests}
 use Rattle.cx_flattening.proofs.TypedTests as tests
+use Rattle.cx_rules.proofs.FoundLemmas.{source_named}
 
 -- WHAT A SOURCE IS, an assignment names
-mutual
-  operand_named : (g : PlainGuard) (p : PlacedPort) → In (operands_of g) p → GuardNames g p.port
-  operand_named Always p i = absurd i
-  operand_named (Atom x) p (inl e) = ap (λ (y : PlacedPort). y.port) e
-  operand_named (Atom x) p (inr i) = absurd i
-  operand_named (Negation g) p i = operand_named g p i
-  operand_named (All gs) p i = operands_named gs p i
-  operand_named (Any gs) p i = operands_named gs p i
-  operand_named (Compared c a b) p (inl e) = inl (ap (λ (y : PlacedPort). y.port) e)
-  operand_named (Compared c a b) p (inr (inl e)) = inr (ap (λ (y : PlacedPort). y.port) e)
-  operand_named (Compared c a b) p (inr (inr i)) = absurd i
-  operand_named (Within from to) p i = absurd i
-
-  operands_named : (gs : PlainGuards) (p : PlacedPort) → In (operands_in gs) p → AnyNames gs p.port
-  operands_named no_guards p i = absurd i
-  operands_named (a_guard g gs) p i = ⊎_elim (λ j. inl (operand_named g p j)) (λ j. inr (operands_named gs p j)) (in_either (operands_of g) (operands_in gs) p i)
-
-source_named : (a : PlainAssign) (p : PlacedPort) → In (sources_of a) p → AssignNames a p.port
-source_named a p (inl e) = inr (ap (λ (x : PlacedPort). x.port) e)
-source_named a p (inr i) = inl (operand_named a.guard p i)
-
 -- PORTS of a tree are there
 cells_within : (d : PlainDesign) (n k c : ℕ) → (cell_at (cells_of (tree_within d n k)) c ≡ Nothing → ⊥) → c < length (part_of (tree_within d n k)).cells
 cells_within d zero k c some = absurd (some refl)

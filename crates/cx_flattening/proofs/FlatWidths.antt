@@ -23,10 +23,11 @@ use Rattle.cx_flattening.proofs.FlatRows.{flat_design_flat}
 use Rattle.cx_flattening.proofs.FlatNumbers.{made}
 use Rattle.cx_flattening.proofs.FlatStages.{good_component}
 use Rattle.cx_flattening.proofs.FlatRanges.{slice_in}
-use Rattle.cx_flattening.proofs.Typed.{Typed, Source, Target, written_is, same_width, good_literal, typed_equal, typed_bits, typed_sources}
+use Rattle.cx_flattening.proofs.Typed.{Typed, Source, Target, same_width, good_literal, typed_equal, typed_bits, typed_sources}
 use Rattle.cx_flattening.proofs.FlatTyped.{flat_always_typed, flat_groups_typed}
 use Rattle.cx_flattening.proofs.TypedTests.{Tests, one_visits, flat_tested}
 use Rattle.cx_flattening.proofs.TypedParts.{typed_tree, tested_tree}
+use Rattle.cx_rules.proofs.WidthRulesLemmas.{written_is}
 
 module _ (d : PlainDesign) (design : IsDesign d) (accepted : IsAccepted d) (undone : NoneNamesDone d) where
   -- an assignment of the flat design

@@ -1,20 +1,12 @@
 -- An idle turn leaves the same state in both.
-use Rattle.std.proofs.Common.{◌≡◌, ℕ, zero, suc, ◌+◌, [], ◌∷◌, refl, sym, ap, ◌∙◌, subst, arith}
+use Rattle.std.proofs.Common.{◌≡◌, ℕ, suc, ◌+◌, [], ◌∷◌, refl, sym, ap, ◌∙◌, subst, arith}
 use Rattle.std.proofs.Math.Path.{fun_ext}
-use Rattle.cx_prim.specs.CellStates.{CellState}
 use Rattle.cx_meaning.specs.Designs.{PlainComponent}
-use Rattle.cx_meaning.specs.Instances.{Instance, Node, Cells, no_cells, a_primitive, an_instance, OfRow, OfInstance, cells_of, cell_at, Path, State, under, idle, idle_at, idle_below}
+use Rattle.cx_meaning.specs.Instances.{Instance, Node, Cells, no_cells, a_primitive, an_instance, OfRow, OfInstance, cells_of, cell_at, Path, State, under, idle, idle_below}
 use Rattle.cx_meaning.proofs.InstancesLemmas.{idle_below-row}
 use Rattle.cx_flattening.specs.Flattened.{kept_at, start_of, flat_kids}
 use Rattle.cx_flattening.specs.Embedded.{IsEmbedded, AreEmbedded, Stands, AllStand}
-
--- below a component's cell every cell makes the idle edge of the child
-pub idle-child : (cells : Cells) (c : ℕ) (child : Instance) (path : Path) (d : CellState) → cell_at cells c ≡ OfInstance child → idle_below cells c path d ≡ idle_at child path d
-idle-child no_cells c child path d e = absurd (cc)
-idle-child (a_primitive row rest) zero child path d e = absurd (cc)
-idle-child (a_primitive row rest) (suc c) child path d e = idle-child rest c child path d e
-idle-child (an_instance other rest) zero child path d e = let same : other ≡ child = cc in ap (λ i. idle_at i path d) same
-idle-child (an_instance other rest) (suc c) child path d e = idle-child rest c child path d e
+use Rattle.cx_rewrites.proofs.StandingLemmas.{idle_below-child}
 
 -- the idle edges of the cells of a host
 abbrev idle_host : Cells → State → State
@@ -26,7 +18,7 @@ host_idle (Node part cells) z [] = refl
 host_idle (Node part cells) z (c ∷ path) = refl
 
 idle_child : (cells : Cells) (c : ℕ) (child : Instance) (s : State) → cell_at cells c ≡ OfInstance child → under c (idle_host cells s) ≡ idle child (under c s)
-idle_child cells c child s e = fun_ext (λ path. idle-child cells c child path (s (c ∷ path)) e)
+idle_child cells c child s e = fun_ext (λ path. idle_below-child cells c child path (s (c ∷ path)) e)
 
 idle_node : (part : PlainComponent) (cells : Cells) (s : State) → idle (Node part cells) s ≡ idle_host cells s
 idle_node part cells s = fun_ext (λ path. host_idle (Node part cells) s path)

@@ -1,20 +1,19 @@
 -- An output of a row of the table reads plain inputs alone.
-use Rattle.std.proofs.Common.{◌≡◌, ℕ, zero, suc, ◌+◌, ◌<◌, ◌==◌, List, [], ◌∷◌, ◌++◌, true, length, refl, arith}
+use Rattle.std.proofs.Common.{◌≡◌, ℕ, zero, suc, ◌+◌, ◌<◌, ◌==◌, List, [], ◌∷◌, true, length, refl, arith}
 use Rattle.std.specs.Prelude.{nat_lt}
 use Rattle.std.proofs.lemmas.Bool.{ltb-true}
 use Rattle.cx_bits.specs.BitVector.{BitVector}
-use Rattle.cx_prim.specs.declared.ports.PortName.{PortName}
 use Rattle.cx_prim.specs.declared.ports.PortName.TheVariants as names
-use Rattle.cx_prim.specs.declared.ports.PortRow.{PortRow}
 use Rattle.cx_prim.specs.declared.ports.Side.TheVariants as sides
 use Rattle.cx_prim.specs.Rows.{Row}
 use Rattle.cx_prim.specs.CombinationalRows.{constant_row, unary_row, binary_row, mux_row}
-use Rattle.cx_prim.specs.MemoryRows.{IsLayout, ports_named, memory_row}
+use Rattle.cx_prim.specs.MemoryRows.{IsLayout, memory_row}
 use Rattle.cx_prim.specs.Table.{PrimitiveRow, no_row, row_of}
 use Rattle.cx_prim.proofs.TableCases.{OfEachKind, of_row}
-use Rattle.cx_meaning.specs.Rows.{side_from, side_of}
+use Rattle.cx_meaning.specs.Rows.{side_of}
 use Rattle.cx_text.proofs.BoolLaws.{and_right}
 use Rattle.cx_text.proofs.NumberLaws.{never}
+use Rattle.cx_meaning.proofs.RowsLemmas.{named_plain}
 
 pub record ReadsPlain (r : Row) : Type 0 where
   pub plain : (n m : ℕ) → r.reads n m ≡ true → side_of r m ≡ sides.Plain
@@ -48,13 +47,6 @@ mux_reads w = record { plain = λ n m e. at m (ltb-true m 3 e) }
 
 no_reads : ReadsPlain no_row
 no_reads = record { plain = λ n m e. let less : m < 0 = ltb-true m 0 e in absurd (omega (arith, less)) }
-
--- memories: the addresses come first
-named_plain : (list : List PortName) (widths : List ℕ) (rest : List PortRow) (m : ℕ) → m < length list → m < length widths → side_from (ports_named list widths ++ rest) m ≡ sides.Plain
-named_plain [] widths rest m less few = absurd (omega arith)
-named_plain (name ∷ list) [] rest m less few = absurd (omega arith)
-named_plain (name ∷ list) (w ∷ widths) rest zero less few = refl
-named_plain (name ∷ list) (w ∷ widths) rest (suc m) less few = named_plain list widths rest m (omega arith) (omega arith)
 
 memory_reads : (w : ℕ) (sizes address_widths : List ℕ) → IsLayout w sizes address_widths → ReadsPlain (memory_row w sizes address_widths)
 memory_reads w sizes address_widths layout = record {

@@ -7,12 +7,12 @@ use Rattle.cx_meaning.specs.declared.ports.PortRef.TheVariants as ports
 use Rattle.cx_meaning.specs.declared.ports.PlacedPort.{PlacedPort}
 use Rattle.cx_meaning.specs.Designs.{PlainAssign, PlainGroup, PlainInvoke, PlainComponent, PlainDesign, component_at, group_at, no_group, PlainForm, Empty, Enable, Seq, Par, If, While, Repeat, StaticSeq, StaticPar, StaticIf, StaticRepeat, Timed, PlainStatement}
 use Rattle.cx_meaning.specs.Instances.{Instance, Node, Cells, no_cells, a_primitive, an_instance, part_of}
-use Rattle.cx_meaning.specs.Active.{nothing, group, Owned, owned, owned_by_groups, by_place, source_order}
+use Rattle.cx_meaning.specs.Active.{nothing, group, Owned, owned, owned_by_groups, source_order}
 use Rattle.cx_meaning.specs.Islands.{group_length}
 use Rattle.cx_meaning.specs.Sights.{In}
 use Rattle.cx_meaning.proofs.SightsLaws.{number_in, in_either, in_left, in_right}
 use Rattle.cx_meaning.proofs.DesignsLemmas.{same_part, owned_has}
-use Rattle.cx_meaning.proofs.ActiveLemmas.{placed_first, placed_still}
+use Rattle.cx_meaning.proofs.ActiveLemmas.{sorted_has}
 use Rattle.cx_rules.specs.Ports.{component_of, path_of, is_source_only, is_target_only, is_primitive_enable, cell_name}
 use Rattle.cx_rules.specs.Items.{Visited, statements_in, test_in, sources_of}
 use Rattle.cx_rules.specs.Footprints.{AssignNames, Rests}
@@ -29,20 +29,15 @@ use Rattle.cx_rules.proofs.CirclesLemmas.{own_acyclic}
 use Rattle.cx_rules.proofs.CircleLemmas.{within_acyclic, within_group}
 use Rattle.cx_laws.proofs.EdgeLemmas.{IsFit}
 use Rattle.cx_laws.proofs.RaceLemmas.{unshared}
-use Rattle.cx_laws.proofs.SourceLemmas.{source_in, fit_source}
+use Rattle.cx_laws.proofs.SourceLemmas.{fit_source}
 use Rattle.cx_text.proofs.BoolLaws.{or_left}
 use Rattle.cx_flattening.specs.Fair.{IsAssignOf}
 use Rattle.cx_flattening.specs.Ends.{is_static_done, NoneNamesDone}
+use Rattle.cx_rules.proofs.FoundLemmas.{source_in}
 
 pub not_so : (b : Bool) → (b ≡ true → ⊥) → b ≡ false
 not_so true none = absurd (none refl)
 not_so false none = refl
-
--- what stands in a component stands in its source order
-sorted_has : (list : List Owned) (o : Owned) → In list o → In (by_place list) o
-sorted_has [] o i = i
-sorted_has (a ∷ rest) o (inl e) = subst (In (by_place (a ∷ rest))) e (placed_first a (by_place rest))
-sorted_has (a ∷ rest) o (inr i) = placed_still a (by_place rest) o (sorted_has rest o i)
 
 groups_have : (k : ℕ) (groups : List PlainGroup) (g : ℕ) (a : PlainAssign) → g < length groups → In (get_or groups g no_group).assigns a → In (owned_by_groups k groups) (record { owner = Some (k + g); assign = a })
 groups_have k [] g a few i = absurd (omega (arith, few))

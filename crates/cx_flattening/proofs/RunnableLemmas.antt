@@ -1,16 +1,14 @@
 -- The design that is run has no static component, and is the design itself where that has none.
-use Rattle.std.proofs.Common.{◌≡◌, ℕ, zero, suc, ◌<◌, Bool, true, false, ◌||◌, is_some, List, [], ◌∷◌, length, Option, Some, None, get_or, true≢false, refl, ap, ◌∙◌, arith}
+use Rattle.std.proofs.Common.{◌≡◌, ℕ, zero, suc, ◌<◌, Bool, true, false, ◌||◌, is_some, List, [], ◌∷◌, length, get_or, true≢false, refl, ap, ◌∙◌, arith}
 use Rattle.std.specs.Prelude.{if◌then◌else◌}
 use Rattle.std.proofs.lemmas.Bool.{or_parts}
 use Rattle.cx_meaning.specs.Designs.{PlainInvoke, PlainComponent, PlainDesign, no_component}
 use Rattle.cx_rules.specs.Flat.{IsFlatPart, IsFlat}
 use Rattle.cx_flattening.specs.FlatDesign.{flat_design}
 use Rattle.cx_flattening.specs.Runnable.{has_invokes, is_static_part, any_static, has_static, runnable}
+use Rattle.cx_text.proofs.OptionLaws.{none_of}
 
 -- WHERE NO COMPONENT IS STATIC
-none_of : {A : Type 0} (o : Option A) → is_some o ≡ false → o ≡ None
-none_of None h = refl
-none_of (Some x) h = absurd (true≢false h)
 
 no_invokes : (vs : List PlainInvoke) → has_invokes vs ≡ false → vs ≡ []
 no_invokes [] h = refl

@@ -7,7 +7,7 @@ use Rattle.cx_meaning.specs.declared.ports.PortRef.{PortRef}
 use Rattle.cx_meaning.specs.declared.ports.PortRef.TheVariants as ports
 use Rattle.cx_meaning.specs.Rows.{side_of}
 use Rattle.cx_meaning.specs.Instances.{Instance, Cells, no_cells, a_primitive, an_instance, At, Nothing, OfRow, OfInstance, part_of, cells_of, cell_at}
-use Rattle.cx_meaning.specs.Active.{Active, Owned, source_order, drivers}
+use Rattle.cx_meaning.specs.Active.{Active, source_order, drivers}
 use Rattle.cx_meaning.specs.Sights.{In, PartPort, Go, AnInput, AnOutput, ItsDone, part_port, numbered, ports_of_cells, ports_of}
 use Rattle.cx_meaning.proofs.SightsLaws.{in_left, in_right}
 use Rattle.cx_meaning.proofs.RowsLemmas.{side_below}
@@ -15,7 +15,7 @@ use Rattle.cx_meaning.proofs.InstancesLemmas.{row_is, instance_row, nothing_row}
 use Rattle.cx_rules.specs.Footprints.{Mentions, SideLeads, PartLeads, CellLeads, Leads, Depends, at_once, by_way_of}
 use Rattle.cx_rules.specs.Circles.{IsAcyclic}
 use Rattle.cx_rules.proofs.Finite.{Distinct, distinct_few}
-use Rattle.cx_rules.proofs.FoundLemmas.{acting_in}
+use Rattle.cx_rules.proofs.FoundLemmas.{acting_in, target_in}
 
 pub data Safe (i : Instance) (act : Active) : PortRef → Type 0 where
   safe : {p : PortRef} → ((q : PortRef) → Leads i act p q → Safe i act q) → Safe i act p
@@ -34,10 +34,6 @@ pub safe_acyclic : (i : Instance) (act : Active) → ((p : PortRef) → Safe i a
 safe_acyclic i act all (p, loop) = no_loop i act p (all p) loop
 
 -- A PORT THAT LEADS ON is one of those of the instance
-target_in : (list : List Owned) (o : Owned) (p : PortRef) → In list o → o.assign.target ≡ p → In (map (λ x. x.assign.target) list) p
-target_in [] o p i e = absurd i
-target_in (x ∷ rest) o p (inl f) e = subst (λ q. In (map (λ y. y.assign.target) (x ∷ rest)) q) e (inl (ap (λ y. y.assign.target) f))
-target_in (x ∷ rest) o p (inr i) e = inr (target_in rest o p i e)
 
 module _ (i : Instance) (act : Active) where
   mentioned_real : (p q : PortRef) → Mentions (drivers (part_of i) act p) q → In (ports_of i) p

@@ -3,12 +3,9 @@ use Rattle.std.proofs.Common.{◌≡◌, ℕ, zero, suc, ◌+◌, ◌<◌, ◌�
 use Rattle.std.proofs.lemmas.List.{length-append, length-map}
 use Rattle.cx_prim.specs.Rows.{Row}
 use Rattle.cx_meaning.specs.declared.kinds.PortDecl.{PortDecl}
-use Rattle.cx_meaning.specs.declared.ports.PortRef.TheVariants as ports
 use Rattle.cx_meaning.specs.Designs.{PlainCell, PlainComponent}
 use Rattle.cx_meaning.specs.Instances.{Instance, Node, Cells, no_cells, a_primitive, an_instance, OfRow, OfInstance, part_of, cells_of, cell_at, cell_count, State, under}
-use Rattle.cx_meaning.specs.Sights.{unheld, seen, outputs_below}
-use Rattle.cx_meaning.specs.Active.{nothing}
-use Rattle.cx_meaning.proofs.InstancesLemmas.{nothing_instance, nothing_row}
+use Rattle.cx_meaning.proofs.InstancesLemmas.{nothing_instance, nothing_row, instance_is}
 use Rattle.cx_rules.specs.Circles.{AreAcyclic, AcyclicBelow}
 use Rattle.cx_flattening.specs.Whole.{is_static}
 use Rattle.cx_flattening.specs.Flattened.{Kids, kid_at, kept, block, blocks, flat_cells, block_size, block_at, inner_cell, wire_of, flat_part, kept_at, start_of, wire_at}
@@ -20,9 +17,6 @@ plus a b = omega arith
 
 plus_zero : (a : ℕ) → a ≡ a + 0
 plus_zero a = omega arith
-
-child_same : (a b : Instance) → OfInstance a ≡ OfInstance b → a ≡ b
-child_same a b e = cc
 
 module _ (kids : Kids) (part : PlainComponent) (first : ℕ) (host : Cells) where
   pub embedded_row : (cells : Cells) (c n : ℕ) (row : Row) → AreEmbedded kids part cells c first host → cell_at cells n ≡ OfRow row → cell_at host (first + kept_at kids (c + n)) ≡ OfRow row
@@ -42,7 +36,7 @@ module _ (kids : Kids) (part : PlainComponent) (first : ℕ) (host : Cells) wher
       subst (λ k. IsEmbedded child (first + start_of kids part k) host × HasWires (part_of child).outputs (first + wire_at kids part (flat_part child) k 0) host) (plus c n) (embedded_static rest (suc c) n child h.1 e static)
   embedded_static (an_instance other rest) c zero child h e static =
       subst (λ k. IsEmbedded child (first + start_of kids part k) host × HasWires (part_of child).outputs (first + wire_at kids part (flat_part child) k 0) host) (plus_zero c)
-      (subst (λ j. is_static j ≡ true → IsEmbedded j (first + start_of kids part c) host × HasWires (part_of j).outputs (first + wire_at kids part (flat_part j) c 0) host) (child_same other child e) h.0 static)
+      (subst (λ j. is_static j ≡ true → IsEmbedded j (first + start_of kids part c) host × HasWires (part_of j).outputs (first + wire_at kids part (flat_part j) c 0) host) (instance_is other child e) h.0 static)
   embedded_static (an_instance other rest) c (suc n) child h e static =
       subst (λ k. IsEmbedded child (first + start_of kids part k) host × HasWires (part_of child).outputs (first + wire_at kids part (flat_part child) k 0) host) (plus c n) (embedded_static rest (suc c) n child h.2 e static)
 
@@ -54,7 +48,7 @@ module _ (kids : Kids) (part : PlainComponent) (first : ℕ) (host : Cells) wher
   embedded_dynamic (a_primitive row rest) c zero child h e dynamic = absurd (cc)
   embedded_dynamic (a_primitive row rest) c (suc n) child h e dynamic = subst (TwinAt child) (plus c n) (embedded_dynamic rest (suc c) n child h.1 e dynamic)
   embedded_dynamic (an_instance other rest) c zero child h e dynamic =
-      subst (TwinAt child) (plus_zero c) (subst (λ j. is_static j ≡ false → TwinAt j c) (child_same other child e) h.1 dynamic)
+      subst (TwinAt child) (plus_zero c) (subst (λ j. is_static j ≡ false → TwinAt j c) (instance_is other child e) h.1 dynamic)
   embedded_dynamic (an_instance other rest) c (suc n) child h e dynamic = subst (TwinAt child) (plus c n) (embedded_dynamic rest (suc c) n child h.2 e dynamic)
 
 module _ (kids : Kids) (part : PlainComponent) (first : ℕ) (s z : State) where
@@ -70,7 +64,7 @@ module _ (kids : Kids) (part : PlainComponent) (first : ℕ) (s z : State) where
   stands_static (a_primitive row rest) c zero child h e static = absurd (cc)
   stands_static (a_primitive row rest) c (suc n) child h e static = subst (λ k. Stands child (first + start_of kids part k) (under k s) z) (plus c n) (stands_static rest (suc c) n child h.1 e static)
   stands_static (an_instance other rest) c zero child h e static =
-      subst (λ k. Stands child (first + start_of kids part k) (under k s) z) (plus_zero c) (subst (λ j. is_static j ≡ true → Stands j (first + start_of kids part c) (under c s) z) (child_same other child e) h.0 static)
+      subst (λ k. Stands child (first + start_of kids part k) (under k s) z) (plus_zero c) (subst (λ j. is_static j ≡ true → Stands j (first + start_of kids part c) (under c s) z) (instance_is other child e) h.0 static)
   stands_static (an_instance other rest) c (suc n) child h e static = subst (λ k. Stands child (first + start_of kids part k) (under k s) z) (plus c n) (stands_static rest (suc c) n child h.2 e static)
 
   pub stands_dynamic : (cells : Cells) (c n : ℕ) (child : Instance) → AllStand kids part cells c first s z → cell_at cells n ≡ OfInstance child → is_static child ≡ false → Stands child 0 (under (c + n) s) (under (first + kept_at kids (c + n)) z)
@@ -78,7 +72,7 @@ module _ (kids : Kids) (part : PlainComponent) (first : ℕ) (s z : State) where
   stands_dynamic (a_primitive row rest) c zero child h e dynamic = absurd (cc)
   stands_dynamic (a_primitive row rest) c (suc n) child h e dynamic = subst (λ k. Stands child 0 (under k s) (under (first + kept_at kids k) z)) (plus c n) (stands_dynamic rest (suc c) n child h.1 e dynamic)
   stands_dynamic (an_instance other rest) c zero child h e dynamic =
-      subst (λ k. Stands child 0 (under k s) (under (first + kept_at kids k) z)) (plus_zero c) (subst (λ j. is_static j ≡ false → Stands j 0 (under c s) (under (first + kept_at kids c) z)) (child_same other child e) h.1 dynamic)
+      subst (λ k. Stands child 0 (under k s) (under (first + kept_at kids k) z)) (plus_zero c) (subst (λ j. is_static j ≡ false → Stands j 0 (under c s) (under (first + kept_at kids c) z)) (instance_is other child e) h.1 dynamic)
   stands_dynamic (an_instance other rest) c (suc n) child h e dynamic = subst (λ k. Stands child 0 (under k s) (under (first + kept_at kids k) z)) (plus c n) (stands_dynamic rest (suc c) n child h.2 e dynamic)
 
 -- the wire of an output
@@ -129,12 +123,5 @@ pub acyclic_child : (cells : Cells) (c : ℕ) (child : Instance) → AcyclicBelo
 acyclic_child no_cells c child h e = absurd (cc)
 acyclic_child (a_primitive row rest) zero child h e = absurd (cc)
 acyclic_child (a_primitive row rest) (suc c) child h e = acyclic_child rest c child h e
-acyclic_child (an_instance other rest) zero child h e = subst AreAcyclic (child_same other child e) h.0
+acyclic_child (an_instance other rest) zero child h e = subst AreAcyclic (instance_is other child e) h.0
 acyclic_child (an_instance other rest) (suc c) child h e = acyclic_child rest c child h.1 e
-
-pub outputs_at : (cells : Cells) (states : ℕ → State) (c n : ℕ) (child : Instance) → cell_at cells c ≡ OfInstance child → outputs_below cells states c n ≡ seen child unheld nothing (states c) (ports.Output n)
-outputs_at no_cells states c n child e = absurd (cc)
-outputs_at (a_primitive row rest) states zero n child e = absurd (cc)
-outputs_at (a_primitive row rest) states (suc c) n child e = outputs_at rest (λ k. states (suc k)) c n child e
-outputs_at (an_instance other rest) states zero n child e = ap (λ i. seen i unheld nothing (states 0) (ports.Output n)) (child_same other child e)
-outputs_at (an_instance other rest) states (suc c) n child e = outputs_at rest (λ k. states (suc k)) c n child e

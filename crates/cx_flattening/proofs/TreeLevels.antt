@@ -1,14 +1,15 @@
 -- No chain of components is longer than there are components, so a tree with levels enough is the component with all below it.
-use Rattle.std.proofs.Common.{◌≡◌, ℕ, zero, suc, ◌+◌, ◌<◌, ◌≤◌, inl, inr, ◌⊎◌, List, [], ◌∷◌, length, refl, ap, ◌∙◌, subst, arith}
+use Rattle.std.proofs.Common.{◌≡◌, ℕ, zero, suc, ◌+◌, ◌<◌, ◌≤◌, inl, inr, ◌⊎◌, List, [], ◌∷◌, length, refl, ap, subst, arith}
 use Rattle.std.specs.List.{range_with_len}
 use Rattle.std.proofs.lemmas.List.FromFn.{length-range_with_len}
-use Rattle.cx_meaning.specs.Designs.{PlainKind, OfPrimitive, OfComponent, PlainCell, PlainDesign, component_at}
-use Rattle.cx_meaning.specs.Instances.{Instance, Node, Cells, an_instance, add_cell, cells_for, tree_within}
+use Rattle.cx_meaning.specs.Designs.{OfComponent, PlainCell, PlainDesign, component_at}
+use Rattle.cx_meaning.specs.Instances.{Node, tree_within}
 use Rattle.cx_meaning.specs.Sights.{In}
 use Rattle.cx_rules.specs.Wellformed.{LeadsTo, by_cell, by_way_of, IsDesign, IsKind}
 use Rattle.cx_rules.proofs.Finite.{Distinct, distinct_few}
+use Rattle.cx_meaning.proofs.InstancesLemmas.{cells_same}
 
-same_or_more : (a k : ℕ) → a ≤ k → (a ≡ k) ⊎ (a + 1 ≤ k)
+pub same_or_more : (a k : ℕ) → a ≤ k → (a ≡ k) ⊎ (a + 1 ≤ k)
 same_or_more zero zero le = inl refl
 same_or_more zero (suc k) le = inr (omega arith)
 same_or_more (suc a) zero le = absurd (omega arith)
@@ -19,7 +20,7 @@ same_or_more (suc a) (suc k) le = next (same_or_more a k (omega arith))
     next (inr l) = inr (omega arith)
 
 -- a number is in the row of all below a bound
-in_row : (a n k : ℕ) → a ≤ k → k < a + n → In (range_with_len a n) k
+pub in_row : (a n k : ℕ) → a ≤ k → k < a + n → In (range_with_len a n) k
 in_row a zero k from to = absurd (omega arith)
 in_row a (suc n) k from to = by (same_or_more a k from) (λ l. in_row (a + 1) n k l (omega arith))
   where
@@ -31,16 +32,6 @@ in_row a (suc n) k from to = by (same_or_more a k from) (λ l. in_row (a + 1) n 
 pub few_below : (ks : List ℕ) (n : ℕ) → Distinct ks → ((k : ℕ) → In ks k → k < n) → length ks ≤ n
 few_below ks n apart below =
     subst (λ m. length ks ≤ m) (length-range_with_len 0 n) (distinct_few ks (range_with_len 0 n) apart (λ k i. in_row 0 n k (omega arith) (let l : k < n = below k i in omega arith)))
-
--- the same trees at the cells of a list
-kind_same : (f g : ℕ → Instance) (kind : PlainKind) (rest : Cells) → ((j : ℕ) → kind ≡ OfComponent j → f j ≡ g j) → add_cell f kind rest ≡ add_cell g kind rest
-kind_same f g (OfPrimitive p) rest h = refl
-kind_same f g (OfComponent k) rest h = ap (λ i. an_instance i rest) (h k refl)
-
-pub cells_same : (f g : ℕ → Instance) (cells : List PlainCell) → ((cell : PlainCell) (j : ℕ) → In cells cell → cell.kind ≡ OfComponent j → f j ≡ g j) → cells_for f cells ≡ cells_for g cells
-cells_same f g [] h = refl
-cells_same f g (c ∷ cs) h =
-    ap (add_cell f c.kind) (cells_same f g cs (λ cell j i. h cell j (inr i))) ∙ kind_same f g c.kind (cells_for g cs) (λ j e. h c j (inl refl) e)
 
 module _ (d : PlainDesign) (rules : IsDesign d) where
   -- the component of a cell is there

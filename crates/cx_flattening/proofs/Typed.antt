@@ -3,17 +3,17 @@ use Rattle.std.proofs.Common.{◌≡◌, ℕ, inl, inr, ⊎_elim, Bool, true, fa
 use Rattle.std.specs.Prelude.{if◌then◌else◌, not}
 use Rattle.std.proofs.lemmas.Bool.{eq-eqb, eqb-true}
 use Rattle.cx_meaning.specs.declared.ports.PortRef.{PortRef}
-use Rattle.cx_meaning.specs.declared.ports.PortRef.TheVariants as ports
 use Rattle.cx_meaning.specs.declared.ports.PlacedPort.{PlacedPort}
 use Rattle.cx_meaning.specs.Designs.{PlainGuard, Always, Atom, Negation, All, Any, Compared, Within, PlainGuards, no_guards, a_guard, PlainAssign}
 use Rattle.cx_meaning.specs.Instances.{Instance}
 use Rattle.cx_meaning.specs.Sights.{In, GuardNames, AnyNames}
 use Rattle.cx_meaning.proofs.SightsLaws.{in_either}
-use Rattle.cx_rules.specs.Ports.{keeps_literal, width_of, written_width, is_source_only, is_target_only}
+use Rattle.cx_rules.specs.Ports.{width_of, written_width, is_source_only, is_target_only}
 use Rattle.cx_rules.specs.Footprints.{AssignNames}
 use Rattle.cx_rules.specs.Items.{Pair, atoms_of, atoms_in, comparisons_of, comparisons_in, operands_of, operands_in, sources_of}
 use Rattle.cx_rules.specs.WidthRules.{differ, pairs_of, first_unequal, is_wide, first_wide, IsBadLiteral}
 use Rattle.cx_rewrites.specs.Moving.{moved_guard, moved_guards, moved_assign}
+use Rattle.cx_rules.proofs.WidthRulesLemmas.{written_is}
 
 -- by what a port of a width is that is looked at, and one that is driven
 module _ (S T : ℕ → PortRef → Type 0) where
@@ -59,17 +59,6 @@ Source i w p = (width_of i p ≡ Some w) × (is_target_only i p ≡ false)
 
 abbrev pub Target : Instance → ℕ → PortRef → Type 0
 Target i w p = (width_of i p ≡ Some w) × (is_source_only i p ≡ false)
-
-literal_width : (b : Bool) (x w : ℕ) → (if b then Some x else None) ≡ Some w → ◌≡◌ {A = Option ℕ} (Some x) (Some w)
-literal_width true x w e = e
-literal_width false x w e = absurd (let clash : ◌≡◌ {A = Option ℕ} None (Some w) = e in cc)
-
-pub written_is : (i : Instance) (p : PortRef) (w : ℕ) → width_of i p ≡ Some w → written_width i p ≡ Some w
-written_is i (ports.Cell c q) w e = e
-written_is i (ports.Input n) w e = e
-written_is i (ports.Output n) w e = e
-written_is i (ports.Done g) w e = e
-written_is i (ports.Literal x v) w e = literal_width (keeps_literal x v) x w e
 
 pub good_literal : (i : Instance) (p : PortRef) (w : ℕ) → width_of i p ≡ Some w → IsBadLiteral p → ⊥
 good_literal i p w e (x, v, is, bad) =
@@ -212,9 +201,6 @@ wide_head i x xs e = by (is_wide i x.port) e
     by : (b : Bool) → (if b then Some x.port else first_wide i xs) ≡ None → b ≡ false
     by true f = absurd (cc)
     by false f = refl
-
-pub bit_width : (i : Instance) (p : PortRef) (w : ℕ) → width_of i p ≡ Some w → is_wide i p ≡ false → w ≡ 1
-bit_width i p w e narrow = not_differ w 1 (sym (ap (λ o. differ o (Some 1)) (written_is i p w e)) ∙ narrow)
 
 module _ (i : Instance) (S T : ℕ → PortRef → Type 0) (widths : (w : ℕ) (p : PortRef) → S w p → width_of i p ≡ Some w) where
   mutual

@@ -1,19 +1,16 @@
 -- TYPED COMPONENTS: each assignment and each bound input of an accepted design is.
-use Rattle.std.proofs.Common.{◌≡◌, ℕ, zero, suc, ◌+◌, ◌-◌, ◌<◌, ◌≤◌, inl, inr, ⊎_elim, Bool, true, false, List, [], ◌∷◌, length, get_or, Option, Some, None, if◌then◌else◌, refl, sym, ap, ◌∙◌, subst, arith}
-use Rattle.std.proofs.lemmas.Bool.{lt-ltb}
+use Rattle.std.proofs.Common.{◌≡◌, ℕ, zero, suc, ◌+◌, ◌<◌, ◌≤◌, inl, inr, ⊎_elim, Bool, true, false, List, [], ◌∷◌, length, get_or, Option, Some, None, if◌then◌else◌, refl, sym, ap, ◌∙◌, subst, arith}
 use Rattle.cx_text.specs.declared.rules.Rule.TheVariants as rules
 use Rattle.cx_text.proofs.BoolLaws.{or_either}
-use Rattle.cx_meaning.specs.declared.kinds.PortDecl.{PortDecl}
 use Rattle.cx_meaning.specs.declared.ports.PortRef.{PortRef}
 use Rattle.cx_meaning.specs.declared.ports.PortRef.TheVariants as ports
 use Rattle.cx_meaning.specs.declared.ports.PlacedPort.{PlacedPort}
 use Rattle.cx_meaning.specs.Designs.{OfComponent, PlainAssign, PlainInvoke, PlainComponent, PlainDesign, component_at}
 use Rattle.cx_meaning.specs.Instances.{Instance, Node, Cells, no_cells, a_primitive, an_instance, OfInstance, part_of, cells_of, cell_at, cells_for, tree_within}
 use Rattle.cx_meaning.specs.Active.{same_port, source_order}
-use Rattle.cx_meaning.specs.Sights.{In, AnInput, part_port, output_port}
-use Rattle.cx_meaning.proofs.SightsLaws.{number_in}
+use Rattle.cx_meaning.specs.Sights.{In}
+use Rattle.cx_meaning.proofs.SightsLaws.{number_in, input_at}
 use Rattle.cx_meaning.proofs.PortsLemmas.{same_self}
-use Rattle.cx_laws.proofs.SourceLemmas as laws
 use Rattle.cx_laws.proofs.TreeLemmas.{cell_there, declared_there}
 use Rattle.cx_rules.specs.Accepted.{IsAccepted}
 use Rattle.cx_rules.specs.Footprints.{AssignNames}
@@ -24,7 +21,7 @@ use Rattle.cx_rules.specs.InvokeShape.{input_port}
 use Rattle.cx_rules.specs.Spots.{ABind, AnAssign, AStatement, binds_in}
 use Rattle.cx_rules.specs.Wellformed.{IsThere, StandsIn, IsDesign}
 use Rattle.cx_rules.specs.WidthRules.{pairs_of, first_unequal, is_wide, first_wide, IsBadLiteral}
-use Rattle.cx_rules.proofs.FoundLemmas.{same_is}
+use Rattle.cx_rules.proofs.FoundLemmas.{same_is, source_in as names_source}
 use Rattle.cx_flattening.specs.Events.{no_invoke, source_in, source_to}
 use Rattle.cx_flattening.specs.Whole.{is_static}
 use Rattle.cx_flattening.specs.Ends.{NoneNamesDone}
@@ -34,9 +31,11 @@ use Rattle.cx_flattening.proofs.TreeLevels.{IsWay, further, way_is_short, levels
 use Rattle.cx_flattening.proofs.Ruled.{not_so, owner_is, in_order, bind_in, IsSource, IsRuled}
 use Rattle.cx_flattening.proofs.FairParts.{HasCells, named, drives_own, input_bound}
 use Rattle.cx_flattening.proofs.AcceptedTrees.{child_kind, has_cells, ruled_tree, good_tree}
-use Rattle.cx_flattening.proofs.Typed.{Typed, bit_width, equal_widths, unequal_head, assign_typed}
+use Rattle.cx_flattening.proofs.Typed.{Typed, equal_widths, unequal_head, assign_typed}
 use Rattle.cx_flattening.proofs.TypedTests.{visited, Tested, AllTested, TestedBelow}
 use Rattle.cx_flattening.proofs.FlatTyped.{Allows, OwnSource, OwnTargets, Calls, Every, IsTyped, AllTyped, TypedBelow}
+use Rattle.cx_rules.proofs.PortsLemmas.{declared_less}
+use Rattle.cx_rules.proofs.WidthRulesLemmas.{bit_width}
 
 -- WHAT THE RULES of stage 3 keep
 pub record IsWide (part : PlainComponent) (i : Instance) : Type 0 where
@@ -103,14 +102,6 @@ port_width i (ports.Output n) there good = declared_there (part_of i).outputs n 
 port_width i (ports.Done g) there good = (1, refl)
 port_width i (ports.Literal x v) there good = literal_there (keeps_literal x v) x (λ e. good (x, v, refl, e))
 
-declared_less : (decls : List PortDecl) (n w : ℕ) → declared_width decls n ≡ Some w → n < length decls
-declared_less [] n w e = absurd (let clash : ◌≡◌ {A = Option ℕ} None (Some w) = e in cc)
-declared_less (x ∷ xs) zero w e = omega arith
-declared_less (x ∷ xs) (suc n) w e = let h = declared_less xs n w e in omega (arith, h)
-
-input_at : (part : PlainComponent) (n : ℕ) → n < length part.inputs → part_port part (suc n) ≡ AnInput n
-input_at part n less = ap (λ b. if b then AnInput n else output_port (length part.outputs) (n - length part.inputs)) (lt-ltb n (length part.inputs) less)
-
 -- a source that is bound to the port
 bound_to : (P : PortRef → Type 0) (c : ℕ) (q : PortRef) (inputs : List PlainAssign) → some_target (same_port q) inputs ≡ true → ((a : PlainAssign) → In inputs a → a.target ≡ q → P a.source.port) → P (source_in c inputs q)
 bound_to P c q [] bound each = absurd (let e : false ≡ true = bound in cc)
@@ -163,7 +154,7 @@ module _ (part : PlainComponent) (cells : Cells) (rules_of : IsRuled part (Node 
       let w = port_width i a.target is.target (λ bad. is.no_literal bad.0 bad.1 bad.2) in
       assign_typed i (OwnSource i inputs) (OwnTargets i) (λ x p h. h.0.0) a w.0 ((w.1, rules_of.target owner a s), drives_own part cells rules_of has owner a s) w.1
       (λ q names. a_source inputs q (rules_of.sources owner a q s names)
-      (λ bad. let r = laws.source_in a q names in wide.literals owner a r.0 s r.1 (subst IsBadLiteral (sym r.2) bad)) (allows q names))
+      (λ bad. let r = names_source a q names in wide.literals owner a r.0 s r.1 (subst IsBadLiteral (sym r.2) bad)) (allows q names))
       (wide.equal owner a s) (wide.bits owner a s)
 
   bind_typed : (v : PlainInvoke) (child : Instance) (n w : ℕ) → In part.invokes v → cell_at cells v.cell ≡ OfInstance child → declared_width (part_of child).inputs n ≡ Some w → OwnSource i Every w (source_to v.cell v.inputs n)

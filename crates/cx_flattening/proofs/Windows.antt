@@ -11,6 +11,7 @@ use Rattle.cx_flattening.specs.Events.{the_invoke, Spot, Sample, Event, Runs, Fe
 use Rattle.cx_flattening.specs.Deeds.{History, hold, Deed, Acts, Fed, deed_if, is_now, deeds_in}
 use Rattle.cx_flattening.specs.Controlled.{timed_in, timed_of, timed_all, IsControlled, AllControlled, AllControlledBelow}
 use Rattle.cx_flattening.proofs.FlatLengths.{invoke_takes, AllThere, there_left, there_right}
+use Rattle.cx_text.proofs.BoolLaws.{all_three}
 
 pub deeds-both : (h : History) (t : ℕ) (xs ys : List Event) → deeds_in h t (xs ++ ys) ≡ deeds_in h t xs ++ deeds_in h t ys
 deeds-both h t [] ys = refl
@@ -40,16 +41,6 @@ pub record InWindow (h : History) (t from to : ℕ) (conditions : List Sample) :
   pub begun : from ≤ t
   pub left : t < to
   pub holds : hold h conditions ≡ true
-
-all_three : (a b c : Bool) → (a && b && c) ≡ true → (a ≡ true) × (b ≡ true) × (c ≡ true)
-all_three true true true e = (refl, refl, refl)
-all_three true true false e = absurd (cc)
-all_three true false true e = absurd (cc)
-all_three true false false e = absurd (cc)
-all_three false true true e = absurd (cc)
-all_three false true false e = absurd (cc)
-all_three false false true e = absurd (cc)
-all_three false false false e = absurd (cc)
 
 pub window_now : (h : History) (t from to : ℕ) (conditions : List Sample) → InWindow h t from to conditions → is_now h t from to conditions ≡ true
 window_now h t from to conditions w = three (nat_le from t) (nat_lt t to) (hold h conditions) (le-leb from t w.begun) (lt-ltb t to w.left) w.holds

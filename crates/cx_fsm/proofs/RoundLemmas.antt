@@ -11,13 +11,7 @@ use Rattle.cx_static.specs.declared.lowered.Lowered.{Lowered}
 use Rattle.cx_static.specs.declared.lowered.LoweredComponent.{LoweredComponent}
 use Rattle.cx_wiring.specs.Reached.{component_of_kind, components_of, cells_at, has_number, below, reached_from, highest, height_of, count, height}
 use Rattle.cx_fsm.specs.Rounds.{below_marked, IsSpread, MarksReached, height_above, raised, HasHeights}
-use Rattle.cx_text.proofs.BoolLaws.{or_assoc}
-
-one_truth : (a b : Bool) → (a ≡ true → b ≡ true) → (b ≡ true → a ≡ true) → a ≡ b
-one_truth true true f g = refl
-one_truth true false f g = sym (f refl)
-one_truth false true f g = g refl
-one_truth false false f g = refl
+use Rattle.cx_text.proofs.BoolLaws.{or_assoc, bools_same}
 
 has_append : (k : ℕ) (xs ys : List ℕ) → has_number k (xs ++ ys) ≡ (has_number k xs || has_number k ys)
 has_append k [] ys = refl
@@ -130,7 +124,7 @@ module _ (d : PlainLowereds) where
   module _ (levels : ℕ) (marks : List Bool) (reached : MarksReached d levels marks) where
     below_is : (k : ℕ) → below_marked d 0 marks k ≡ below_some (reached_from d levels d.main) k
     below_is k =
-        one_truth (below_marked d 0 marks k) (below_some (reached_from d levels d.main) k)
+        bools_same (below_marked d 0 marks k) (below_some (reached_from d levels d.main) k)
         (λ h. let r = marked_is k marks 0 h in
         let at : 0 + r.0 ≡ r.0 = omega arith in
         let all : length marks ≡ count d = reached.all in

@@ -11,15 +11,7 @@ use Rattle.cx_grammar.specs.Calyx.{nest, nested_at, spelled_within}
 use Rattle.cx_grammar.specs.Reading.{Reads, then_reads, one_at, several_in, several_at, commas_in, commas_at, read, unexpected, disjoint, is_plain}
 use Rattle.cx_grammar.proofs.Shorter.{took, nested_shorter, Taken, nullable_nest}
 use Rattle.cx_grammar.proofs.Known.{plain_nest, starts_nest, nest_within}
-use Rattle.cx_text.proofs.BoolLaws.{from_not, or_either, not_both}
-
-or_left : (a b : Bool) → (a || b) ≡ false → a ≡ false
-or_left true b e = e
-or_left false b e = refl
-
-or_right : (a b : Bool) → (a || b) ≡ false → b ≡ false
-or_right true b e = absurd (cc)
-or_right false b e = e
+use Rattle.cx_text.proofs.BoolLaws.{from_not, or_either, not_both, neither_first, neither_second}
 
 or_assoc : (a b c d : Bool) → b ≡ (c || d) → (a || b) ≡ ((a || c) || d)
 or_assoc true b c d e = refl
@@ -57,10 +49,10 @@ pub apart_back : (us vs : List Terminal) (ts : List Token) → disjoint us vs �
 apart_back us vs ts d e = false_from_ne_true (begins us ts) (λ h. not_both (begins vs ts) e (apart us vs ts d h))
 
 pub begins_left : (us vs : List Terminal) (ts : List Token) → begins (us ++ vs) ts ≡ false → begins us ts ≡ false
-begins_left us vs ts e = or_left (begins us ts) (begins vs ts) (sym (begins-append us vs ts) ∙ e)
+begins_left us vs ts e = neither_first (begins us ts) (begins vs ts) (sym (begins-append us vs ts) ∙ e)
 
 pub begins_right : (us vs : List Terminal) (ts : List Token) → begins (us ++ vs) ts ≡ false → begins vs ts ≡ false
-begins_right us vs ts e = or_right (begins us ts) (begins vs ts) (sym (begins-append us vs ts) ∙ e)
+begins_right us vs ts e = neither_second (begins us ts) (begins vs ts) (sym (begins-append us vs ts) ∙ e)
 
 pub begins_more : (us vs : List Terminal) (ts : List Token) → begins us ts ≡ true → begins (us ++ vs) ts ≡ true
 begins_more us vs ts e = begins-append us vs ts ∙ ap (λ b. b || begins vs ts) e

@@ -19,7 +19,6 @@ use Rattle.cx_rules.specs.Items.{Visited, statements_in, test_in}
 use Rattle.cx_rules.specs.Ports.{cell_width, component_of, part_width, width_of}
 use Rattle.cx_rules.specs.Wellformed.{IsDesign, IsKind, StandsIn}
 use Rattle.cx_rules.proofs.PortsLemmas.{part_is}
-use Rattle.cx_laws.proofs.SourceLemmas.{source_in}
 use Rattle.cx_rewrites.specs.Moving.{moved_assign, moved_port}
 use Rattle.cx_rewrites.proofs.ReflectLemmas.{names_back}
 use Rattle.cx_flattening.specs.Ends.{NamesNoDone, NoneNamesDone, is_done, is_done_at, is_static_done}
@@ -39,6 +38,7 @@ use Rattle.cx_profiling.proofs.PortsKept.{memory_there}
 use Rattle.cx_profiling.proofs.RoleLemmas.{own_counters}
 use Rattle.cx_profiling.proofs.ThereLemmas.{Names, cell_at-cells_for, from_there, kind_ports, of_kind, tree_on}
 use Rattle.cx_instrumented.proofs.KeptParts.{by_entries}
+use Rattle.cx_rules.proofs.FoundLemmas.{source_in}
 
 -- a port of 64 bits is no done
 not_done : (part : PlainComponent) (b : Bool) (x : PartPort) → part_width part x ≡ Some 64 → b && is_done x ≡ false

@@ -24,11 +24,7 @@ use Rattle.cx_profiling.proofs.DesignLemmas.{groups-length, many_parts, names-le
 use Rattle.cx_profiling.proofs.GainedLemmas.{by_kind, components-length, component_at-with_counts, count_outputs-length, counted_groups-length, main_grown}
 use Rattle.cx_profiling.proofs.NameLemmas.{free_names-bounded, free_names-length}
 use Rattle.cx_instrumented.proofs.WordLemmas.{profile_word}
-
-in_names : (names : List (List ℕ)) (n : ℕ) → n < length names → In names (get_or names n [])
-in_names [] n less = absurd (omega (arith, less))
-in_names (x ∷ xs) zero less = inl refl
-in_names (x ∷ xs) (suc n) less = inr (in_names xs n (omega (arith, less)))
+use Rattle.cx_profiling.proofs.MemoryNames.{in_names}
 
 -- a numbered name is plain
 abbrev Numbered : List ℕ → Type 0

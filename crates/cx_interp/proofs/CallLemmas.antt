@@ -1,10 +1,10 @@
 -- Calls: the child of an instance, and its run as a run of the instance.
-use Rattle.std.proofs.Common.{◌≡◌, ℕ, zero, suc, ◌<◌, Bool, true, false, List, [], ◌∷◌, ◌++◌, length, Option, Some, None, refl, sym, ap, ◌∙◌, subst, arith}
+use Rattle.std.proofs.Common.{◌≡◌, ℕ, ◌<◌, Bool, true, false, List, [], ◌∷◌, ◌++◌, length, Option, Some, None, refl, sym, ap, ◌∙◌, subst, arith}
 use Rattle.std.proofs.Math.Path.{fun_ext}
 use Rattle.cx_meaning.specs.declared.kinds.GroupKind.{GroupKind}
 use Rattle.cx_meaning.specs.declared.kinds.GroupKind.TheVariants as kinds
 use Rattle.cx_meaning.specs.Designs.{Enable, PlainDesign, PlainStatement, group_at}
-use Rattle.cx_meaning.specs.Instances.{Instance, Node, Cells, no_cells, a_primitive, an_instance, OfInstance, Path, State, just, put, under, cell_at, cells_of, part_of, instance_at, tree_of, IsSettled}
+use Rattle.cx_meaning.specs.Instances.{Instance, Node, OfInstance, Path, State, just, put, under, cell_at, cells_of, part_of, instance_at, tree_of, IsSettled}
 use Rattle.cx_meaning.specs.Sights.{Held}
 use Rattle.cx_meaning.specs.Cycles as cycles
 use Rattle.cx_meaning.specs.Answers as answers
@@ -31,6 +31,7 @@ use Rattle.cx_interp.specs.Done.{Tells, Leaves, Done}
 use Rattle.cx_interp.proofs.DoneLemmas.{done_wider}
 use Rattle.cx_interp.proofs.EnableLemmas.{alone, done_same_at}
 use Rattle.cx_meaning.proofs.InstancesLemmas.{here, just_true}
+use Rattle.cx_meaning.proofs.RunningLemmas.{control_child}
 
 -- answers and outcomes of the child
 abbrev pub lift_outcome : ℕ → Outcome → Outcome
@@ -54,16 +55,6 @@ lift_tells d path c More o e = ap (lift_outcome c) e
 pub run_is : (i : Instance) (held : Held) (s : State) (n : ℕ) → statement_does (part_of i).control i held s n ≡ run_control i held s n
 run_is (Node part cells) held s n = refl
 
-below_is : (cells : Cells) (c : ℕ) (child : Instance) (held : Held) (s : State) (n : ℕ) → cell_at cells c ≡ OfInstance child → control_below cells c held s n ≡ run_control child held s n
-below_is no_cells c child held s n e = cc
-below_is (a_primitive row rest) zero child held s n e = cc
-below_is (a_primitive row rest) (suc c) child held s n e = below_is rest c child held s n e
-below_is (an_instance own rest) zero child held s n e =
-    let f : OfInstance own ≡ OfInstance child = e in
-    let same : own ≡ child = cc in
-    ap (λ i. run_control i held s n) same
-below_is (an_instance own rest) (suc c) child held s n e = below_is rest c child held s n e
-
 abbrev pub Suffices : PlainDesign → Type 0
 Suffices d = (path : Path) (held other : Held) (s : State) (m : ℕ) → ((input : ℕ) → input < length (part_of (instance_at (tree_of d) path)).inputs → held input ≡ other input)
     → run_control (instance_at (tree_of d) path) held s m ≡ run_control (instance_at (tree_of d) path) other s m
@@ -86,7 +77,7 @@ module _ (d : PlainDesign) (n g c number : ℕ) (calls : (path : Path) → IsNum
       ∙ suffices (path ++ c ∷ []) (inputs_held middle number) inputs (under_path (path ++ c ∷ []) s) budget (λ input lt. hold.inputs path s input at stood lt)
       ∙ ap (λ (x : State). run_control j inputs x budget) (under_child path c s)
       ∙ ap (λ x. run_control x inputs (under c (under_path path s)) budget) (instance_child (tree_of d) path c r.0 r.1)
-      ∙ sym (below_is (cells_of i) c r.0 inputs (under c (under_path path s)) budget r.1)
+      ∙ sym (control_child (cells_of i) c r.0 inputs (under c (under_path path s)) budget r.1)
 
   not_called : (path : Path) (e : ℕ) → IsNumber d n path → group_driving g (instance_at (tree_of d) path) e ≡ false → just c e ≡ false
   not_called path e at off = by_case (just c e) refl

@@ -9,13 +9,11 @@ use Rattle.cx_laws.specs.Samples.{Samples, form_ifs, ifs_of, ifs_in, begin, form
 use Rattle.cx_interp_islands.specs.Asked.{form_asked, statement_asked, while_asked, parts_asked, arms_asked}
 use Rattle.cx_laws.proofs.SamplesLemmas.{begin_other}
 use Rattle.cx_text.proofs.NumberLaws.{same_choice}
+use Rattle.cx_laws.proofs.PositionLemmas.{both_same}
 
 same_branch : {A : Type 0} (b c : Bool) (x y u v : A) → b ≡ c → (c ≡ true → x ≡ u) → (c ≡ false → y ≡ v) → (if b then x else y) ≡ (if c then u else v)
 same_branch b true x y u v e f g = ap (λ d. if d then x else y) e ∙ f refl
 same_branch b false x y u v e f g = ap (λ d. if d then x else y) e ∙ g refl
-
-both_same : {A : Type 0} {xs us ys vs : List A} → xs ≡ us → ys ≡ vs → xs ++ ys ≡ us ++ vs
-both_same {A} {xs} {us} {ys} {vs} e f = ap (λ z. z ++ ys) e ∙ ap (λ z. us ++ z) f
 
 -- what runs does not go by the samples of other statements
 module _ {A : Type 0} (part : PlainComponent) (kept other : Samples) (of_group : ℕ → ℕ → List A) (of_port : PortRef → ℕ → List A) where

@@ -15,18 +15,18 @@ use Rattle.cx_rules.proofs.LimitRuleLemmas.{first_of}
 use Rattle.cx_design_sizes.specs.Capped.{capped}
 use Rattle.cx_limits.specs.Inners.{capped_inner, capped_inners, cell_counts, below_of, below_at, limit_at}
 use Rattle.cx_limits.proofs.InnerCaps.{cells_counted, cells_capped, groups_capped, form_capped}
-use Rattle.cx_limits.proofs.NeededLemmas.{both_ways}
+use Rattle.cx_text.proofs.BoolLaws.{bools_same}
 
 -- a limit below the caps is exceeded under caps where it is exceeded
 over_same : (limit m n : ℕ) → limit < 2 ^ 64 - 1 → capped m ≡ capped n → nat_lt limit (capped m) ≡ nat_lt limit n
 over_same limit m n small e =
-    both_ways (nat_lt limit (capped m)) (nat_lt limit n)
+    bools_same (nat_lt limit (capped m)) (nat_lt limit n)
     (λ h. let less : limit < capped m = ltb-true limit (capped m) h in lt-ltb limit n (omega (arith, e)))
     (λ h. let less : limit < n = ltb-true limit n h in lt-ltb limit (capped m) (omega (arith, e)))
 
 least_same : (limit n : ℕ) → limit ≤ 2 ^ 64 - 1 → nat_le limit (capped n) ≡ nat_le limit n
 least_same limit n small =
-    both_ways (nat_le limit (capped n)) (nat_le limit n)
+    bools_same (nat_le limit (capped n)) (nat_le limit n)
     (λ h. let less : limit ≤ capped n = leb-true limit (capped n) h in le-leb limit n (omega arith))
     (λ h. let less : limit ≤ n = leb-true limit n h in le-leb limit (capped n) (omega arith))
 

@@ -14,6 +14,7 @@ use Rattle.cx_rules.specs.Invokes.{invoke_at, invokes_of, capture_of, captures_o
 use Rattle.cx_rules.specs.Counts.{is_one_of, group_if, needed, needed_from, needed_groups}
 use Rattle.cx_rules.specs.Wellformed.{IsDesign}
 use Rattle.cx_limits.specs.Inners.{set_all, captures_by, flagged, needs_of}
+use Rattle.cx_text.proofs.BoolLaws.{or_either, or_assoc, bools_same, or_left}
 
 -- FLAGS
 pub set_past : (flags : List Bool) (g : ℕ) → length flags < suc g → set flags g true ≡ flags
@@ -33,10 +34,6 @@ or_false : (b : Bool) → (b || false) ≡ b
 or_false true = refl
 or_false false = refl
 
-or_assoc : (a b c : Bool) → ((a || b) || c) ≡ (a || (b || c))
-or_assoc true b c = refl
-or_assoc false b c = refl
-
 with_false : (o : Option Bool) → option_map (λ b. b || false) o ≡ o
 with_false None = refl
 with_false (Some b) = ap Some (or_false b)
@@ -48,14 +45,9 @@ with_both a c (Some b) = ap Some (or_assoc b a c)
 differs : (m n : ℕ) → (m ≡ n → ⊥) → nat_eq m n ≡ false
 differs m n h = false_from_ne_true (nat_eq m n) (λ e. h (eqb-true m n e))
 
-pub both_ways : (a b : Bool) → (a ≡ true → b ≡ true) → (b ≡ true → a ≡ true) → a ≡ b
-both_ways true b f g = sym (f refl)
-both_ways false true f g = g refl
-both_ways false false f g = refl
-
 suc_eq : (m n : ℕ) → nat_eq m n ≡ nat_eq (suc m) (suc n)
 suc_eq m n =
-    both_ways (nat_eq m n) (nat_eq (suc m) (suc n)) (λ e. eq-eqb (suc m) (suc n) (ap suc (eqb-true m n e)))
+    bools_same (nat_eq m n) (nat_eq (suc m) (suc n)) (λ e. eq-eqb (suc m) (suc n) (ap suc (eqb-true m n e)))
     (λ e. eq-eqb m n (let f : suc m ≡ suc n = eqb-true (suc m) (suc n) e in omega arith))
 
 set_flag : (flags : List Bool) (g h : ℕ) → slice_get (set flags g true) h ≡ option_map (λ b. b || nat_eq h g) (slice_get flags h)
@@ -94,16 +86,9 @@ one_of_append : (h : ℕ) (gs hs : List ℕ) → is_one_of h (gs ++ hs) ≡ (is_
 one_of_append h [] hs = refl
 one_of_append h (g ∷ gs) hs = ap (λ b. nat_eq h g || b) (one_of_append h gs hs) ∙ sym (or_assoc (nat_eq h g) (is_one_of h gs) (is_one_of h hs))
 
-or_left : (a b : Bool) → a ≡ true → (a || b) ≡ true
-or_left a b e = ap (λ x. x || b) e
-
 or_right : (a b : Bool) → b ≡ true → (a || b) ≡ true
 or_right true b e = refl
 or_right false b e = e
-
-or_either : (a b : Bool) → (a || b) ≡ true → (a ≡ true) ⊎ (b ≡ true)
-or_either true b e = inl refl
-or_either false b e = inr e
 
 one_of : (h : ℕ) (gs : List ℕ) → In gs h → is_one_of h gs ≡ true
 one_of h [] i = absurd i
@@ -155,7 +140,7 @@ in_of part (j ∷ ks) k h v (inr i) e c = in_right (capture_of (invoke_at part j
 same_captures : (part : PlainComponent) → ((n : ℕ) → n < length part.invokes → In (invokes_of part.control) n) → (h : ℕ)
     → is_one_of h (captures_by part.invokes) ≡ is_one_of h (captures_of part (invokes_of part.control))
 same_captures part invoked h =
-    both_ways (is_one_of h (captures_by part.invokes)) (is_one_of h (captures_of part (invokes_of part.control)))
+    bools_same (is_one_of h (captures_by part.invokes)) (is_one_of h (captures_of part (invokes_of part.control)))
     (λ e. let r = by_in part.invokes h (one_in h (captures_by part.invokes) e) in
     one_of h (captures_of part (invokes_of part.control)) (in_of part (invokes_of part.control) r.0 h r.1 (invoked r.0 (there_below part.invokes r.0 r.1 r.2)) r.2 r.3))
     (λ e. let r = of_in part (invokes_of part.control) h (one_in h (captures_of part (invokes_of part.control)) e) in

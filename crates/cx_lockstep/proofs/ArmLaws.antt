@@ -7,22 +7,11 @@ use Rattle.cx_lockstep.specs.Worlds.{Store, World, Control, At, Done, Machine, e
 use Rattle.cx_lockstep.specs.Doing.{Settles, After, EndsAs, GoesOn, Meets, Does}
 use Rattle.cx_lockstep.specs.Machines.{join, left_of, right_of, first_some, par_machine}
 use Rattle.std.proofs.lemmas.Bool.{false_from_ne_true, or_from}
-use Rattle.cx_text.proofs.BoolLaws.{or_either, by_test, pick_false}
+use Rattle.cx_text.proofs.BoolLaws.{or_either, by_test, pick_false, neither_first, neither_second}
 
 pub first_none : {A : Type 0} (o : Option A) → first_some o None ≡ o
 first_none None = refl
 first_none (Some v) = refl
-
-pub or_left : (a b : Bool) → (a || b) ≡ false → a ≡ false
-or_left true b e = cc
-or_left false b e = refl
-
-pub or_right : (a b : Bool) → (a || b) ≡ false → b ≡ false
-or_right true b e = absurd (truth e)
-  where
-    truth : true ≡ false → ⊥
-    truth e = cc
-or_right false b e = e
 
 pick : {A : Type 0} (b : Bool) (x y s : A) → (b ≡ true → s ≡ x) → (b ≡ false → s ≡ y) → s ≡ (if b then x else y)
 pick true x y s f g = f refl
@@ -162,7 +151,7 @@ module _ {X : Type 0} {V : X → Type 0} {E S : Type 0} (W : World X V E S) (Res
       par_meets : (o1 o2 : Answer S F) → Meets W Rests A Left e DA A.start s n o1 → Meets W Rests B Right e DB B.start s n o2 → Meets W Rests M R e D (join A.start B.start) s n (both (merged e) o1 o2)
       par_meets (End s1 t) (End s2 v) p q = record {
         in_budget = (let l1 : t ≤ n = p.in_budget in let l2 : v ≤ n = q.in_budget in omega arith);
-        keeps = λ x i f. mix e s1 s2 x ∙ pick_false (DA x) _ _ (or_left (DA x) (DB x) (d x f)) ∙ q.keeps x (i, or_left (DA x) (DB x) (d x f)) (or_right (DA x) (DB x) (d x f));
+        keeps = λ x i f. mix e s1 s2 x ∙ pick_false (DA x) _ _ (neither_first (DA x) (DB x) (d x f)) ∙ q.keeps x (i, neither_first (DA x) (DB x) (d x f)) (neither_second (DA x) (DB x) (d x f));
         settled = λ x i. subst (Rests x) (sym (mix e s1 s2 x)) (by_test (Rests x) (DA x) (W.shown e s1 x) (W.shown e s2 x) (λ f. p.settled x (i, left_free x f)) (λ f. q.settled x (i, f)));
         ends = ends_both e s1 s2 p.settled q.settled t v A.start B.start s s s (λ x i. refl) (λ x i. refl) p.ends q.ends;
       }
@@ -185,8 +174,8 @@ module _ {X : Type 0} {V : X → Type 0} {E S : Type 0} (W : World X V E S) (Res
       → Does W Rests (par_machine A B) (λ x. DA x || DB x) (λ x. RA x ⊎ RB x) (λ e s n. both (merged e) (mA e s n) (mB e s n))
   par_does A B DA DB RA RB mA mB a b ab ba merged mix = record {
     sees = λ x h. seen x (or_either (DA x) (DB x) h);
-    only = λ c w x f. ap (first_some (writes A (left_of c) w x)) (right_only A B DA DB RA RB mA mB a b ab ba merged mix (λ y. Unit {0}) (right_of c) w x (or_right (DA x) (DB x) f))
-        ∙ ap (λ o. first_some o None) (left_only A B DA DB RA RB mA mB a b ab ba merged mix (λ y. Unit {0}) (left_of c) w x (or_left (DA x) (DB x) f));
+    only = λ c w x f. ap (first_some (writes A (left_of c) w x)) (right_only A B DA DB RA RB mA mB a b ab ba merged mix (λ y. Unit {0}) (right_of c) w x (neither_second (DA x) (DB x) f))
+        ∙ ap (λ o. first_some o None) (left_only A B DA DB RA RB mA mB a b ab ba merged mix (λ y. Unit {0}) (left_of c) w x (neither_first (DA x) (DB x) f));
     does = λ R D r d e s n st.
         par_meets A B DA DB RA RB mA mB a b ab ba merged mix R D d e (W.shown e s) n (mA e s n) (mB e s n)
         (a.does (λ x. R x × (DB x ≡ false)) DA (λ x i. (r x (inl i), false_from_ne_true (DB x) (λ h. ba x h i))) (λ x f. f) e s n (λ x i. st x i.0))

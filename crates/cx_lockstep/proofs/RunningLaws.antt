@@ -6,9 +6,9 @@ use Rattle.cx_meaning.specs.Sights.{In}
 use Rattle.cx_lockstep.specs.Worlds.{Store, Control, At, Done, Machine, step, faults}
 use Rattle.cx_lockstep.specs.Machines.{within, First, Second, second_start, InPar, left_of, right_of, join, par_machine, AtTest, InThen, InElse, AtHead, InBody, in_round, next_round}
 use Rattle.cx_lockstep.specs.Statements.{LeafMachines, machine_of, parts_machine, arms_machine}
-use Rattle.cx_lockstep.proofs.ArmLaws.{or_left, or_right}
 use Rattle.cx_lockstep.specs.Running.{Running, AGroup, AnIsland, at_control, par_runs, leaf_faults, leaf_next, group_next, island_next, running, parts_run, arms_run}
 use Rattle.cx_meaning.proofs.SightsLaws.{in_either, in_left, in_right}
+use Rattle.cx_text.proofs.BoolLaws.{neither_first, neither_second}
 
 module _ {X : Type 0} {V : X → Type 0} {F : Type 0} (P : LeafMachines X V F) where
   -- FAULTS: where the machine has none, no leaf that runs has one
@@ -24,8 +24,8 @@ module _ {X : Type 0} {V : X → Type 0} {F : Type 0} (P : LeafMachines X V F) w
     par_clean A B f h first second c clean i = either (in_either (at_control f (left_of c)) (at_control h (right_of c)) r i)
       where
         either : In (at_control f (left_of c)) r ⊎ In (at_control h (right_of c)) r → leaf_faults P r w ≡ false
-        either (inl k) = arm_clean A f first (left_of c) (or_left (faults A (left_of c) w) (faults B (right_of c) w) clean) k
-        either (inr k) = arm_clean B h second (right_of c) (or_right (faults A (left_of c) w) (faults B (right_of c) w) clean) k
+        either (inl k) = arm_clean A f first (left_of c) (neither_first (faults A (left_of c) w) (faults B (right_of c) w) clean) k
+        either (inr k) = arm_clean B h second (right_of c) (neither_second (faults A (left_of c) w) (faults B (right_of c) w) clean) k
 
     mutual
       pub no_faults : (s : PlainStatement) (c : Machine.Place (machine_of P s)) → Machine.faults (machine_of P s) c w ≡ false → In (running P s c) r → leaf_faults P r w ≡ false

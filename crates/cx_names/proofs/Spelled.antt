@@ -82,7 +82,7 @@ Nests Negation p g q = Chain p (in_guard g) q
 Nests Parens p g q = Chain p (in_guard g) q
 Nests Braces p b q = NoLater p q
 
-nest_passes : (n : Nest) (p : Place) (x : Nested n) (q : Place) → Nests n p x q → NoLater p q
+pub nest_passes : (n : Nest) (p : Place) (x : Nested n) (q : Place) → Nests n p x q → NoLater p q
 nest_passes Negation p g q c = chain_passes p (in_guard g) q c
 nest_passes Parens p g q c = chain_passes p (in_guard g) q c
 nest_passes Braces p b q c = c

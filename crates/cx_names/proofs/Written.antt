@@ -323,7 +323,7 @@ module _ (spelled : (n : Nest) → Spelling (Nested n)) (deep : (n : Nest) → K
       (gives_pair spelled (λ c cs. c ∷ cs) component components (Ever HasWires) (Ever (Each HasWires)) (Ever (Each HasWires)) is_component all_components (λ p m q c cs h k. (h, k)))
       (λ is cs h. h)
 
-nested_within : (levels : ℕ) (n : Nest) → Keeps (spelled_within levels n) (Nests n)
+pub nested_within : (levels : ℕ) (n : Nest) → Keeps (spelled_within levels n) (Nests n)
 nested_within zero n p ts x rest r s = absurd s
 nested_within (suc levels) n p ts x rest r s = nested (spelled_within levels) (nested_within levels) n p ts x rest r s
 

@@ -15,7 +15,8 @@ use Rattle.cx_ast.specs.declared.tokens.Token.{Token}
 use Rattle.cx_ast.specs.declared.tokens.TokenKind.{TokenKind}
 use Rattle.cx_ast.specs.declared.tokens.TokenKind.TheVariants as kinds
 use Rattle.cx_ast.specs.PlainTokens.{kinds_of}
-use Rattle.cx_lex.specs.Bytes.{is_blank, is_name_start, is_name_byte, goes_on, is_digit_in, Stops}
+use Rattle.cx_text.specs.Spans.{Stops}
+use Rattle.cx_lex.specs.Bytes.{is_blank, is_name_start, is_name_byte, goes_on, is_digit_in}
 use Rattle.cx_lex.specs.Lex.{sign_bytes, IsLongest, IsToken, name, number, literal, string, sign, blank, HasTokens, ended, gap, token}
 use Rattle.cx_lex.proofs.SignLemmas.{short_or_long, IsShort, IsLong, length-sign_bytes-le}
 use Rattle.cx_print.specs.declared.pieces.Gap.{Gap}

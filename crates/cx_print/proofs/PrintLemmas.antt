@@ -17,7 +17,7 @@ use Rattle.cx_print.proofs.FileSpelling.{tree_added}
 pub tokens_writable : (tree : PlainTree) → IsPrintable tree → AreWritable (tokens_of tree)
 tokens_writable tree h = let a = tree_added tree h in subst AreWritable (sym (a.added [])) a.writable
 
-no_tokens : (ts : List Token) → kinds_of ts ≡ [] → ts ≡ []
+pub no_tokens : (ts : List Token) → kinds_of ts ≡ [] → ts ≡ []
 no_tokens [] e = refl
 no_tokens (t ∷ ts) e = absurd (cc)
 

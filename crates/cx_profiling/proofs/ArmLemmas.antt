@@ -12,7 +12,7 @@ use Rattle.cx_meaning.specs.Sights.{Held, In}
 use Rattle.cx_meaning.specs.Cycles.{Fault}
 use Rattle.cx_meaning.specs.Control.{Leaves, with_comb, targets_cell, assigns_drive, groups_in, groups_of, groups_in_all, group_drives, groups_drive, drives}
 use Rattle.cx_meaning.specs.Running.{Children, leaves}
-use Rattle.cx_meaning.proofs.ControlLaws.{groups_drive_in}
+use Rattle.cx_meaning.proofs.ControlLaws.{groups_drive_in, driver}
 use Rattle.cx_meaning.proofs.InstancesLemmas.{just_true}
 use Rattle.cx_meaning.proofs.DesignsLemmas.{same_part}
 use Rattle.cx_rules.specs.Items.{Dynamic, Visited, visit, visit_parts, below_dynamic, statements_in, is_comb}
@@ -34,12 +34,12 @@ use Rattle.cx_profiling.specs.Counters.{has_name, is_counted_kind, is_counted, c
 use Rattle.cx_profiling.specs.Counting.{ChildrenCount, counting}
 use Rattle.cx_profiling.specs.Growing.{Grown}
 use Rattle.cx_profiling.specs.Instrumented.{moved_in, with_counts}
-use Rattle.cx_profiling.proofs.ListedCells.{count_listed}
 use Rattle.cx_profiling.proofs.GrownLemmas.{Apart, grown_merge}
 use Rattle.cx_profiling.proofs.GrownTrees.{InTree, in_reach, is_whole}
 use Rattle.cx_profiling.proofs.CountWithin.{own_zero, own_arms_zero, below_zero, below_arms_zero}
 use Rattle.cx_profiling.proofs.GroupLemmas.{counted_there, old_driven, register_driven, register_past}
 use Rattle.cx_profiling.proofs.EnabledLemmas.{AreForms, Known, statement_known, is_enabled, arm_of, visits_of_arm}
+use Rattle.cx_meaning.proofs.CycleLemmas.{count_for}
 
 -- the groups of a statement stay when its ports are moved
 mutual
@@ -70,11 +70,6 @@ driving_arm part no_statements c e = absurd (cc)
 driving_arm part (a_statement s ss) c e =
     ⊎_elim (λ a. (0, s, refl, a)) (λ b. let r = driving_arm part ss c b in (suc r.0, r.1, r.2, r.3))
     (or_cases (drives part s c) (groups_drive part (groups_in_all ss) c) (sym (groups_joined part (groups_of s) (groups_in_all ss) c) ∙ e))
-
-pub driver_in : (part : PlainComponent) (gs : List ℕ) (c : ℕ) → groups_drive part gs c ≡ true → (g : ℕ) × In gs g × (group_drives part g c ≡ true)
-driver_in part [] c e = absurd (cc)
-driver_in part (g ∷ gs) c e =
-    ⊎_elim (λ a. (g, inl refl, a)) (λ b. let r = driver_in part gs c b in (r.0, inr r.1, r.2)) (or_cases (group_drives part g c) (groups_drive part gs c) e)
 
 pub list_joined : (done later : PlainStatements) → list_of (joined done later) ≡ list_of done ++ list_of later
 list_joined no_statements later = refl
@@ -198,14 +193,14 @@ module _ (d : PlainDesign) (design : IsDesign d) (accepted : IsAccepted d) (m k 
     apart : (τ : Tally) (s : State) (n : ℕ) (a b x y : State) → Apart (drives part arm) (drives other (moved_statement mv arm)) a b x y τ (count L C arm s n) (count_arms L C later s n) i
     apart τ s n a b x y = record {
       same = λ c few.
-          let less : c < length part.cells = subst (λ z. c < z) (count_listed (tree_within d m) part.cells) few in
+          let less : c < length part.cells = subst (λ z. c < z) (count_for (tree_within d m) part.cells) few in
           ap (λ gs. groups_drive other gs c) (moved_groups mv arm) ∙ groups_same (groups_of arm) c (λ g inside. (arm_group g inside).there) less;
       later = λ c path g driven. below_arms_zero i kids counts held c path g later (undriven_later c driven) s n;
       first = λ c path g none. below_zero i kids counts held c path g arm none s n;
       own_later = λ counter own driven.
           let there : In (counters (component_of d k)) counter = subst (λ tree. In (counters tree) counter) (is_whole d at) own in
           let known = counted_there d k at.within (in_reach d at) counter there in
-          let group = driver_in other (groups_of arm) counter.register (sym (ap (λ gs. groups_drive other gs counter.register) (moved_groups mv arm)) ∙ driven) in
+          let group = driver other (groups_of arm) counter.register (sym (ap (λ gs. groups_drive other gs counter.register) (moved_groups mv arm)) ∙ driven) in
           let few : group.0 < length part.groups = (arm_group group.0 group.1).there in
           let is : group.0 ≡ counter.group = register_driven d k at.within (in_reach d at) counter there group.0 few (no_cell group.0 counter.register (register_past d k at.within (in_reach d at) counter there) few) group.2 in
           own_arms_zero i kids counts held counter.group later (not_later counter.group (counted_kind (cells_of (component_of d k)) (group_at part counter.group) known.1) (subst (In (groups_of arm)) is group.1)) s n;

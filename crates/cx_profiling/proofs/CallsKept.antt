@@ -1,10 +1,10 @@
 -- An instrumented design keeps the rule on calls: a group that calls is not counted, so it has its old assignments, moved, alone.
-use Rattle.std.proofs.Common.{◌≡◌, ℕ, suc, ◌+◌, ◌*◌, ◌<◌, ◌≤◌, inl, inr, ◌⊎◌, ⊎_elim, Bool, true, false, ◌||◌, ◌&&◌, if◌then◌else◌, List, [], ◌∷◌, ◌++◌, length, map, Option, Some, None, slice_get, refl, sym, ap, ap₂, ◌∙◌, subst, arith}
+use Rattle.std.proofs.Common.{◌≡◌, ℕ, suc, ◌+◌, ◌*◌, ◌<◌, ◌≤◌, inl, inr, ◌⊎◌, ⊎_elim, Bool, true, false, ◌&&◌, if◌then◌else◌, List, [], ◌∷◌, ◌++◌, length, map, Option, Some, None, slice_get, refl, sym, ap, ap₂, ◌∙◌, subst, arith}
 use Rattle.std.specs.Prelude.{nat_eq, is_none}
-use Rattle.std.proofs.lemmas.Bool.{and_parts, both_ways, cases_lt, eq-eqb, eqb-true, or_cases, ne_eqb}
+use Rattle.std.proofs.lemmas.Bool.{and_parts, both_ways, cases_lt, eq-eqb, eqb-true, ne_eqb}
 use Rattle.cx_text.specs.declared.places.Place.{Place}
 use Rattle.cx_text.specs.declared.rules.Rule.TheVariants as rules
-use Rattle.cx_text.proofs.ListLaws.{there_at, there_below}
+use Rattle.cx_text.proofs.ListLaws.{there_at, there_below, nothing_more}
 use Rattle.cx_text.proofs.OptionLaws.{none_some}
 use Rattle.cx_prim.specs.Rows.{Row}
 use Rattle.cx_meaning.specs.declared.kinds.GroupKind.{GroupKind}
@@ -38,29 +38,13 @@ use Rattle.cx_profiling.proofs.ListedCells.{CellIs, is_primitive, is_component, 
 use Rattle.cx_profiling.proofs.ListedCells as listed
 use Rattle.cx_profiling.proofs.MovedCalls.{some_moved, same_moved, AllInside, with_target-moved, target_inside, is_right_go-moved, is_right_enable-moved, is_right_done-moved}
 use Rattle.cx_profiling.proofs.PairLemmas.{CellPair, row_pair, child_pair, pair_at, child_ports}
-use Rattle.cx_profiling.proofs.PartTable.{in_order, GroupMade, bare_group, counting_group, storing_group, no_group_there, group_made, kind_kept, InGroup, old_in, counting_in, storing_in, in_group, OwnedMade, old_owned, showing, counting, storing, owned_made}
+use Rattle.cx_profiling.proofs.PartTable.{GroupMade, bare_group, counting_group, storing_group, no_group_there, group_made, kind_kept, InGroup, old_in, counting_in, storing_in, in_group, OwnedMade, old_owned, showing, counting, storing, owned_made}
 use Rattle.cx_profiling.proofs.PortLemmas.{IsInside, grown_number, moved-primitive, moved_apart}
 use Rattle.cx_profiling.proofs.PortsKept.{counter_target, StoreTarget, to_memory, to_hole, store_target, enable_kept, part_port_kept, hole_of_kept, cell_back, done_back, counter_row_there, counts_row, memory_there}
 use Rattle.cx_profiling.proofs.RoleLemmas.{more_cells}
 use Rattle.cx_profiling.proofs.ShapesKept as shapes
-
-nothing_more : {A : Type 0} (xs : List A) → xs ++ [] ≡ xs
-nothing_more [] = refl
-nothing_more (x ∷ xs) = ap (λ list. x ∷ list) (nothing_more xs)
-
--- a list of assignments and one of them
-pub some_back : (test : PortRef → Bool) (list : List PlainAssign) → some_target test list ≡ true → (a : PlainAssign) × In list a × (test a.target ≡ true)
-some_back test [] e = absurd (cc)
-some_back test (a ∷ rest) e = ⊎_elim (λ h. (a, inl refl, h)) (λ h. let r = some_back test rest h in (r.0, inr r.1, r.2)) (or_cases (test a.target) (some_target test rest) e)
-
-some_there : (test : PortRef → Bool) (list : List PlainAssign) (a : PlainAssign) → In list a → test a.target ≡ true → some_target test list ≡ true
-some_there test [] a k e = absurd k
-some_there test (x ∷ xs) a (inl same) e = ap (λ b. b || some_target test xs) (ap (λ (z : PlainAssign). test z.target) same ∙ e)
-some_there test (x ∷ xs) a (inr k) e = ap (λ b. test x.target || b) (some_there test xs a k e) ∙ either (test x.target)
-  where
-    either : (b : Bool) → (b || true) ≡ true
-    either true = refl
-    either false = refl
+use Rattle.cx_rules.proofs.ShapeRulesLemmas.{some_in, a_target}
+use Rattle.cx_flattening.proofs.Ruled.{in_order}
 
 port_of_is : (e : ℕ) (t : PortRef) → is_port_of e t ≡ true → (n : ℕ) × (t ≡ ports.Cell e n)
 port_of_is e (ports.Cell c n) h = (n, ap (λ x. ports.Cell x n) (eqb-true c e h))
@@ -161,7 +145,7 @@ module _ (d : PlainDesign) (design : IsDesign d) (accepted : IsAccepted d) (m k 
   call_back g c calls = by a.0 n (in_group d design k within g a.0 a.1)
     where
       a : (x : PlainAssign) × In (assigns_of j g) x × (is_port_of c x.target ≡ true)
-      a = some_back (is_port_of c) (assigns_of j g) calls.driven
+      a = a_target (is_port_of c) (assigns_of j g) calls.driven
 
       n : (n : ℕ) × (a.0.target ≡ ports.Cell c n)
       n = port_of_is c a.0.target a.2
@@ -214,7 +198,7 @@ module _ (d : PlainDesign) (design : IsDesign d) (accepted : IsAccepted d) (m k 
     child = tree_within d m b.component;
     is_component = b.first;
     dynamic = ap (λ (x : PlainComponent). x.latency) (same_part d m b.component) ∙ b.dynamic;
-    driven = some_there (is_port_of c) (assigns_of i g) b.assign b.inside (ap (is_port_of c) b.target ∙ eq-eqb c c refl);
+    driven = some_in (is_port_of c) (assigns_of i g) b.assign b.inside (ap (is_port_of c) b.target ∙ eq-eqb c c refl);
   }
 
   -- a group that calls is not counted
@@ -370,7 +354,7 @@ module _ (d : PlainDesign) (design : IsDesign d) (accepted : IsAccepted d) (m k 
         by : (t : Bool) → some_target (same_port (write_en_of r)) (map (moved_assign mv) (assigns_of i g)) ≡ t → t ≡ false
         by false e = refl
         by true e =
-            let a = some_back (same_port (write_en_of r)) (map (moved_assign mv) (assigns_of i g)) e in
+            let a = a_target (same_port (write_en_of r)) (map (moved_assign mv) (assigns_of i g)) e in
             let x = image_in (moved_assign mv) (assigns_of i g) a.0 a.1 in
             let target : mv x.0.target ≡ write_en_of r = ap (λ (y : PlainAssign). y.target) x.2 ∙ sym (same_is (write_en_of r) a.0.target a.2) in
             let q = cell_back d design m k within x.0.target r 1 target in

@@ -79,25 +79,6 @@ part_given part (suc n) past =
 pub done_port : (part : PlainComponent) → part_port part (first_gained part) ≡ ItsDone
 done_port part = by_number part (first_gained part) ∙ its_done (length part.inputs) (length part.outputs) (length part.inputs + length part.outputs) (omega arith)
 
-pub output_before : (part : PlainComponent) (p n : ℕ) → part_port part p ≡ AnOutput n → n < length part.outputs
-output_before part zero n e = absurd (cc)
-output_before part (suc m) n e = ⊎_elim input other (cases_lt m (length part.inputs))
-  where
-    input : m < length part.inputs → n < length part.outputs
-    input less = let wrong : AnInput m ≡ AnOutput n = sym (an_input (length part.inputs) (length part.outputs) m less) ∙ e in absurd (cc)
-
-    other : length part.inputs ≤ m → n < length part.outputs
-    other past =
-        ⊎_elim
-        (λ (less : m - length part.inputs < length part.outputs).
-        let number : m ≡ length part.inputs + (m - length part.inputs) = omega (arith, past) in
-        let same : AnOutput (m - length part.inputs) ≡ AnOutput n = sym (an_output (length part.inputs) (length part.outputs) m (m - length part.inputs) number less) ∙ e in
-        let is : m - length part.inputs ≡ n = cc in
-        subst (λ x. x < length part.outputs) is less)
-        (λ (far : length part.outputs ≤ m - length part.inputs).
-        let wrong : ItsDone ≡ AnOutput n = sym (its_done (length part.inputs) (length part.outputs) m (omega (arith, past, far))) ∙ e in absurd (cc))
-        (cases_lt (m - length part.inputs) (length part.outputs))
-
 module _ (d : PlainDesign) (k : ℕ) (within : k < length d.components) where
   -- each port is what it was, at its new number
   pub ports_alike : (p : ℕ) → p ≤ first_gained (component_at d k)

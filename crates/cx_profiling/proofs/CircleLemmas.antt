@@ -26,22 +26,19 @@ use Rattle.cx_profiling.proofs.CellPorts.{IsGiven, given_output, given_done, par
 use Rattle.cx_profiling.proofs.GainedLemmas.{grown_at}
 use Rattle.cx_profiling.proofs.InsideLemmas.{inside_closed}
 use Rattle.cx_profiling.proofs.PairLemmas.{drives_moved, CellPair, row_pair, child_pair, pair_at, child_ports}
+use Rattle.cx_rules.proofs.CircleLemmas.{depends_then}
 
 -- a port from which nothing leads in more than so many steps
 abbrev pub Ends : Instance → Active → ℕ → PortRef → Type 0
 Ends i act zero p = (q : PortRef) → Leads i act p q → ⊥
 Ends i act (suc n) p = (q : PortRef) → Leads i act p q → Ends i act n q
 
-further : {i : Instance} {act : Active} {p q r : PortRef} → Depends i act p q → Leads i act q r → Depends i act p r
-further {q = q} (at_once l) k = by_way_of q l (at_once k)
-further (by_way_of m l d) k = by_way_of m l (further d k)
-
 -- no such port is on a circle
 pub ends_no_circle : (i : Instance) (act : Active) (n : ℕ) (p : PortRef) → Ends i act n p → Depends i act p p → ⊥
 ends_no_circle i act zero p ends (at_once l) = ends p l
 ends_no_circle i act zero p ends (by_way_of r l d) = ends r l
 ends_no_circle i act (suc n) p ends (at_once l) = ends_no_circle i act n p (ends p l) (at_once l)
-ends_no_circle i act (suc n) p ends (by_way_of r l d) = ends_no_circle i act n r (ends r l) (further d l)
+ends_no_circle i act (suc n) p ends (by_way_of r l d) = ends_no_circle i act n r (ends r l) (depends_then d l)
 
 module _ (d : PlainDesign) (design : IsDesign d) (m k : ℕ) (within : k < length d.components) (act : Active) where
   abbrev part : PlainComponent

@@ -45,13 +45,7 @@ use Rattle.cx_profiling.proofs.AcyclicLemmas.{ActsWithin, child_few, child_acycl
 use Rattle.cx_profiling.proofs.EnabledLemmas.{Known, statement_known}
 use Rattle.cx_profiling.proofs.ArmLemmas.{all_forms, arms_merge}
 use Rattle.cx_profiling.proofs.LeafLemmas.{rests, called_instance, same_called, same_kind, group_leaf, test_leaf, call_leaf, island_leaf}
-
-pub control_child : (cells : Cells) (c : ℕ) (child : Instance) → cell_at cells c ≡ OfInstance child → (held : Held) (s : State) (n : ℕ) → control_below cells c held s n ≡ run_control child held s n
-control_child no_cells c child e held s n = absurd (nothing_instance child e)
-control_child (a_primitive row rest) zero child e held s n = absurd (row_instance row child e)
-control_child (a_primitive row rest) (suc c) child e held s n = control_child rest c child e held s n
-control_child (an_instance x rest) zero child e held s n = ap (λ y. run_control y held s n) (instance_is x child e)
-control_child (an_instance x rest) (suc c) child e held s n = control_child rest c child e held s n
+use Rattle.cx_meaning.proofs.RunningLemmas.{child_runs}
 
 pub count_child : (cells : Cells) (c : ℕ) (child : Instance) → cell_at cells c ≡ OfInstance child → (held : Held) (s : State) (n : ℕ) → count_below cells c held s n ≡ count_control child held s n
 count_child no_cells c child e held s n = absurd (nothing_instance child e)
@@ -156,8 +150,8 @@ module _ (d : PlainDesign) (design : IsDesign d) (accepted : IsAccepted d) (grow
             (λ own twin_own alike.
             equal_carries (Grown (tree_within d m e)) (count_control (tree_within d m e) own) (count_below (cells_of i) c own) (run_control (tree_within d m e) own) (control_below (cells_of i) c own)
             (run_control (tree_within (with_counts d) m e) twin_own) (control_below (cells_of j) c twin_own)
-            (λ s n. count_child (cells_of i) c (tree_within d m e) first own s n) (λ s n. control_child (cells_of i) c (tree_within d m e) first own s n)
-            (λ s n. control_child (cells_of j) c (tree_within (with_counts d) m e) second twin_own s n)
+            (λ s n. count_child (cells_of i) c (tree_within d m e) first own s n) (λ s n. child_runs (cells_of i) c (tree_within d m e) first own s n)
+            (λ s n. child_runs (cells_of j) c (tree_within (with_counts d) m e) second twin_own s n)
             (kids e (child_in_tree d design at cell e (in_at node.cells c cell stands) comp) (no_main_below d design at cell e (in_at node.cells c cell stands) comp) own twin_own alike))
 
     of_kind : (g : ℕ) (kind : GroupKind) → IsKnown g → (group_at node g).kind ≡ kind

@@ -5,7 +5,8 @@ use Rattle.cx_meaning.specs.Instances.{Node, tree_within}
 use Rattle.cx_meaning.specs.Sights.{In}
 use Rattle.cx_rules.specs.Ports.{component_of}
 use Rattle.cx_rules.specs.Wellformed.{IsDesign}
-use Rattle.cx_profiling.proofs.TreeLemmas.{cells_same, IsWay, no_way, further, way_is_short}
+use Rattle.cx_profiling.proofs.TreeLemmas.{IsWay, no_way, further, way_is_short}
+use Rattle.cx_meaning.proofs.InstancesLemmas.{cells_same}
 
 module _ (d : PlainDesign) where
   -- no chain of cells from component k is longer than so many levels

@@ -11,7 +11,7 @@ use Rattle.cx_meaning.specs.Instances.{Instance, Cells, no_cells, a_primitive, a
 use Rattle.cx_meaning.specs.Active.{Active}
 use Rattle.cx_meaning.specs.Sights.{Held, In, seen}
 use Rattle.cx_meaning.specs.Cycles.{Fault, fault_at, Outcome, Next, Stops, outcome_at, stepped, Goes, cycle, every_cell}
-use Rattle.cx_meaning.proofs.CycleLemmas.{row_within}
+use Rattle.cx_meaning.proofs.CycleLemmas.{row_within, count_for}
 use Rattle.cx_meaning.proofs.InstancesLemmas.{instance_is, instance_row, row_instance, nothing_row, nothing_instance}
 use Rattle.cx_rules.specs.Circles.{IsAcyclic, AcyclicBelow}
 use Rattle.cx_rules.specs.Ports.{component_of}
@@ -26,7 +26,7 @@ use Rattle.cx_profiling.specs.Counters.{Counter, counters}
 use Rattle.cx_profiling.specs.Counting.{once, made_with}
 use Rattle.cx_profiling.specs.Growing.{Grown, GrownCells}
 use Rattle.cx_profiling.specs.Instrumented.{moved_in, with_counts}
-use Rattle.cx_profiling.proofs.ListedCells.{at_component, count_listed}
+use Rattle.cx_profiling.proofs.ListedCells.{at_component}
 use Rattle.cx_profiling.proofs.GrownLemmas.{grown_numbers}
 use Rattle.cx_profiling.proofs.RestLemmas.{grown_states}
 use Rattle.cx_profiling.proofs.RoleLemmas.{more_cells}
@@ -191,8 +191,8 @@ module _ (d : PlainDesign) (design : IsDesign d) (m k : ℕ) (at : InTree d (suc
       all_follow =
           let more = more_cells d k at.within in
           let total : length other.cells ≡ length node.cells + length more.0 = ap length more.1 ∙ length-append node.cells more.0 in
-          subst (λ n. OutcomesFollow faults (comes_to i held act s) (comes_to j twin act t) 0 n 0 (cell_count (cells_of j))) (sym (count_listed (tree_within d m) node.cells))
-          (subst (λ n. OutcomesFollow faults (comes_to i held act s) (comes_to j twin act t) 0 (length node.cells) 0 n) (sym (count_listed (tree_within (with_counts d) m) other.cells ∙ total))
+          subst (λ n. OutcomesFollow faults (comes_to i held act s) (comes_to j twin act t) 0 n 0 (cell_count (cells_of j))) (sym (count_for (tree_within d m) node.cells))
+          (subst (λ n. OutcomesFollow faults (comes_to i held act s) (comes_to j twin act t) 0 (length node.cells) 0 n) (sym (count_for (tree_within (with_counts d) m) other.cells ∙ total))
           (follow faults (comes_to i held act s) (comes_to j twin act t) (length node.cells) (length more.0) 0
           (λ e past less. follows e (omega (arith, less)))
           (λ e past less. new_goes e (omega (arith, past)) (omega (arith, less, total)))))
@@ -202,7 +202,7 @@ module _ (d : PlainDesign) (design : IsDesign d) (m k : ℕ) (at : InTree d (suc
         rows_left c row e = by (pair_at d design m k at.within c few)
           where
             few : c < length node.cells
-            few = subst (λ n. c < n) (count_listed (tree_within d m) node.cells) (row_within (cells_of i) c row e)
+            few = subst (λ n. c < n) (count_for (tree_within d m) node.cells) (row_within (cells_of i) c row e)
 
             by : CellPair d design m k at.within c → left_by j twin act t (c ∷ []) ≡ after (c ∷ [])
             by (row_pair r first second moved) = cell_left i j held twin act act s t c c (alike c r first second moved few) after goes

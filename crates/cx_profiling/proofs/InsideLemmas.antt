@@ -11,11 +11,11 @@ use Rattle.cx_rules.specs.Footprints.{AssignNames, Leads}
 use Rattle.cx_rules.specs.Ports.{component_of}
 use Rattle.cx_rules.specs.Wellformed.{IsDesign, IsAssign, StandsIn}
 use Rattle.cx_rules.proofs.ForeignLemmas.{sorted_among, owned_among, split, groups_among}
-use Rattle.cx_laws.proofs.SourceLemmas.{source_in}
 use Rattle.cx_rewrites.specs.Driving.{assigns_of}
 use Rattle.cx_rewrites.proofs.ClosedLemmas.{is_closed}
 use Rattle.cx_profiling.proofs.ListedCells.{at_component}
 use Rattle.cx_profiling.proofs.PortLemmas.{IsInside, there_inside}
+use Rattle.cx_rules.proofs.FoundLemmas.{source_in}
 
 pub stands_in : (part : PlainComponent) (o : Owned) → In (assigns_of part) o → StandsIn part o.owner o.assign
 stands_in part o i =

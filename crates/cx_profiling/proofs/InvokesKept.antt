@@ -1,7 +1,7 @@
 -- THE STATIC INVOKES of an instrumented component: each names its cell and has its latency, its inputs are moved, and the group that
 -- captures gains nothing, for it has no name.
 use Rattle.std.proofs.Common.{◌≡◌, ℕ, zero, suc, ◌+◌, ◌-◌, ◌<◌, ◌≤◌, ◌&&◌, Bool, true, false, if◌then◌else◌, inl, inr, ◌⊎◌, List, [], ◌∷◌, length, map, Option, Some, None, option_map, refl, sym, ap, ◌∙◌, subst, arith}
-use Rattle.std.specs.Prelude.{nat_eq, nat_lt, flat_map}
+use Rattle.std.specs.Prelude.{nat_eq, nat_lt}
 use Rattle.std.specs.List.{slice_get}
 use Rattle.std.proofs.lemmas.Bool.{eqb-true, ltb-true}
 use Rattle.cx_text.proofs.ListLaws.{front, there_at, there_below as below_there}
@@ -14,7 +14,7 @@ use Rattle.cx_meaning.specs.Control.{groups_of, groups_in_all}
 use Rattle.cx_meaning.specs.Instances.{Instance, Node, At, OfInstance, Cells, cells_for, cells_of, cell_at, part_of, tree_within}
 use Rattle.cx_meaning.specs.Sights.{In, AnInput, output_port, part_port}
 use Rattle.cx_meaning.proofs.DesignsLemmas.{same_part, there_below}
-use Rattle.cx_meaning.proofs.SightsLaws.{in_at, in_either, in_image, in_left, image_in, input_at, not_input}
+use Rattle.cx_meaning.proofs.SightsLaws.{in_at, in_either, in_image, in_left, image_in, input_at, not_input, flat_in}
 use Rattle.cx_rules.specs.CallShape.{IsInput, is_reg_kind, is_register_cell, is_register, one}
 use Rattle.cx_rules.specs.InvokeShape.{latency_at}
 use Rattle.cx_rules.specs.Invokes.{invoke_in, invokes_of}
@@ -38,15 +38,6 @@ pub get_mapped : {A B : Type 0} (f : A → B) (xs : List A) (n : ℕ) → slice_
 get_mapped f [] n = refl
 get_mapped f (x ∷ xs) zero = refl
 get_mapped f (x ∷ xs) (suc n) = get_mapped f xs n
-
-pub out_of_flat : {A B : Type 0} (each : A → List B) (xs : List A) (y : B) → In (flat_map each xs) y → (x : A) × In xs x × In (each x) y
-out_of_flat each [] y i = absurd i
-out_of_flat each (x ∷ xs) y i = one each x xs y (in_either (each x) (flat_map each xs) y i) (out_of_flat each xs y)
-  where
-    one : {A B : Type 0} (each : A → List B) (x : A) (xs : List A) (y : B) → In (each x) y ⊎ In (flat_map each xs) y → (In (flat_map each xs) y → (z : A) × In xs z × In (each z) y)
-        → (z : A) × In (x ∷ xs) z × In (each z) y
-    one each x xs y (inl h) later = (x, inl refl, h)
-    one each x xs y (inr h) later = let r = later h in (r.0, inr r.1, r.2)
 
 -- PORTS: an input is behind go, and before all outputs
 input_is : (part : PlainComponent) (p x : ℕ) → part_port part p ≡ AnInput x → (p ≡ suc x) × (x < length part.inputs)
@@ -133,7 +124,7 @@ module _ (d : PlainDesign) (k : ℕ) where
   form_invokes (Timed n) = refl
 
   still_invoked : (control : PlainStatement) → HasOld control → (n : ℕ) → In (invokes_of part.control) n → In (invokes_of control) n
-  still_invoked control has n i = by (out_of_flat (λ (v : Visited). invoke_in v.form) (statements_in part) n i)
+  still_invoked control has n i = by (flat_in (λ (v : Visited). invoke_in v.form) (statements_in part) n i)
     where
       by : (v : Visited) × In (statements_in part) v × In (invoke_in v.form) n → In (invokes_of control) n
       by (v, j, h) =

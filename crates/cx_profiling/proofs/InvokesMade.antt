@@ -11,7 +11,7 @@ use Rattle.cx_meaning.specs.declared.ports.PlacedPort.{PlacedPort}
 use Rattle.cx_meaning.specs.Designs.{PlainAssign, PlainForm, Empty, Enable, Seq, Par, If, While, Repeat, StaticSeq, StaticPar, StaticIf, StaticRepeat, Timed, PlainStatement, Placed, PlainStatements, no_statements, a_statement, PlainInvoke, PlainComponent, PlainDesign, component_at, group_at}
 use Rattle.cx_meaning.specs.Islands.{or_zero}
 use Rattle.cx_meaning.specs.Sights.{In}
-use Rattle.cx_meaning.proofs.SightsLaws.{in_at}
+use Rattle.cx_meaning.proofs.SightsLaws.{in_at, flat_in}
 use Rattle.cx_rules.specs.Invokes.{invoke_at, invoke_length, form_lasts, lasts, sum_lasts, max_lasts, invoke_in, invokes_of, capture_of, captures_of, is_cell_of, invokes_cell}
 use Rattle.cx_rules.specs.Items.{Dynamic, Visited, visit, operands_of, option_list, sources_of}
 use Rattle.cx_rules.specs.Ports.{component_of}
@@ -21,7 +21,7 @@ use Rattle.cx_rules.specs.Wellformed.{IsBind, IsCapturing, IsDesign, IsInvoke}
 use Rattle.cx_rules.proofs.PortsLemmas.{part_is}
 use Rattle.cx_rewrites.specs.Moving.{moved_assign, moved_form, moved_statement, moved_statements}
 use Rattle.cx_profiling.specs.Instrumented.{moved_in, moved_invoke, with_counts}
-use Rattle.cx_profiling.proofs.InvokesKept.{get_mapped, out_of_flat, form_invokes, keeps_at}
+use Rattle.cx_profiling.proofs.InvokesKept.{get_mapped, form_invokes, keeps_at}
 use Rattle.cx_profiling.proofs.MovedParts.{moved_visited, visit-moved}
 use Rattle.cx_profiling.proofs.PartTable.{length_kept}
 use Rattle.cx_profiling.proofs.ThereLemmas.{Names, from_there}
@@ -147,7 +147,7 @@ module _ (d : PlainDesign) (design : IsDesign d) (k : ℕ) (within : k < length 
 
   pub bind_names : (a : PlainAssign) → In (binds_in part) a → BindNames a
   bind_names a i =
-      let r = out_of_flat (λ (v : PlainInvoke). v.inputs) part.invokes a i in
+      let r = flat_in (λ (v : PlainInvoke). v.inputs) part.invokes a i in
       bind_named r.0.cell a (((design.components k within).invokes r.0 r.1).inputs a r.2)
 
   -- a group that captures is there, and has no name
@@ -162,7 +162,7 @@ module _ (d : PlainDesign) (design : IsDesign d) (k : ℕ) (within : k < length 
   }
 
   pub captures_there : (ns : List ℕ) (g : ℕ) → In (captures_of part ns) g → Captures g
-  captures_there ns g i = by (out_of_flat (λ n. capture_of (invoke_at part n)) ns g i)
+  captures_there ns g i = by (flat_in (λ n. capture_of (invoke_at part n)) ns g i)
     where
       is_it : (o : Option ℕ) → In (option_list o) g → o ≡ Some g
       is_it None h = absurd h

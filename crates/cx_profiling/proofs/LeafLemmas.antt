@@ -23,7 +23,7 @@ use Rattle.cx_meaning.specs.Answers as answers
 use Rattle.cx_meaning.specs.Islands.{History, no_history, active_in, form_flat, form_length, group_length, kind_length, island, turn_of}
 use Rattle.cx_meaning.specs.Calls.{test, test_of, called, called_in, called_by, if_instance, captures, captures_in, enables_primitive, enables_at, group_turn, inputs_of_call, call}
 use Rattle.cx_meaning.specs.Running.{Children}
-use Rattle.cx_meaning.proofs.CycleLemmas.{row_within, one_stops, faults_with}
+use Rattle.cx_meaning.proofs.CycleLemmas.{row_within, one_stops, faults_with, count_for}
 use Rattle.cx_meaning.proofs.DesignsLemmas.{same_part}
 use Rattle.cx_meaning.proofs.InstancesLemmas.{instance_is, instance_row, just_same, just_true, not_just}
 use Rattle.cx_rules.specs.Circles.{IsAcyclic}
@@ -46,7 +46,7 @@ use Rattle.cx_profiling.specs.Counters.{is_counted, is_counted_kind, has_name, C
 use Rattle.cx_profiling.specs.Counting.{once, made_with, count_island}
 use Rattle.cx_profiling.specs.Growing.{Grown}
 use Rattle.cx_profiling.specs.Instrumented.{gained, moved_number, moved_in, moved_assigns, counter_assigns, with_counts}
-use Rattle.cx_profiling.proofs.ListedCells.{at_row, at_component, count_listed}
+use Rattle.cx_profiling.proofs.ListedCells.{at_row, at_component}
 use Rattle.cx_profiling.proofs.PortLemmas.{IsInside, moved-component, grown_number, there_inside}
 use Rattle.cx_profiling.proofs.GrownLemmas.{grown_numbers}
 use Rattle.cx_profiling.proofs.RestLemmas.{grown_rests, grown_states}
@@ -400,7 +400,7 @@ module _ (d : PlainDesign) (design : IsDesign d) (accepted : IsAccepted d) (grow
     -- AN ISLAND
     fault_stays : (c p : ℕ) (row : Row) (kind : FaultKind) → cell_at (cells_of i) c ≡ OfRow row → moved_fault mv (fault_at kind (ports.Cell c p)) ≡ fault_at kind (ports.Cell c p)
     fault_stays c p row kind e =
-        ap (λ q. fault_at kind q) (row_stays c p row e (subst (λ n. c < n) (count_listed (tree_within d m) node.cells) (row_within (cells_of i) c row e)))
+        ap (λ q. fault_at kind q) (row_stays c p row e (subst (λ n. c < n) (count_for (tree_within d m) node.cells) (row_within (cells_of i) c row e)))
 
     cycle_stays : (act : Active) (s : State) (f : Fault) → cycle i held act s ≡ Faults f → moved_fault mv f ≡ f
     cycle_stays act s f e =

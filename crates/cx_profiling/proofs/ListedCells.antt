@@ -1,8 +1,8 @@
 -- The cells of an instance by the cells of its component.
-use Rattle.std.proofs.Common.{◌≡◌, ℕ, zero, suc, ◌<◌, List, [], ◌∷◌, length, Option, Some, None, slice_get, refl, ap, ◌∙◌, arith}
+use Rattle.std.proofs.Common.{◌≡◌, ℕ, zero, suc, ◌<◌, List, [], ◌∷◌, Option, Some, None, slice_get, refl, ap, ◌∙◌, arith}
 use Rattle.cx_prim.specs.Table.{PrimitiveRow, row_of}
 use Rattle.cx_meaning.specs.Designs.{PlainKind, OfPrimitive, OfComponent, PlainCell, PlainDesign, component_at}
-use Rattle.cx_meaning.specs.Instances.{Instance, Cells, At, Nothing, OfRow, OfInstance, cell_at, cell_count, cells_of, part_of, add_cell, cells_for, tree_within}
+use Rattle.cx_meaning.specs.Instances.{Instance, Cells, At, Nothing, OfRow, OfInstance, cell_at, cells_of, part_of, add_cell, cells_for, tree_within}
 use Rattle.cx_meaning.proofs.DesignsLemmas.{same_part}
 use Rattle.cx_profiling.proofs.ThereLemmas.{of_kind}
 
@@ -31,14 +31,6 @@ at_row child cells c cell primitive at is = at_listed child cells c ∙ ap (cell
 pub at_component : (child : ℕ → Instance) (cells : List PlainCell) (c : ℕ) (cell : PlainCell) (k : ℕ) → slice_get cells c ≡ Some cell → cell.kind ≡ OfComponent k
     → cell_at (cells_for child cells) c ≡ OfInstance (child k)
 at_component child cells c cell k at is = at_listed child cells c ∙ ap (cell_kind_at child) at ∙ ap (of_kind child) is
-
-count_added : (child : ℕ → Instance) (kind : PlainKind) (rest : Cells) → cell_count (add_cell child kind rest) ≡ suc (cell_count rest)
-count_added child (OfPrimitive primitive) rest = refl
-count_added child (OfComponent k) rest = refl
-
-pub count_listed : (child : ℕ → Instance) (cells : List PlainCell) → cell_count (cells_for child cells) ≡ length cells
-count_listed child [] = refl
-count_listed child (cell ∷ cells) = count_added child cell.kind (cells_for child cells) ∙ ap suc (count_listed child cells)
 
 -- WHAT A CELL IS: none, a primitive, or of a component
 pub data CellIs (cells : List PlainCell) (c : ℕ) : Type 0 where

@@ -2,7 +2,7 @@
 use Rattle.std.proofs.Common.{◌≡◌, ℕ, zero, suc, ◌+◌, ◌-◌, ◌*◌, ◌<◌, ◌≤◌, inl, inr, Bool, true, false, ◌||◌, List, [], ◌∷◌, ◌++◌, length, map, Some, slice_get, refl, sym, ap, ◌∙◌, subst, arith}
 use Rattle.std.specs.Prelude.{slice_set}
 use Rattle.std.proofs.lemmas.List.{map-append}
-use Rattle.cx_text.proofs.ListLaws.{behind, length-map}
+use Rattle.cx_text.proofs.ListLaws.{behind, length-map, nothing_more}
 use Rattle.cx_prim.specs.CellStates.{CellState, Memory, AreWords}
 use Rattle.cx_prim.specs.CellStates as cell_states
 use Rattle.cx_prim.specs.Rows.{Row}
@@ -72,10 +72,6 @@ more_after (z ∷ xs) x ys = ap (λ list. z ∷ list) (more_after xs x ys)
 pub one_longer : {A : Type 0} (xs : List A) (x : A) → length (xs ++ x ∷ []) ≡ suc (length xs)
 one_longer [] x = refl
 one_longer (y ∷ xs) x = ap suc (one_longer xs x)
-
-pub nothing_more : {A : Type 0} (xs : List A) → xs ++ [] ≡ xs
-nothing_more [] = refl
-nothing_more (x ∷ xs) = ap (λ list. x ∷ list) (nothing_more xs)
 
 module _ (d : PlainDesign) (design : IsDesign d) (accepted : IsAccepted d) (grown_accepted : IsAccepted (with_counts d)) (m k : ℕ) (at : InTree d (suc m) k)
     (names : List (List ℕ)) (is : component_at (with_counts d) k ≡ main_component d k names) (bare : BareEnablesNothing (tree_within (with_counts d) (suc m) k)) (some : 1 ≤ length (shown_in (component_of d k))) where

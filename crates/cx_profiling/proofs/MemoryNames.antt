@@ -24,7 +24,7 @@ counters_inside place names n (suc k) cell (inl same) e = both_ways cell.externa
 counters_inside place names n (suc k) cell (inr (inl same)) e = both_ways cell.external (ap (λ (c : PlainCell). c.external) (sym same)) e
 counters_inside place names n (suc k) cell (inr (inr i)) e = counters_inside place names (suc (suc n)) k cell i e
 
-in_names : (names : List (List ℕ)) (n : ℕ) → n < length names → In names (get_or names n [])
+pub in_names : (names : List (List ℕ)) (n : ℕ) → n < length names → In names (get_or names n [])
 in_names [] n less = absurd (omega (arith, less))
 in_names (x ∷ xs) zero less = inl refl
 in_names (x ∷ xs) (suc n) less = inr (in_names xs n (omega (arith, less)))

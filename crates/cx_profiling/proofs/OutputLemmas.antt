@@ -27,12 +27,12 @@ use Rattle.cx_profiling.proofs.GrownTrees.{InTree, in_reach, is_whole, child_in_
 use Rattle.cx_profiling.proofs.PairLemmas.{CellPair, row_pair, child_pair, pair_at}
 use Rattle.cx_profiling.proofs.ShownLemmas.{IsBelow, WhereShown, own_count, child_count, where_shown}
 use Rattle.cx_profiling.proofs.OutputDrives.{output_driven}
-use Rattle.cx_profiling.proofs.SightLemmas.{child_output}
 use Rattle.cx_profiling.proofs.RowLemmas.{number}
 use Rattle.cx_profiling.proofs.AcyclicLemmas.{child_few}
 use Rattle.cx_profiling.proofs.CounterLooks.{register_shows}
 use Rattle.cx_profiling.proofs.GrownCycles.{grown_kid}
 use Rattle.cx_profiling.proofs.SeenOutputs.{bare_there, below_there}
+use Rattle.cx_meaning.proofs.SightsLemmas.{outputs_at}
 
 -- what was counted of an entry, modulo 2 to the 64
 abbrev pub counted_of : Tally → Shown → ℕ
@@ -82,7 +82,7 @@ module _ (d : PlainDesign) (design : IsDesign d) (accepted : IsAccepted d) (grow
             ∙ ap (cell_step other act t look (outputs_below (cells_of j) (λ c. under c t)) b.cell (first_gained (component_at d e) + b.number)) second
             ∙ ap (part_step other act t look (outputs_below (cells_of j) (λ c. under c t)) b.cell (first_gained (component_at d e) + b.number))
             (ap (λ p. part_port p (first_gained (component_at d e) + b.number)) (same_part (with_counts d) m e) ∙ gained_port d e inner.within b.number few)
-            ∙ child_output (cells_of j) (λ c. under c t) b.cell (length (component_at d e).outputs + b.number) (tree_within (with_counts d) m e) second
+            ∙ outputs_at (cells_of j) (λ c. under c t) b.cell (length (component_at d e).outputs + b.number) (tree_within (with_counts d) m e) second
             ∙ kids e inner other_main (at_cell b.cell τ) (under b.cell s) (under b.cell t) (grown_kid d design m k at τ s t grown b.cell (tree_within d m e) first) b.number b.inner listed
             ∙ ap (λ c. number 64 (τ (c ∷ b.inner.entry.path) b.inner.entry.group % 2 ^ 64)) (sym zero_first)
             ∙ ap (λ (entry : ProfileEntry). number 64 (τ entry.path entry.group % 2 ^ 64)) (sym b.entry)

@@ -1,6 +1,6 @@
 -- THE PARTS OF AN INSTRUMENTED COMPONENT: each group, assignment and statement of it is an old one, moved, or a new one: of a counter, of an
 -- output that shows a count, or of a store.
-use Rattle.std.proofs.Common.{◌≡◌, ℕ, zero, suc, ◌+◌, ◌-◌, ◌*◌, ◌<◌, ◌≤◌, inl, inr, ◌⊎◌, ⊎_elim, true, false, List, [], ◌∷◌, ◌++◌, length, map, Option, Some, None, slice_get, get_or, refl, sym, ap, ◌∙◌, subst, arith}
+use Rattle.std.proofs.Common.{◌≡◌, ℕ, zero, suc, ◌+◌, ◌-◌, ◌*◌, ◌<◌, ◌≤◌, inl, inr, ◌⊎◌, ⊎_elim, true, false, List, [], ◌∷◌, ◌++◌, length, map, Some, None, slice_get, get_or, refl, sym, ap, ◌∙◌, subst, arith}
 use Rattle.std.proofs.lemmas.Bool.{cases_lt}
 use Rattle.std.proofs.lemmas.List.{get_or_past, length-append}
 use Rattle.cx_text.specs.declared.places.Place.{Place}
@@ -10,19 +10,16 @@ use Rattle.cx_meaning.specs.declared.ports.PortRef.{PortRef}
 use Rattle.cx_meaning.specs.declared.ports.PortRef.TheVariants as ports
 use Rattle.cx_meaning.specs.Designs.{PlainAssign, PlainGroup, PlainComponent, PlainDesign, component_at, group_at, no_group, Seq, statements_of, a_statement}
 use Rattle.cx_meaning.specs.Instances.{Cells, cells_of}
-use Rattle.cx_meaning.specs.Active.{Owned, owned, owned_by_groups, by_place, source_order}
+use Rattle.cx_meaning.specs.Active.{Owned, source_order}
 use Rattle.cx_meaning.specs.Islands.{kind_length, group_length}
 use Rattle.cx_meaning.specs.Sights.{In}
-use Rattle.cx_meaning.proofs.ActiveLemmas.{placed_still, placed_first}
-use Rattle.cx_meaning.proofs.DesignsLemmas.{owned_has}
-use Rattle.cx_meaning.proofs.SightsLaws.{in_left, in_right, in_either, image_in}
+use Rattle.cx_meaning.proofs.SightsLaws.{in_either, image_in}
 use Rattle.cx_rules.specs.Ports.{component_of}
 use Rattle.cx_rules.specs.Invokes.{invoke_in}
 use Rattle.cx_rules.specs.Items.{Dynamic, Visited, visit, visit_all, statements_in, test_in}
 use Rattle.cx_rules.specs.RaceRule.{arms_of}
 use Rattle.cx_rules.specs.StaticControl.{is_static, is_in_static}
-use Rattle.cx_rules.specs.Wellformed.{IsDesign, StandsIn}
-use Rattle.cx_frames.proofs.RuleLemmas.{OwnerOf, continuous, of_group, owner_of}
+use Rattle.cx_rules.specs.Wellformed.{IsDesign}
 use Rattle.cx_rewrites.specs.Moving.{moved_assign, moved_owned, moved_statement}
 use Rattle.cx_profiling.specs.Counters.{is_counted, counters, Shown, shown_in}
 use Rattle.cx_profiling.specs.Instrumented.{is_reached, drive, counter_assigns, output_assigns, address_width, store_assigns, store_enables, moved_in, moved_assigns, group_with, counted_groups, main_component, with_counts}
@@ -33,31 +30,8 @@ use Rattle.cx_profiling.proofs.RoleLemmas.{Role, as_main, as_child, as_kept, rol
 use Rattle.cx_profiling.proofs.GroupLemmas.{GroupOf, counted_group, plain_group, group_is}
 use Rattle.cx_profiling.proofs.PairLemmas.{stored}
 use Rattle.cx_profiling.proofs.StoreDrives.{store_group}
-
--- what stands in a component stands in its source order
-sorted_has : (list : List Owned) (o : Owned) → In list o → In (by_place list) o
-sorted_has [] o i = i
-sorted_has (a ∷ rest) o (inl e) = subst (In (by_place (a ∷ rest))) e (placed_first a (by_place rest))
-sorted_has (a ∷ rest) o (inr i) = placed_still a (by_place rest) o (sorted_has rest o i)
-
-groups_have : (k : ℕ) (groups : List PlainGroup) (g : ℕ) (a : PlainAssign) → g < length groups → In (get_or groups g no_group).assigns a → In (owned_by_groups k groups) (record { owner = Some (k + g); assign = a })
-groups_have k [] g a few i = absurd (omega (arith, few))
-groups_have k (y ∷ groups) zero a few i =
-    let z : k ≡ k + 0 = omega arith in
-    in_left (owned (Some k) y.assigns) (owned_by_groups (suc k) groups) (record { owner = Some (k + 0); assign = a })
-    (subst (λ n. In (owned (Some k) y.assigns) (record { owner = Some n; assign = a })) z (owned_has (Some k) y.assigns a i))
-groups_have k (y ∷ groups) (suc g) a few i =
-    let z : suc k + g ≡ k + suc g = omega arith in
-    in_right (owned (Some k) y.assigns) (owned_by_groups (suc k) groups) (record { owner = Some (k + suc g); assign = a })
-    (subst (λ n. In (owned_by_groups (suc k) groups) (record { owner = Some n; assign = a })) z (groups_have (suc k) groups g a (omega (arith, few)) i))
-
-pub in_order : (part : PlainComponent) (owner : Option ℕ) (a : PlainAssign) → StandsIn part owner a → In (source_order part) (record { owner = owner; assign = a })
-in_order part None a i = sorted_has (owned None part.always ++ owned_by_groups 0 part.groups) (record { owner = None; assign = a }) (in_left (owned None part.always) (owned_by_groups 0 part.groups) (record { owner = None; assign = a }) (owned_has None part.always a i))
-in_order part (Some g) a (less, i) =
-    let z : 0 + g ≡ g = omega arith in
-    sorted_has (owned None part.always ++ owned_by_groups 0 part.groups) (record { owner = Some g; assign = a })
-    (in_right (owned None part.always) (owned_by_groups 0 part.groups) (record { owner = Some g; assign = a })
-    (subst (λ n. In (owned_by_groups 0 part.groups) (record { owner = Some n; assign = a })) z (groups_have 0 part.groups g a less i)))
+use Rattle.cx_flattening.proofs.Ruled.{in_order}
+use Rattle.cx_rules.proofs.ForeignLemmas.{OwnerOf, continuous, of_group, owner_of}
 
 pub in_output_assigns : (place : Place) (n : ℕ) (xs : List Shown) (a : PlainAssign) → In (output_assigns place n xs) a → (m : ℕ) × (x : Shown) × (slice_get xs m ≡ Some x) × (drive place (ports.Output (n + m)) x.port ≡ a)
 in_output_assigns place n [] a i = absurd i

@@ -1,14 +1,12 @@
 -- THE INSTANCES of an instrumented design stand at the paths of those of the design, and its external memories are those of the design and that of
 -- the counts.
-use Rattle.std.proofs.Common.{◌≡◌, ℕ, zero, suc, ◌*◌, ◌<◌, inl, inr, true, false, List, [], ◌∷◌, ◌++◌, length, refl, sym, ap, ap₂, ◌∙◌}
-use Rattle.std.specs.Prelude.{Bool}
-use Rattle.cx_text.specs.Loading.{PlainRow}
+use Rattle.std.proofs.Common.{◌≡◌, ℕ, zero, suc, ◌*◌, ◌<◌, inl, inr, List, [], ◌∷◌, ◌++◌, length, refl, sym, ap, ap₂, ◌∙◌}
 use Rattle.cx_text.specs.declared.places.Place.{Place}
 use Rattle.cx_prim.specs.Table.{PrimitiveRow}
 use Rattle.cx_meaning.specs.Designs.{PlainKind, OfPrimitive, OfComponent, PlainCell, PlainComponent, PlainDesign, component_at}
 use Rattle.cx_meaning.specs.Instances.{Instance, add_cell, cells_for, tree_within, tree_of, paths_of, paths_below, behind}
 use Rattle.cx_meaning.specs.Sights.{In}
-use Rattle.cx_rules.specs.Externals.{if_external, rows_of, external_rows}
+use Rattle.cx_rules.specs.Externals.{rows_of, external_rows}
 use Rattle.cx_rules.specs.Ports.{component_of}
 use Rattle.cx_rules.specs.Wellformed.{IsDesign}
 use Rattle.cx_profiling.specs.Counters.{counters, shown_in, entry_count}
@@ -16,6 +14,7 @@ use Rattle.cx_profiling.specs.Instrumented.{name_at, counter_cells, memory_cell,
 use Rattle.cx_profiling.proofs.GainedLemmas.{components-length}
 use Rattle.cx_profiling.proofs.RoleLemmas.{Role, as_main, as_child, as_kept, role}
 use Rattle.cx_profiling.proofs.TreeLemmas.{child_there}
+use Rattle.cx_rules.proofs.SizesLemmas.{rows-both}
 
 -- CELLS of primitives alone
 abbrev IsPlainCell : PlainCell → Type 0
@@ -54,13 +53,6 @@ paths_front f g (cell ∷ cells) more plain same c = by cell.kind refl (paths_fr
         ∙ sym (ap (λ kind. paths_below (add_cell f kind (cells_for f cells)) c) is)
 
 -- ROWS
-rows_joined : (xs ys : List PlainCell) → rows_of (xs ++ ys) ≡ rows_of xs ++ rows_of ys
-rows_joined [] ys = refl
-rows_joined (x ∷ xs) ys = ap (if_external x.external x) (rows_joined xs ys) ∙ pulled x.external (rows_of xs) (rows_of ys)
-  where
-    pulled : (b : Bool) (first rest : List PlainRow) → if_external b x (first ++ rest) ≡ if_external b x first ++ rest
-    pulled true first rest = refl
-    pulled false first rest = refl
 
 counters_no_rows : (place : Place) (names : List (List ℕ)) (n k : ℕ) → rows_of (counter_cells place names n k) ≡ []
 counters_no_rows place names n zero = refl
@@ -115,6 +107,6 @@ module _ (d : PlainDesign) (design : IsDesign d) where
           let own = length (counters (component_of d d.main)) in
           let last = memory_cell main.place (name_at names (2 * length (counters (component_of d d.main)))) (length (shown_in (component_of d d.main))) in (
             name_at names (2 * length (counters (component_of d d.main))),
-            ap (λ (x : PlainComponent). rows_of x.cells) e ∙ rows_joined main.cells (counter_cells main.place names 0 own ++ last ∷ [])
-                ∙ ap (λ rows. rows_of main.cells ++ rows) (rows_joined (counter_cells main.place names 0 own) (last ∷ []) ∙ ap (λ rows. rows ++ rows_of (last ∷ [])) (counters_no_rows main.place names 0 own)),
+            ap (λ (x : PlainComponent). rows_of x.cells) e ∙ rows-both main.cells (counter_cells main.place names 0 own ++ last ∷ [])
+                ∙ ap (λ rows. rows_of main.cells ++ rows) (rows-both (counter_cells main.place names 0 own) (last ∷ []) ∙ ap (λ rows. rows ++ rows_of (last ∷ [])) (counters_no_rows main.place names 0 own)),
           )

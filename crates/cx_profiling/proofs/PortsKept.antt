@@ -13,7 +13,7 @@ use Rattle.cx_meaning.specs.declared.ports.PortRef.TheVariants as ports
 use Rattle.cx_meaning.specs.Designs.{PlainAssign, PlainComponent, PlainDesign, component_at, group_at}
 use Rattle.cx_meaning.specs.Instances.{Instance, OfRow, OfInstance, cell_at, cells_of, part_of, tree_within}
 use Rattle.cx_meaning.specs.Sights.{In, PartPort, AnInput, AnOutput, ItsDone, part_port}
-use Rattle.cx_meaning.proofs.CycleLemmas.{row_within}
+use Rattle.cx_meaning.proofs.CycleLemmas.{row_within, count_for}
 use Rattle.cx_meaning.proofs.DesignsLemmas.{same_part}
 use Rattle.cx_meaning.proofs.InstancesLemmas.{instance_is, instance_row, row_instance, row_is}
 use Rattle.cx_meaning.proofs.SightsLaws.{input_at}
@@ -30,7 +30,7 @@ use Rattle.cx_profiling.proofs.CounterLemmas.{counter_cells-length}
 use Rattle.cx_profiling.proofs.GainedLemmas.{grown_at}
 use Rattle.cx_profiling.proofs.GroupLemmas.{register_past}
 use Rattle.cx_profiling.proofs.GrownTrees.{InTree, is_whole}
-use Rattle.cx_profiling.proofs.ListedCells.{at_row, count_listed}
+use Rattle.cx_profiling.proofs.ListedCells.{at_row}
 use Rattle.cx_profiling.proofs.PairLemmas.{CellPair, row_pair, child_pair, pair_at}
 use Rattle.cx_profiling.proofs.PartTable.{InGroup, old_in, counting_in, storing_in, in_group, AlwaysMade, old_always, showing_always, always_made}
 use Rattle.cx_profiling.proofs.PortLemmas.{IsInside, grown_number}
@@ -190,7 +190,7 @@ module _ (d : PlainDesign) (design : IsDesign d) (m k : ℕ) (within : k < lengt
   row_twin c row at = by (pair_at d design m k within c few_cells)
     where
       few_cells : c < length part.cells
-      few_cells = subst (λ n. c < n) (count_listed (tree_within d m) part.cells) (row_within (cells_of i) c row at)
+      few_cells = subst (λ n. c < n) (count_for (tree_within d m) part.cells) (row_within (cells_of i) c row at)
 
       by : CellPair d design m k within c → RowTwin c row
       by (row_pair r first second stays) = record { few = few_cells; there = second ∙ ap OfRow (row_is r row (sym first ∙ at)); moved = stays }

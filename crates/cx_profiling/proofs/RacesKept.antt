@@ -1,6 +1,6 @@
 -- An instrumented design keeps the rule on races: what two arms share is a cell that they shared before, or one of a counter, whose group both
 -- enable; static invokes drive and read what they did, for the groups that capture are not counted.
-use Rattle.std.proofs.Common.{◌≡◌, ℕ, zero, suc, ◌+◌, ◌*◌, ◌<◌, ◌≤◌, inl, inr, ◌⊎◌, ⊎_elim, true, ◌||◌, List, [], ◌∷◌, length, map, Some, None, slice_get, refl, sym, ap, ◌∙◌, subst, arith}
+use Rattle.std.proofs.Common.{◌≡◌, ℕ, suc, ◌+◌, ◌*◌, ◌<◌, ◌≤◌, inl, inr, ◌⊎◌, ⊎_elim, true, ◌||◌, List, [], ◌∷◌, length, Some, None, slice_get, refl, sym, ap, ◌∙◌, subst, arith}
 use Rattle.std.proofs.lemmas.Bool.{both_ways, or_cases, or_right}
 use Rattle.cx_text.specs.declared.places.Place.{Place}
 use Rattle.cx_meaning.specs.declared.ports.PortRef.{PortRef}
@@ -11,7 +11,7 @@ use Rattle.cx_meaning.specs.Instances.{Cells, cells_of, tree_within}
 use Rattle.cx_meaning.specs.Control.{targets_cell, assigns_drive, groups_drive, groups_of, drives}
 use Rattle.cx_meaning.specs.Active.{Owned, source_order}
 use Rattle.cx_meaning.specs.Sights.{In, GuardNames}
-use Rattle.cx_meaning.proofs.ControlLaws.{groups_drive_in}
+use Rattle.cx_meaning.proofs.ControlLaws.{groups_drive_in, driver}
 use Rattle.cx_meaning.proofs.DesignsLemmas.{same_part}
 use Rattle.cx_meaning.proofs.InstancesLemmas.{just_true}
 use Rattle.cx_meaning.proofs.SightsLaws.{image_in}
@@ -30,18 +30,20 @@ use Rattle.cx_rewrites.proofs.ReflectLemmas.{names_back}
 use Rattle.cx_rewrites.proofs.MovedLists.{groups_of-moved, tests_of-moved, arms_of-moved, enabled_in-moved}
 use Rattle.cx_profiling.specs.Counters.{is_counted, counters, counters_from}
 use Rattle.cx_profiling.specs.Instrumented.{is_reached, counter_assigns, moved_in, moved_invoke, with_counts}
-use Rattle.cx_profiling.proofs.ArmLemmas.{driver_in, counted_kind}
+use Rattle.cx_profiling.proofs.ArmLemmas.{counted_kind}
 use Rattle.cx_profiling.proofs.EnabledLemmas.{AreForms, statement_known, is_enabled}
 use Rattle.cx_profiling.proofs.GroupLemmas.{register_past, same_register}
 use Rattle.cx_profiling.proofs.InvokesKept.{uncounted}
 use Rattle.cx_profiling.proofs.InvokesMade.{invoke_back, invokes_of-moved, captures_kept, cells_kept, captures_there, invoked_there, own_invoke}
 use Rattle.cx_profiling.proofs.MovedParts.{moved_visited}
-use Rattle.cx_profiling.proofs.PartTable.{AlwaysMade, old_always, showing_always, always_made, InGroup, old_in, counting_in, storing_in, in_group, in_order}
+use Rattle.cx_profiling.proofs.PartTable.{AlwaysMade, old_always, showing_always, always_made, InGroup, old_in, counting_in, storing_in, in_group}
 use Rattle.cx_profiling.proofs.PortLemmas.{IsInside, there_inside}
 use Rattle.cx_profiling.proofs.PortsKept.{counter_target, counter_names, cell_back}
 use Rattle.cx_profiling.proofs.RoleLemmas.{own_counters, counter_number}
 use Rattle.cx_profiling.proofs.ShapesKept as shapes
 use Rattle.cx_profiling.proofs.VisitedForms.{tested_form, arm_visits}
+use Rattle.cx_flattening.proofs.Ruled.{in_order}
+use Rattle.cx_text.proofs.ListLaws.{at_map}
 
 -- an assignment that drives a cell
 targeted : (list : List PlainAssign) (c : ℕ) → assigns_drive list c ≡ true → (a : PlainAssign) × In list a × ((p : ℕ) × (a.target ≡ ports.Cell c p))
@@ -55,11 +57,6 @@ targeted (a ∷ rest) c e =
     at_target (ports.Output n) c h = absurd (cc)
     at_target (ports.Done g) c h = absurd (cc)
     at_target (ports.Literal w v) c h = absurd (cc)
-
-map_back : {A B : Type 0} (f : A → B) (list : List A) (n : ℕ) (y : B) → slice_get (map f list) n ≡ Some y → (x : A) × (slice_get list n ≡ Some x) × (f x ≡ y)
-map_back f [] n y e = absurd (cc)
-map_back f (x ∷ xs) zero y e = (x, refl, cc)
-map_back f (x ∷ xs) (suc n) y e = map_back f xs n y e
 
 module _ (d : PlainDesign) (design : IsDesign d) (accepted : IsAccepted d) (m k : ℕ) (count : length d.components ≡ suc m) (within : k < length d.components) where
   abbrev part : PlainComponent
@@ -154,7 +151,7 @@ module _ (d : PlainDesign) (design : IsDesign d) (accepted : IsAccepted d) (m k 
 
     groups_back : (gs : List ℕ) (e : ℕ) → ((g : ℕ) → In gs g → Stands g) → groups_drive other gs e ≡ true → ((e < length part.cells) × (groups_drive part gs e ≡ true)) ⊎ CounterOf s e
     groups_back gs e stands h =
-        let g = driver_in other gs e h in
+        let g = driver other gs e h in
         let a = targeted (group_at other g.0).assigns e g.2 in
         by g.0 g.1 a.0 a.2.0 a.2.1 (of_group g.0 a.0 (stands g.0 g.1) a.1)
       where
@@ -294,8 +291,8 @@ module _ (d : PlainDesign) (design : IsDesign d) (accepted : IsAccepted d) (m k 
 
     old_arms : (two : Arms (arms_of (moved_form mv w.form))) → OldArms two
     old_arms two =
-        let f = map_back (moved_statement mv) (arms_of w.form) two.one two.first (ap (λ list. slice_get list two.one) (sym (arms_of-moved mv w.form)) ∙ two.first_stands) in
-        let s = map_back (moved_statement mv) (arms_of w.form) two.other two.second (ap (λ list. slice_get list two.other) (sym (arms_of-moved mv w.form)) ∙ two.second_stands) in
+        let f = at_map (moved_statement mv) (arms_of w.form) two.one two.first (ap (λ list. slice_get list two.one) (sym (arms_of-moved mv w.form)) ∙ two.first_stands) in
+        let s = at_map (moved_statement mv) (arms_of w.form) two.other two.second (ap (λ list. slice_get list two.other) (sym (arms_of-moved mv w.form)) ∙ two.second_stands) in
         record {
           old = record { one = two.one; other = two.other; differ = two.differ; first = f.0; second = s.0; first_stands = f.1; second_stands = s.1 };
           first = f.2;

@@ -47,6 +47,7 @@ use Rattle.cx_profiling.proofs.PartTable.{StoreOf, GroupMade, bare_group, counti
 use Rattle.cx_profiling.proofs.PortLemmas.{IsInside}
 use Rattle.cx_profiling.proofs.PortsKept.{counter_target, StoreTarget, to_memory, to_hole, store_target, enable_kept, part_port_kept, hole_kept, hole_of_kept, done_back, output_back, input_back, counts_row, memory_there, rests_moved, shown_rests}
 use Rattle.cx_profiling.proofs.ShownLemmas.{WhereShown, own_count, child_count, where_shown}
+use Rattle.cx_text.proofs.BoolLaws.{neither_first}
 
 -- TARGETS of two lists
 pub some_joined : (test : PortRef → Bool) (xs ys : List PlainAssign) → some_target test (xs ++ ys) ≡ (some_target test xs || some_target test ys)
@@ -56,10 +57,6 @@ some_joined test (a ∷ xs) ys = ap (λ b. test a.target || b) (some_joined test
     apart : (a b c : Bool) → ((a || b) || c) ≡ (a || (b || c))
     apart true b c = refl
     apart false b c = refl
-
-left_false : (a b : Bool) → (a || b) ≡ false → a ≡ false
-left_false true b e = absurd (cc)
-left_false false b e = refl
 
 none_more : (a : Bool) → (a || false) ≡ a
 none_more true = refl
@@ -331,7 +328,7 @@ module _ (d : PlainDesign) (design : IsDesign d) (accepted : IsAccepted d) (m k 
           old_group BreaksNoDone (λ s p n on. accepted.shapes rules.NoDone s p n refl on) g few (group_at part g).place (group_at part g).name (
             ap is_plain (sym (kind_kept d design k within g)) ∙ plain,
             sym (some_target-moved mv (is_hole_of g) (is_hole_of g) (hole_of_kept d design m k within g) (group_at part g).assigns)
-                ∙ left_false (some_target (is_hole_of g) (moved_assigns d part (group_at part g).assigns)) (some_target (is_hole_of g) more) (sym (some_joined (is_hole_of g) (moved_assigns d part (group_at part g).assigns) more) ∙ e),
+                ∙ neither_first (some_target (is_hole_of g) (moved_assigns d part (group_at part g).assigns)) (some_target (is_hole_of g) more) (sym (some_joined (is_hole_of g) (moved_assigns d part (group_at part g).assigns) more) ∙ e),
             (refl, refl),
           )
 

@@ -1,5 +1,5 @@
 -- WHAT A PORT IS SEEN AS in an instance, its moved port is seen as in the instrumented one.
-use Rattle.std.proofs.Common.{◌≡◌, ℕ, zero, suc, false, ◌<◌, [], ◌∷◌, length, Some, slice_get, refl, sym, ap, ◌∙◌, subst}
+use Rattle.std.proofs.Common.{◌≡◌, ℕ, suc, false, ◌<◌, [], ◌∷◌, length, Some, slice_get, refl, sym, ap, ◌∙◌, subst}
 use Rattle.std.proofs.Math.Path.{fun_ext}
 use Rattle.cx_prim.specs.declared.ports.Side.{Side}
 use Rattle.cx_prim.specs.declared.ports.Side.TheVariants as sides
@@ -10,11 +10,10 @@ use Rattle.cx_meaning.specs.declared.sights.Seen.{Seen}
 use Rattle.cx_meaning.specs.declared.sights.Seen.TheVariants.{Undefined}
 use Rattle.cx_meaning.specs.Rows.{side_of}
 use Rattle.cx_meaning.specs.Designs.{PlainCell, PlainComponent, PlainDesign, OfComponent, component_at}
-use Rattle.cx_meaning.specs.Instances.{Instance, Cells, no_cells, a_primitive, an_instance, OfRow, OfInstance, cell_at, cells_of, part_of, State, under, tree_within}
+use Rattle.cx_meaning.specs.Instances.{Instance, OfRow, cell_at, cells_of, part_of, State, under, tree_within}
 use Rattle.cx_meaning.specs.Active.{Active, nothing, drivers}
 use Rattle.cx_meaning.specs.Sights.{Look, Below, Held, unheld, bit_of, target_seen, gather, output_seen, of_option, PartPort, Go, AnInput, AnOutput, ItsDone, part_port, side_step, part_step, cell_step, step, Sees, seen, outputs_below}
 use Rattle.cx_meaning.proofs.DesignsLemmas.{same_part}
-use Rattle.cx_meaning.proofs.InstancesLemmas.{instance_is, nothing_instance, row_instance}
 use Rattle.cx_rules.specs.Circles.{IsAcyclic, AcyclicBelow}
 use Rattle.cx_rules.specs.Wellformed.{IsDesign}
 use Rattle.cx_rules.proofs.FoundLemmas.{seen_solves}
@@ -24,18 +23,11 @@ use Rattle.cx_rewrites.proofs.MoveLemmas.{driven_alike}
 use Rattle.cx_profiling.specs.Counters.{first_gained}
 use Rattle.cx_profiling.specs.Instrumented.{moved_in, gained, with_counts}
 use Rattle.cx_profiling.proofs.PortLemmas.{IsInside, grown_number}
-use Rattle.cx_profiling.proofs.CellPorts.{output_before}
 use Rattle.cx_profiling.proofs.InsideLemmas.{inside_closed}
 use Rattle.cx_profiling.proofs.GrownTrees.{InTree}
 use Rattle.cx_profiling.proofs.PairLemmas.{drives_moved, CellPair, row_pair, child_pair, pair_at, child_ports}
-
--- the output of a child
-pub child_output : (cells : Cells) (states : ℕ → State) (c n : ℕ) (child : Instance) → cell_at cells c ≡ OfInstance child → outputs_below cells states c n ≡ seen child unheld nothing (states c) (ports.Output n)
-child_output no_cells states c n child e = absurd (nothing_instance child e)
-child_output (a_primitive row rest) states zero n child e = absurd (row_instance row child e)
-child_output (a_primitive row rest) states (suc c) n child e = child_output rest (λ x. states (suc x)) c n child e
-child_output (an_instance x rest) states zero n child e = ap (λ y. seen y unheld nothing (states 0) (ports.Output n)) (instance_is x child e)
-child_output (an_instance x rest) states (suc c) n child e = child_output rest (λ y. states (suc y)) c n child e
+use Rattle.cx_laws.proofs.TreeLemmas.{output_there}
+use Rattle.cx_meaning.proofs.SightsLemmas.{outputs_at}
 
 module _ (d : PlainDesign) (design : IsDesign d) (m k : ℕ) (at : InTree d (suc m) k) where
   -- the outputs that the children had are seen alike
@@ -101,9 +93,9 @@ module _ (d : PlainDesign) (design : IsDesign d) (m k : ℕ) (at : InTree d (suc
         ap (step j twin act t look there) (moved p) ∙ ap (cell_step other act t look there c (grown_number d (first_gained (component_at d e)) (gained d e) p)) second
         ∙ ap (part_step other act t look there c (grown_number d (first_gained (component_at d e)) (gained d e) p)) (child_ports d design m k at.within e p there_below (here.1 cell e stands is))
         ∙ part_steps below c p (grown_number d (first_gained (component_at d e)) (gained d e) p) (part_port (part_of (tree_within d m e)) p) (moved p) here
-        (λ n port. child_output (cells_of j) (λ x. under x t) c n (tree_within (with_counts d) m e) second
+        (λ n port. outputs_at (cells_of j) (λ x. under x t) c n (tree_within (with_counts d) m e) second
         ∙ kids c cell e stands is n (below c n)
-        (subst (λ x. n < length x) (ap (λ (x : PlainComponent). x.outputs) (same_part d m e)) (output_before (part_of (tree_within d m e)) p n port)) (known c p n (tree_within d m e) refl first))
+        (subst (λ x. n < length x) (ap (λ (x : PlainComponent). x.outputs) (same_part d m e)) (output_there (part_of (tree_within d m e)) p n port)) (known c p n (tree_within d m e) refl first))
         ∙ ap (cell_step part act s back below c p) (sym first)
 
     one_step : (p : PortRef) (below : Below) → IsInside d part p → IsSeenBelow i s p below → step j twin act t look there (mv p) ≡ step i held act s back below p

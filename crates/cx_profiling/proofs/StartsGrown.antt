@@ -9,10 +9,10 @@ use Rattle.cx_prim.specs.MemoryRows.{memory_row}
 use Rattle.cx_prim.specs.Table.{row_of}
 use Rattle.cx_prim.specs.declared.names.PrimitiveName.TheVariants as primitives
 use Rattle.cx_meaning.specs.Designs.{PlainCell, PlainKind, OfPrimitive, OfComponent, PlainComponent, PlainDesign, component_at}
-use Rattle.cx_meaning.specs.Instances.{Instance, Cells, no_cells, a_primitive, an_instance, OfRow, OfInstance, cell_at, cells_of, Path, State, under, just, start, start_at, start_below, loaded_at, if_external, externals_from, externals_of, tree_within}
+use Rattle.cx_meaning.specs.Instances.{Instance, OfRow, OfInstance, cell_at, cells_of, Path, State, under, just, start, start_at, loaded_at, if_external, externals_from, externals_of, tree_within}
 use Rattle.cx_meaning.specs.Sights.{In}
-use Rattle.cx_meaning.proofs.CycleLemmas.{row_within}
-use Rattle.cx_meaning.proofs.InstancesLemmas.{instance_is, instance_row, row_instance, row_is, nothing_row, nothing_instance, just_same, not_just}
+use Rattle.cx_meaning.proofs.CycleLemmas.{row_within, count_for}
+use Rattle.cx_meaning.proofs.InstancesLemmas.{instance_is, instance_row, row_instance, just_same, not_just}
 use Rattle.cx_meaning.proofs.SightsLaws.{in_at}
 use Rattle.cx_rules.specs.Ports.{component_of}
 use Rattle.cx_rules.specs.Wellformed.{IsDesign, IsExternal}
@@ -20,7 +20,7 @@ use Rattle.cx_rewrites.specs.Tallies.{none, at_cell}
 use Rattle.cx_profiling.specs.Counters.{Counter, counters, shown_in}
 use Rattle.cx_profiling.specs.Growing.{Grown}
 use Rattle.cx_profiling.specs.Instrumented.{address_width, counter_cells, memory_cell, name_at, main_component, with_counts}
-use Rattle.cx_profiling.proofs.ListedCells.{at_row, count_listed}
+use Rattle.cx_profiling.proofs.ListedCells.{at_row}
 use Rattle.cx_profiling.proofs.RestLemmas.{counter_row}
 use Rattle.cx_profiling.proofs.CounterLemmas.{counter_cells-length, in_counters}
 use Rattle.cx_profiling.proofs.RoleLemmas.{register_there, own_counters}
@@ -29,20 +29,7 @@ use Rattle.cx_profiling.proofs.PairLemmas.{CellPair, row_pair, child_pair, pair_
 use Rattle.cx_profiling.proofs.SightLemmas.{RowsAlike}
 use Rattle.cx_profiling.proofs.AcyclicLemmas.{child_few}
 use Rattle.cx_profiling.proofs.GrownCycles.{make_grown}
-
-start_row : (cells : Cells) (c : ℕ) (row : Row) → cell_at cells c ≡ OfRow row → start_below cells c [] ≡ row.start
-start_row no_cells c row e = absurd (nothing_row row e)
-start_row (a_primitive r rest) zero row e = ap (λ (x : Row). x.start) (row_is r row e)
-start_row (a_primitive r rest) (suc c) row e = start_row rest c row e
-start_row (an_instance child rest) zero row e = absurd (instance_row child row e)
-start_row (an_instance child rest) (suc c) row e = start_row rest c row e
-
-start_child : (cells : Cells) (c : ℕ) (child : Instance) (path : Path) → cell_at cells c ≡ OfInstance child → start_below cells c path ≡ start_at child path
-start_child no_cells c child path e = absurd (nothing_instance child e)
-start_child (a_primitive r rest) zero child path e = absurd (row_instance r child e)
-start_child (a_primitive r rest) (suc c) child path e = start_child rest c child path e
-start_child (an_instance x rest) zero child path e = ap (λ y. start_at y path) (instance_is x child e)
-start_child (an_instance x rest) (suc c) child path e = start_child rest c child path e
+use Rattle.cx_meaning.proofs.CyclesLemmas.{start_row, child_start}
 
 module _ (d : PlainDesign) (design : IsDesign d) where
   -- a state that is the start below the cells of an instance
@@ -62,8 +49,8 @@ module _ (d : PlainDesign) (design : IsDesign d) where
         by (child_pair cell f stands is below first second moved) =
             subst (λ x. Grown x none (under c s) (under c t)) (instance_is (tree_within d m f) child (sym first ∙ e))
             (kids f (child_in_tree d design at cell f (in_at (component_at d k).cells c cell stands) is) (under c s) (under c t)
-            (λ x path. here c x path ∙ start_child (cells_of (tree_within d (suc m) k)) c (tree_within d m f) (x ∷ path) first)
-            (λ x path. there c x path ∙ start_child (cells_of (tree_within (with_counts d) (suc m) k)) c (tree_within (with_counts d) m f) (x ∷ path) second))
+            (λ x path. here c x path ∙ child_start (cells_of (tree_within d (suc m) k)) c (tree_within d m f) (x ∷ path) first)
+            (λ x path. there c x path ∙ child_start (cells_of (tree_within (with_counts d) (suc m) k)) c (tree_within (with_counts d) m f) (x ∷ path) second))
 
     pub node_start : Grown (tree_within d (suc m) k) none s t
     node_start = make_grown d design m k at none s t rows kids_start (λ x own. (false, registers x own))
@@ -76,7 +63,7 @@ module _ (d : PlainDesign) (design : IsDesign d) where
 
   rows_start : (m k : ℕ) (at : InTree d (suc m) k) (c : ℕ) (row : Row) → cell_at (cells_of (tree_within d (suc m) k)) c ≡ OfRow row
       → start_at (tree_within (with_counts d) (suc m) k) (c ∷ []) ≡ start_at (tree_within d (suc m) k) (c ∷ [])
-  rows_start m k at c row e = by (pair_at d design m k at.within c (subst (λ n. c < n) (count_listed (tree_within d m) (component_at d k).cells) (row_within (cells_of (tree_within d (suc m) k)) c row e)))
+  rows_start m k at c row e = by (pair_at d design m k at.within c (subst (λ n. c < n) (count_for (tree_within d m) (component_at d k).cells) (row_within (cells_of (tree_within d (suc m) k)) c row e)))
     where
       by : CellPair d design m k at.within c → start_at (tree_within (with_counts d) (suc m) k) (c ∷ []) ≡ start_at (tree_within d (suc m) k) (c ∷ [])
       by (row_pair r first second moved) = start_row (cells_of (tree_within (with_counts d) (suc m) k)) c r second ∙ sym (start_row (cells_of (tree_within d (suc m) k)) c r first)
@@ -174,7 +161,7 @@ module _ (d : PlainDesign) (design : IsDesign d) where
       start_grown =
           node_start m k at (λ e below a b x y. kids_start_grown m e below a b x y) (start (tree_within d (suc m) k) words) (start (tree_within (with_counts d) (suc m) k) (words ++ new ∷ []))
           (λ c row e.
-          let few : c < length node.cells = subst (λ n. c < n) (count_listed (tree_within d m) node.cells) (row_within (cells_of (tree_within d (suc m) k)) c row e) in
+          let few : c < length node.cells = subst (λ n. c < n) (count_for (tree_within d m) node.cells) (row_within (cells_of (tree_within d (suc m) k)) c row e) in
           loaded_there c (other_memory c few) ∙ ap (loaded_at (externals_of node) words c) (rows_start m k at c row e))
           (λ c e path. refl) (λ c e path. refl)
           (λ x own. registers x own)

@@ -24,7 +24,7 @@ use Rattle.cx_meaning.specs.Islands.{turn_of}
 use Rattle.cx_meaning.specs.Calls.{hole_turn, group_turn, called, called_in, if_instance, call_or_turns, enable_kind}
 use Rattle.cx_meaning.specs.Running.{Children}
 use Rattle.cx_meaning.proofs.SightsLaws.{in_at}
-use Rattle.cx_meaning.proofs.CycleLemmas.{row_within}
+use Rattle.cx_meaning.proofs.CycleLemmas.{row_within, count_for}
 use Rattle.cx_meaning.proofs.IdleLemmas.{kept_within}
 use Rattle.cx_meaning.proofs.InstancesLemmas.{not_just, literal_is}
 use Rattle.cx_meaning.proofs.RunningLemmas.{idle_settles}
@@ -42,7 +42,6 @@ use Rattle.cx_rewrites.specs.Cells.{comes_to, left_by}
 use Rattle.cx_profiling.specs.Counters.{Counter, counters, Shown, shown_in}
 use Rattle.cx_profiling.specs.Growing.{Grown}
 use Rattle.cx_profiling.specs.Instrumented.{store_assigns, address_width, main_component, with_counts}
-use Rattle.cx_profiling.proofs.ListedCells.{count_listed}
 use Rattle.cx_profiling.proofs.RestLemmas.{grown_states}
 use Rattle.cx_profiling.proofs.CounterLemmas.{in_counters}
 use Rattle.cx_profiling.proofs.RoleLemmas.{own_counters}
@@ -206,7 +205,7 @@ module _ (d : PlainDesign) (design : IsDesign d) (accepted : IsAccepted d) (grow
       holds = memory_ended;
       grown = make_grown d design m k at τ s (idle j (left_by j unheld (group g) u))
           (λ c r e.
-          let less : c < length node.cells = subst (λ n. c < n) (count_listed (tree_within d m) node.cells) (row_within (cells_of i) c r e) in
+          let less : c < length node.cells = subst (λ n. c < n) (count_for (tree_within d m) node.cells) (row_within (cells_of i) c r e) in
           same_ended (c ∷ []) (other_cell c (omega (arith, less))) ∙ grown_rows d design m k at τ s u between.grown c r e)
           (λ c child e.
           let less : c < length node.cells = child_few (tree_within d m) node.cells c child e in

@@ -16,7 +16,7 @@ use Rattle.cx_meaning.specs.Islands.{History, Occurrence, active_in, and_now, fo
 use Rattle.cx_meaning.specs.Calls.{after_child, call_or_turns, called, captures, enable_kind, group_turn, inputs_of_call, lift_answer}
 use Rattle.cx_meaning.specs.Running.{control_below, leaves, run_control}
 use Rattle.cx_meaning.proofs.InstancesLemmas.{instance_is, row_instance}
-use Rattle.cx_meaning.proofs.RunningLemmas.{steady_control}
+use Rattle.cx_meaning.proofs.RunningLemmas.{steady_control, child_runs}
 use Rattle.cx_meaning.proofs.SightsLaws.{image_in, in_at, in_left, in_right}
 use Rattle.cx_rules.specs.Ports.{component_of}
 use Rattle.cx_rules.specs.Items.{Context, Dynamic, Visited, below_dynamic, is_comb, statements_in, visit, visit_all, visit_parts}
@@ -28,7 +28,7 @@ use Rattle.cx_profiling.specs.Counters.{ProfileEntry, Shown, behind_cell, counte
 use Rattle.cx_profiling.specs.Counting.{count_below, count_call_or_turns, count_control, count_enable, counting, made_with, once, tally_of}
 use Rattle.cx_profiling.proofs.AcyclicLemmas.{child_few}
 use Rattle.cx_profiling.proofs.ArmLemmas.{counted_kind, not_later, undriven_later}
-use Rattle.cx_profiling.proofs.ControlLemmas.{control_child, count_child}
+use Rattle.cx_profiling.proofs.ControlLemmas.{count_child}
 use Rattle.cx_profiling.proofs.CountWithin.{below_arms_zero, below_zero, own_arms_zero, own_zero}
 use Rattle.cx_profiling.proofs.GroupLemmas.{counted_there}
 use Rattle.cx_profiling.proofs.GrownTrees.{InTree, child_in_tree, in_reach, is_whole, main_in_tree}
@@ -36,19 +36,11 @@ use Rattle.cx_profiling.proofs.LeafLemmas.{called_instance}
 use Rattle.cx_profiling.proofs.PairLemmas.{CellPair, child_pair, pair_at, row_pair}
 use Rattle.cx_profiling.proofs.ShownLemmas.{IsBelow, WhereShown, child_count, own_count, where_shown}
 use Rattle.cx_profiling.proofs.TallyAnswers.{Fits, FitsIn, fits_both, fits_idle, fits_loop, fits_rounds, fits_stay, fits_test, fits_then, fits_turn, fits_turns, fits_wait, fits_within}
+use Rattle.cx_rewrites.proofs.MovedLemmas.{joined-with_last, with_last}
 
 pub once_few : (o : Option ℕ) → once o ≤ 1
 once_few None = omega arith
 once_few (Some n) = omega arith
-
--- one arm more stands before those that are left
-abbrev pub with_last : PlainStatements → PlainStatement → PlainStatements
-with_last no_statements s = a_statement s no_statements
-with_last (a_statement first rest) s = a_statement first (with_last rest s)
-
-pub joined-with_last : (done : PlainStatements) (s : PlainStatement) (later : PlainStatements) → joined (with_last done s) later ≡ joined done (a_statement s later)
-joined-with_last no_statements s later = refl
-joined-with_last (a_statement first rest) s later = ap (a_statement first) (joined-with_last rest s later)
 
 pub member : (g : ℕ) (gs : List ℕ) → In gs g ⊎ (In gs g → ⊥)
 member g [] = inr (λ none. none)
@@ -160,7 +152,7 @@ module _ (d : PlainDesign) (design : IsDesign d) (accepted : IsAccepted d) where
         by (row_pair row first second moved) = absurd (row_instance row child.0 (sym first ∙ child.1))
         by (child_pair cell e stands comp less first second moved) =
             let counts = count_child (cells_of i) c (tree_within d m e) first own (under c s) n in
-            let runs = control_child (cells_of i) c (tree_within d m e) first own (under c s) n in
+            let runs = child_runs (cells_of i) c (tree_within d m e) first own (under c s) n in
             subst (λ tally. Fits n (below c tally path g) (control_below (cells_of i) c own (under c s) n)) (sym counts)
             (subst (λ o. Fits n (below c (count_control (tree_within d m e) own (under c s) n) path g) o) (sym runs)
             (of_path e (child_in_tree d design at cell e (in_at node.cells c cell stands) comp) first path plain))

@@ -9,7 +9,7 @@ use Rattle.cx_meaning.specs.Cycles.{Fault}
 use Rattle.cx_meaning.specs.Control.{Leaves, groups_of, groups_in_all, group_drives, groups_drive, drives}
 use Rattle.cx_meaning.specs.Running.{Children}
 use Rattle.cx_meaning.specs.declared.ports.PortRef.{PortRef}
-use Rattle.cx_meaning.proofs.ControlLaws.{groups_drive_in}
+use Rattle.cx_meaning.proofs.ControlLaws.{groups_drive_in, driver}
 use Rattle.cx_meaning.proofs.SightsLaws.{in_either, in_left, in_right}
 use Rattle.cx_meaning.proofs.DesignsLemmas.{same_part}
 use Rattle.cx_rules.specs.Items.{Context, Dynamic, InStatic, Branch, Visited, visit, visit_parts, visit_all, below_dynamic, statements_in, is_comb}
@@ -34,16 +34,16 @@ use Rattle.cx_profiling.specs.Counting.{ChildrenCount}
 use Rattle.cx_profiling.specs.WholeCounting.{whole_count, whole_count_arms, whole_counting}
 use Rattle.cx_profiling.specs.Growing.{Grown}
 use Rattle.cx_profiling.specs.Instrumented.{moved_in, with_counts}
-use Rattle.cx_profiling.proofs.ListedCells.{count_listed}
 use Rattle.cx_profiling.proofs.GrownLemmas.{Apart, grown_merge}
 use Rattle.cx_profiling.proofs.GrownTrees.{InTree, in_reach, is_whole}
 use Rattle.cx_profiling.proofs.GroupLemmas.{counted_there, register_driven, register_past}
 use Rattle.cx_profiling.proofs.EnabledLemmas.{AreForms, Known, statement_known, is_enabled, arm_of, visits_of_arm}
-use Rattle.cx_profiling.proofs.ArmLemmas.{moved_groups, driver_in, list_joined, counted_kind, all_forms, groups_same, no_cell}
+use Rattle.cx_profiling.proofs.ArmLemmas.{moved_groups, list_joined, counted_kind, all_forms, groups_same, no_cell}
 use Rattle.cx_profiling.proofs.InvokesMade.{invokes_of-moved, captures_kept, cells_kept, captures_there, invoked_there}
 use Rattle.cx_profiling.proofs.GrownEvents.{in_got}
 use Rattle.cx_profiling.proofs.WholeWithin.{groups_form, timed_form, whole_own_zero, whole_own_arms, whole_below_zero, whole_below_arms}
 use Rattle.cx_profiling.proofs.WholeCarries.{ArmsCarry}
+use Rattle.cx_meaning.proofs.CycleLemmas.{count_for}
 
 timed_arm : (n : ℕ) (ss : PlainStatements) → In (timed_all ss) n → (x : ℕ) × (s : PlainStatement) × (slice_get (list_of ss) x ≡ Some s) × In (timed_of s) n
 timed_arm n no_statements i = absurd i
@@ -191,7 +191,7 @@ module _ (d : PlainDesign) (design : IsDesign d) (accepted : IsAccepted d) (m k 
 
         by_group : drives other (moved_statement mv arm) x.register ≡ true → In (groups_of arm) x.group
         by_group h =
-            let group = driver_in other (groups_of arm) x.register (sym (ap (λ gs. groups_drive other gs x.register) (moved_groups mv arm)) ∙ h) in
+            let group = driver other (groups_of arm) x.register (sym (ap (λ gs. groups_drive other gs x.register) (moved_groups mv arm)) ∙ h) in
             subst (In (groups_of arm)) (of_group group.0 (arm_group group.0 group.1).there group.2) group.1
 
         by_invoke : invokes_cell other (invokes_of (moved_statement mv arm)) x.register ≡ true → In (groups_of arm) x.group
@@ -201,7 +201,7 @@ module _ (d : PlainDesign) (design : IsDesign d) (accepted : IsAccepted d) (m k 
 
         by_capture : groups_drive other (captures_of other (invokes_of (moved_statement mv arm))) x.register ≡ true → In (groups_of arm) x.group
         by_capture h =
-            let group = driver_in other (captures_of part (invokes_of arm)) x.register
+            let group = driver other (captures_of part (invokes_of arm)) x.register
             (ap (λ gs. groups_drive other gs x.register) (sym (captures_kept d design k at.within (invokes_of arm)) ∙ ap (captures_of other) (sym (invokes_of-moved d design k at.within arm))) ∙ h) in
             let its = captures_there d design k at.within (invokes_of arm) group.0 group.1 in
             absurd (counted_named x there (ap (λ g. (group_at part g).name) (sym (of_group group.0 its.there group.2)) ∙ its.unnamed))
@@ -244,7 +244,7 @@ module _ (d : PlainDesign) (design : IsDesign d) (accepted : IsAccepted d) (m k 
 
     whole_apart : (τ : Tally) (s : State) (n : ℕ) (a b x y : State) → Apart (drives_all part arm) (drives_all other (moved_statement mv arm)) a b x y τ (whole_count L C arm s n) (whole_count_arms L C later s n) i
     whole_apart τ s n a b x y = record {
-      same = λ c few. driven_same c (subst (λ z. c < z) (count_listed (tree_within d m) part.cells) few);
+      same = λ c few. driven_same c (subst (λ z. c < z) (count_for (tree_within d m) part.cells) few);
       later = λ c path g driven. later_below c path g driven s n;
       first = λ c path g none. first_below c path g none s n;
       own_later = λ counter own driven.

@@ -1,23 +1,20 @@
 -- A STATEMENT CARRIES ITSELF WITH ITS PORTS MOVED, where the leaves of control do, static invokes among them.
-use Rattle.std.proofs.Common.{◌≡◌, ℕ, zero, suc, inl, inr, List, ◌++◌, Option, Some, refl, sym, subst}
+use Rattle.std.proofs.Common.{◌≡◌, ℕ, zero, suc, inl, inr, ◌++◌, Option, Some, refl, sym, subst}
 use Rattle.cx_meaning.specs.declared.ports.PortRef.{PortRef}
 use Rattle.cx_meaning.specs.declared.ports.PlacedPort.{PlacedPort}
 use Rattle.cx_meaning.specs.Designs.{PlainForm, Empty, Enable, Seq, Par, If, While, Repeat, StaticSeq, StaticPar, StaticIf, StaticRepeat, Timed, PlainStatement, Placed, PlainStatements, no_statements, a_statement}
 use Rattle.cx_meaning.specs.Answers.{End}
-use Rattle.cx_meaning.specs.Control.{Leaves, groups_in, groups_of, groups_in_all, with_comb, run_form, run, run_parts, run_arms}
-use Rattle.cx_meaning.proofs.SightsLaws.{behind_comb, in_comb}
-use Rattle.cx_rules.specs.Items.{Context, below_dynamic, Visited, visit, visit_parts, visit_all, test_in}
+use Rattle.cx_meaning.specs.Control.{Leaves, groups_in, groups_of, groups_in_all, run_form, run, run_parts, run_arms}
+use Rattle.cx_meaning.proofs.SightsLaws.{in_comb}
+use Rattle.cx_rules.specs.Items.{Context, below_dynamic, visit, visit_parts, visit_all, test_in}
 use Rattle.cx_frames.proofs.ControlFrames.{Holds, left, right}
 use Rattle.cx_rewrites.specs.Moving.{moved_form, moved_statement, moved_statements}
 use Rattle.cx_rewrites.specs.Tallies.{Tally, plus, Counting}
 use Rattle.cx_rewrites.specs.Carrying.{Pace, Rests, TestCarried, Carries}
 use Rattle.cx_rewrites.specs.Beside.{joined}
 use Rattle.cx_rewrites.proofs.CarryLemmas.{then_carries, stay_carries, idle_carries, test_carries, loop_of_carries, rounds_carry, both_carried}
-use Rattle.cx_profiling.proofs.TallyWithin.{with_last, joined-with_last}
 use Rattle.cx_profiling.specs.WholeCounting.{whole_count_form, whole_count, whole_count_parts, whole_count_arms}
-
-below_comb : {G : ℕ → Type 0} {P : PlainForm → Type 0} (comb : Option ℕ) (gs : List ℕ) (vs : List Visited) → Holds G P (with_comb comb gs) vs → Holds G P gs vs
-below_comb comb gs vs h = record { groups = λ g i. h.groups g (behind_comb comb gs g i); forms = h.forms }
+use Rattle.cx_rewrites.proofs.MovedLemmas.{below_comb, joined-with_last, with_last}
 
 module _ {S T F E : Type 0} (pace : Pace) (R : Tally → S → T → Type 0) (faults : F → E) (L : Leaves S F) (C : Counting S) (M : Leaves T E) (move : PortRef → PortRef) (G : ℕ → Type 0) (P : PlainForm → Type 0) where
   -- an arm and the arms after it, each run from one state: what they leave together is related by what both counted

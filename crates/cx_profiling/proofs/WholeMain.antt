@@ -2,7 +2,7 @@
 use Rattle.std.proofs.Common.{◌≡◌, ℕ, zero, suc, ◌+◌, ◌-◌, ◌*◌, ◌<◌, ◌≤◌, inl, inr, Bool, true, false, if◌then◌else◌, List, [], ◌∷◌, ◌++◌, length, map, Some, slice_get, refl, sym, ap, ◌∙◌, subst, arith}
 use Rattle.std.specs.Prelude.{slice_set}
 use Rattle.std.proofs.lemmas.List.{map-append}
-use Rattle.cx_text.proofs.ListLaws.{behind, length-map}
+use Rattle.cx_text.proofs.ListLaws.{behind, length-map, nothing_more}
 use Rattle.cx_prim.specs.CellStates.{CellState, Memory, AreWords}
 use Rattle.cx_prim.specs.CellStates as cell_states
 use Rattle.cx_prim.specs.Rows.{Row}
@@ -51,7 +51,7 @@ use Rattle.cx_profiling.proofs.GrownIslands.{TwinKeeps}
 use Rattle.cx_profiling.proofs.WholeLeaves.{whole_control_carries, whole_kids}
 use Rattle.cx_profiling.proofs.WholeSteady.{steady_statement, whole_settles}
 use Rattle.cx_profiling.proofs.WholeStores.{whole_store_runs}
-use Rattle.cx_profiling.proofs.MainLemmas.{set_middle, none_left, more_after, one_longer, nothing_more, memory_rests}
+use Rattle.cx_profiling.proofs.MainLemmas.{set_middle, none_left, more_after, one_longer, memory_rests}
 use Rattle.cx_profiling.proofs.OutputLemmas.{counted_of}
 use Rattle.cx_profiling.proofs.MemoryLemmas.{memory_at}
 use Rattle.cx_profiling.proofs.StoreLemmas.{Between, stored_between, store_leaves}

@@ -1,24 +1,23 @@
 -- LAWS OF RUNS with static components: a greater budget shows no more than that a run goes on, and every statement leaves a settled state.
-use Rattle.std.proofs.Common.{◌≡◌, ℕ, zero, suc, Bool, true, false, if◌then◌else◌, List, [], ◌∷◌, Option, Some, None, ap, arith}
+use Rattle.std.proofs.Common.{ℕ, zero, suc, Bool, true, false, List, [], Option, Some, None, arith}
 use Rattle.cx_meaning.specs.declared.kinds.GroupKind.{GroupKind}
 use Rattle.cx_meaning.specs.declared.kinds.GroupKind.TheVariants as kinds
 use Rattle.cx_meaning.specs.Rows.{KeepsIdle}
 use Rattle.cx_meaning.specs.Designs.{PlainForm, Enable, Timed, PlainStatement, group_at}
-use Rattle.cx_meaning.specs.Instances.{Instance, Node, Cells, no_cells, a_primitive, an_instance, cells_of, part_of, State, Set, merge, under, idle, idle_at, IsSettled}
+use Rattle.cx_meaning.specs.Instances.{Instance, Node, Cells, no_cells, a_primitive, an_instance, cells_of, part_of, State, under, idle, IsSettled}
 use Rattle.cx_meaning.specs.Active.{capture}
 use Rattle.cx_meaning.specs.Sights.{Held}
 use Rattle.cx_meaning.specs.Cycles.{Fault}
-use Rattle.cx_meaning.specs.Answers.{Answer, End, More, idle_turn}
-use Rattle.cx_meaning.specs.Answers as answers
+use Rattle.cx_meaning.specs.Answers.{idle_turn}
 use Rattle.cx_meaning.specs.Control.{run}
 use Rattle.cx_meaning.specs.Islands.{turn_of}
-use Rattle.cx_meaning.specs.Calls.{lift_answer, inputs_of_call, called, captures}
+use Rattle.cx_meaning.specs.Calls.{inputs_of_call, called, captures}
 use Rattle.cx_meaning.specs.Running.{Children}
-use Rattle.cx_meaning.specs.Budgets.{Beyond, Grows, IsSteady, Leaves}
+use Rattle.cx_meaning.specs.Budgets.{IsSteady, Leaves}
 use Rattle.cx_meaning.specs.Laws.{AllRows}
 use Rattle.cx_meaning.proofs.AnswersLemmas.{steady_idle, steady_turn, steady_turns, grows_turn, grows_then, turn_beyond, leaves_last, leaves_idle, leaves_turn, leaves_turns}
 use Rattle.cx_meaning.proofs.ControlLemmas.{LeavesAreSteady, steady_run, leaves_run}
-use Rattle.cx_meaning.proofs.RunningLemmas.{idle_settles}
+use Rattle.cx_meaning.proofs.RunningLemmas.{idle_settles, grows_lifted, merge_settles}
 use Rattle.cx_rules.specs.Invokes.{form_lasts}
 use Rattle.cx_flattening.specs.Events.{Event}
 use Rattle.cx_flattening.specs.Deeds.{History, no_history, and_now}
@@ -37,17 +36,6 @@ module _ (i : Instance) (held : Held) where
 
   steady_island : (form : PlainForm) → IsSteady (whole_island i held form)
   steady_island form s n m le = steady_cycles (island_events i form) (form_lasts (part_of i) form) 0 no_history s n m le
-
--- calls
-grows_lifted : (c : ℕ) (s : State) (n : ℕ) (o later : Answer State Fault) → Grows n o later → Grows n (lift_answer c s o) (lift_answer c s later)
-grows_lifted c s n (End own t) later (h, e) = (h, ap (lift_answer c s) e)
-grows_lifted c s n (answers.Fault f t) later (h, e) = (h, ap (lift_answer c s) e)
-grows_lifted c s n More later h = beyond later h
-  where
-    beyond : (o : Answer State Fault) → Beyond n o → Beyond n (lift_answer c s o)
-    beyond (End own t) h = h
-    beyond (answers.Fault f t) h = h
-    beyond More h = tt
 
 module _ (i : Instance) (children : Children) (held : Held) (g : ℕ) where
   steady_after : (c : ℕ) (capturing : Bool) → IsSteady (after_child i held g c capturing)
@@ -114,14 +102,6 @@ module _ (i : Instance) (held : Held) (children : Children) (P : State → Type 
   keeps_enable g kinds.Plain s n = keeps_called g (called i g) s n
   keeps_enable g kinds.Comb s n = keeps_called g (called i g) s n
   keeps_enable g (kinds.Timed length) s n = keeps_cycles (island_events i (Enable g)) (form_lasts (part_of i) (Enable g)) 0 no_history s n
-
-merge_settles : (i : Instance) (set : Set) (a b : State) → IsSettled i a → IsSettled i b → IsSettled i (merge set a b)
-merge_settles i set a b h k [] = k []
-merge_settles i set a b h k (c ∷ path) = one (set c)
-  where
-    one : (pick : Bool) → idle_at i (c ∷ path) (if pick then a (c ∷ path) else b (c ∷ path)) ≡ (if pick then a (c ∷ path) else b (c ∷ path))
-    one true = h (c ∷ path)
-    one false = k (c ∷ path)
 
 pub whole_settles : (i : Instance) → AllRows KeepsIdle i → (held : Held) (statement : PlainStatement) (s : State) (n : ℕ) → IsSettled i s → Leaves (IsSettled i) (run (whole_leaves i (whole_below (cells_of i)) held) statement s n)
 whole_settles (Node part cells) keep held statement s n settled =

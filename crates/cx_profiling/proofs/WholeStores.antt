@@ -4,7 +4,7 @@ use Rattle.std.proofs.Math.Path.{fun_ext}
 use Rattle.cx_prim.specs.CellStates.{CellState}
 use Rattle.cx_meaning.specs.Truths.{truth_of}
 use Rattle.cx_meaning.specs.Designs.{PlainGroup, PlainComponent, PlainDesign, component_at, group_at}
-use Rattle.cx_meaning.specs.Instances.{Instance, Cells, no_cells, a_primitive, an_instance, At, Nothing, OfRow, OfInstance, cell_at, cell_count, cells_of, Path, State, under, put, just, idle, idle_at, idle_below, IsSettled, instance_at, child_at, tree_within}
+use Rattle.cx_meaning.specs.Instances.{Instance, Cells, no_cells, a_primitive, an_instance, At, Nothing, OfRow, OfInstance, cell_at, cell_count, cells_of, Path, State, under, put, just, idle, idle_at, idle_below, IsSettled, instance_at, tree_within}
 use Rattle.cx_meaning.specs.Active.{group, entries}
 use Rattle.cx_meaning.specs.Sights.{Look, Held, unheld, seen}
 use Rattle.cx_meaning.specs.Cycles.{Next, outcome_at, stepped, unless_fault, Goes, cycle}
@@ -13,7 +13,7 @@ use Rattle.cx_meaning.specs.Answers as answers
 use Rattle.cx_meaning.specs.Islands.{turn_of}
 use Rattle.cx_meaning.specs.Calls.{hole_turn}
 use Rattle.cx_meaning.specs.Running.{Children}
-use Rattle.cx_meaning.proofs.InstancesLemmas.{instance_is, row_instance, nothing_instance, just_true}
+use Rattle.cx_meaning.proofs.InstancesLemmas.{instance_is, row_instance, nothing_instance, just_true, child_is}
 use Rattle.cx_rules.specs.Ports.{component_of}
 use Rattle.cx_rules.specs.Accepted.{IsAccepted}
 use Rattle.cx_rules.specs.Wellformed.{IsDesign}
@@ -29,14 +29,6 @@ use Rattle.cx_profiling.proofs.ListedCells.{CellIs, is_none, is_primitive, is_co
 use Rattle.cx_profiling.proofs.GrownTrees.{InTree}
 use Rattle.cx_profiling.proofs.StoreDrives.{store_group}
 use Rattle.cx_profiling.proofs.StoreLemmas.{none_stops, Between, cycle_goes, done_before, done_after, no_call}
-
--- a child at a cell
-at_child : (cells : Cells) (c : ℕ) (child : Instance) → cell_at cells c ≡ OfInstance child → (path : Path) → child_at cells c path ≡ instance_at child path
-at_child no_cells c child e path = absurd (nothing_instance child e)
-at_child (a_primitive row rest) zero child e path = absurd (row_instance row child e)
-at_child (a_primitive row rest) (suc c) child e path = at_child rest c child e path
-at_child (an_instance other rest) zero child e path = ap (λ x. instance_at x path) (instance_is other child e)
-at_child (an_instance other rest) (suc c) child e path = at_child rest c child e path
 
 idle_child : (cells : Cells) (c : ℕ) (child : Instance) → cell_at cells c ≡ OfInstance child → (path : Path) (x : CellState) → idle_below cells c path x ≡ idle_at child path x
 idle_child no_cells c child e path x = absurd (nothing_instance child e)
@@ -133,7 +125,7 @@ module _ (g : PlainDesign) where
           let number : c ≡ 0 + c = omega arith in
           subst (λ n. whole_cycle child (held_below (seen (tree_within g (suc m) e) held (entries []) u) n []) (entries []) [] (under n u) ≡ Goes (under n u)) number
           (subst (λ y. whole_cycle y (held_below (seen (tree_within g (suc m) e) held (entries []) u) c []) (entries []) [] (under c u) ≡ Goes (under c u)) same
-          (each x (λ path. subst BareEnablesNothing (at_child (cells_of (tree_within g (suc m) e)) c (tree_within g m x) (at ∙ ap OfInstance (sym same)) path) (bare (c ∷ path)))
+          (each x (λ path. subst BareEnablesNothing (child_is (cells_of (tree_within g (suc m) e)) c (tree_within g m x) (at ∙ ap OfInstance (sym same)) path) (bare (c ∷ path)))
           (held_below (seen (tree_within g (suc m) e) held (entries []) u) c []) (under c u)
           (λ path. sym (idle_child (cells_of (tree_within g (suc m) e)) c (tree_within g m x) (at ∙ ap OfInstance (sym same)) path (u (c ∷ path))) ∙ settled (c ∷ path))))
 
@@ -169,7 +161,7 @@ module _ (d : PlainDesign) (design : IsDesign d) (accepted : IsAccepted d) (grow
           let number : c ≡ 0 + c = omega arith in
           subst (λ q. whole_cycle child (held_below (seen j unheld (group g) u) q []) (entries []) [] (under q u) ≡ Goes (under q u)) number
           (subst (λ y. whole_cycle y (held_below (seen j unheld (group g) u) c []) (entries []) [] (under c u) ≡ Goes (under c u)) same_child
-          (still_tree (with_counts d) m e (λ path. subst BareEnablesNothing (at_child (cells_of j) c (tree_within (with_counts d) m e) (here ∙ ap OfInstance (sym same_child)) path) (bare (c ∷ path)))
+          (still_tree (with_counts d) m e (λ path. subst BareEnablesNothing (child_is (cells_of j) c (tree_within (with_counts d) m e) (here ∙ ap OfInstance (sym same_child)) path) (bare (c ∷ path)))
           (held_below (seen j unheld (group g) u) c []) (under c u)
           (λ path. sym (idle_child (cells_of j) c (tree_within (with_counts d) m e) (here ∙ ap OfInstance (sym same_child)) path (u (c ∷ path))) ∙ between.settled (c ∷ path))))
 

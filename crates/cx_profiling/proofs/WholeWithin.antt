@@ -23,11 +23,12 @@ use Rattle.cx_flattening.specs.Controlled.{timed_in, timed_of, timed_all, AllCon
 use Rattle.cx_flattening.specs.Lists.{island_events}
 use Rattle.cx_flattening.specs.Whole.{look_below, whole_turn, group_turn, whole_leaves}
 use Rattle.cx_flattening.proofs.DeedSources.{Does, rests, a_group, a_part, all_arms, one_branch, other_branch, a_round, an_invoke, a_capture, DoesArms, no_arms, an_arm, island_does}
-use Rattle.cx_flattening.proofs.DeedsApart.{own-both, below-both, own-lower, lower-elsewhere, in_parts, timed_parts}
+use Rattle.cx_flattening.proofs.DeedsApart.{own-both, below-both, own-lower, lower-elsewhere, timed_parts}
 use Rattle.cx_profiling.specs.Counting.{once, made_with, ChildrenCount}
 use Rattle.cx_profiling.specs.WholeCounting.{whole_count_form, whole_count, whole_count_parts, whole_count_arms, done_with, whole_count_from, count_whole_island, count_whole_call_or_turns, count_whole_enable, whole_counting}
 use Rattle.cx_profiling.proofs.CountWithin.{IsZero, NeverCounts, zero_plus, zero_then, zero_turns, zero_test, zero_loop, zero_rounds, called_drives}
 use Rattle.cx_profiling.proofs.BareCounts.{nothing_done}
+use Rattle.cx_meaning.proofs.ControlLaws.{in_parts}
 
 pub groups_form : (s : PlainStatement) → groups_in (form_of s) ≡ groups_of s
 groups_form (Placed form place) = refl

@@ -13,9 +13,9 @@ use Rattle.cx_prim.specs.CombinationalRows.{constant_row, unary_row, binary_row,
 use Rattle.cx_prim.specs.RegisterRow.{register_row}
 use Rattle.cx_prim.specs.PipeRows.{multiplier_row, divider_row, timer_row}
 use Rattle.cx_prim.specs.Table.{PrimitiveRow, HasRow, at_width, constant_at, slice_at, pad_at, memory_at, timer_at, row_at, no_row, row_of}
-use Rattle.cx_design_sizes.proofs.WordLemmas.{one_name}
 use Rattle.cx_promotion.specs.Promotable.{cycles_of, is_pipe}
 use Rattle.cx_promote.specs.Cycles.{cycles_named, is_pipe_name}
+use Rattle.cx_prim.proofs.NameLemmas.{one_name}
 
 -- what is asked of a shape: the cycles, and whether it is a pipe's
 pub record Work : Type 0 where

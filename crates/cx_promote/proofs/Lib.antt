@@ -9,4 +9,4 @@ mod GroupLemmas
 mod NameLemmas
 mod SiteLemmas
 mod MadeLemmas
-mod PromotedLemmas
+pub mod PromotedLemmas

@@ -3,6 +3,7 @@ use Rattle.std.proofs.Common.{◌≡◌, ℕ, zero, suc, ◌<◌, ◌+◌, ◌-�
 use Rattle.std.specs.Prelude.{slice_get}
 use Rattle.cx_text.proofs.ListLaws.{there_below, item_at, length-map}
 use Rattle.cx_promote.specs.Lengths.{Begins}
+use Rattle.cx_text.proofs.OptionLaws.{same_some, none_or_some}
 
 pub drop_head : {A : Type 0} (xs : List A) (n : ℕ) (x : A) (rest : List A) → drop n xs ≡ x ∷ rest → slice_get xs n ≡ Some x
 drop_head [] zero x rest e = absurd cc
@@ -52,12 +53,8 @@ begins_at f (y ∷ found) (x ∷ items) (suc n) item (rest, e) at =
 pub mapped_push : {A B : Type 0} (f : A → B) (new old : List A) (x : A) → new ≡ old ++ x ∷ [] → map f new ≡ map f old ++ f x ∷ []
 mapped_push f new old x e = ap (map f) e ∙ map_joined f old (x ∷ [])
 
--- what two functions give at one number
-some_same : {A : Type 0} (x y : A) → Some x ≡ Some y → x ≡ y
-some_same x y e = cc
-
 pub same_at : {A : Type 0} (xs : List A) (n : ℕ) (x y : A) → slice_get xs n ≡ Some x → slice_get xs n ≡ Some y → x ≡ y
-same_at xs n x y a b = some_same x y (sym a ∙ b)
+same_at xs n x y a b = same_some x y (sym a ∙ b)
 
 pub found_at : {A B C : Type 0} (f : A → C) (g : B → C) (xs : List A) (ys : List B) (n : ℕ) (x : A) (y : B) → map f xs ≡ map g ys
     → x ≡ get_or xs n x → n < length ys → y ≡ get_or ys n y → f x ≡ g y
@@ -67,15 +64,11 @@ found_at f g xs ys n x y e at inside here =
 
 pub read_got : {A : Type 0} (xs : List A) (n : ℕ) (x d : A) → slice_get xs n ≡ Some x → get_or xs n d ≡ x
 read_got [] n x d e = absurd cc
-read_got (y ∷ xs) zero x d e = some_same y x e
+read_got (y ∷ xs) zero x d e = same_some y x e
 read_got (y ∷ xs) (suc n) x d e = read_got xs n x d e
-
--- a list of which no item can be taken is empty
-none_some : {A : Type 0} (o : Option A) (x : A) → o ≡ None → o ≡ Some x → ⊥
-none_some o x e f = let g : None ≡ Some x = sym e ∙ f in absurd cc
 
 pub no_last : {A : Type 0} (xs : List A) (n : ℕ) (o : Option A) → n ≡ length xs → o ≡ None → ((d : A) → 0 < n → o ≡ Some (get_or xs (n - 1) d)) → xs ≡ []
 no_last [] n o len e value = refl
 no_last (x ∷ xs) n o len e value =
     let some : 0 < n = omega (arith, len) in
-    absurd (none_some o (get_or (x ∷ xs) (n - 1) x) e (value x some))
+    absurd (none_or_some o (get_or (x ∷ xs) (n - 1) x) e (value x some))

@@ -21,7 +21,7 @@ use Rattle.cx_promoted_trees.proofs.NamesPromoted.{names_made}
 use Rattle.cx_promoted_trees.proofs.TargetsPromoted.{made_tree_has_targets}
 
 -- the design of an accepted tree keeps what each design keeps
-tree_design : (tree : PlainTree) (d : PlainDesign) → HasTargets tree → IsAcceptedTree tree → d ≡ design_of tree → ∥ IsDesign d ∥₁ → IsDesign (design_of tree)
+pub tree_design : (tree : PlainTree) (d : PlainDesign) → HasTargets tree → IsAcceptedTree tree → d ≡ design_of tree → ∥ IsDesign d ∥₁ → IsDesign (design_of tree)
 tree_design tree d targets accepted same keeps =
     let small : design_size d < 2 ^ 32 = ∥∥₁_elim keeps (hlevel props) (λ design. design.few_parts) in
     is_design tree targets accepted.named (subst (λ e. design_size e < 2 ^ 32) same small)

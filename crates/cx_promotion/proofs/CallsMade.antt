@@ -21,7 +21,6 @@ use Rattle.cx_rules.specs.Items.{is_plain}
 use Rattle.cx_rules.specs.Ports.{is_primitive_enable, is_part_port, path_of}
 use Rattle.cx_rules.specs.ShapeRules.{is_hole, is_hole_of, some_target, BreaksNoDone, GroupBreaksStaticShape}
 use Rattle.cx_rules.specs.CallShape.{is_port_of, Calls, go_port, done_port, is_register_enable, is_register_cell, captured_from, captured, wanted_dones, with_target, is_right_go, is_right_enable, is_right_done, assigns_of, IsOutputOrDone, CallsAnother, has_right_go, IsFedBack, has_right_enable, has_right_done, CallBreak, another_cell, wrong_go, input_by_output, wrong_enable, wrong_done, IsOutside, IsMisshapen, BreaksCallShape, GroupBreaksCallShape}
-use Rattle.cx_frames.proofs.RuleLemmas.{OwnerOf, continuous, of_group, owner_of}
 use Rattle.cx_promotion.specs.Promotable.{bare_enable, promoted_assigns}
 use Rattle.cx_promotion.specs.Made.{without_guard, IsPromoted, PartMade}
 use Rattle.cx_promotion.proofs.Impossible.{no_true, no_some}
@@ -32,6 +31,7 @@ use Rattle.cx_promotion.proofs.Members.{group_made}
 use Rattle.cx_promotion.proofs.PortsMade.{SameSignature, port_same, kind_is, enable_same, part_port_same}
 use Rattle.cx_promotion.proofs.LeadsMade.{depends_made}
 use Rattle.cx_promotion.proofs.AssignsMade.{kept, freed, From, OldBreak}
+use Rattle.cx_rules.proofs.ForeignLemmas.{OwnerOf, continuous, of_group, owner_of}
 
 plain_timed : (kind : GroupKind) (n : ℕ) → kind ≡ kinds.Timed n → is_plain kind ≡ true → ⊥
 plain_timed kinds.Plain n e p = absurd (cc)

@@ -19,7 +19,7 @@ use Rattle.cx_meaning.specs.Active.{Active, nothing, group, entries, Acting, Own
 use Rattle.cx_meaning.specs.Truths.{One, truth_of, not_truth}
 use Rattle.cx_meaning.specs.Sights.{In, Look, Held, unheld, Sees, bit_of, of_option, guard_truth, target_seen, side_step, cell_step, seen, outputs_below}
 use Rattle.cx_meaning.specs.Cycles.{enables}
-use Rattle.cx_meaning.proofs.ActiveLemmas.{only_self, acting_has}
+use Rattle.cx_meaning.proofs.ActiveLemmas.{only_self, acting_has, group_stands}
 use Rattle.cx_meaning.proofs.DesignsLemmas.{group_there}
 use Rattle.cx_meaning.proofs.InstancesLemmas.{literal_is}
 use Rattle.cx_meaning.proofs.PortsLemmas.{same_self}
@@ -30,9 +30,7 @@ use Rattle.cx_rules.specs.Ports.{is_primitive_enable, enables_cell, is_cell_outp
 use Rattle.cx_rules.specs.ShapeRules.{is_hole, owner_length}
 use Rattle.cx_rules.specs.CallShape.{one}
 use Rattle.cx_rules.specs.Wellformed.{port_count, IsThere}
-use Rattle.cx_rules.proofs.FoundLemmas.{seen_solves}
-use Rattle.cx_laws.proofs.SourceLemmas.{source_in}
-use Rattle.cx_frames.proofs.RuleLemmas.{OwnerOf, continuous, of_group, owner_of}
+use Rattle.cx_rules.proofs.FoundLemmas.{seen_solves, source_in}
 use Rattle.cx_rewrites.proofs.ClosedLemmas.{is_closed}
 use Rattle.cx_promotion.specs.Promotable.{is_named, is_done_at, is_done, looks_at_done, promoted_assigns}
 use Rattle.cx_promotion.specs.Made.{IsPromoted}
@@ -44,12 +42,13 @@ use Rattle.cx_promotion.proofs.Twins.{Twins, beside_each, twin_cells, TwinAt, no
 use Rattle.cx_promotion.proofs.MadeBeside.{KindAt, no_cell, a_row, a_part, MadeBeside}
 use Rattle.cx_promotion.proofs.Stays.{same_cells, circle_back, leads_back, deeper, still_deeper, children_stay}
 use Rattle.cx_promotion.proofs.Shapes.{none_pass, IsOpen, RightAssign, of_done, of_enable, of_other, Shape, shape_of}
-use Rattle.cx_promotion.proofs.Members.{plain_length, group_stands, one_offset, is_owner, promoted_bare}
+use Rattle.cx_promotion.proofs.Members.{plain_length, one_offset, is_owner, promoted_bare}
 use Rattle.cx_promotion.proofs.Near.{Near, child_near}
 use Rattle.cx_promotion.proofs.Runs.{entry}
 use Rattle.cx_text.proofs.BoolLaws.{not_both}
 use Rattle.cx_text.proofs.OptionLaws.{same_some}
 use Rattle.cx_promotion.proofs.Impossible.{no_true, no_some}
+use Rattle.cx_rules.proofs.ForeignLemmas.{OwnerOf, continuous, of_group, owner_of}
 
 -- ports
 cell_same : (c p d q : ℕ) → ports.Cell c p ≡ ports.Cell d q → c ≡ d

@@ -23,7 +23,7 @@ use Rattle.cx_meaning.specs.Answers.{Turn, turn_then, turns_of}
 use Rattle.cx_meaning.specs.Answers as answers
 use Rattle.cx_meaning.specs.Islands.{turn_of}
 use Rattle.cx_meaning.specs.Calls.{hole_turn, group_turn}
-use Rattle.cx_meaning.proofs.CycleLemmas.{goes_to, each_steps, row_within}
+use Rattle.cx_meaning.proofs.CycleLemmas.{goes_to, each_steps, row_within, next_is}
 use Rattle.cx_meaning.proofs.CyclesLemmas.{turn_goes}
 use Rattle.cx_meaning.proofs.InstancesLemmas.{row_is, top_idle, nothing_row, instance_row}
 use Rattle.cx_meaning.proofs.RunningLemmas.{idle_settles}
@@ -42,9 +42,6 @@ use Rattle.cx_promotion.proofs.GroupSeen.{shape, row_looks, hole_seen, done_seen
 use Rattle.cx_promotion.proofs.Chains.{InStep}
 use Rattle.cx_promotion.proofs.Together.{in_step}
 use Rattle.cx_promotion.proofs.Runs.{entry, one_cycle}
-
-next_is : (a b : CellState) → Next a ≡ Next b → a ≡ b
-next_is a b e = cc
 
 ok_is : (a b : CellState) → ◌≡◌ {A = Result CellState ℕ} (Ok a) (Ok b) → a ≡ b
 ok_is a b e = cc

@@ -1,15 +1,14 @@
 -- THE LEAVES OF CONTROL from a settled state: where the old one ends, the new one ends no later in the same state.
-use Rattle.std.proofs.Common.{◌≡◌, ℕ, zero, suc, ◌≤◌, inl, inr, Bool, true, false, List, [], ◌∷◌, length, Option, Some, None, refl, sym, ap, ◌∙◌, subst, arith, ◌<◌}
+use Rattle.std.proofs.Common.{◌≡◌, ℕ, suc, ◌≤◌, inl, inr, Bool, true, false, List, [], ◌∷◌, length, Option, Some, None, refl, sym, ap, ◌∙◌, subst, arith, ◌<◌}
 use Rattle.std.specs.Prelude.{nat_eq, ◌||◌, if◌then◌else◌}
 use Rattle.std.proofs.Math.Path.{fun_ext}
 use Rattle.std.proofs.lemmas.Bool.{eqb-true}
 use Rattle.cx_text.specs.declared.places.Place.{Place}
-use Rattle.cx_prim.specs.CellStates.{CellState}
 use Rattle.cx_meaning.specs.declared.ports.PortRef.{PortRef}
 use Rattle.cx_meaning.specs.declared.ports.PortRef.TheVariants as ports
 use Rattle.cx_meaning.specs.Designs.{PlainAssign, PlainGroup, group_at, Enable}
-use Rattle.cx_meaning.specs.Instances.{Instance, Node, Cells, no_cells, a_primitive, an_instance, At, Nothing, OfRow, OfInstance, part_of, cells_of, cell_at, Path, State, under, put, idle, idle_at, idle_below, IsSettled}
-use Rattle.cx_meaning.specs.Active.{group, comb, capture, offset_of, source_order}
+use Rattle.cx_meaning.specs.Instances.{Instance, Node, At, OfInstance, part_of, cells_of, cell_at, State, under, put, idle, IsSettled}
+use Rattle.cx_meaning.specs.Active.{group, comb, capture}
 use Rattle.cx_meaning.specs.Truths.{truth_of}
 use Rattle.cx_meaning.specs.Sights.{In, Held, seen}
 use Rattle.cx_meaning.specs.Cycles.{Fault, Ended, cycle}
@@ -22,8 +21,6 @@ use Rattle.cx_meaning.specs.Running.{Children}
 use Rattle.cx_meaning.proofs.AnswersLemmas.{steady_idle, steady_turn, steady_turns}
 use Rattle.cx_meaning.proofs.RunningLemmas.{steady_island}
 use Rattle.cx_rules.specs.Circles.{IsAcyclic}
-use Rattle.cx_rules.specs.Footprints.{Mentions}
-use Rattle.cx_rules.proofs.FrameLemmas.{acting_alike}
 use Rattle.cx_rules.specs.Items.{Dynamic, statements_in}
 use Rattle.cx_rewrites.specs.Tallies.{Tally, none, plus, Counted, then_count}
 use Rattle.cx_rewrites.specs.Carrying.{NoLater, Same, Carried, Carries}
@@ -33,9 +30,11 @@ use Rattle.cx_promotion.specs.Made.{IsPromoted}
 use Rattle.cx_promotion.proofs.Twins.{Twins, beside_each, twin_cells, TwinAt, none_there, a_row_there, a_child_there, twins_at, idle-twin}
 use Rattle.cx_promotion.proofs.MadeBeside.{MadeBeside}
 use Rattle.cx_promotion.proofs.Members.{not_promoted}
-use Rattle.cx_promotion.proofs.SeenAlike.{SameCell}
-use Rattle.cx_promotion.proofs.Stays.{IsIdle, circle_back, leads_back, seen_stays, cycle_stays}
+use Rattle.cx_promotion.proofs.Stays.{IsIdle, seen_stays, cycle_stays}
 use Rattle.cx_promotion.proofs.StaticStays.{island_stays}
+use Rattle.cx_frames.proofs.CircleFrames.{capture_acyclic}
+use Rattle.cx_rewrites.proofs.StandingLemmas.{idle_below-child}
+use Rattle.cx_meaning.proofs.ControlLemmas.{called_child}
 
 abbrev pub same_fault : Fault → Fault
 same_fault f = f
@@ -79,51 +78,11 @@ recounted R before k l (answers.Fault f t) x carried = tt
 recounted R before k l More x carried = tt
 
 -- CHILDREN of a settled instance are settled
-idle_child : (cells : Cells) (c : ℕ) (child : Instance) (path : Path) (d : CellState) → cell_at cells c ≡ OfInstance child → idle_below cells c path d ≡ idle_at child path d
-idle_child no_cells c child path d is = absurd (cc)
-idle_child (a_primitive row rest) zero child path d is = absurd (cc)
-idle_child (a_primitive row rest) (suc c) child path d is = idle_child rest c child path d is
-idle_child (an_instance kid rest) zero child path d is = let same : kid ≡ child = cc in ap (λ k. idle_at k path d) same
-idle_child (an_instance kid rest) (suc c) child path d is = idle_child rest c child path d is
 
 child_settled : (i : Instance) (s : State) (c : ℕ) (child : Instance) → cell_at (cells_of i) c ≡ OfInstance child → IsSettled i s → IsSettled child (under c s)
-child_settled (Node part cells) s c child is settled path = sym (idle_child cells c child path (s (c ∷ path)) is) ∙ settled (c ∷ path)
+child_settled (Node part cells) s c child is settled path = sym (idle_below-child cells c child path (s (c ∷ path)) is) ∙ settled (c ∷ path)
 
 -- THE CALLED CELL is a component's
-called_child : (cells : Cells) (list : List PlainAssign) (c : ℕ) → called_in cells list ≡ Some c → (child : Instance) × (cell_at cells c ≡ OfInstance child)
-called_child cells [] c e = absurd (cc)
-called_child cells (a ∷ rest) c e = by_port a.target e (called_child cells rest c)
-  where
-    by_cell : (d : ℕ) (at : At) → cell_at cells d ≡ at → if_instance at d (called_in cells rest) ≡ Some c → (called_in cells rest ≡ Some c → (child : Instance) × (cell_at cells c ≡ OfInstance child))
-        → (child : Instance) × (cell_at cells c ≡ OfInstance child)
-    by_cell d Nothing is f later = later f
-    by_cell d (OfRow row) is f later = later f
-    by_cell d (OfInstance child) is f later = let same : d ≡ c = cc in (child, ap (cell_at cells) (sym same) ∙ is)
-
-    by_port : (p : PortRef) → called_by cells p (called_in cells rest) ≡ Some c → (called_in cells rest ≡ Some c → (child : Instance) × (cell_at cells c ≡ OfInstance child))
-        → (child : Instance) × (cell_at cells c ≡ OfInstance child)
-    by_port (ports.Cell d p) f later = by_cell d (cell_at cells d) refl f later
-    by_port (ports.Input n) f later = later f
-    by_port (ports.Output n) f later = later f
-    by_port (ports.Done g) f later = later f
-    by_port (ports.Literal w v) f later = later f
-
--- a capture cycle leads where its group does
-offset_same : (g c : ℕ) (w : Option ℕ) → offset_of (capture g c) w ≡ offset_of (group g) w
-offset_same g c None = refl
-offset_same g c (Some k) = refl
-
-cell_itself : (at : At) → SameCell at at
-cell_itself Nothing = tt
-cell_itself (OfRow row) = refl
-cell_itself (OfInstance child) = λ p. refl
-
-capture_acyclic : (i : Instance) (g c : ℕ) → IsAcyclic i (group g) → IsAcyclic i (capture g c)
-capture_acyclic i g c acyclic =
-    circle_back i i (group g) (capture g c)
-    (leads_back i i (group g) (capture g c) (λ d. cell_itself (cell_at (cells_of i) d))
-    (λ p q m. subst (λ acts. Mentions acts q) (acting_alike (capture g c) (group g) p (source_order (part_of i)) (λ o inside target. offset_same g c o.owner)) m))
-    acyclic
 
 -- and is the same in both designs, as what is captured
 module _ (i j : Instance) (t : Twins MadeBeside i j) where

@@ -1,17 +1,14 @@
 -- ASSIGNMENTS IN SOURCE ORDER, and the groups that they stand in; and the groups of the new design.
-use Rattle.std.proofs.Common.{◌≡◌, ℕ, zero, suc, ◌+◌, ◌⊎◌, inl, inr, Bool, true, false, List, [], ◌∷◌, ◌++◌, Option, Some, None, refl, sym, ap, ◌∙◌, subst, arith, get_or}
+use Rattle.std.proofs.Common.{◌≡◌, ℕ, zero, suc, ◌⊎◌, inl, inr, Bool, true, false, List, [], ◌∷◌, Option, Some, None, refl, sym, ap, ◌∙◌, subst, get_or}
 use Rattle.std.specs.Prelude.{nat_eq, if◌then◌else◌}
 use Rattle.std.proofs.lemmas.Bool.{eqb-true}
 use Rattle.cx_meaning.specs.declared.kinds.GroupKind.{GroupKind}
 use Rattle.cx_meaning.specs.declared.kinds.GroupKind.TheVariants as kinds
 use Rattle.cx_meaning.specs.Designs.{Always, PlainAssign, PlainGroup, PlainComponent, group_at, no_group}
 use Rattle.cx_meaning.specs.Instances.{Instance}
-use Rattle.cx_meaning.specs.Active.{group, entries, offset_of, Owned, owned, owned_by_groups, placed_in, by_place, source_order}
+use Rattle.cx_meaning.specs.Active.{group, entries, offset_of}
 use Rattle.cx_meaning.specs.Sights.{In}
 use Rattle.cx_meaning.specs.Islands.{kind_length}
-use Rattle.cx_meaning.proofs.ActiveLemmas.{placed_still, placed_first}
-use Rattle.cx_meaning.proofs.DesignsLemmas.{owned_has}
-use Rattle.cx_meaning.proofs.SightsLaws.{in_left, in_right}
 use Rattle.cx_rules.specs.Items.{is_plain}
 use Rattle.cx_rules.specs.Ports.{is_primitive_enable}
 use Rattle.cx_rules.specs.ShapeRules.{is_hole}
@@ -21,27 +18,6 @@ use Rattle.cx_promotion.proofs.Orders.{Both}
 use Rattle.cx_promotion.proofs.Shapes.{shape_of}
 use Rattle.cx_promotion.proofs.Runs.{entry}
 use Rattle.cx_promotion.proofs.Impossible.{no_true, no_some}
-
-sorted_has : (list : List Owned) (o : Owned) → In list o → In (by_place list) o
-sorted_has [] o i = i
-sorted_has (a ∷ rest) o (inl e) = subst (In (placed_in a (by_place rest))) e (placed_first a (by_place rest))
-sorted_has (a ∷ rest) o (inr i) = placed_still a (by_place rest) o (sorted_has rest o i)
-
-groups_have : (k : ℕ) (groups : List PlainGroup) (g : ℕ) (a : PlainAssign) → In (get_or groups g no_group).assigns a → In (owned_by_groups k groups) (record { owner = Some (k + g); assign = a })
-groups_have k [] g a i = absurd i
-groups_have k (x ∷ groups) zero a i =
-    let e : k ≡ k + 0 = omega arith in
-    in_left (owned (Some k) x.assigns) (owned_by_groups (suc k) groups) _ (subst (λ n. In (owned (Some k) x.assigns) (record { owner = Some n; assign = a })) e (owned_has (Some k) x.assigns a i))
-groups_have k (x ∷ groups) (suc g) a i =
-    let e : suc k + g ≡ k + suc g = omega arith in
-    in_right (owned (Some k) x.assigns) (owned_by_groups (suc k) groups) _ (subst (λ n. In (owned_by_groups (suc k) groups) (record { owner = Some n; assign = a })) e (groups_have (suc k) groups g a i))
-
--- an assignment of a group stands in source order
-pub group_stands : (part : PlainComponent) (g : ℕ) (a : PlainAssign) → In (group_at part g).assigns a → In (source_order part) (record { owner = Some g; assign = a })
-group_stands part g a i =
-    let e : 0 + g ≡ g = omega arith in
-    sorted_has (owned None part.always ++ owned_by_groups 0 part.groups) _ (in_right (owned None part.always) (owned_by_groups 0 part.groups) _
-    (subst (λ n. In (owned_by_groups 0 part.groups) (record { owner = Some n; assign = a })) e (groups_have 0 part.groups g a i)))
 
 -- THE ACTIVE ASSIGNMENTS of one group are its own and the continuous ones, at whatever offset
 module _ (g o : ℕ) where

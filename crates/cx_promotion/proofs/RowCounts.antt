@@ -16,10 +16,11 @@ use Rattle.cx_prim.specs.PipeRows.{multiplier_row, divider_row, holding, is_last
 use Rattle.cx_prim.specs.Table.{PrimitiveRow, row_of}
 use Rattle.cx_prim.proofs.TableCases.{of_row}
 use Rattle.cx_promotion.specs.Promotable.{is_named, first_named, or_else, starting_port, cycles_of}
-use Rattle.cx_promotion.proofs.RowPorts.{first_behind, spot_of, Spot, before, behind, address_count, no_done, no_content, no_write, addresses}
+use Rattle.cx_promotion.proofs.RowPorts.{first_behind, spot_of, Spot, before, behind, no_done, no_content, no_write, addresses}
 use Rattle.cx_text.proofs.BoolLaws.{not_both}
 use Rattle.cx_text.proofs.OptionLaws.{same_some}
 use Rattle.cx_promotion.proofs.Impossible.{no_true, no_some}
+use Rattle.cx_prim.proofs.MemoryLaws.{address_count}
 
 -- READY: a pipe of the row that has gone no cycle, or any other state
 abbrev pub IsReady : StateShape → CellState → Type 0

@@ -1,12 +1,11 @@
 -- PORTS OF ROWS, by their names: those of memories stand behind their address ports.
-use Rattle.std.specs.Prelude.{◌≡◌, ◌≤◌, ◌<◌, ℕ, zero, suc, ◌+◌, Bool, true, false, List, [], ◌∷◌, ◌++◌, Some, length, slice_get, if◌then◌else◌, refl}
+use Rattle.std.specs.Prelude.{◌≡◌, ◌<◌, ℕ, zero, suc, ◌+◌, Bool, true, false, List, [], ◌∷◌, ◌++◌, Some, length, slice_get, if◌then◌else◌, refl}
 use Rattle.std.proofs.Common.{ap, ◌∙◌, arith}
 use Rattle.cx_prim.specs.declared.ports.PortName.{PortName}
 use Rattle.cx_prim.specs.declared.ports.PortName.TheVariants as names
 use Rattle.cx_prim.specs.declared.ports.PortRow.{PortRow}
 use Rattle.cx_prim.specs.declared.ports.Side.TheVariants as sides
-use Rattle.cx_prim.specs.MemoryRows.{IsLayout, ports_named, address_ports}
-use Rattle.cx_prim.proofs.MemoryLaws.{length-ports_named}
+use Rattle.cx_prim.specs.MemoryRows.{ports_named}
 use Rattle.cx_meaning.specs.Rows.{side_from}
 use Rattle.cx_promotion.specs.Promotable.{is_name, is_named, first_named}
 use Rattle.cx_text.proofs.OptionLaws.{same_some}
@@ -55,13 +54,6 @@ first_behind name (x ∷ all) (w ∷ widths) ys k apart =
   where
     skipped : (b : Bool) → b ≡ false → (if b then Some k else first_named name (ports_named all widths ++ ys) (suc k)) ≡ first_named name (ports_named all widths ++ ys) (suc k)
     skipped b e = ap (λ (t : Bool). if t then Some k else first_named name (ports_named all widths ++ ys) (suc k)) e
-
--- there are as many address ports as sizes
-pub address_count : (w : ℕ) (sizes address_widths : List ℕ) → IsLayout w sizes address_widths → length (address_ports address_widths) ≡ length sizes
-address_count w sizes address_widths layout =
-    let few : length sizes ≤ 4 = layout.few in
-    let alike : length address_widths ≡ length sizes = layout.alike in
-    length-ports_named addresses address_widths (omega arith) ∙ alike
 
 pub no_done : AreOther names.Done addresses
 no_done = (refl, (refl, (refl, (refl, tt))))

@@ -17,9 +17,10 @@ use Rattle.cx_prim.specs.Table.{PrimitiveRow, row_of}
 use Rattle.cx_prim.proofs.TableCases.{of_row}
 use Rattle.cx_meaning.specs.Rows.{side_of}
 use Rattle.cx_promotion.specs.Promotable.{is_named}
-use Rattle.cx_promotion.proofs.RowPorts.{spot_of, Spot, before, behind, address_count, no_done, addresses}
+use Rattle.cx_promotion.proofs.RowPorts.{spot_of, Spot, before, behind, no_done, addresses}
 use Rattle.cx_promotion.proofs.RowCounts.{IsReady}
 use Rattle.cx_promotion.proofs.Impossible.{no_true, no_false}
+use Rattle.cx_prim.proofs.MemoryLaws.{address_count}
 
 -- an output that is there and is no done
 pub record IsOutput (row : Row) (n : ℕ) : Type 0 where

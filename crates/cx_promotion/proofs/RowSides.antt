@@ -18,8 +18,9 @@ use Rattle.cx_prim.specs.Table.{PrimitiveRow, no_row, row_of}
 use Rattle.cx_prim.proofs.TableCases.{of_row}
 use Rattle.cx_meaning.specs.Rows.{side_from, side_of}
 use Rattle.cx_promotion.specs.Promotable.{is_named}
-use Rattle.cx_promotion.proofs.RowPorts.{spot_of, Spot, before, behind, address_count, no_done, addresses}
+use Rattle.cx_promotion.proofs.RowPorts.{spot_of, Spot, before, behind, no_done, addresses}
 use Rattle.cx_promotion.proofs.Impossible.{no_true}
+use Rattle.cx_prim.proofs.MemoryLaws.{address_count}
 
 -- plain, and not a done
 abbrev pub IsPlainPort : Row → ℕ → Type 0

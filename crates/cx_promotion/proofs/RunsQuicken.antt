@@ -1,6 +1,6 @@
 -- RUNS QUICKEN: where the run of an instance's control ends from a settled state, that of the new control ends no later in the same state.
-use Rattle.std.proofs.Common.{◌≡◌, ℕ, zero, suc, ◌⊎◌, inl, inr, Bool, true, false, [], ◌∷◌, Option, Some, None, refl, sym, ap, ◌∙◌, subst}
-use Rattle.std.specs.Prelude.{nat_eq, is_some, if◌then◌else◌}
+use Rattle.std.proofs.Common.{◌≡◌, ℕ, zero, suc, ◌⊎◌, inl, inr, Bool, true, false, Option, Some, None, refl, sym, ap, ◌∙◌, subst}
+use Rattle.std.specs.Prelude.{nat_eq, if◌then◌else◌}
 use Rattle.std.proofs.Math.Path.{fun_ext}
 use Rattle.std.proofs.lemmas.Bool.{eqb-true}
 use Rattle.cx_text.specs.declared.places.Place.{Place}
@@ -8,7 +8,7 @@ use Rattle.cx_meaning.specs.declared.kinds.GroupKind.{GroupKind}
 use Rattle.cx_meaning.specs.declared.kinds.GroupKind.TheVariants as kinds
 use Rattle.cx_meaning.specs.declared.ports.PortRef.{PortRef}
 use Rattle.cx_meaning.specs.Designs.{PlainGroup, PlainComponent, group_at, no_place, PlainForm, Empty, Enable, Seq, Par, If, While, Repeat, StaticSeq, StaticPar, StaticIf, StaticRepeat, Timed, PlainStatement, Placed, PlainStatements, no_statements, a_statement}
-use Rattle.cx_meaning.specs.Instances.{Instance, Node, Cells, no_cells, a_primitive, an_instance, OfInstance, cell_at, State, Set, merge, idle, idle_at, IsSettled}
+use Rattle.cx_meaning.specs.Instances.{Instance, Node, Cells, no_cells, a_primitive, an_instance, OfInstance, cell_at, State, Set, merge, idle, IsSettled}
 use Rattle.cx_meaning.specs.Active.{comb}
 use Rattle.cx_meaning.specs.Sights.{In, Held}
 use Rattle.cx_meaning.specs.Cycles.{Fault}
@@ -18,7 +18,7 @@ use Rattle.cx_meaning.specs.Islands.{kind_length, group_length, island}
 use Rattle.cx_meaning.specs.Calls.{test}
 use Rattle.cx_meaning.specs.Running.{leaves, run_control, control_below}
 use Rattle.cx_meaning.proofs.InstancesLemmas.{instance_is}
-use Rattle.cx_meaning.proofs.RunningLemmas.{steady_island, idle_settles, settles_statement}
+use Rattle.cx_meaning.proofs.RunningLemmas.{steady_island, idle_settles, settles_statement, merge_settles}
 use Rattle.cx_meaning.proofs.SightsLaws.{in_left, in_right}
 use Rattle.cx_rules.specs.Circles.{IsAcyclic}
 use Rattle.cx_rules.specs.Items.{Context, Dynamic, Visited, visit, visit_all, statements_in, is_plain, is_comb}
@@ -41,24 +41,12 @@ use Rattle.cx_promotion.proofs.MadeControl.{made_groups, groups_drive-made}
 use Rattle.cx_promotion.proofs.LeavesQuicken.{same_fault, recounted, SameSettled, Quicker, steady_quicker, with_settled, test_stays, enable_quicker}
 use Rattle.cx_promotion.proofs.PiecesQuicken.{piece_quicker, promoted_quicker}
 use Rattle.cx_promotion.proofs.Impossible.{no_true}
+use Rattle.cx_rules.proofs.ItemsLemmas.{plain_untimed}
 
 comb_no_plain : (kind : GroupKind) → is_comb kind ≡ true → is_plain kind ≡ false
 comb_no_plain kinds.Plain e = no_true e
 comb_no_plain kinds.Comb e = refl
 comb_no_plain (kinds.Timed n) e = no_true e
-
-plain_no_length : (kind : GroupKind) → is_plain kind ≡ true → is_some (kind_length kind) ≡ true → ⊥
-plain_no_length kinds.Plain e f = no_true f
-plain_no_length kinds.Comb e f = no_true e
-plain_no_length (kinds.Timed n) e f = no_true e
-
-merge_settled : (i : Instance) (set : Set) (a b : State) → IsSettled i a → IsSettled i b → IsSettled i (merge set a b)
-merge_settled i set a b h k [] = k []
-merge_settled i set a b h k (c ∷ path) = one (set c)
-  where
-    one : (pick : Bool) → idle_at i (c ∷ path) (if pick then a (c ∷ path) else b (c ∷ path)) ≡ (if pick then a (c ∷ path) else b (c ∷ path))
-    one true = h (c ∷ path)
-    one false = k (c ∷ path)
 
 -- statements behind others are visited with them
 visit_joined : (context : Context) (first later : PlainStatements) (v : Visited) → In (visit_all context later) v → In (visit_all context (joined first later)) v
@@ -131,7 +119,7 @@ module _ (part other : PlainComponent) (cells more : Cells) (t : Twins MadeBesid
         ∙ ap (λ gs. merge (groups_drive other gs) a b) (sym (made_groups P is))
         ∙ ap (λ s. merge (groups_drive other (groups_of twin)) s b) one.0
         ∙ ap (merge (groups_drive other (groups_of twin)) x) two.0,
-    merge_settled i (groups_drive part (groups_of arm)) a b one.1 two.1,
+    merge_settles i (groups_drive part (groups_of arm)) a b one.1 two.1,
   )
 
   -- STATIC CONTROL of the source
@@ -142,7 +130,7 @@ module _ (part other : PlainComponent) (cells more : Cells) (t : Twins MadeBesid
       by : (group_at other g ≡ group_at part g) ⊎ P g → (P g → ⊥) × (group_length other g ≡ group_length part g)
       by (inl stays) = (not_promoted h.whole part other g stays, ap (λ (x : PlainGroup). kind_length x.kind) stays)
       by (inr promoted) =
-          absurd (plain_no_length (group_at part g).kind (shape_of h.whole (group_at part g) promoted.0 promoted.1).plain
+          absurd (plain_untimed (group_at part g).kind (shape_of h.whole (group_at part g) promoted.0 promoted.1).plain
           (parts_static part Dynamic form is (λ v inside stat. h.statics v (sub v (inr inside)) stat) g k))
 
   equal_beside : (form : PlainForm) → is_static form ≡ true → ((s : State) (n : ℕ) → island j held form s n ≡ island i held form s n) → FormBeside NoLater R same_fault L uncounted M form form

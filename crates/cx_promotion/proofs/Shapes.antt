@@ -20,6 +20,7 @@ use Rattle.cx_rules.proofs.FoundLemmas.{same_is}
 use Rattle.cx_promotion.specs.Promotable.{is_named, starting_port, cycles_of, looks_at_done, is_right_enable, is_right, starts, keeps_all, length_if, of_cell, of_source, of_dones, promotable}
 use Rattle.cx_text.proofs.BoolLaws.{both_true, from_not}
 use Rattle.cx_promotion.proofs.Impossible.{no_true, no_some}
+use Rattle.cx_rules.proofs.ShapeRulesLemmas.{a_target, always_is}
 
 -- lists
 pub all_pass : {A : Type 0} (test : A → Bool) (list : List A) (x : A) → list_all test list ≡ true → In list x → test x ≡ true
@@ -40,15 +41,6 @@ pub no_target : (test : PortRef → Bool) (list : List PlainAssign) (a : PlainAs
 no_target test [] a e j = absurd j
 no_target test (y ∷ list) a e (inl same) = subst (λ (z : PlainAssign). test z.target ≡ false) same (or_none (test y.target) (some_target test list) e).0
 no_target test (y ∷ list) a e (inr j) = no_target test list a (or_none (test y.target) (some_target test list) e).1 j
-
-pub a_target : (test : PortRef → Bool) (list : List PlainAssign) → some_target test list ≡ true → (a : PlainAssign) × In list a × (test a.target ≡ true)
-a_target test [] e = no_true e
-a_target test (y ∷ list) e = by (test y.target) refl e (a_target test list)
-  where
-    by : (b : Bool) → test y.target ≡ b → (b || some_target test list) ≡ true → (some_target test list ≡ true → (a : PlainAssign) × In list a × (test a.target ≡ true))
-        → (a : PlainAssign) × In (y ∷ list) a × (test a.target ≡ true)
-    by true is h later = (y, inl refl, is)
-    by false is h later = let r = later h in (r.0, inr r.1, r.2)
 
 -- what a filter keeps
 pub in_filter : {A : Type 0} (test : A → Bool) (list : List A) (x : A) → In list x → test x ≡ true → In (filter test list) x
@@ -72,16 +64,6 @@ of_filter test (y ∷ list) x j = by (test y) refl j (of_filter test list x)
     by true is (inl same) later = (inl same, subst (λ z. test z ≡ true) same is)
     by true is (inr k) later = let r = later k in (inr r.0, r.1)
     by false is k later = let r = later k in (inr r.0, r.1)
-
--- guards
-pub always_is : (g : PlainGuard) → is_always g ≡ true → g ≡ Always
-always_is Always e = refl
-always_is (Atom p) e = no_true e
-always_is (Negation g) e = no_true e
-always_is (All gs) e = no_true e
-always_is (Any gs) e = no_true e
-always_is (Compared c a b) e = no_true e
-always_is (Within from to) e = no_true e
 
 -- no guard, or that a port is not 1
 abbrev pub IsOpen : PortRef → PlainGuard → Type 0

@@ -1,6 +1,6 @@
 -- RULES ON STATEMENTS: where one of the new design breaks a rule, so does the one of the old design from which it comes.
-use Rattle.std.proofs.Common.{◌≡◌, ℕ, ◌+◌, ◌≤◌, ◌⊎◌, inl, inr, Bool, true, false, ◌&&◌, List, [], ◌∷◌, Option, Some, None, refl, sym, ap, ◌∙◌, subst, arith}
-use Rattle.std.specs.Prelude.{slice_get, flat_map, is_some, ◌≢◌}
+use Rattle.std.proofs.Common.{◌≡◌, ℕ, ◌+◌, ◌≤◌, ◌⊎◌, inl, inr, Bool, true, false, ◌&&◌, List, [], Option, Some, refl, sym, ap, ◌∙◌, subst, arith}
+use Rattle.std.specs.Prelude.{slice_get, is_some, ◌≢◌}
 use Rattle.cx_text.specs.declared.places.Place.{Place}
 use Rattle.cx_text.proofs.BoolLaws.{not_both}
 use Rattle.cx_meaning.specs.declared.ports.PlacedPort.{PlacedPort}
@@ -9,7 +9,7 @@ use Rattle.cx_meaning.specs.Instances.{Instance, part_of}
 use Rattle.cx_meaning.specs.Sights.{In}
 use Rattle.cx_meaning.specs.Control.{groups_in, groups_of, groups_in_all, groups_drive, drives}
 use Rattle.cx_meaning.specs.Islands.{kind_length, group_length, or_zero, form_length, sum_length}
-use Rattle.cx_meaning.proofs.SightsLaws.{of_joined, in_left, in_right}
+use Rattle.cx_meaning.proofs.SightsLaws.{in_left, in_right, flat_in}
 use Rattle.cx_rules.specs.Footprints.{Reads, driven, named, tested, through, Rests}
 use Rattle.cx_rules.specs.Items.{Context, Dynamic, InStatic, Branch, Visited, visit, statements_in, test_in, option_list, tests_of}
 use Rattle.cx_rules.specs.Ports.{path_of}
@@ -18,7 +18,7 @@ use Rattle.cx_rules.specs.ShapeRules.{BreaksStaticTest}
 use Rattle.cx_rules.specs.Spots.{StatementRule}
 use Rattle.cx_rules.specs.StaticControl.{is_static, is_in_static, is_written, is_timed, may_stand, form_has_length, has_length, all_have_length, written_length}
 use Rattle.cx_rules.specs.WidthRules.{differ, TestBreaksGuardWidth, TestBreaksLiteral, TestBreaksNotASource}
-use Rattle.cx_rules.proofs.ItemsLemmas.{tests_flat}
+use Rattle.cx_rules.proofs.ItemsLemmas.{tests_flat, option_in}
 use Rattle.cx_laws.proofs.TogetherLemmas.{in_flat}
 use Rattle.cx_laws.proofs.VisitLemmas.{visited}
 use Rattle.cx_rewrites.specs.FlatRules.{BreaksLength, IsShared}
@@ -32,16 +32,6 @@ use Rattle.cx_promotion.proofs.MadeControl.{made_groups, groups_drive-made}
 use Rattle.cx_promotion.proofs.PortsMade.{SameSignature, written_same, target_only_same}
 use Rattle.cx_promotion.proofs.LeadsMade.{within_group, rests_made}
 use Rattle.cx_promotion.proofs.VisitsMade.{Came, of_dynamic, of_piece, of_enable, the_same, statement_comes}
-
--- lists
-flat_back : {A B : Type 0} (each : A → List B) (xs : List A) (y : B) → In (flat_map each xs) y → (x : A) × In xs x × In (each x) y
-flat_back each [] y k = absurd k
-flat_back each (x ∷ xs) y k = of_joined (each x) (flat_map each xs) y k (λ here. (x, inl refl, here)) (λ later. let r = flat_back each xs y later in (r.0, inr r.1, r.2))
-
-option_is : (o : Option PlacedPort) (p : PlacedPort) → In (option_list o) p → o ≡ Some p
-option_is None p k = absurd k
-option_is (Some q) p (inl e) = ap Some e
-option_is (Some q) p (inr k) = absurd k
 
 none_static : (form : PlainForm) (k : Option ℕ) (test : PlacedPort) (a b : PlainStatement) → form ≡ StaticIf k test a b → is_static form ≡ false → ⊥
 none_static form k test a b e dynamic = not_both (is_static form) (ap is_static e) dynamic
@@ -219,11 +209,11 @@ module _ (i j : Instance) (t : Twins SameSignature i j) (made : PartMade i (part
   arm_made s arm is = record {
     groups = made_groups P is;
     tests = λ p k.
-        let w = flat_back (λ (v : Visited). option_list (test_in v.form)) (visit Dynamic arm) p k in
-        let r = came_test (visit Dynamic s) w.0.context w.0.form p (statement_comes P is w.0 w.1) (option_is (test_in w.0.form) p w.2) in
+        let w = flat_in (λ (v : Visited). option_list (test_in v.form)) (visit Dynamic arm) p k in
+        let r = came_test (visit Dynamic s) w.0.context w.0.form p (statement_comes P is w.0 w.1) (option_in (test_in w.0.form) p w.2) in
         tests_flat (visit Dynamic s) r.0 p r.1 r.2;
     enables = λ g k.
-        let w = flat_back (λ (v : Visited). enabled_group v.form) (visit Dynamic arm) g k in
+        let w = flat_in (λ (v : Visited). enabled_group v.form) (visit Dynamic arm) g k in
         let r = came_enabled (visit Dynamic s) w.0.context w.0.form g (statement_comes P is w.0 w.1) w.2 in
         in_flat (λ (v : Visited). enabled_group v.form) (visit Dynamic s) r.0 g r.1 r.2;
   }

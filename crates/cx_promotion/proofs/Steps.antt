@@ -15,15 +15,15 @@ use Rattle.cx_meaning.specs.Cycles.{Next, Stops, kind_of, after_edge, after_data
 use Rattle.cx_meaning.proofs.SightsLemmas.{gather_alike}
 use Rattle.cx_promotion.proofs.RowReady.{LooksAlike}
 use Rattle.cx_promotion.proofs.RowSides.{IsPlainPort, LooksAtPlain}
+use Rattle.cx_text.proofs.BoolLaws.{or_left}
+use Rattle.cx_meaning.proofs.PortsLemmas.{given_is}
+use Rattle.cx_meaning.proofs.CycleLemmas.{next_is}
 
 -- WHAT WAS GATHERED: at each wanted port that is there the value that is seen
 pub record HasEntry (look : ℕ → Seen) (p n : ℕ) (inputs : Inputs) : Type 0 where
   pub value : BitVector
   pub seen : look (p + n) ≡ sights.Value value
   pub stands : input inputs n ≡ Some value
-
-given_is : (a b : Inputs) → Given a ≡ Given b → a ≡ b
-given_is a b e = cc
 
 lacks_given : {A : Type 0} (p : ℕ) (x : Seen) (b : Inputs) → Lacks p x ≡ Given b → A
 lacks_given p x b e = absurd (cc)
@@ -76,15 +76,8 @@ pub record Stepped (look : Look) (c : ℕ) (row : Row) (state after : CellState)
   pub made : edge row state inputs ≡ Ok after
   pub entry : (p : ℕ) → p < length row.ports → enables row p ≡ true → (b : BitVector) × (look (ports.Cell c p) ≡ sights.Value b) × (input inputs p ≡ Some b)
 
-next_is : (a b : CellState) → Next a ≡ Next b → a ≡ b
-next_is a b e = cc
-
 no_next : {A : Type 0} (kind : FaultKind) (p : ℕ) (after : CellState) → Stops kind p ≡ Next after → A
 no_next kind p after e = absurd (cc)
-
-or_left : (a b : Bool) → a ≡ true → (a || b) ≡ true
-or_left true b e = refl
-or_left false b e = absurd (cc)
 
 module _ (look : Look) (c : ℕ) (row : Row) (state after : CellState) where
   abbrev at_cell : ℕ → Seen

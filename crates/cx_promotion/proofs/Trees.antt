@@ -26,10 +26,11 @@ use Rattle.cx_rules.specs.StaticControl.{is_in_static, may_stand}
 use Rattle.cx_rules.specs.Wellformed.{StandsIn, IsAssign, IsForm, IsKind, IsCell, IsDesign}
 use Rattle.cx_rules.proofs.CircleLemmas.{instance_acyclic, instance_group}
 use Rattle.cx_laws.proofs.ApartLemmas.{entries_acyclic}
-use Rattle.cx_frames.proofs.RuleLemmas.{OwnerOf, continuous, of_group, owner_of, IsKept, kept_instance}
+use Rattle.cx_frames.proofs.RuleLemmas.{IsKept, kept_instance}
 use Rattle.cx_promotion.specs.Made.{no_groups, placed, empty, no_assigns, PartMade, DesignMade}
 use Rattle.cx_promotion.proofs.Twins.{Twins, TwinCells}
 use Rattle.cx_promotion.proofs.MadeBeside.{KindAt, no_cell, a_row, a_part, MadeBeside}
+use Rattle.cx_rules.proofs.ForeignLemmas.{OwnerOf, continuous, of_group, owner_of}
 
 -- TREES OF ONE SHAPE, whatever their components
 abbrev pub Any : Instance → Instance → Type 0

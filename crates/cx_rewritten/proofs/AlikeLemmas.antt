@@ -1,7 +1,5 @@
 -- What is written of an accepted tree without static components is accepted, and its design runs as that of the tree.
-use Rattle.std.proofs.Common.{◌≡◌, ◌<◌, ◌^◌, ℕ, List, refl, sym, ap, ◌∙◌, subst}
-use Rattle.std.proofs.Math.Logic.{∥∥₁_elim}
-use denote.Struct.Props.{props}
+use Rattle.std.proofs.Common.{◌≡◌, ℕ, List, refl, sym, ap, ◌∙◌, subst}
 use Rattle.cx_ast.specs.PlainTree.{PlainTree}
 use Rattle.cx_meaning.specs.Answers.{Answer, End, Fault, More}
 use Rattle.cx_meaning.specs.Cycles as cycles
@@ -10,11 +8,8 @@ use Rattle.cx_meaning.specs.Instances.{State, tree_of}
 use Rattle.cx_meaning.specs.Running.{run_main}
 use Rattle.cx_rules.specs.Accepted.{IsAccepted}
 use Rattle.cx_rules.specs.Flat.{IsFlat}
-use Rattle.cx_rules.specs.Sizes.{design_size}
 use Rattle.cx_rules.specs.Wellformed.{IsDesign}
 use Rattle.cx_numbering.specs.DesignOf.{design_of}
-use Rattle.cx_names.specs.Targets.{HasTargets}
-use Rattle.cx_names.proofs.Whole.{is_design}
 use Rattle.cx_names.proofs.TargetLemmas.{targets_in_text}
 use Rattle.cx_check.specs.Acceptance.{IsAcceptedTree}
 use Rattle.cx_sharing.specs.Following.{shared_fault}
@@ -27,6 +22,7 @@ use Rattle.cx_rewritten.specs.Sources.{IsTreeOfText}
 use Rattle.cx_rewritten.specs.SharedTexts.{IsSharedText}
 use Rattle.cx_rewritten.proofs.SharedLemmas.{shared_read}
 use Rattle.cx_rewritten.specs.Alike.{AreAlike, both_end, both_fault, both_go_on, RunAlike, RunsAs}
+use Rattle.cx_promote.proofs.PromotedLemmas.{tree_design}
 
 -- the shared design of an accepted design runs as it does
 pub shared_alike : (d : PlainDesign) → IsDesign d → IsAccepted d → RunAlike d (shared_design d)
@@ -39,12 +35,6 @@ shared_alike d design accepted = record { rows = rows_shared d design; runs = λ
     by words n (Fault f t) e =
         subst (AreAlike d (shared_design d) (Fault f t)) (sym (fault_shared d design accepted words n f t e)) (both_fault f (shared_fault (tree_of d) f) t refl)
     by words n More e = subst (AreAlike d (shared_design d) More) (sym (more_shared d design accepted words n e)) both_go_on
-
--- the design of an accepted tree keeps what each design keeps
-pub tree_design : (tree : PlainTree) (d : PlainDesign) → HasTargets tree → IsAcceptedTree tree → d ≡ design_of tree → ∥ IsDesign d ∥₁ → IsDesign (design_of tree)
-tree_design tree d targets accepted same keeps =
-    let small : design_size d < 2 ^ 32 = ∥∥₁_elim keeps (hlevel props) (λ design. design.few_parts) in
-    is_design tree targets accepted.named (subst (λ e. design_size e < 2 ^ 32) same small)
 
 -- at other places
 module _ (tree new : PlainTree) (written : List ℕ) (r : IsReadAs new written) where

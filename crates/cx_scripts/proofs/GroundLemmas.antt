@@ -15,7 +15,6 @@ use Rattle.cx_rules.specs.Items.{Dynamic}
 use Rattle.cx_rules.specs.Wellformed.{IsDesign}
 use Rattle.cx_rules.proofs.CircleLemmas.{instance_acyclic, instance_group}
 use Rattle.cx_rules.proofs.CirclesLemmas.{own_acyclic}
-use Rattle.cx_laws.proofs.SourceLemmas.{source_in}
 use Rattle.cx_control.specs.Together.{IsTogether}
 use Rattle.cx_control.proofs.InstanceLemmas.{instance_ports, instance_outputs}
 use Rattle.cx_control.proofs.TogetherLemmas.{together_acyclic, groups_acyclic, instance_unshared}
@@ -40,6 +39,7 @@ use Rattle.cx_wiring_runs.proofs.NodeTimers.{bit_wire}
 use Rattle.cx_wiring_runs.proofs.DesignHolds.{HoldsNet}
 use Rattle.cx_text.proofs.ListLaws.{front}
 use Rattle.cx_scripts.proofs.FormLemmas.{net_forms}
+use Rattle.cx_rules.proofs.FoundLemmas.{source_in}
 
 -- THE WIRES OF ISLANDS are of one bit. Numbers of instances are not asked for
 module _ (d : PlainDesign) where

@@ -11,13 +11,11 @@ use Rattle.cx_graphs.specs.Ways.{Targets, Way, edge, further, LeadsWithin, both}
 use Rattle.cx_graphs.specs.Reach.{Reaches}
 use Rattle.cx_meaning.specs.declared.ports.PortRef.{PortRef}
 use Rattle.cx_meaning.specs.declared.ports.PortRef.TheVariants as ports
-use Rattle.cx_meaning.specs.declared.ports.PlacedPort.{PlacedPort}
-use Rattle.cx_meaning.specs.Designs.{PlainGuard, Always, Atom, Negation, All, Any, Compared, Within, PlainGuards, no_guards, a_guard, PlainAssign, PlainComponent, PlainDesign, component_at, group_at}
+use Rattle.cx_meaning.specs.Designs.{PlainAssign, PlainComponent, PlainDesign, component_at, group_at}
 use Rattle.cx_meaning.specs.Instances.{Instance, At, Nothing, OfRow, OfInstance, part_of, cells_of, cell_at}
 use Rattle.cx_meaning.specs.Active.{Active, group, nothing}
-use Rattle.cx_meaning.specs.Sights.{In, GuardNames, AnyNames, PartPort, Go, AnInput, AnOutput, ItsDone, part_port, output_port}
+use Rattle.cx_meaning.specs.Sights.{In, PartPort, Go, AnInput, AnOutput, ItsDone, part_port, output_port}
 use Rattle.cx_rules.specs.Ports.{component_of}
-use Rattle.cx_rules.specs.Items.{operands_of, operands_in, sources_of}
 use Rattle.cx_rules.specs.Footprints.{AssignNames, Leads, Depends, at_once, by_way_of}
 use Rattle.cx_rules.specs.Wellformed.{IsDesign, StandsIn, IsThere, port_count}
 use Rattle.cx_design.specs.declared.groups.Assign.{Assign}
@@ -25,7 +23,7 @@ use Rattle.cx_design.specs.PlainForms.{plain_assign}
 use Rattle.cx_design_leads.specs.Nodes.{node_of, ports_before, node_count}
 use Rattle.cx_design_leads.specs.Edges.{Between, HasEdges, LeadsInGroup, ReadsInRow}
 use Rattle.cx_design_leads.proofs.NodeLemmas.{below_is, distinct, within}
-use Rattle.cx_rules.proofs.FoundLemmas.{same_is}
+use Rattle.cx_rules.proofs.FoundLemmas.{same_is, source_in}
 use Rattle.cx_meaning.specs.Active.{same_port}
 use Rattle.cx_design_leads.proofs.DriverLemmas.{driver_of, of_owner, leads_either, leads_by_group, by_group_leads}
 use Rattle.cx_design_leads.proofs.ThereLemmas.{leads_there}
@@ -41,26 +39,6 @@ use Rattle.cx_text.proofs.OptionLaws.{some_is}
 use Rattle.cx_rules.proofs.PortsLemmas.{part_is}
 
 -- OPERANDS of a guard are what it names
-mutual
-  guard_operand : (g : PlainGuard) (q : PortRef) → GuardNames g q → (p : PlacedPort) × In (operands_of g) p × (p.port ≡ q)
-  guard_operand Always q n = absurd n
-  guard_operand (Atom p) q n = (p, inl refl, n)
-  guard_operand (Negation g) q n = guard_operand g q n
-  guard_operand (All gs) q n = guards_operand gs q n
-  guard_operand (Any gs) q n = guards_operand gs q n
-  guard_operand (Compared c a b) q (inl e) = (a, inl refl, e)
-  guard_operand (Compared c a b) q (inr e) = (b, inr (inl refl), e)
-  guard_operand (Within from to) q n = absurd n
-
-  guards_operand : (gs : PlainGuards) (q : PortRef) → AnyNames gs q → (p : PlacedPort) × In (operands_in gs) p × (p.port ≡ q)
-  guards_operand no_guards q n = absurd n
-  guards_operand (a_guard g gs) q (inl n) = let r = guard_operand g q n in (r.0, in_left (operands_of g) (operands_in gs) r.0 r.1, r.2)
-  guards_operand (a_guard g gs) q (inr n) = let r = guards_operand gs q n in (r.0, in_right (operands_of g) (operands_in gs) r.0 r.1, r.2)
-
-named_source : (a : PlainAssign) (q : PortRef) → AssignNames a q → (p : PlacedPort) × In (sources_of a) p × (p.port ≡ q)
-named_source a q (inl n) = let r = guard_operand a.guard q n in (r.0, inr r.1, r.2)
-named_source a q (inr e) = (a.source, inl refl, e)
-
 -- PORTS of a component's cell
 input_below : (part : PlainComponent) (p : ℕ) → is_an_input (part_port part p) ≡ true → p < suc (length part.inputs)
 input_below part zero h = absurd (true≢false (sym h))
@@ -183,7 +161,7 @@ module _ (d : PlainDesign) (k : ℕ) where
   module _ (design : IsDesign d) (within : k < length d.components) where
     source_there : (owner : Option ℕ) (a : PlainAssign) (q : PortRef) → StandsIn (component_at d k) owner a → AssignNames a q → IsThere at q
     source_there owner a q stands names =
-        let r = named_source a q names in subst (λ p. IsThere at p) r.2 (((design.components k within).assigns owner a stands).sources r.0 r.1)
+        let r = source_in a q names in subst (λ p. IsThere at p) r.2 (((design.components k within).assigns owner a stands).sources r.0 r.1)
 
     led_there : (act : Active) (p : PortRef) (c q : ℕ) (child : Instance) → cell_at (cells_of at) c ≡ OfInstance child → Leads at act p (ports.Cell c q) → q < port_count (cell_at (cells_of at) c)
     led_there act p c q child stands l =

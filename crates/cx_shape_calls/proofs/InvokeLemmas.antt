@@ -31,10 +31,10 @@ use Rattle.cx_text.proofs.OptionLaws.{same_some}
 use Rattle.cx_shape_calls.proofs.BoolLemmas.{any_in, any_has}
 use Rattle.cx_shape_state.specs.Resting.{rests_at}
 use Rattle.cx_shape_state.specs.StateBreaks.{all_rest}
-use Rattle.cx_shape_state.proofs.Names.{source_in, source_named}
 use Rattle.cx_shape_state.proofs.StateLemmas.{one_fails, all_fail, unrested, never_rests}
 use Rattle.cx_text.proofs.BoolLaws.{from_not, either_true, or_left, or_right}
 use Rattle.std.proofs.lemmas.Bool.{not_from_false}
+use Rattle.cx_rules.proofs.FoundLemmas.{source_in, source_named}
 
 -- FED BACK: what is reached along the links from the cells that the inputs name
 module _ (part : PlainComponent) (g : Edges) (links : AreLinks part g) (inputs : List PlainAssign) where
@@ -136,10 +136,6 @@ module _ (d : PlainDesign) (k : ℕ) (w : PlainInvoke) where
       others (inr (inl u)) = absurd (true≢false (sym u ∙ bound))
       others (inr (inr (inl r))) = absurd (true≢false (sym r ∙ rests))
       others (inr (inr (inr f))) = fed_is.1 (subst (λ p. FeedsBack p w.inputs w.cell) same f)
-
-pub no_latency : (o : Option ℕ) → is_some o ≡ false → o ≡ None
-no_latency None e = refl
-no_latency (Some n) e = absurd (true≢false e)
 
 -- a static invoke as it stands in its component
 pub got_invoke : (part : PlainComponent) (component : Component) (list : List StaticInvoke) (n : ℕ) (x : StaticInvoke) → plain_component component ≡ part → list ≡ component.invokes.items

@@ -18,8 +18,9 @@ use Rattle.cx_rules.specs.Footprints.{AssignNames, Rests, literal_rests, input_r
 use Rattle.cx_rules.specs.ShapeRules.{LeadsToInput}
 use Rattle.cx_design_parts.specs.Outputs.{is_plain, is_write_data, is_read_port, read_count}
 use Rattle.cx_shape_state.proofs.Cells.{AllRead}
-use Rattle.cx_shape_state.proofs.Names.{Drives, drives, mentions, source_in, source_named}
+use Rattle.cx_shape_state.proofs.Names.{Drives, drives, mentions}
 use Rattle.cx_shape_state.proofs.RestLemmas.{RestsBy, by_literal, by_input, by_registered, by_output, by_done, by_combinational}
+use Rattle.cx_rules.proofs.FoundLemmas.{source_in, source_named}
 
 -- what is read is a plain input
 plain_side : (side : Side) (b : Bool) → is_plain side && b ≡ true → side ≡ sides.Plain

@@ -1,58 +1,15 @@
 -- What an assignment names is among its sources, and the continuous drivers of a port.
 use Rattle.std.proofs.Common.{◌≡◌, ◌+◌, ℕ, suc, Bool, true, false, List, [], ◌∷◌, ◌++◌, Option, Some, None, get_or, inl, inr, ⊎_elim, refl, sym, ap, ◌∙◌, subst}
 use Rattle.cx_meaning.specs.declared.ports.PortRef.{PortRef}
-use Rattle.cx_meaning.specs.declared.ports.PlacedPort.{PlacedPort}
-use Rattle.cx_meaning.specs.Designs.{PlainGuard, Always, Atom, Negation, All, Any, Compared, Within, PlainGuards, no_guards, a_guard, PlainAssign, PlainGroup, PlainComponent, no_group}
-use Rattle.cx_meaning.specs.Active.{Acting, nothing, Owned, owned, owned_by_groups, placed_in, by_place, source_order, offset_of, if_acting, if_target, acting, same_port, drivers}
-use Rattle.cx_meaning.specs.Sights.{In, GuardNames, AnyNames}
-use Rattle.cx_rules.specs.Items.{operands_of, operands_in, sources_of}
+use Rattle.cx_meaning.specs.Designs.{PlainAssign, PlainGroup, PlainComponent, no_group}
+use Rattle.cx_meaning.specs.Active.{Acting, nothing, Owned, owned, owned_by_groups, source_order, offset_of, if_acting, if_target, acting, same_port, drivers}
+use Rattle.cx_meaning.specs.Sights.{In}
 use Rattle.cx_rules.specs.Footprints.{AssignNames, Mentions}
 use Rattle.cx_rules.proofs.FoundLemmas.{same_is}
 use Rattle.cx_rules.proofs.ForeignLemmas.{sorted_among, owned_among, split, groups_among}
-use Rattle.cx_meaning.proofs.SightsLaws.{in_either, in_left, in_right}
+use Rattle.cx_meaning.proofs.SightsLaws.{in_left}
 use Rattle.cx_meaning.proofs.PortsLemmas.{same_self}
-use Rattle.cx_meaning.proofs.ActiveLemmas.{placed_still, placed_first}
-
-mutual
-  guard_operand : (g : PlainGuard) (q : PortRef) → GuardNames g q → (p : PlacedPort) × In (operands_of g) p × (p.port ≡ q)
-  guard_operand Always q n = absurd n
-  guard_operand (Atom p) q n = (p, inl refl, n)
-  guard_operand (Negation g) q n = guard_operand g q n
-  guard_operand (All gs) q n = guards_operand gs q n
-  guard_operand (Any gs) q n = guards_operand gs q n
-  guard_operand (Compared c a b) q (inl e) = (a, inl refl, e)
-  guard_operand (Compared c a b) q (inr e) = (b, inr (inl refl), e)
-  guard_operand (Within from to) q n = absurd n
-
-  guards_operand : (gs : PlainGuards) (q : PortRef) → AnyNames gs q → (p : PlacedPort) × In (operands_in gs) p × (p.port ≡ q)
-  guards_operand no_guards q n = absurd n
-  guards_operand (a_guard g gs) q (inl n) = let r = guard_operand g q n in (r.0, in_left (operands_of g) (operands_in gs) r.0 r.1, r.2)
-  guards_operand (a_guard g gs) q (inr n) = let r = guards_operand gs q n in (r.0, in_right (operands_of g) (operands_in gs) r.0 r.1, r.2)
-
-mutual
-  operand_named : (g : PlainGuard) (p : PlacedPort) → In (operands_of g) p → GuardNames g p.port
-  operand_named Always p i = absurd i
-  operand_named (Atom x) p (inl e) = ap (λ y. y.port) e
-  operand_named (Atom x) p (inr i) = absurd i
-  operand_named (Negation g) p i = operand_named g p i
-  operand_named (All gs) p i = operand_named_in gs p i
-  operand_named (Any gs) p i = operand_named_in gs p i
-  operand_named (Compared c a b) p (inl e) = inl (ap (λ y. y.port) e)
-  operand_named (Compared c a b) p (inr (inl e)) = inr (ap (λ y. y.port) e)
-  operand_named (Compared c a b) p (inr (inr i)) = absurd i
-  operand_named (Within from to) p i = absurd i
-
-  operand_named_in : (gs : PlainGuards) (p : PlacedPort) → In (operands_in gs) p → AnyNames gs p.port
-  operand_named_in no_guards p i = absurd i
-  operand_named_in (a_guard g gs) p i = ⊎_elim (λ l. inl (operand_named g p l)) (λ r. inr (operand_named_in gs p r)) (in_either (operands_of g) (operands_in gs) p i)
-
-pub source_in : (a : PlainAssign) (q : PortRef) → AssignNames a q → (p : PlacedPort) × In (sources_of a) p × (p.port ≡ q)
-source_in a q (inl n) = let r = guard_operand a.guard q n in (r.0, inr r.1, r.2)
-source_in a q (inr e) = (a.source, inl refl, e)
-
-pub source_named : (a : PlainAssign) (p : PlacedPort) → In (sources_of a) p → AssignNames a p.port
-source_named a p (inl e) = inr (ap (λ x. x.port) e)
-source_named a p (inr i) = inl (operand_named a.guard p i)
+use Rattle.cx_meaning.proofs.ActiveLemmas.{sorted_has}
 
 -- the number of a group
 pub group_number : (groups : List PlainGroup) (x : PlainGroup) → In groups x → (g : ℕ) × (get_or groups g no_group ≡ x)
@@ -66,11 +23,6 @@ pub record Drives (part : PlainComponent) (p q : PortRef) : Type 0 where
   pub stands : In part.always assign
   pub target : assign.target ≡ p
   pub names : AssignNames assign q
-
-among_sorted : (list : List Owned) (o : Owned) → In list o → In (by_place list) o
-among_sorted [] o i = i
-among_sorted (a ∷ rest) o (inl e) = subst (λ x. In (placed_in a (by_place rest)) x) e (placed_first a (by_place rest))
-among_sorted (a ∷ rest) o (inr i) = placed_still a (by_place rest) o (among_sorted rest o i)
 
 among_owned : (list : List PlainAssign) (a : PlainAssign) → In list a → In (owned None list) (record { owner = None; assign = a })
 among_owned [] a i = absurd i
@@ -133,7 +85,7 @@ pub mentions : (part : PlainComponent) (p q : PortRef) → Drives part p q → M
 mentions part p q d = (
   record { offset = 0; assign = d.assign },
   acting_in p (source_order part) d.assign
-      (among_sorted (all_of part) (record { owner = None; assign = d.assign }) (in_left (owned None part.always) (owned_by_groups 0 part.groups) (record { owner = None; assign = d.assign }) (among_owned part.always d.assign d.stands)))
+      (sorted_has (all_of part) (record { owner = None; assign = d.assign }) (in_left (owned None part.always) (owned_by_groups 0 part.groups) (record { owner = None; assign = d.assign }) (among_owned part.always d.assign d.stands)))
       d.target,
   d.names,
 )

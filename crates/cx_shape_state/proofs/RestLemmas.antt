@@ -23,7 +23,8 @@ use Rattle.cx_shape_state.specs.Waits.{side_basis, part_basis, cell_basis, input
 use Rattle.cx_shape_state.specs.Resting.{rests_by, rests_at}
 use Rattle.cx_shape_state.proofs.Cells.{AllRead, reader, reader_is, row_or}
 use Rattle.cx_shape_state.proofs.Graph.{graph_length, targets_are, target_within, AlwaysWaits, GroupWaits, waits_either, always_in, driven_waits}
-use Rattle.cx_shape_state.proofs.Names.{source_in, source_named, group_number}
+use Rattle.cx_shape_state.proofs.Names.{group_number}
+use Rattle.cx_rules.proofs.FoundLemmas.{source_in, source_named}
 
 -- the least relation that the rules give, where signature inputs rest on state or never rest
 pub data RestsBy (i : Instance) (inputs : Bool) : PortRef → Type 0 where

@@ -22,10 +22,10 @@ use Rattle.cx_design_parts.specs.Numbered.{numbered}
 use Rattle.cx_design_parts.specs.Answers.{AreBreaksBy}
 use Rattle.cx_design_parts.proofs.Lists.{first_append, in_left, in_right, in_either, in_numbered, numbered_in}
 use Rattle.cx_shape_state.specs.Resting.{rests_at}
-use Rattle.cx_shape_state.proofs.Names.{source_in, source_named}
 use Rattle.cx_shape_state.proofs.Found.{found_rests, rests_found, inner_rests, inner_apart, leads_found}
 use Rattle.cx_shape_state.specs.StateBreaks.{StateBreaks, break_unless, all_rest, done_break, output_break, target_breaks, is_input, none_input, is_kept, kept_breaks, assign_breaks, static_test, test_breaks, assign_breaks_at, test_breaks_at, component_breaks, components_breaks, state_breaks}
 use Rattle.cx_rules.proofs.KeyOrder.{before_irreflexive}
+use Rattle.cx_rules.proofs.FoundLemmas.{source_in, source_named}
 
 abbrev broken : Rule → Spot → Place → List ℕ → Broken
 broken r spot place name = record { rule = r; spot = spot; place = place; name = name }

@@ -8,7 +8,8 @@ use Rattle.std.proofs.lemmas.Nat.Bits.{bit_at-zero, bit_at-lt, bit_at_or, bit_at
 use Rattle.cx_share.specs.Bits.{bit_in, marks_of}
 use Rattle.cx_meaning.specs.Instances.{just}
 use Rattle.cx_share.specs.Marks.{Adds}
-use Rattle.cx_share.proofs.MarkLemmas.{or-false, just_itself, just_other, by_at, by_long, by_past}
+use Rattle.cx_share.proofs.MarkLemmas.{or-false, just_itself, by_at, by_long, by_past}
+use Rattle.cx_meaning.proofs.InstancesLemmas.{just_other}
 
 or-true : (a : Bool) → (a || true) ≡ true
 or-true true = refl

@@ -16,7 +16,9 @@ use Rattle.cx_sharing.specs.Uses.{kind_in, is_candidate, is_combinational, assig
 use Rattle.cx_share.specs.declared.giving.Kept as memory
 use Rattle.cx_share.specs.Marks.{Adds, AreMarks}
 use Rattle.cx_share.specs.Givings.{no_kept, Within, AllWithin, AllNear, IsNear, Put, KeptBy, AreKeepers, plain_kept}
-use Rattle.cx_share.proofs.MarkLemmas.{or-assoc, or-comm, or-false, just_is, just_itself, just_other}
+use Rattle.cx_share.proofs.MarkLemmas.{or-comm, or-false, just_is, just_itself}
+use Rattle.cx_text.proofs.BoolLaws.{or_assoc}
+use Rattle.cx_meaning.proofs.InstancesLemmas.{just_other}
 
 -- a reversed list
 pub any-reverse : {A : Type 0} (p : A → Bool) (xs : List A) → list_any p (reverse xs) ≡ list_any p xs
@@ -248,7 +250,7 @@ near_given part c before new row same more p wide m n = record {
       let below : y < length row = omega (arith, wide) in
       let there : y < length before.near = omega (arith, n.count) in
       p.marks y there ∙ ap (λ v. v || get_or row y false) (n.marks y lt) ∙ ap (λ v. (meet part before.cell y || list_any (λ x. meet part x y) before.given.items) || v) (m y below)
-      ∙ or-assoc (meet part before.cell y) (list_any (λ x. meet part x y) before.given.items) (meet part c y)
+      ∙ or_assoc (meet part before.cell y) (list_any (λ x. meet part x y) before.given.items) (meet part c y)
       ∙ ap (λ v. meet part before.cell y || v) (ap (λ v. list_any (λ x. meet part x y) before.given.items || v) (sym (or-false (meet part c y))) ∙ sym (list_any-append (λ x. meet part x y) before.given.items (c ∷ [])))
       ∙ ap (λ xs. meet part before.cell y || list_any (λ x. meet part x y) xs) (sym more) ∙ ap (λ d. meet part d y || list_any (λ x. meet part x y) new.given.items) (sym same);
 }

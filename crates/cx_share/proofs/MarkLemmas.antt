@@ -7,10 +7,8 @@ use Rattle.std.proofs.lemmas.List.Folds.{list_any_more}
 use Rattle.cx_text.proofs.ListLaws.{take_all}
 use Rattle.cx_meaning.specs.Instances.{Set, just}
 use Rattle.cx_share.specs.Marks.{AreMarks, Adds, any_of, marks_by}
-
-pub or-assoc : (a b c : Bool) → ((a || b) || c) ≡ (a || (b || c))
-or-assoc true b c = refl
-or-assoc false b c = refl
+use Rattle.cx_text.proofs.BoolLaws.{or_assoc}
+use Rattle.cx_text.proofs.NumberLaws.{eq_next}
 
 pub or-false : (a : Bool) → (a || false) ≡ a
 or-false true = refl
@@ -28,9 +26,6 @@ eq_less d = grind (arith, tests)
 eq_more : (c : ℕ) → false ≡ nat_eq (suc c) zero
 eq_more c = grind (arith, tests)
 
-eq_next : (c d : ℕ) → nat_eq c d ≡ nat_eq (suc c) (suc d)
-eq_next c d = grind (arith, tests)
-
 pub just_is : (c d : ℕ) → just c d ≡ nat_eq c d
 just_is zero zero = refl
 just_is zero (suc d) = eq_less d
@@ -41,12 +36,6 @@ pub just_itself : (c : ℕ) → just c c ≡ true
 just_itself zero = refl
 just_itself (suc c) = just_itself c
 
-pub just_other : (c d : ℕ) → (c ≡ d → ⊥) → just c d ≡ false
-just_other zero zero h = absurd (h refl)
-just_other zero (suc d) h = refl
-just_other (suc c) zero h = refl
-just_other (suc c) (suc d) h = just_other c d (λ e. h (ap suc e))
-
 pub adds_none : (xs : List Bool) → Adds xs xs (λ c. false)
 adds_none xs = record { count = refl; marks = λ c lt. sym (or-false (get_or xs c false)) }
 
@@ -55,7 +44,7 @@ adds_then a b c s t p q = record {
   count = q.count ∙ p.count;
   marks = λ n lt.
       let below : n < length b = omega (arith, p.count) in
-      q.marks n below ∙ ap (λ v. v || t n) (p.marks n lt) ∙ or-assoc (get_or a n false) (s n) (t n);
+      q.marks n below ∙ ap (λ v. v || t n) (p.marks n lt) ∙ or_assoc (get_or a n false) (s n) (t n);
 }
 
 pub adds_same : (a b : List Bool) (s t : Set) → ((c : ℕ) → c < length a → s c ≡ t c) → Adds a b s → Adds a b t

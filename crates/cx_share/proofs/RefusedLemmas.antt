@@ -1,5 +1,5 @@
 -- Sets of cells that each of 64 kept ones refuses.
-use Rattle.std.proofs.Common.{◌≡◌, ◌∙◌, ℕ, zero, suc, ◌+◌, ◌*◌, ◌<◌, ◌≤◌, ◌||◌, ◌&&◌, Bool, true, false, List, [], ◌∷◌, ◌++◌, get_or, set, length, map, refl, sym, ap, subst, arith, ⊎_elim}
+use Rattle.std.proofs.Common.{◌≡◌, ◌∙◌, ℕ, zero, suc, ◌+◌, ◌*◌, ◌<◌, ◌≤◌, Bool, true, false, List, [], ◌∷◌, ◌++◌, get_or, set, length, map, refl, sym, ap, subst, arith, ⊎_elim}
 use Rattle.std.proofs.lemmas.Bool.{cases_eq, cases_lt}
 use Rattle.std.proofs.lemmas.List.{get_or_past, get_or-map, get_or-set_same, get_or-set_other, length-map, length-set, length-append, map-set, map-append}
 use Rattle.cx_meaning.specs.Designs.{PlainComponent}
@@ -9,6 +9,7 @@ use Rattle.cx_share.specs.declared.giving.Kept.{Kept}
 use Rattle.cx_share.specs.Marks.{Adds}
 use Rattle.cx_share.specs.Givings.{AllNear, AreAsWide, AreRefused, IsWithin, near_of, nears, no_kept, plain_kept}
 use Rattle.cx_share.proofs.GiveLemmas.{takes_none}
+use Rattle.cx_text.proofs.BoolLaws.{or_left}
 
 -- a list with one more
 last_at : {A : Type 0} (xs : List A) (x d : A) → get_or (xs ++ x ∷ []) (length xs) d ≡ x
@@ -27,12 +28,8 @@ there_by marks c e = ⊎_elim (λ lt. lt) (λ le. absurd (no (sym (get_or_past m
     no : false ≡ true → ⊥
     no h = cc
 
-true-or : (a b : Bool) → a ≡ true → (a || b) ≡ true
-true-or true b e = refl
-true-or false b e = absurd (cc)
-
 pub within_adds : (old new : List Bool) (set : Set) → Adds old new set → IsWithin old new
-within_adds old new set p c e = p.marks c (there_by old c e) ∙ true-or (get_or old c false) (set c) e
+within_adds old new set p c e = p.marks c (there_by old c e) ∙ or_left (get_or old c false) (set c) e
 
 -- what stands near a kept one
 pub near_got : (kept : List Kept) (k : ℕ) (one : Kept) → k < length kept → (get_or kept k one).near ≡ near_of kept k
@@ -106,12 +103,6 @@ wide_by part (one ∷ kept) (suc k) near lt = wide_by part kept k near.1 (let h 
 
 pub near_wide : (part : PlainComponent) (kept : List Kept) → AllNear part kept → AreAsWide (nears kept)
 near_wide part kept near j k less lt = wide_by part kept j near less ∙ sym (wide_by part kept k near lt)
-
--- what two sets have
-pub within_and : (a b : Bool) → (a && b) ≡ true → (a ≡ true) × (b ≡ true)
-within_and true true e = (refl, refl)
-within_and true false e = absurd (cc)
-within_and false b e = absurd (cc)
 
 -- none of a range is, and of one more
 pub none_next : (P : ℕ → Bool) (from n : ℕ) → ((k : ℕ) → from ≤ k → k < n → P k ≡ false) → P n ≡ false → (k : ℕ) → from ≤ k → k < n + 1 → P k ≡ false

@@ -8,7 +8,8 @@ use Rattle.cx_text.proofs.ListLaws.{take_all}
 use Rattle.cx_meaning.specs.Instances.{Set, just}
 use Rattle.cx_share.specs.Marks.{AreMarks, Adds, any_of}
 use Rattle.cx_share.specs.Tables.{row_at, IsTable, Joins, pairs_of, between, marked_pairs, in_order}
-use Rattle.cx_share.proofs.MarkLemmas.{or-comm, or-false, adds_none, adds_then, adds_same, adds_step, any_of-map, just_itself, just_other}
+use Rattle.cx_share.proofs.MarkLemmas.{or-comm, or-false, adds_none, adds_then, adds_same, adds_step, any_of-map, just_itself}
+use Rattle.cx_meaning.proofs.InstancesLemmas.{just_other}
 
 pub joins_none : (rows : List (List Bool)) → Joins rows rows (λ x y. false)
 joins_none rows = record { count = refl; rows = λ x lt. adds_none (row_at rows x) }

@@ -25,7 +25,8 @@ use Rattle.std.specs.declared.vec.Vec.{Vec}
 use Rattle.cx_share.specs.Marks.{lists_of}
 use Rattle.cx_share.specs.Givings.{AreKeepers, AllKeepers}
 use Rattle.cx_share.specs.Naming.{name_by, AreKeeperNames}
-use Rattle.cx_share.proofs.MarkLemmas.{just_is, just_itself, just_other}
+use Rattle.cx_share.proofs.MarkLemmas.{just_is, just_itself}
+use Rattle.cx_meaning.proofs.InstancesLemmas.{just_other}
 
 pub stays_itself : (part : PlainComponent) (c : ℕ) → keeper part c ≡ c → stays part c ≡ true
 stays_itself part c e = ap (λ k. nat_eq k c) e ∙ sym (just_is c c) ∙ just_itself c

@@ -34,14 +34,10 @@ use Rattle.cx_sharing.specs.Giving.{stays}
 use Rattle.cx_sharing.specs.SharedTree.{left_cells, shared_components, shared_tree}
 use Rattle.cx_sharing.proofs.LimitsShared.{gone_is}
 use Rattle.cx_shared_trees.proofs.TreeDesign.{shared_item, shared_items, component_names-shared, shared_of, cell_of-shared, own_part, new_name, twin, KeptCell, the_same, of_one_kind, kept_pair, cell_ports-shared, groups-shared, always-shared, group_names-shared, kind_of_cell, primitive_is, latency_kept}
+use Rattle.cx_text.proofs.ListLaws.{both_none}
+use Rattle.cx_meaning.proofs.SightsLaws.{flat_is_none}
 
 -- LISTS OF BREAKS that are empty
-both_none : {A : Type 0} (xs ys : List A) → xs ≡ [] → ys ≡ [] → xs ++ ys ≡ []
-both_none xs ys e h = ap₂ ◌++◌ e h
-
-flat_is_none : {A B : Type 0} (f : A → List B) (xs : List A) → ((x : A) → In xs x → f x ≡ []) → flat_map f xs ≡ []
-flat_is_none f [] h = refl
-flat_is_none f (x ∷ xs) h = both_none (f x) (flat_map f xs) (h x (inl refl)) (flat_is_none f xs (λ y i. h y (inr i)))
 
 told_none : (b : Bool) (rule : Rule) (place : Place) (name : List ℕ) → b ≡ false → tell_if b rule place name ≡ []
 told_none b rule place name e = ap (λ t. tell_if t rule place name) e

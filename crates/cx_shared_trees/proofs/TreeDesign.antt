@@ -45,6 +45,7 @@ use Rattle.cx_sharing.proofs.KeeperLemmas.{keeper_kind, keeper_within, other_kep
 use Rattle.cx_sharing.proofs.RemainingLemmas.{counted, from_zero}
 use Rattle.cx_sharing.proofs.CandidateLemmas.{candidate_is}
 use Rattle.cx_shared_trees.proofs.NumberLemmas.{names_of, number_kept, new_zero}
+use Rattle.cx_meaning.proofs.DesignsLemmas.{if_is, while_is, static_if_is}
 
 -- COMPONENTS keep their names, their signatures and their order
 abbrev pub shared_item : PlainTree → ast.PlainComponent → ast.PlainComponent
@@ -163,16 +164,6 @@ name_at : (cells : List PlainCell) (c : ℕ) (name : List ℕ) → slice_get (na
 name_at [] c name e = absurd (cc)
 name_at (x ∷ xs) zero name e = cc
 name_at (x ∷ xs) (suc c) name e = name_at xs c name e
-
--- forms of parts that are the same
-if_is : {p q : PlacedPort} {c d : Option ℕ} {s t u v : PlainStatement} → p ≡ q → c ≡ d → s ≡ t → u ≡ v → plain.If p c s u ≡ plain.If q d t v
-if_is {q = q} {c = c} {d = d} {s = s} {t = t} {u = u} e f g h = ap (λ x. plain.If x c s u) e ∙ ap (λ x. plain.If q x s u) f ∙ ap (λ x. plain.If q d x u) g ∙ ap (plain.If q d t) h
-
-while_is : {p q : PlacedPort} {c d : Option ℕ} {s t : PlainStatement} → p ≡ q → c ≡ d → s ≡ t → plain.While p c s ≡ plain.While q d t
-while_is {q = q} {c = c} {d = d} {s = s} e f g = ap (λ x. plain.While x c s) e ∙ ap (λ x. plain.While q x s) f ∙ ap (plain.While q d) g
-
-static_if_is : {p q : PlacedPort} {s t u v : PlainStatement} (written : Option ℕ) → p ≡ q → s ≡ t → u ≡ v → plain.StaticIf written p s u ≡ plain.StaticIf written q t v
-static_if_is {q = q} {s = s} {t = t} {u = u} written e f g = ap (λ x. plain.StaticIf written x s u) e ∙ ap (λ x. plain.StaticIf written q x u) f ∙ ap (plain.StaticIf written q t) g
 
 module _ (tree : PlainTree) (item : ast.PlainComponent) where
   abbrev pub own_part : PlainComponent

@@ -8,11 +8,11 @@ use Rattle.cx_text.specs.declared.rules.Rule.TheVariants as rules
 use Rattle.cx_text.specs.declared.limits.TheConstants.{CELLS, GROUPS, INSTANCES, INSTANCE_DEPTH, MEMORY_WORDS, WEIGHT}
 use Rattle.cx_meaning.specs.Designs.{PlainAssign, PlainGroup, PlainComponent, PlainStatement, PlainDesign, component_at, group_at, no_group}
 use Rattle.cx_meaning.specs.Instances.{part_of, tree_of}
-use Rattle.cx_meaning.specs.Active.{Owned, owned, owned_by_groups, by_place, source_order}
+use Rattle.cx_meaning.specs.Active.{Owned, owned, owned_by_groups, source_order}
 use Rattle.cx_meaning.specs.Sights.{In}
-use Rattle.cx_meaning.proofs.ActiveLemmas.{placed_first, placed_still}
+use Rattle.cx_meaning.proofs.ActiveLemmas.{sorted_has}
 use Rattle.cx_meaning.proofs.DesignsLemmas.{same_part, owned_has}
-use Rattle.cx_meaning.proofs.SightsLaws.{number_in, in_left, in_right}
+use Rattle.cx_meaning.proofs.SightsLaws.{number_in, in_left, in_right, in_at}
 use Rattle.cx_rules.specs.Ports.{component_of, is_source_only}
 use Rattle.cx_rules.specs.Items.{Visited, statements_in}
 use Rattle.cx_rules.specs.Spots.{AnAssign, Spot, AssignRule, StatementRule, GroupRule, OnAssign, OnStatement, OnGroup}
@@ -41,17 +41,11 @@ use Rattle.cx_sharing.proofs.RestsShared.{HasInputs}
 use Rattle.cx_sharing.proofs.StateRules.{done_not_state_back, output_not_state_back, static_test_back}
 use Rattle.cx_sharing.proofs.CirclesShared.{cycle_back, group_cycle_back}
 use Rattle.cx_sharing.proofs.RacesShared.{race_back}
-use Rattle.cx_sharing.proofs.RulesShared.{at_map}
 use Rattle.cx_sharing.proofs.CallsShared.{call_shape_back, group_call_back}
 use Rattle.cx_sharing.proofs.SharedMain.{fewer_cells}
 use Rattle.cx_sharing.proofs.LimitsShared.{instances_kept, depth_kept, words_kept, weight_less}
 use Rattle.cx_rewrites.specs.FlatRules.{BreaksLength, IsShared, BreaksRace, BreaksStatement, Breaks, KeepsStage, IsAccepted}
-
--- an assignment of a group stands in source order
-sorted_has : (list : List Owned) (o : Owned) → In list o → In (by_place list) o
-sorted_has [] o i = absurd i
-sorted_has (a ∷ rest) o (inl e) = subst (λ x. In (by_place (a ∷ rest)) x) e (placed_first a (by_place rest))
-sorted_has (a ∷ rest) o (inr i) = placed_still a (by_place rest) o (sorted_has rest o i)
+use Rattle.cx_text.proofs.ListLaws.{at_map}
 
 groups_have : (n : ℕ) (groups : List PlainGroup) (g : ℕ) (a : PlainAssign) → In (get_or groups g no_group).assigns a → (o : Owned) × In (owned_by_groups n groups) o × (o.assign ≡ a)
 groups_have n [] g a i = absurd i
@@ -62,11 +56,6 @@ group_stands : (part : PlainComponent) (g : ℕ) (a : PlainAssign) → In (group
 group_stands part g a i =
     let r = groups_have 0 part.groups g a i in
     (r.0, sorted_has (owned None part.always ++ owned_by_groups 0 part.groups) r.0 (in_right (owned None part.always) (owned_by_groups 0 part.groups) r.0 r.1), r.2)
-
-at_in : {A : Type 0} (list : List A) (n : ℕ) (x : A) → slice_get list n ≡ Some x → In list x
-at_in [] n x e = absurd (cc)
-at_in (y ∷ ys) zero x e = inl (let same : y ≡ x = cc in same)
-at_in (y ∷ ys) (suc n) x e = inr (at_in ys n x e)
 
 -- a rule is broken at a part, whatever is told
 abbrev Broken : PlainDesign → Rule → Spot → Type 0
@@ -126,7 +115,7 @@ module _ (d : PlainDesign) (accepted : IsAccepted d) where
       let k = spot.component in
       let within = within_back k on.within in
       let x = at_map (moved_visited (new_port (shares_at k))) (statements_in (component_at d k)) on.number on.statement (ap (λ list. slice_get list on.number) (sym (statements_are k)) ∙ on.stands) in
-      let r = carried k within x.0 (at_in (statements_in (component_at d k)) on.number x.0 x.1) place name (subst (λ v. rule (component_of (shared_design d) k) v place name) (sym x.2) on.breaks) in
+      let r = carried k within x.0 (in_at (statements_in (component_at d k)) on.number x.0 x.1) place name (subst (λ v. rule (component_of (shared_design d) k) v place name) (sym x.2) on.breaks) in
       (r.0, r.1, record { within = within; number = on.number; is = on.is; statement = x.0; stands = x.1; breaks = r.2 })
 
   group_back : (rule : GroupRule) → ((k : ℕ) → k < length d.components → (g : ℕ) (place : Place) (name : List ℕ) → rule (component_of (shared_design d) k) g place name → ByGroup rule (component_of d k) g)

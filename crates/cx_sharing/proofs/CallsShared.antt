@@ -38,9 +38,10 @@ use Rattle.cx_sharing.proofs.CandidateLemmas.{candidate_is}
 use Rattle.cx_sharing.proofs.ReadLemmas.{started_none}
 use Rattle.cx_rewrites.proofs.MovedLists.{some_target-moved}
 use Rattle.cx_sharing.proofs.SharedParts.{shared_kind, AtShared, no_cell, a_row, a_part, Shares, is_primitive_enable-shared, is_part_port-shared, group_at-shared, own_assigns}
-use Rattle.cx_sharing.proofs.RulesShared.{ByAssign, ByGroup, in_map, hole_of_kept}
+use Rattle.cx_sharing.proofs.RulesShared.{ByAssign, ByGroup, hole_of_kept}
 use Rattle.cx_sharing.proofs.RestsShared.{stands_for}
 use Rattle.cx_sharing.proofs.CirclesShared.{group_depends_back}
+use Rattle.cx_meaning.proofs.SightsLaws.{image_in}
 
 module _ (cell : ℕ → ℕ) where
   -- A PORT THAT IS ALONE: no other port becomes the renamed one
@@ -374,7 +375,7 @@ module _ (i j : Instance) (shares : Shares i j) where
   call_back g e calls =
       let a = some_back (is_port_of e) (assigns_of j g) calls.driven in
       let n = port_of_is e a.0.target a.2 in
-      let x = in_map (moved_assign move) (assigns_of i g) a.0 (subst (λ list. In list a.0) (own_assigns shares g) a.1) in
+      let x = image_in (moved_assign move) (assigns_of i g) a.0 (subst (λ list. In list a.0) (own_assigns shares g) a.1) in
       let t = stands_for new x.0.target e n.0 (ap (λ (z : PlainAssign). z.target) x.2 ∙ n.1) in
       let at = part_at t.own calls.child (ap (cell_at (cells_of j)) t.number ∙ calls.is_component) in
       record {
@@ -450,7 +451,7 @@ module _ (i j : Instance) (shares : Shares i j) where
     wanted_alone [] other w (inr k) = absurd k
     wanted_alone (r ∷ rs) other w (inl same) = subst (IsAlone new) same (cell_alone new r 3 (sole (part_of i) r (other r (inl refl))))
     wanted_alone (r ∷ rs) other w (inr k) =
-        let x = in_map register_done rs w k in
+        let x = image_in register_done rs w k in
         subst (IsAlone new) x.2 (cell_alone new x.0 3 (sole (part_of i) x.0 (other x.0 (inr x.1))))
 
     captured_kept : captured (part_of j) (assigns_of j g) ≡ map new (captured (part_of i) (assigns_of i g))

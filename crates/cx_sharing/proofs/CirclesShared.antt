@@ -30,14 +30,10 @@ use Rattle.cx_sharing.proofs.MeetLemmas.{group_covers, group_used_meet}
 use Rattle.cx_sharing.proofs.TwinLemmas.{candidate_holds_nothing, part_other, stays_is}
 use Rattle.cx_sharing.proofs.RemainingLemmas.{stands_at}
 use Rattle.cx_sharing.proofs.SharedParts.{Shares, new_port, cells_alike, source_order-shared, AtShared, no_cell, a_row, a_part}
-use Rattle.cx_sharing.proofs.RulesShared.{in_map}
 use Rattle.cx_sharing.proofs.RestsShared.{stands_for}
 use Rattle.cx_sharing.proofs.SharedParts.{own_always, own_groups}
-
--- one step more
-pub depends_then : {i : Instance} {act : Active} {p q r : PortRef} → Depends i act p q → Leads i act q r → Depends i act p r
-depends_then {q = q} (at_once l) m = by_way_of q l (at_once m)
-depends_then (by_way_of s l d) m = by_way_of s l (depends_then d m)
+use Rattle.cx_meaning.proofs.SightsLaws.{image_in}
+use Rattle.cx_rules.proofs.CircleLemmas.{depends_then}
 
 module _ (i j : Instance) (shares : Shares i j) where
   abbrev part : PlainComponent
@@ -70,7 +66,7 @@ module _ (i j : Instance) (shares : Shares i j) where
     driven_inside : (e n : ℕ) (q : PortRef) → Mentions (drivers (part_of j) more (ports.Cell e n)) q → StandsInside (ports.Cell e n)
     driven_inside e n q m =
         let found = mention_of more (source_order (part_of j)) (ports.Cell e n) q m in
-        let x = in_map (moved_owned (new_port shares)) (source_order part) found.owned (subst (λ list. In list found.owned) (source_order-shared shares) found.stands) in
+        let x = image_in (moved_owned (new_port shares)) (source_order part) found.owned (subst (λ list. In list found.owned) (source_order-shared shares) found.stands) in
         let t = stands_for number x.0.assign.target e n (ap (λ (z : Owned). z.assign.target) x.2 ∙ found.target) in (
           ports.Cell t.own n,
           ap (λ c. ports.Cell c n) t.number,

@@ -1,14 +1,14 @@
 -- A RACE of the shared design is one of the design: what two arms drive and read stands for cells of which each arm uses one, and such cells meet.
 use Rattle.std.proofs.Common.{◌≡◌, ℕ, zero, suc, inl, inr, ⊎_elim, true, ◌||◌, List, [], ◌∷◌, map, Some, slice_get, refl, sym, ap, ◌∙◌, subst}
 use Rattle.std.specs.List.{list_any}
-use Rattle.std.proofs.lemmas.Bool.{both_ways, or_cases, or_right}
+use Rattle.std.proofs.lemmas.Bool.{both_ways, or_right}
 use Rattle.cx_text.specs.declared.places.Place.{Place}
 use Rattle.cx_meaning.specs.declared.ports.PortRef.{PortRef}
 use Rattle.cx_meaning.specs.declared.ports.PortRef.TheVariants as ports
 use Rattle.cx_meaning.specs.declared.ports.PlacedPort.{PlacedPort}
 use Rattle.cx_meaning.specs.Designs.{PlainAssign, PlainComponent, group_at, PlainForm, PlainStatement}
 use Rattle.cx_meaning.specs.Instances.{Instance, part_of}
-use Rattle.cx_meaning.specs.Control.{targets_cell, assigns_drive, group_drives, groups_drive, groups_of, drives}
+use Rattle.cx_meaning.specs.Control.{targets_cell, assigns_drive, groups_drive, groups_of, drives}
 use Rattle.cx_meaning.specs.Sights.{In}
 use Rattle.cx_meaning.proofs.InstancesLemmas.{just_same}
 use Rattle.cx_rules.specs.Items.{Visited, statements_in, tests_of}
@@ -26,29 +26,23 @@ use Rattle.cx_sharing.proofs.MeetLemmas.{arms_meet-true, in_form}
 use Rattle.cx_rewrites.proofs.MovedLists as lists
 use Rattle.cx_rewrites.proofs.MovedLists.{moved_visited}
 use Rattle.cx_sharing.proofs.SharedParts.{Shares, new_port, own_assigns, own_always}
-use Rattle.cx_sharing.proofs.RulesShared.{in_map, at_map, ByStatement}
+use Rattle.cx_sharing.proofs.RulesShared.{ByStatement}
 use Rattle.cx_sharing.proofs.RestsShared.{stands_for, driver_in, always_apart}
 use Rattle.cx_rewrites.specs.FlatRules.{IsShared, BreaksRace}
+use Rattle.cx_meaning.proofs.SightsLaws.{image_in}
+use Rattle.cx_meaning.proofs.ControlLaws.{groups_drive_in, driver}
+use Rattle.cx_text.proofs.ListLaws.{at_map}
 
 -- WHAT A STATEMENT DRIVES AND READS it uses, but for what it reads through continuous assignments
 drives_used : (list : List PlainAssign) (c : ℕ) → assigns_drive list c ≡ true → assigns_use list c ≡ true
 drives_used list c e = let r = driver_in list c e in any_of (λ a. assign_uses a c) list r.0 r.1 (target_used r.0 c r.2.0 r.2.1)
-
-pub group_of : (part : PlainComponent) (gs : List ℕ) (c : ℕ) → groups_drive part gs c ≡ true → (g : ℕ) × In gs g × (group_drives part g c ≡ true)
-group_of part [] c e = absurd (cc)
-group_of part (g ∷ gs) c e = ⊎_elim (λ h. (g, inl refl, h)) (λ h. let r = group_of part gs c h in (r.0, inr r.1, r.2)) (or_cases (group_drives part g c) (groups_drive part gs c) e)
-
-groups_by : (part : PlainComponent) (gs : List ℕ) (g c : ℕ) → In gs g → group_drives part g c ≡ true → groups_drive part gs c ≡ true
-groups_by part [] g c i e = absurd i
-groups_by part (x ∷ xs) g c (inl same) e = ap (λ b. b || groups_drive part xs c) (ap (λ z. group_drives part z c) same ∙ e)
-groups_by part (x ∷ xs) g c (inr i) e = or_right (group_drives part x c) (groups_drive part xs c) (groups_by part xs g c i e)
 
 module _ (part : PlainComponent) (s : PlainStatement) (c : ℕ) where
   by_group : (g : ℕ) → In (groups_of s) g → group_uses part g c ≡ true → uses part s c ≡ true
   by_group g i e = ap (λ b. b || list_any (λ (p : PlacedPort). targets_cell p.port c) (tests_of s)) (any_of (λ h. group_uses part h c) (groups_of s) g i e)
 
   pub driven_used : drives part s c ≡ true → uses part s c ≡ true
-  driven_used e = let r = group_of part (groups_of s) c e in by_group r.0 r.1 (drives_used (group_at part r.0).assigns c r.2)
+  driven_used e = let r = driver part (groups_of s) c e in by_group r.0 r.1 (drives_used (group_at part r.0).assigns c r.2)
 
   pub read_used : is_candidate part c ≡ true → Reads part s c → uses part s c ≡ true
   read_used is (driven e) = driven_used e
@@ -75,11 +69,11 @@ module _ (i j : Instance) (shares : Shares i j) where
   module _ (s : PlainStatement) where
     drives_back : (e : ℕ) → drives (part_of j) (moved_statement move s) e ≡ true → (c : ℕ) × (number c ≡ e) × (drives (part_of i) s c ≡ true)
     drives_back e d =
-        let r = group_of (part_of j) (groups_of s) e (subst (λ gs. groups_drive (part_of j) gs e ≡ true) (lists.groups_of-moved move s) d) in
+        let r = driver (part_of j) (groups_of s) e (subst (λ gs. groups_drive (part_of j) gs e ≡ true) (lists.groups_of-moved move s) d) in
         let a = driver_in (group_at (part_of j) r.0).assigns e r.2 in
-        let x = in_map (moved_assign move) (group_at (part_of i) r.0).assigns a.0 (subst (λ list. In list a.0) (own_assigns shares r.0) a.1) in
+        let x = image_in (moved_assign move) (group_at (part_of i) r.0).assigns a.0 (subst (λ list. In list a.0) (own_assigns shares r.0) a.1) in
         let t = stands_for number x.0.target e a.2.0 (ap (λ (z : PlainAssign). z.target) x.2 ∙ a.2.1) in
-        (t.own, t.number, groups_by (part_of i) (groups_of s) r.0 t.own r.1 (assigns_drive_in (group_at (part_of i) r.0).assigns x.0 t.own a.2.0 x.1 t.is))
+        (t.own, t.number, groups_drive_in (part_of i) (groups_of s) r.0 t.own r.1 (assigns_drive_in (group_at (part_of i) r.0).assigns x.0 t.own a.2.0 x.1 t.is))
 
     abbrev ReadBack : ℕ → Type 0
     ReadBack e = (c : ℕ) × (number c ≡ e) × Reads (part_of i) s c
@@ -87,17 +81,17 @@ module _ (i j : Instance) (shares : Shares i j) where
     reads_back : (e : ℕ) → Reads (part_of j) (moved_statement move s) e → ReadBack e
     reads_back e (driven d) = let r = drives_back e d in (r.0, r.1, driven r.2)
     reads_back e (named p g a k l names) =
-        let x = in_map (moved_assign move) (group_at (part_of i) g).assigns a (subst (λ list. In list a) (own_assigns shares g) l) in
+        let x = image_in (moved_assign move) (group_at (part_of i) g).assigns a (subst (λ list. In list a) (own_assigns shares g) l) in
         let y = names_back move x.0 (ports.Cell e p) (subst (λ (z : PlainAssign). AssignNames z (ports.Cell e p)) (sym x.2) names) in
         let t = stands_for number y.0 e p y.1 in
         (t.own, t.number, named p g x.0 (subst (λ gs. In gs g) (lists.groups_of-moved move s) k) x.1 (subst (AssignNames x.0) t.is y.2))
     reads_back e (tested p test k is) =
-        let x = in_map (moved_port move) (tests_of s) test (subst (λ list. In list test) (lists.tests_of-moved move s) k) in
+        let x = image_in (moved_port move) (tests_of s) test (subst (λ list. In list test) (lists.tests_of-moved move s) k) in
         let t = stands_for number x.0.port e p (ap (λ (z : PlacedPort). z.port) x.2 ∙ is) in
         (t.own, t.number, tested p x.0 x.1 t.is)
     reads_back e (through c p q a reads k target names) =
         let r = reads_back c reads in
-        let x = in_map (moved_assign move) (part_of i).always a (subst (λ list. In list a) (own_always shares) k) in
+        let x = image_in (moved_assign move) (part_of i).always a (subst (λ list. In list a) (own_always shares) k) in
         let t = stands_for number x.0.target c p (ap (λ (z : PlainAssign). z.target) x.2 ∙ target) in
         let y = names_back move x.0 (ports.Cell e q) (subst (λ (z : PlainAssign). AssignNames z (ports.Cell e q)) (sym x.2) names) in
         let u = stands_for number y.0 e q y.1 in

@@ -4,8 +4,8 @@ use Rattle.std.specs.Prelude.{if◌then◌else◌}
 use Rattle.std.proofs.lemmas.Bool.{cases_lt}
 use Rattle.cx_prim.specs.Table.{row_of}
 use Rattle.cx_meaning.specs.Designs.{PlainKind, OfPrimitive, OfComponent, PlainCell}
-use Rattle.cx_meaning.specs.Instances.{Instance, Cells, At, Nothing, OfRow, OfInstance, cell_at, add_cell, cells_for}
-use Rattle.cx_meaning.proofs.InstancesLemmas.{kind_skip}
+use Rattle.cx_meaning.specs.Instances.{Instance, At, Nothing, OfRow, OfInstance, cell_at, cells_for}
+use Rattle.cx_meaning.proofs.InstancesLemmas.{kind_skip, first_at}
 use Rattle.cx_sharing.specs.Uses.{kind_in}
 use Rattle.cx_sharing.specs.Giving.{staying}
 use Rattle.cx_sharing.specs.SharedDesign.{remaining}
@@ -103,10 +103,6 @@ stands_at set (suc n) e lt = by (set n) refl lt (stands_at set n e)
 abbrev pub at_kind : (ℕ → Instance) → PlainKind → At
 at_kind child (OfPrimitive primitive) = OfRow (row_of primitive)
 at_kind child (OfComponent k) = OfInstance (child k)
-
-first_at : (child : ℕ → Instance) (kind : PlainKind) (rest : Cells) → cell_at (add_cell child kind rest) 0 ≡ at_kind child kind
-first_at child (OfPrimitive primitive) rest = refl
-first_at child (OfComponent k) rest = refl
 
 pub cell_is : (child : ℕ → Instance) (cells : List PlainCell) (c : ℕ) → c < length cells → cell_at (cells_for child cells) c ≡ at_kind child (kind_in cells c)
 cell_is child [] c lt = absurd (omega (arith, lt))

@@ -26,7 +26,7 @@ use Rattle.cx_sharing.proofs.UsedLemmas.{any_of, target_used, no_candidate}
 use Rattle.cx_sharing.proofs.CandidateLemmas.{candidate_is}
 use Rattle.cx_sharing.proofs.ReadLemmas.{combinational_reads}
 use Rattle.cx_sharing.proofs.SharedParts.{AtShared, no_cell, a_row, a_part, Shares, new_port, own_assigns, own_always}
-use Rattle.cx_sharing.proofs.RulesShared.{in_map}
+use Rattle.cx_meaning.proofs.SightsLaws.{image_in}
 
 -- a target that stands for a port of a cell
 pub record StandsFor (cell : ℕ → ℕ) (t : PortRef) (c m : ℕ) : Type 0 where
@@ -117,7 +117,7 @@ module _ (i j : Instance) (shares : Shares i j) where
     rests_shared q (combinational_rests {c} {p} row at side none all) =
         combinational_rests row (row_there row (shares.cells c) at).3 side undriven
         (λ m a r reads k target names.
-        let x = in_map (moved_assign (new_port shares)) (part_of i).always a (subst (λ list. In list a) (own_always shares) k) in
+        let x = image_in (moved_assign (new_port shares)) (part_of i).always a (subst (λ list. In list a) (own_always shares) k) in
         let t = stands_for number x.0.target (number c) m (ap (λ (z : PlainAssign). z.target) x.2 ∙ target) in
         let y = names_back (new_port shares) x.0 r (subst (λ (z : PlainAssign). AssignNames z r) (sym x.2) names) in
         let same : t.own ≡ c = always_apart c t.own m x.0 x.1 t.is t.number in
@@ -125,7 +125,7 @@ module _ (i j : Instance) (shares : Shares i j) where
       where
         undriven : (m g : ℕ) (a : PlainAssign) → row.reads p m ≡ true → In (group_at (part_of j) g).assigns a → a.target ≡ ports.Cell (number c) m → ⊥
         undriven m g a reads k target =
-            let x = in_map (moved_assign (new_port shares)) (group_at (part_of i) g).assigns a (subst (λ list. In list a) (own_assigns shares g) k) in
+            let x = image_in (moved_assign (new_port shares)) (group_at (part_of i) g).assigns a (subst (λ list. In list a) (own_assigns shares g) k) in
             let t = stands_for number x.0.target (number c) m (ap (λ (z : PlainAssign). z.target) x.2 ∙ target) in
             ⊎_elim (λ same. none m g x.0 reads x.1 (t.is ∙ ap (λ n. ports.Cell n m) same))
             (λ h. let r = read_input c p row at h.1 in none r.0 r.1 r.2 r.3 r.4 r.5)

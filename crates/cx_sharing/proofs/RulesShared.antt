@@ -1,5 +1,5 @@
 -- EACH RULE on widths, shapes and static control that an instance of the shared design breaks, the instance of the design breaks at the same part.
-use Rattle.std.proofs.Common.{◌≡◌, ◌≢◌, ℕ, zero, suc, inl, inr, ◌⊎◌, Bool, true, false, ◌||◌, ◌&&◌, List, [], ◌∷◌, map, Option, Some, None, option_map, slice_get, refl, sym, ap, ap₂, ◌∙◌, subst}
+use Rattle.std.proofs.Common.{◌≡◌, ◌≢◌, ℕ, inl, inr, ◌⊎◌, Bool, true, false, ◌||◌, ◌&&◌, List, [], ◌∷◌, map, Option, Some, None, option_map, refl, sym, ap, ap₂, ◌∙◌, subst}
 use Rattle.std.specs.Prelude.{nat_eq, nat_lt, nat_le, if◌then◌else◌}
 use Rattle.cx_text.specs.declared.places.Place.{Place}
 use Rattle.cx_meaning.specs.declared.ports.PortRef.{PortRef}
@@ -26,6 +26,8 @@ use Rattle.cx_rewrites.proofs.MovedLists as lists
 use Rattle.cx_rewrites.proofs.MovedLists.{moved_pair, moved_visited}
 use Rattle.cx_sharing.proofs.SharedParts.{Shares, new_port, width_of-shared, written_width-shared, is_source_only-shared, is_target_only-shared, is_primitive_enable-shared, is_part_port-shared, group_at-shared, group_length-shared, words-shared}
 use Rattle.cx_rewrites.specs.FlatRules.{BreaksLength, statement_limit, BreaksStatement}
+use Rattle.cx_text.proofs.OptionLaws.{map_some}
+use Rattle.cx_meaning.proofs.SightsLaws.{image_in}
 
 -- a break of a rule, whatever is told
 abbrev pub ByAssign : AssignRule → Instance → Owned → Type 0
@@ -36,21 +38,6 @@ ByStatement rule i v = (place : Place) × (name : List ℕ) × rule i v place na
 
 abbrev pub ByGroup : GroupRule → Instance → ℕ → Type 0
 ByGroup rule i g = (place : Place) × (name : List ℕ) × rule i g place name
-
--- what stands in a list that is mapped
-pub in_map : {A B : Type 0} (f : A → B) (list : List A) (y : B) → In (map f list) y → (x : A) × In list x × (f x ≡ y)
-in_map f [] y i = absurd i
-in_map f (x ∷ xs) y (inl e) = (x, inl refl, e)
-in_map f (x ∷ xs) y (inr i) = let r = in_map f xs y i in (r.0, inr r.1, r.2)
-
-pub at_map : {A B : Type 0} (f : A → B) (list : List A) (n : ℕ) (y : B) → slice_get (map f list) n ≡ Some y → (x : A) × (slice_get list n ≡ Some x) × (f x ≡ y)
-at_map f [] n y e = absurd (cc)
-at_map f (x ∷ xs) zero y e = (x, refl, cc)
-at_map f (x ∷ xs) (suc n) y e = at_map f xs n y e
-
-pub some_map : {A B : Type 0} (f : A → B) (o : Option A) (y : B) → option_map f o ≡ Some y → (x : A) × (o ≡ Some x) × (f x ≡ y)
-some_map f None y e = absurd (cc)
-some_map f (Some x) y e = (x, refl, cc)
 
 bad_literal : (cell : ℕ → ℕ) (p : PortRef) → IsBadLiteral (renamed cell p) → IsBadLiteral p
 bad_literal cell (ports.Cell c n) (w, v, e, bad) = absurd (cc)
@@ -113,16 +100,16 @@ module _ (i j : Instance) (shares : Shares i j) where
   module _ (o : Owned) where
     pub width_back : (place : Place) (name : List ℕ) → BreaksWidth j (moved_owned move o) place name → ByAssign BreaksWidth i o
     width_back place name (port, is, told) =
-        let r = some_map move (first_unequal i (pairs_of o.assign)) port (sym (first_unequal-shared (pairs_of o.assign)) ∙ ap (first_unequal j) (sym (lists.pairs_of-moved move o.assign)) ∙ is) in
+        let r = map_some move (first_unequal i (pairs_of o.assign)) port (sym (first_unequal-shared (pairs_of o.assign)) ∙ ap (first_unequal j) (sym (lists.pairs_of-moved move o.assign)) ∙ is) in
         (_, _, (r.0, r.1, (refl, refl)))
 
     pub guard_width_back : (place : Place) (name : List ℕ) → BreaksGuardWidth j (moved_owned move o) place name → ByAssign BreaksGuardWidth i o
     guard_width_back place name (port, is, told) =
-        let r = some_map move (first_wide i (atoms_of o.assign.guard)) port (sym (first_wide-shared (atoms_of o.assign.guard)) ∙ ap (first_wide j) (sym (lists.atoms_of-moved move o.assign.guard)) ∙ is) in
+        let r = map_some move (first_wide i (atoms_of o.assign.guard)) port (sym (first_wide-shared (atoms_of o.assign.guard)) ∙ ap (first_wide j) (sym (lists.atoms_of-moved move o.assign.guard)) ∙ is) in
         (_, _, (r.0, r.1, (refl, refl)))
 
     pub source_back : (p : PlacedPort) → In (sources_of (moved_assign move o.assign)) p → (q : PlacedPort) × In (sources_of o.assign) q × (moved_port move q ≡ p)
-    source_back p stands = in_map (moved_port move) (sources_of o.assign) p (subst (λ list. In list p) (lists.sources_of-moved move o.assign) stands)
+    source_back p stands = image_in (moved_port move) (sources_of o.assign) p (subst (λ list. In list p) (lists.sources_of-moved move o.assign) stands)
 
     pub literal_back : (place : Place) (name : List ℕ) → BreaksLiteral j (moved_owned move o) place name → ByAssign BreaksLiteral i o
     literal_back place name (p, stands, bad, told) =
@@ -180,7 +167,7 @@ module _ (i j : Instance) (shares : Shares i j) where
   -- STATEMENTS
   module _ (v : Visited) where
     pub test_back : (p : PlacedPort) → test_in (moved_form move v.form) ≡ Some p → (q : PlacedPort) × (test_in v.form ≡ Some q) × (moved_port move q ≡ p)
-    test_back p e = some_map (moved_port move) (test_in v.form) p (sym (lists.test_in-moved move v.form) ∙ e)
+    test_back p e = map_some (moved_port move) (test_in v.form) p (sym (lists.test_in-moved move v.form) ∙ e)
 
     pub test_width_back : (place : Place) (name : List ℕ) → TestBreaksGuardWidth j (moved_visited move v) place name → ByStatement TestBreaksGuardWidth i v
     test_width_back place name (p, stands, wide, told) =

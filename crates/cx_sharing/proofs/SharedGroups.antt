@@ -1,37 +1,19 @@
 -- The groups of the shared component: their assignments, what they drive and call, and whether they capture.
-use Rattle.std.proofs.Common.{◌≡◌, ℕ, false, ◌||◌, Option, Some, None, List, [], ◌∷◌, map, refl, sym, ap, ◌∙◌}
+use Rattle.std.proofs.Common.{◌≡◌, ℕ, false, ◌||◌, Option, Some, None, List, [], ◌∷◌, map, refl, ap, ◌∙◌}
 use Rattle.std.specs.Prelude.{get_or}
 use Rattle.cx_meaning.specs.declared.ports.PortRef.{PortRef}
 use Rattle.cx_meaning.specs.declared.ports.PortRef.TheVariants as ports
 use Rattle.cx_meaning.specs.Designs.{PlainAssign, PlainGroup, PlainComponent, group_at, no_group, PlainStatement}
-use Rattle.cx_meaning.specs.Instances.{Instance, Cells, At, Nothing, OfRow, OfInstance, cell_at, cells_of, part_of}
+use Rattle.cx_meaning.specs.Instances.{Instance, At, OfInstance, cell_at, cells_of, part_of}
 use Rattle.cx_meaning.specs.Control.{groups_of, targets_cell, assigns_drive, group_drives, groups_drive, drives}
 use Rattle.cx_meaning.specs.Islands.{kind_length, group_length}
 use Rattle.cx_meaning.specs.Calls.{if_instance, called_by, called_in, called, enables_at, enables_primitive, captures_in, captures}
-use Rattle.cx_text.proofs.OptionLaws.{none_some, some_inj}
 use Rattle.cx_rewrites.specs.Moving.{moved_assign, moved_group, moved_statement}
 use Rattle.cx_rewrites.specs.Renaming.{renamed}
 use Rattle.cx_sharing.specs.Uses.{is_candidate}
 use Rattle.cx_sharing.specs.Giving.{new_cell}
 use Rattle.cx_rewrites.proofs.MovedLists.{moved_group_at, groups_of-moved}
 use Rattle.cx_sharing.proofs.TwinLemmas.{AtTwin, no_twins, twin_rows, twin_parts, IsTwin, own_equal_back}
-
--- a cell that is called is a component's
-pub called_child : (cells : Cells) (list : List PlainAssign) (c : ℕ) → called_in cells list ≡ Some c → (child : Instance) × (cell_at cells c ≡ OfInstance child)
-called_child cells [] c e = absurd (none_some c e)
-called_child cells (a ∷ rest) c e = of_target a.target e (called_child cells rest c)
-  where
-    of_at : (at : At) (d : ℕ) → cell_at cells d ≡ at → if_instance at d (called_in cells rest) ≡ Some c → (called_in cells rest ≡ Some c → (child : Instance) × (cell_at cells c ≡ OfInstance child)) → (child : Instance) × (cell_at cells c ≡ OfInstance child)
-    of_at Nothing d is e later = later e
-    of_at (OfRow row) d is e later = later e
-    of_at (OfInstance child) d is e later = (child, ap (cell_at cells) (sym (some_inj d c e)) ∙ is)
-
-    of_target : (p : PortRef) → called_by cells p (called_in cells rest) ≡ Some c → (called_in cells rest ≡ Some c → (child : Instance) × (cell_at cells c ≡ OfInstance child)) → (child : Instance) × (cell_at cells c ≡ OfInstance child)
-    of_target (ports.Cell d n) e later = of_at (cell_at cells d) d refl e later
-    of_target (ports.Input n) e later = later e
-    of_target (ports.Output n) e later = later e
-    of_target (ports.Done g) e later = later e
-    of_target (ports.Literal w v) e later = later e
 
 module _ (i j : Instance) (twin : IsTwin i j) where
   abbrev new : ℕ → ℕ

@@ -1,5 +1,5 @@
 -- THE LEAVES OF CONTROL of an instance are carried by those of the shared instance: groups, conditions, calls and islands.
-use Rattle.std.proofs.Common.{◌≡◌, ℕ, zero, suc, inl, inr, ◌⊎◌, Bool, true, false, Option, Some, None, [], refl, sym, ap, ◌∙◌}
+use Rattle.std.proofs.Common.{◌≡◌, ℕ, suc, inl, inr, ◌⊎◌, Bool, true, false, Option, Some, None, [], refl, sym, ap, ◌∙◌}
 use Rattle.std.specs.Prelude.{nat_eq}
 use Rattle.std.proofs.lemmas.Bool.{eqb-true, eq-eqb}
 use Rattle.cx_text.specs.declared.places.Place.{Place}
@@ -8,7 +8,7 @@ use Rattle.cx_meaning.specs.declared.ports.PortRef.{PortRef}
 use Rattle.cx_meaning.specs.declared.ports.PortRef.TheVariants as ports
 use Rattle.cx_meaning.specs.declared.ports.PlacedPort.{PlacedPort}
 use Rattle.cx_meaning.specs.Designs.{group_at, no_place, PlainForm, Enable, Placed}
-use Rattle.cx_meaning.specs.Instances.{Instance, Cells, no_cells, a_primitive, an_instance, OfInstance, cell_at, cells_of, part_of, State, idle}
+use Rattle.cx_meaning.specs.Instances.{Instance, OfInstance, cell_at, cells_of, part_of, State, idle}
 use Rattle.cx_meaning.specs.Active.{nothing, group, capture, comb, entries}
 use Rattle.cx_meaning.specs.Answers.{Answer, End, Fault, More, Meaning, turns_of}
 use Rattle.cx_meaning.specs.Control.{targets_cell}
@@ -39,7 +39,9 @@ use Rattle.cx_sharing.proofs.TwinLemmas.{IsBeside, IsTwin, child_twin, part_othe
 use Rattle.cx_sharing.proofs.TwinStates.{child_state, back_state, idle_state, told_here, told_below}
 use Rattle.cx_sharing.proofs.SharedSights.{seen_there}
 use Rattle.cx_sharing.proofs.SharedCycles.{cycle_shared}
-use Rattle.cx_sharing.proofs.SharedGroups.{called_child, length_shared, called_there, called_shared, captures_shared}
+use Rattle.cx_sharing.proofs.SharedGroups.{length_shared, called_there, called_shared, captures_shared}
+use Rattle.cx_meaning.proofs.ControlLemmas.{called_child}
+use Rattle.cx_meaning.proofs.RunningLemmas.{control_child}
 
 -- where states are related whatever was counted, it does not matter what is counted
 pub recount : {F G : Type 0} (Q : State → State → Type 0) (faults : F → G) (counts more : Counted State) (old : Meaning State F) (other : Meaning State G)
@@ -50,14 +52,6 @@ recount {F} {G} Q faults counts more old other carries before s z n m room r = b
     by (End a t) h = h
     by (Fault f t) h = h
     by More h = h
-
--- the control of a child
-pub control_child : (cells : Cells) (c : ℕ) (child : Instance) (held : Held) (s : State) (n : ℕ) → cell_at cells c ≡ OfInstance child → control_below cells c held s n ≡ run_control child held s n
-control_child no_cells c child held s n e = absurd (cc)
-control_child (a_primitive row rest) zero child held s n e = absurd (cc)
-control_child (a_primitive row rest) (suc c) child held s n e = control_child rest c child held s n e
-control_child (an_instance own rest) zero child held s n e = let same : own ≡ child = cc in ap (λ x. run_control x held s n) same
-control_child (an_instance own rest) (suc c) child held s n e = control_child rest c child held s n e
 
 -- WHAT AN ACCEPTED DESIGN GIVES an instance: nothing leads in a circle, whatever is active
 pub record IsFit (i : Instance) : Type 0 where

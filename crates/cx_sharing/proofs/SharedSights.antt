@@ -1,5 +1,5 @@
 -- WHAT IS SEEN in an instance is seen in the shared one, under groups whose cells meet; and nothing leads in a circle there.
-use Rattle.std.proofs.Common.{◌≡◌, ℕ, zero, suc, ◌≤◌, Bool, true, false, [], ◌∷◌, refl, sym, ap, ◌∙◌, arith}
+use Rattle.std.proofs.Common.{◌≡◌, ℕ, Bool, true, false, [], ◌∷◌, refl, sym, ap, ◌∙◌, arith}
 use Rattle.cx_text.proofs.BoolLaws.{not_not}
 use Rattle.cx_prim.specs.Rows.{Inputs, Row}
 use Rattle.cx_prim.specs.Table.{row_of}
@@ -7,7 +7,7 @@ use Rattle.cx_meaning.specs.declared.ports.PortRef.{PortRef}
 use Rattle.cx_meaning.specs.declared.ports.PortRef.TheVariants as ports
 use Rattle.cx_meaning.specs.declared.sights.Seen.{Seen}
 use Rattle.cx_meaning.specs.Designs.{PlainComponent}
-use Rattle.cx_meaning.specs.Instances.{Instance, Cells, no_cells, a_primitive, an_instance, At, Nothing, OfRow, OfInstance, cell_at, cell_count, cells_of, part_of, State, under}
+use Rattle.cx_meaning.specs.Instances.{Instance, At, OfRow, OfInstance, cell_at, cells_of, part_of, State, under}
 use Rattle.cx_meaning.specs.Active.{Active, nothing}
 use Rattle.cx_meaning.specs.Sights.{Held, unheld, Sees, seen, outputs_below, is_done_cell}
 use Rattle.cx_rules.specs.Circles.{IsAcyclic}
@@ -22,6 +22,8 @@ use Rattle.cx_sharing.proofs.TwinLemmas.{AtTwin, no_twins, twin_rows, twin_parts
 use Rattle.cx_sharing.proofs.SharedParts.{AtShared, no_cell, a_row, a_part, Shares}
 use Rattle.cx_sharing.proofs.CirclesShared.{is_renamed, cycle_comes_back}
 use Rattle.cx_sharing.proofs.TwinStates.{row_state, child_state}
+use Rattle.cx_meaning.proofs.SightsLemmas.{outputs_at}
+use Rattle.cx_meaning.proofs.CycleLemmas.{cell_beyond}
 
 -- what stands at a cell, and beyond the cells
 at_shared : {part : PlainComponent} {c : ℕ} {at to : At} → AtTwin part c at to → AtShared part c at to
@@ -29,22 +31,8 @@ at_shared no_twins = no_cell
 at_shared (twin_rows p kind) = a_row p kind
 at_shared (twin_parts k child twin kind beside) = a_part k child twin kind beside.part
 
-past_count : (cells : Cells) (e : ℕ) → cell_count cells ≤ e → cell_at cells e ≡ Nothing
-past_count no_cells e le = refl
-past_count (a_primitive row rest) zero le = absurd (omega (arith, le))
-past_count (a_primitive row rest) (suc e) le = past_count rest e (omega (arith, le))
-past_count (an_instance child rest) zero le = absurd (omega (arith, le))
-past_count (an_instance child rest) (suc e) le = past_count rest e (omega (arith, le))
-
 shares_of : {i j : Instance} → IsTwin i j → Shares i j
-shares_of {j = j} twin = record { part = twin.part; cells = λ c. at_shared (twin.cells c); past = λ e le. let count = twin.count in past_count (cells_of j) e (omega (arith, count, le)) }
-
-outputs_below-child : (cells : Cells) (states : ℕ → State) (c n : ℕ) (child : Instance) → cell_at cells c ≡ OfInstance child → outputs_below cells states c n ≡ seen child unheld nothing (states c) (ports.Output n)
-outputs_below-child no_cells states c n child e = absurd (cc)
-outputs_below-child (a_primitive row rest) states zero n child e = absurd (cc)
-outputs_below-child (a_primitive row rest) states (suc c) n child e = outputs_below-child rest (λ k. states (suc k)) c n child e
-outputs_below-child (an_instance own rest) states zero n child e = let same : own ≡ child = cc in ap (λ x. seen x unheld nothing (states 0) (ports.Output n)) same
-outputs_below-child (an_instance own rest) states (suc c) n child e = outputs_below-child rest (λ k. states (suc k)) c n child e
+shares_of {j = j} twin = record { part = twin.part; cells = λ c. at_shared (twin.cells c); past = λ e le. let count = twin.count in cell_beyond (cells_of j) e (omega (arith, count, le)) }
 
 module _ (i j : Instance) (twin : IsTwin i j) (act more : Active) (offsets : (g : ℕ) → more.offset g ≡ act.offset g)
     (used : ℕ → Type 0) (covers : Covers (part_of i) used act) (meets : UsedMeet (part_of i) used) where
@@ -75,7 +63,7 @@ module _ (i j : Instance) (twin : IsTwin i j) (act more : Active) (offsets : (g 
         → outputs_below (cells_of j) (λ e. under e z) (new c) n ≡ x
     children_alike c n child x at sees =
         let r = child_twin child (twin.cells c) at in
-        outputs_below-child (cells_of j) (λ e. under e z) (new c) n r.1 r.3
+        outputs_at (cells_of j) (λ e. under e z) (new c) n r.1 r.3
         ∙ r.4.outputs (under c s) (under (new c) z) n x (child_state i s z c child stands at) sees
 
     all_renamed : Renames i j new held held act more s z (Inside (part_of i) used)

@@ -16,6 +16,7 @@ use Rattle.cx_sharing.specs.Uses.{is_stateless, is_candidate}
 use Rattle.cx_sharing.specs.Giving.{new_cell}
 use Rattle.cx_sharing.specs.Following.{has_state, SharedStands, shared_fault}
 use Rattle.cx_sharing.proofs.TwinLemmas.{AtTwin, IsTwin, row_twin, child_twin, part_other, state_other, own_equal}
+use Rattle.cx_meaning.proofs.CyclesLemmas.{start_inside, child_start}
 
 -- paths by what stands at their first cell
 row_holds : (cells : Cells) (c : ℕ) (row : Row) → cell_at cells c ≡ OfRow row → holds_below has_state cells c [] ≡ has_state row
@@ -150,16 +151,6 @@ row_start (a_primitive own rest) (suc c) row path e = row_start rest c row path 
 row_start (an_instance child rest) zero row path e = absurd (cc)
 row_start (an_instance child rest) (suc c) row path e = row_start rest c row path e
 
-child_start : (cells : Cells) (c : ℕ) (child : Instance) (path : Path) → cell_at cells c ≡ OfInstance child → start_below cells c path ≡ start_at child path
-child_start no_cells c child path e = absurd (cc)
-child_start (a_primitive row rest) zero child path e = absurd (cc)
-child_start (a_primitive row rest) (suc c) child path e = child_start rest c child path e
-child_start (an_instance own rest) zero child path e = let same : own ≡ child = cc in ap (λ x. start_at x path) same
-child_start (an_instance own rest) (suc c) child path e = child_start rest c child path e
-
-start_of : (i : Instance) (c : ℕ) (path : Path) → start_at i (c ∷ path) ≡ start_below (cells_of i) c path
-start_of (Node part cells) c path = refl
-
 pub start_state : (i j : Instance) → IsTwin i j → (path : Path) → holds has_state i path ≡ true → start_at j (renumbered new_cell i path) ≡ start_at i path
 start_state i j twin [] on = absurd (both_ways (holds has_state i []) (root_of i) on)
 start_state i j twin (c ∷ path) on = by (holds_at (cells_of i) c path (sym (of_path i c path) ∙ on))
@@ -167,15 +158,15 @@ start_state i j twin (c ∷ path) on = by (holds_at (cells_of i) c path (sym (of
     by : HoldsAt (cells_of i) c path → start_at j (renumbered new_cell i (c ∷ path)) ≡ start_at i (c ∷ path)
     by (itself row at root has) =
         ap (start_at j) (path_of i c path)
-        ∙ start_of j (new_cell (part_of i) c) (renumbered_below new_cell (cells_of i) c path)
+        ∙ start_inside j (new_cell (part_of i) c) (renumbered_below new_cell (cells_of i) c path)
         ∙ row_start (cells_of j) (new_cell (part_of i) c) row (renumbered_below new_cell (cells_of i) c path) (row_twin row (twin.cells c) at).3
         ∙ sym (row_start (cells_of i) c row path at)
-        ∙ sym (start_of i c path)
+        ∙ sym (start_inside i c path)
     by (in_child child at has) =
         let r = child_twin child (twin.cells c) at in
         ap (start_at j) (path_of i c path ∙ ap (λ rest. new_cell (part_of i) c ∷ rest) (child_renumbered (cells_of i) c child path at))
-        ∙ start_of j (new_cell (part_of i) c) (renumbered new_cell child path)
+        ∙ start_inside j (new_cell (part_of i) c) (renumbered new_cell child path)
         ∙ child_start (cells_of j) (new_cell (part_of i) c) r.1 (renumbered new_cell child path) r.3
         ∙ r.4.starts path has
         ∙ sym (child_start (cells_of i) c child path at)
-        ∙ sym (start_of i c path)
+        ∙ sym (start_inside i c path)

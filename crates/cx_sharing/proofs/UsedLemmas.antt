@@ -16,15 +16,14 @@ use Rattle.cx_meaning.specs.Sights.{In}
 use Rattle.cx_meaning.proofs.InstancesLemmas.{just_same}
 use Rattle.cx_rules.specs.Items.{sources_of, statements_in}
 use Rattle.cx_rules.specs.Footprints.{AssignNames, Leads}
-use Rattle.cx_rules.proofs.ForeignLemmas.{sorted_among, owned_among, split, groups_among}
-use Rattle.cx_laws.proofs.SourceLemmas.{source_in}
-use Rattle.cx_frames.proofs.RuleLemmas.{OwnerOf, continuous, of_group}
+use Rattle.cx_rules.proofs.ForeignLemmas.{sorted_among, owned_among, split, groups_among, OwnerOf, continuous, of_group}
 use Rattle.cx_rewrites.specs.Renaming.{renamed}
 use Rattle.cx_rewrites.specs.Driving.{assigns_of, KeepsApart}
 use Rattle.cx_rewrites.proofs.ClosedLemmas.{is_closed}
 use Rattle.cx_sharing.specs.Uses.{assign_uses, assigns_use, group_uses, is_combinational, kind_in, is_candidate}
 use Rattle.cx_sharing.specs.Meeting.{has_both, form_meets, meet}
 use Rattle.cx_sharing.proofs.KeptLemmas.{AreApart}
+use Rattle.cx_rules.proofs.FoundLemmas.{source_in}
 
 pub any_of : {A : Type 0} (test : A → Bool) (list : List A) (x : A) → In list x → test x ≡ true → list_any test list ≡ true
 any_of test [] x i e = absurd i

@@ -58,17 +58,17 @@ mutual
   joined_below (an_instance child rest) (suc c) path below = joined_below rest c path below
 
 -- CELLS: a primitive cell of a state of the design holds a state of its row
-record Holds (row : Row) (h : Option CellState) : Type 0 where
-  held : CellState
-  is : h ≡ Some held
-  fits : IsState row.shape held
+pub record Holds (row : Row) (h : Option CellState) : Type 0 where
+  pub held : CellState
+  pub is : h ≡ Some held
+  pub fits : IsState row.shape held
 
-kind_holds : (trees : ℕ → Instance) (kind : PlainKind) (rest : Cells) (row : Row) (h : Option CellState) → HoldsKind kind h → cell_at (add_cell trees kind rest) zero ≡ OfRow row → Holds row h
+pub kind_holds : (trees : ℕ → Instance) (kind : PlainKind) (rest : Cells) (row : Row) (h : Option CellState) → HoldsKind kind h → cell_at (add_cell trees kind rest) zero ≡ OfRow row → Holds row h
 kind_holds trees (OfPrimitive p) rest row None k e = absurd k
 kind_holds trees (OfPrimitive p) rest row (Some held) k e = let same : row_of p ≡ row = cc in record { held = held; is = refl; fits = subst (λ (r : Row). IsState r.shape held) same k }
 kind_holds trees (OfComponent j) rest row h k e = absurd (cc)
 
-cells_hold : (trees : ℕ → Instance) (cells : List PlainCell) (hs : List (Option CellState)) (c : ℕ) (row : Row) → HoldCells cells hs → cell_at (cells_for trees cells) c ≡ OfRow row → Holds row (get_or hs c None)
+pub cells_hold : (trees : ℕ → Instance) (cells : List PlainCell) (hs : List (Option CellState)) (c : ℕ) (row : Row) → HoldCells cells hs → cell_at (cells_for trees cells) c ≡ OfRow row → Holds row (get_or hs c None)
 cells_hold trees [] hs c row k e = absurd (cc)
 cells_hold trees (x ∷ xs) [] c row k e = absurd k
 cells_hold trees (x ∷ xs) (h ∷ hs) zero row k e = kind_holds trees x.kind (cells_for trees xs) row h k.0 e

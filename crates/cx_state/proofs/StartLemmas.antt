@@ -20,7 +20,7 @@ use Rattle.cx_state.specs.declared.states.InstanceState.{InstanceState}
 use Rattle.cx_state.specs.States.{PlainInstance, plain_instance, instance_state, HoldsKind, HoldCells, words_in, with_held, no_instance}
 use Rattle.cx_state.specs.Starts.{words_for, words_past, kind_started, started, KindTakes, TakeWords, words_of_main, IsStarted, AreStarted}
 use Rattle.cx_state.proofs.Takes.{take_none}
-use Rattle.cx_text.proofs.ListLaws.{snoc_length}
+use Rattle.cx_text.proofs.ListLaws.{snoc_length, nothing_more}
 use Rattle.cx_meaning.proofs.DesignsLemmas.{same_part}
 use Rattle.cx_meaning.proofs.InstancesLemmas.{here as instance_self, main_first}
 
@@ -105,13 +105,9 @@ so_far_next cells ws i next after held more cell h far lt e value fits is past =
     taken : take (suc i) cells ≡ take i cells ++ cell ∷ []
     taken = (let s : suc i ≡ i + 1 = omega arith in ap (λ n. take n cells) s) ∙ take_more cells i cell lt ∙ ap (λ c. take i cells ++ c ∷ []) (sym e)
 
-append_none : {A : Type 0} (xs : List A) → xs ++ [] ≡ xs
-append_none [] = refl
-append_none (x ∷ xs) = ap (λ ys. x ∷ ys) (append_none xs)
-
 pub so_far_value : (cells : List Cell) (ws : List (List ℕ)) (i next : ℕ) (held : List (Option CellState)) → AreSoFar cells ws i next held → length cells ≤ i → held ≡ started (map plain_cell cells) ws
 so_far_value cells ws i next held far le =
-    sym (append_none held) ∙ ap (λ cs. held ++ started (map plain_cell cs) (drop next ws)) (sym (drop_of_length-le cells le)) ∙ far.value
+    sym (nothing_more held) ∙ ap (λ cs. held ++ started (map plain_cell cs) (drop next ws)) (sym (drop_of_length-le cells le)) ∙ far.value
 
 pub so_far_fits : (cells : List Cell) (ws : List (List ℕ)) (i next : ℕ) (held : List (Option CellState)) → AreSoFar cells ws i next held → length cells ≤ i → HoldCells (map plain_cell cells) held
 so_far_fits cells ws i next held far le = subst (λ cs. HoldCells (map plain_cell cs) held) (take_all i cells le) far.fits

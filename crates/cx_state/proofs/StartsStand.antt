@@ -23,6 +23,7 @@ use Rattle.cx_state.proofs.Takes.{none_for, none_past}
 use Rattle.cx_meaning.proofs.InstancesLemmas.{not_just, main_path, here, some_cells, just_same, kind_skip}
 use Rattle.cx_text.proofs.OptionLaws.{none_is_some}
 use Rattle.cx_text.proofs.ListLaws.{there_below}
+use Rattle.cx_meaning.proofs.CyclesLemmas.{start_row}
 
 -- the words for cell c
 abbrev words_at : List PlainCell → List (List ℕ) → ℕ → Option (List ℕ)
@@ -99,12 +100,6 @@ loaded_is (x ∷ xs) k (suc c) ws d = by x.external ws (λ vs. ap (λ n. loaded_
     by true (w ∷ vs) h = skip_one (externals_from (suc k) xs) k (k + suc c) w vs d (λ e. (let f : k + suc c ≡ k = e in omega arith)) ∙ h vs
 
 -- STARTS at paths
-start_row : (cells : Cells) (c : ℕ) (row : Row) → cell_at cells c ≡ OfRow row → start_below cells c [] ≡ row.start
-start_row no_cells c row e = cc
-start_row (a_primitive one rest) zero row e = let same : one ≡ row = (let f : OfRow one ≡ OfRow row = e in cc) in ap (λ (r : Row). r.start) same
-start_row (a_primitive one rest) (suc c) row e = start_row rest c row e
-start_row (an_instance child rest) zero row e = cc
-start_row (an_instance child rest) (suc c) row e = start_row rest c row e
 
 mutual
   started_deep : (i : Instance) (path : Path) (c : ℕ) (row : Row) → cell_at (cells_of (instance_at i path)) c ≡ OfRow row → start_at i (path ++ c ∷ []) ≡ row.start

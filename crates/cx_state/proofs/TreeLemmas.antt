@@ -13,6 +13,7 @@ use Rattle.cx_design_sizes.specs.Orders.{IsChildrenFirst}
 use Rattle.cx_design_sizes.proofs.Places.{in_snoc}
 use Rattle.cx_text.proofs.OptionLaws.{none_is_some}
 use Rattle.cx_meaning.proofs.SightsLaws.{number_in}
+use Rattle.cx_meaning.proofs.InstancesLemmas.{cells_same}
 
 in_take : {A : Type 0} (xs : List A) (i : ℕ) (x : A) → In (take i xs) x → In xs x
 in_take xs zero x h = absurd h
@@ -27,14 +28,6 @@ child_in d order first k j cell here i e =
     in_take order q.0 j (first.behind q.0 k j cell q.1 i e)
 
 -- LEVELS: with enough of them a tree is always the same
-kind_same : (f g : ℕ → Instance) (kind : PlainKind) (rest : Cells) → ((j : ℕ) → kind ≡ OfComponent j → f j ≡ g j) → add_cell f kind rest ≡ add_cell g kind rest
-kind_same f g (OfPrimitive p) rest h = refl
-kind_same f g (OfComponent k) rest h = ap (λ i. an_instance i rest) (h k refl)
-
-cells_same : (f g : ℕ → Instance) (cells : List PlainCell) → ((cell : PlainCell) (j : ℕ) → In cells cell → cell.kind ≡ OfComponent j → f j ≡ g j) → cells_for f cells ≡ cells_for g cells
-cells_same f g [] h = refl
-cells_same f g (c ∷ cs) h =
-    ap (add_cell f c.kind) (cells_same f g cs (λ cell j i. h cell j (inr i))) ∙ kind_same f g c.kind (cells_for g cs) (λ j e. h c j (inl refl) e)
 
 abbrev AreStable : PlainDesign → List ℕ → ℕ → Type 0
 AreStable d order i = (k m n : ℕ) → In (take i order) k → i ≤ m → i ≤ n → tree_within d m k ≡ tree_within d n k

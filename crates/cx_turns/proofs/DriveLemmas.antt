@@ -11,7 +11,7 @@ use Rattle.cx_meaning.specs.Designs.{PlainAssign}
 use Rattle.cx_meaning.specs.Instances.{just}
 use Rattle.cx_meaning.specs.Control.{targets_cell, assigns_drive}
 use Rattle.cx_eval_cycle.specs.Passes.{IsAscending, listed_in}
-use Rattle.cx_text.proofs.NumberLaws.{from_eq}
+use Rattle.cx_text.proofs.NumberLaws.{from_eq, eq_next}
 use Rattle.cx_text.proofs.BoolLaws.{swapped, once}
 
 -- the cells, with those of targets
@@ -31,9 +31,6 @@ eq_less d = grind (arith, tests)
 
 eq_more : (c : ℕ) → false ≡ nat_eq (suc c) zero
 eq_more c = grind (arith, tests)
-
-eq_next : (c d : ℕ) → nat_eq c d ≡ nat_eq (suc c) (suc d)
-eq_next c d = grind (arith, tests)
 
 pub just_is : (c d : ℕ) → just c d ≡ nat_eq c d
 just_is zero zero = refl

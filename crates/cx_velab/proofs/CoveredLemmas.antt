@@ -13,10 +13,10 @@ use Rattle.cx_vnets.specs.declared.nets.Driver.{Driver}
 use Rattle.cx_vnets.specs.ModuleNumbers.{position}
 use Rattle.cx_velab.specs.Driven.{IsRight, IsTied}
 use Rattle.cx_velab.specs.Covered.{IsTidy, IsDriven, DrivenStand}
-use Rattle.cx_velab.proofs.DrivenLemmas.{position_here, position_there}
 use Rattle.cx_text.proofs.OptionLaws.{bind_some, by_side}
 use Rattle.cx_text.proofs.BoolLaws.{and_both}
 use Rattle.cx_text.proofs.ListLaws.{there_at, front, slice_get-next}
+use Rattle.cx_vnets.proofs.Numbering.{position_here, position_there}
 
 by_truth : (P : Type 0) (t a b : Bool) → (if t then a else b) ≡ true → (t ≡ true → a ≡ true → P) → (t ≡ false → b ≡ true → P) → P
 by_truth P true a b e h k = h refl e

@@ -1,13 +1,12 @@
 -- One driver more is right.
-use Rattle.std.proofs.Common.{◌≡◌, ◌≢◌, ℕ, zero, suc, ◌+◌, ◌<◌, ◌≤◌, ⊎_elim, Bool, true, false, List, [], ◌∷◌, ◌++◌, map, length, Option, Some, None, option_map, slice_get, refl, ap, sym, ◌∙◌, subst, arith, if◌then◌else◌}
+use Rattle.std.proofs.Common.{◌≡◌, ◌≢◌, ℕ, zero, suc, ◌+◌, ◌<◌, ◌≤◌, ⊎_elim, Bool, true, false, List, [], ◌∷◌, ◌++◌, map, length, Some, None, option_map, slice_get, refl, ap, sym, ◌∙◌, subst, arith}
 use Rattle.std.specs.Prelude.{slice_set, unwrap_or}
 use Rattle.std.specs.Option.{option_map_or}
-use Rattle.std.specs.Cmp.Lexicographic.{same_text, bytes_decides}
 use Rattle.std.proofs.lemmas.Bool.{cases_order}
 use Rattle.std.proofs.lemmas.Bool.Decides.{eqb_tells}
 use Rattle.std.proofs.lemmas.Option.{slice_get_within}
 use Rattle.cx_vtree.specs.Plain.{PlainPort, PlainAssign, PlainConn}
-use Rattle.cx_vtree.specs.InstanceTree.{Placed, same_name, declared_nets, nets_at, Origin, Tied, Given, origin_of}
+use Rattle.cx_vtree.specs.InstanceTree.{Placed, declared_nets, nets_at, Origin, Tied, Given, origin_of}
 use Rattle.cx_vnets.specs.declared.codes.Code.{Code}
 use Rattle.cx_vnets.specs.declared.nets.Driver.{Driver}
 use Rattle.cx_vnets.specs.declared.nets.Driver.TheVariants as driver
@@ -18,6 +17,7 @@ use Rattle.cx_velab.specs.Ties.{number_or_0, tied_by, tied_ports, given_nets}
 use Rattle.cx_velab.specs.Driven.{IsRight, KeepsRight, NetsAreApart, IsWhole, TellsOrigin, IsConnected, IsTied, TiesAreRight, IsGiven, GivensAreRight}
 use Rattle.cx_velab.proofs.BaseLemmas.{before_up}
 use Rattle.cx_text.proofs.ListLaws.{get_set_same}
+use Rattle.cx_vnets.proofs.Numbering.{position_here, position_there}
 
 set_apart : {A : Type 0} (xs : List A) (i j : ℕ) (x : A) → j ≢ i → slice_get (slice_set xs i x) j ≡ slice_get xs j
 set_apart [] i j x ne = refl
@@ -47,27 +47,6 @@ once lists i j k h lk lh e = ⊎_elim
     (λ more. let lt = below lists j i h k more lh in absurd (omega arith))
     order)
     (cases_order i j)
-
--- the first place of a name has it
-pub position_here : (ns : List (List ℕ)) (name : List ℕ) (k : ℕ) → position ns name ≡ Some k → slice_get ns k ≡ Some name
-position_here [] name k e = absurd (cc)
-position_here (n ∷ ns) name k e = go (same_name n name) (position ns name) k refl (position_here ns name) e where
-  go : (t : Bool) (o : Option ℕ) (k : ℕ) → same_name n name ≡ t → ((h : ℕ) → o ≡ Some h → slice_get ns h ≡ Some name) → (if t then Some 0 else option_map suc o) ≡ Some k → slice_get (n ∷ ns) k ≡ Some name
-  go true o k is later f = let same : 0 ≡ k = cc in subst (λ j. slice_get (n ∷ ns) j ≡ Some name) same (ap Some (same_text n name (sym is)))
-  go false None k is later f = absurd (cc)
-  go false (Some h) k is later f = let same : suc h ≡ k = cc in subst (λ j. slice_get (n ∷ ns) j ≡ Some name) same (later h refl)
-
--- a name that stands in a list has a first place
-pub position_there : (ns : List (List ℕ)) (name : List ℕ) (k : ℕ) → slice_get ns k ≡ Some name → (h : ℕ) × (position ns name ≡ Some h)
-position_there [] name k e = absurd (cc)
-position_there (n ∷ ns) name zero e =
-    let same : n ≡ name = cc in
-    let is : same_name n name ≡ true = (bytes_decides n name).1 same in
-    (0, ap (λ t. if t then Some 0 else option_map suc (position ns name)) is)
-position_there (n ∷ ns) name (suc k) e = go (same_name n name) (position_there ns name k e) where
-  go : (t : Bool) → ((h : ℕ) × (position ns name ≡ Some h)) → (h : ℕ) × ((if t then Some 0 else option_map suc (position ns name)) ≡ Some h)
-  go true r = (0, refl)
-  go false r = (suc r.0, ap (option_map suc) r.1)
 
 module _ (tree : List Placed) (codes : List Code) (apart : NetsAreApart tree) where
   -- a net that stands in an instance has its place as its number

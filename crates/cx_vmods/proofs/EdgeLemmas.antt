@@ -1,15 +1,14 @@
 -- What an edge leaves in the registers and the words of an instance.
-use Rattle.std.specs.Prelude.{◌≡◌, ℕ, zero, suc, ◌+◌, ◌%◌, ◌^◌, ◌<◌, ◌==◌, not, nat_lt, Bool, true, false, List, [], ◌∷◌, ◌++◌, Option, Some, None, IsSome, map, slice_get, option_map, option_and_then, if◌then◌else◌, refl}
+use Rattle.std.specs.Prelude.{◌≡◌, ℕ, ◌%◌, ◌^◌, ◌<◌, ◌==◌, not, nat_lt, Bool, true, false, List, [], Option, Some, None, IsSome, slice_get, option_map, option_and_then, if◌then◌else◌, refl}
 use Rattle.std.specs.Option.{option_map_or}
 use Rattle.std.proofs.Common.{ap, ◌∙◌, subst, arith}
 use Rattle.std.proofs.Math.Nat.{mod-eq_of_lt}
 use Rattle.std.proofs.lemmas.Nat.{pow_pos}
 use Rattle.std.proofs.lemmas.Bool.Decides.{nat_tests}
-use Rattle.std.specs.Cmp.Lexicographic.{bytes_decides}
 use Rattle.cx_bits.specs.BitVector.{BitVector}
-use Rattle.cx_vtree.specs.Plain.{PlainExpr, Named, Number, Part, Word, Applied, Inverted, Chosen, Joined, PlainPort, PlainDecl, WireOf, RegisterOf, ArrayOf, PlainStore, PlainEdge, PlainModule}
+use Rattle.cx_vtree.specs.Plain.{PlainExpr, Named, Number, Part, Word, Applied, Inverted, Chosen, Joined, PlainDecl, PlainStore, PlainEdge, PlainModule}
 use Rattle.cx_vtree.specs.Operators.{operate, inverted, part_of, joined}
-use Rattle.cx_vtree.specs.InstanceTree.{Placed, same_name, decls_at, nets_at, declared_nets, NetKind, declared_kind, kind_in, assigned, origin_by, origin_of}
+use Rattle.cx_vtree.specs.InstanceTree.{Placed, decls_at, nets_at, kind_in, assigned, origin_by, origin_of}
 use Rattle.cx_vtree.specs.Meaning.{Moment, Look, HasValue, by_step, word_in, expr_in, expr_at, from_origin}
 use Rattle.cx_vtree.specs.Edges.{edge_at, acting_sets, acting_stores, number_or, array_size, store_to, word_by, state_after}
 use Rattle.cx_vtree.specs.SimRun.{IsWhole}
@@ -18,28 +17,10 @@ use Rattle.cx_vmods.specs.Built.{kept_at, Stands}
 use Rattle.cx_vmods.specs.Inside.{Known, found, AreKnown, value_of, set_in}
 use Rattle.cx_vmods.proofs.InsideLemmas.{none_known}
 use Rattle.cx_text.proofs.OptionLaws.{bind_some, more_choice}
+use Rattle.cx_vtree.proofs.Runs.{net_in}
 
 abbrev IsIn : List ℕ → List (List ℕ) → Type 0
 IsIn n ns = (k : ℕ) × (slice_get ns k ≡ Some n)
-
-in_next : (n x : List ℕ) (ns : List (List ℕ)) → IsIn n ns → IsIn n (x ∷ ns)
-in_next n x ns h = (suc h.0, h.1)
-
--- by the two sides of a test of names
-by_test : {A : Type 0} (n x : List ℕ) (ns : List (List ℕ)) (t : Bool) → same_name x n ≡ t → (a b : Option A) (y : A) → (if t then a else b) ≡ Some y → (b ≡ Some y → IsIn n ns) → IsIn n (x ∷ ns)
-by_test n x ns true same a b y e later = (zero, ap Some ((bytes_decides x n).0 same))
-by_test n x ns false same a b y e later = in_next n x ns (later e)
-
--- what has a kind is a net
-declared_in : (ds : List PlainDecl) (n : List ℕ) (kind : NetKind) → declared_kind ds n ≡ Some kind → IsIn n (declared_nets ds)
-declared_in [] n kind e = absurd (cc)
-declared_in (WireOf x w ∷ ds) n kind e = by_test n x (declared_nets ds) (same_name x n) refl _ _ kind e (declared_in ds n kind)
-declared_in (RegisterOf x w ∷ ds) n kind e = by_test n x (declared_nets ds) (same_name x n) refl _ _ kind e (declared_in ds n kind)
-declared_in (ArrayOf x w k ∷ ds) n kind e = declared_in ds n kind e
-
-net_in : (ps : List PlainPort) (ds : List PlainDecl) (n : List ℕ) (kind : NetKind) → kind_in ps ds n ≡ Some kind → IsIn n (map (λ p. p.name) ps ++ declared_nets ds)
-net_in [] ds n kind e = declared_in ds n kind e
-net_in (p ∷ ps) ds n kind e = by_test n p.name (map (λ q. q.name) ps ++ declared_nets ds) (same_name p.name n) refl _ _ kind e (net_in ps ds n kind)
 
 -- what has a value is a net of its instance
 valued_in : (tree : List Placed) (now : Moment) (i : ℕ) (n : List ℕ) (v : BitVector) → HasValue tree now i n v → IsIn n (nets_at tree i)

@@ -11,24 +11,17 @@ use denote.Ref.{Bor}
 use Rattle.cx_vtree.specs.InstanceTree.{same_name}
 use Rattle.cx_vnets.specs.ModuleNumbers.{position, position_from}
 use Rattle.cx_vnets.specs.Maps.{number_by}
+use Rattle.cx_text.proofs.OptionLaws.{none_of, option_or-none}
 
 abbrev by_bytes : Bor (List ℕ) → Bor (List ℕ) → Ordering
 by_bytes x y = slice_cmp nat_cmp x.now y.now
-
-option_or-none : {A : Type 0} (o : Option A) → option_or o None ≡ o
-option_or-none None = refl
-option_or-none (Some x) = refl
-
-none_is : {A : Type 0} (o : Option A) → is_some o ≡ false → o ≡ None
-none_is None e = refl
-none_is (Some x) e = absurd (cc)
 
 -- a name without a number gets one
 pub entered : (m n : BTreeMap (Bor (List ℕ)) ℕ) (key : Bor (List ℕ)) (v : ℕ) → is_some (number_by m key.now) ≡ false → tree.Updates by_bytes m n key (Some v)
     → (q : List ℕ) → number_by n q ≡ option_or (number_by m q) (if same_name key.now q then Some v else None)
 entered m n key v none up q = btree_map_updates_str key.now m n (Some v) up q ∙ go (same_name key.now q) refl where
   go : (t : Bool) → same_name key.now q ≡ t → cond t (Some v) (number_by m q) ≡ option_or (number_by m q) (if t then Some v else None)
-  go true e = ap (λ o. option_or o (Some v)) (sym (none_is (number_by m key.now) none) ∙ ap (number_by m) (same_text key.now q (sym e)))
+  go true e = ap (λ o. option_or o (Some v)) (sym (none_of (number_by m key.now) none) ∙ ap (number_by m) (same_text key.now q (sym e)))
   go false e = sym (option_or-none (number_by m q))
 
 -- places by a running number, and from the front

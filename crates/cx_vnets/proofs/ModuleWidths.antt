@@ -1,5 +1,5 @@
 -- Soundness of an expression, part by part.
-use Rattle.std.proofs.Common.{◌≡◌, ℕ, Bool, true, false, ◌&&◌, ◌||◌, not, List, Option, Some, None, option_and_then, slice_get, refl, ap, ◌∙◌, subst, if◌then◌else◌}
+use Rattle.std.proofs.Common.{◌≡◌, ℕ, Bool, true, false, ◌&&◌, not, List, Option, Some, None, option_and_then, slice_get, refl, ap, ◌∙◌, subst, if◌then◌else◌}
 use Rattle.std.specs.Prelude.{IsSome}
 use Rattle.cx_vtree.specs.Plain.{PlainExpr, Named, Number, Part, Word, Applied, Inverted, Chosen, Joined, PlainPort, PlainDecl}
 use Rattle.cx_vtree.specs.Sound.{width_of, is_source, is_array, bad_width, applied_width, chosen_width, joined_width, part_width, meant_in, misnames, fitting_width}
@@ -10,16 +10,8 @@ use Rattle.cx_vnets.specs.ModuleNumbers.{position}
 use Rattle.cx_vnets.specs.ModuleCodes.{IsCode, HasNumbers}
 use Rattle.cx_vnets.specs.CodeLaws.{net_widths, array_widths, net_numbering, array_numbering, HasWidths}
 use Rattle.cx_vnets.proofs.Places.{StandsIn, net_stands, array_stands}
-use Rattle.cx_text.proofs.BoolLaws.{not_not}
+use Rattle.cx_text.proofs.BoolLaws.{not_not, neither_first, neither_second}
 use Rattle.cx_text.proofs.OptionLaws.{some_by}
-
-pub left_of : (a b : Bool) → (a || b) ≡ false → a ≡ false
-left_of true b e = e
-left_of false b e = refl
-
-pub right_of : (a b : Bool) → (a || b) ≡ false → b ≡ false
-right_of true b e = absurd (cc)
-right_of false b e = e
 
 read : (a b : Bool) → not (a && b) ≡ false → a ≡ true
 read true b e = refl
@@ -35,12 +27,12 @@ module _ (ports : List PlainPort) (decls : List PlainDecl) where
   have_numbers (Number b) f = tt
   have_numbers (Part n h l) f = net_number n _ f
   have_numbers (Word n i) f =
-      let s = array_stands ports decls n (not_not (is_array (meant_in ports decls n)) (left_of _ _ f)) in
-      (some_by (array_numbering decls n) s.0 s.1, have_numbers i (right_of _ _ f))
-  have_numbers (Applied op a b) f = (have_numbers a (left_of _ _ f), have_numbers b (right_of _ _ f))
+      let s = array_stands ports decls n (not_not (is_array (meant_in ports decls n)) (neither_first _ _ f)) in
+      (some_by (array_numbering decls n) s.0 s.1, have_numbers i (neither_second _ _ f))
+  have_numbers (Applied op a b) f = (have_numbers a (neither_first _ _ f), have_numbers b (neither_second _ _ f))
   have_numbers (Inverted a) f = have_numbers a f
-  have_numbers (Chosen c a b) f = (have_numbers c (left_of _ _ (left_of _ _ f)), have_numbers a (right_of _ _ (left_of _ _ f)), have_numbers b (right_of _ _ f))
-  have_numbers (Joined a b) f = (have_numbers a (left_of _ _ f), have_numbers b (right_of _ _ f))
+  have_numbers (Chosen c a b) f = (have_numbers c (neither_first _ _ (neither_first _ _ f)), have_numbers a (neither_second _ _ (neither_first _ _ f)), have_numbers b (neither_second _ _ f))
+  have_numbers (Joined a b) f = (have_numbers a (neither_first _ _ f), have_numbers b (neither_second _ _ f))
 
 -- a width that one tells the other tells too
 abbrev Tells : Option ℕ → Option ℕ → Type 0
@@ -95,17 +87,17 @@ module _ (ports : List PlainPort) (decls : List PlainDecl) (nets arrays : ℕ �
       ∙ ap (λ x. part_width (width_of (meant_in ports decls n)) x low) is.1 ∙ ap (part_width (width_of (meant_in ports decls n)) h) is.2 ∙ e
   width_kept (Item' a p i) (Word n j) f is =
       tells_item (width_of (meant_in ports decls n)) (arrays a) (fitting_width (meant_in ports decls) j) (code_width nets arrays i)
-      (array_width n a (left_of _ _ f) is.0) (width_kept i j (right_of _ _ f) is.1)
+      (array_width n a (neither_first _ _ f) is.0) (width_kept i j (neither_second _ _ f) is.1)
   width_kept (Binary' op p a q b) (Applied o x y) f is =
       λ w e. ap (λ z. option_and_then (λ v. option_and_then (applied_width z v) (code_width nets arrays b)) (code_width nets arrays a)) is.0
       ∙ tells_two (applied_width o) (fitting_width (meant_in ports decls) x) (code_width nets arrays a) (fitting_width (meant_in ports decls) y) (code_width nets arrays b)
-      (width_kept a x (left_of _ _ f) is.1) (width_kept b y (right_of _ _ f) is.2) w e
+      (width_kept a x (neither_first _ _ f) is.1) (width_kept b y (neither_second _ _ f) is.2) w e
   width_kept (Not' p a) (Inverted x) f is = width_kept a x f is
   width_kept (Choose' p c q a r b) (Chosen z x y) f is =
       tells_three chosen_width (fitting_width (meant_in ports decls) z) (code_width nets arrays c) (fitting_width (meant_in ports decls) x) (code_width nets arrays a)
       (fitting_width (meant_in ports decls) y) (code_width nets arrays b)
-      (width_kept c z (left_of _ _ (left_of _ _ f)) is.0) (width_kept a x (right_of _ _ (left_of _ _ f)) is.1) (width_kept b y (right_of _ _ f) is.2)
+      (width_kept c z (neither_first _ _ (neither_first _ _ f)) is.0) (width_kept a x (neither_second _ _ (neither_first _ _ f)) is.1) (width_kept b y (neither_second _ _ f) is.2)
   width_kept (Cat' p a q b) (Joined x y) f is =
       tells_two joined_width (fitting_width (meant_in ports decls) x) (code_width nets arrays a) (fitting_width (meant_in ports decls) y) (code_width nets arrays b)
-      (width_kept a x (left_of _ _ f) is.0) (width_kept b y (right_of _ _ f) is.1)
+      (width_kept a x (neither_first _ _ f) is.0) (width_kept b y (neither_second _ _ f) is.1)
   width_kept c e f is = absurd is

@@ -9,13 +9,14 @@ use Rattle.cx_vtree.specs.Lines.{decimal_text, sizes_text, ExternalLine, line_te
 use Rattle.cx_vtree.specs.Plain.{PlainExternal}
 use Rattle.cx_vread_exprs.specs.Places as places
 use Rattle.cx_vread_exprs.specs.Places.{Place, Reads, then_reads, then_at, begins, many}
-use Rattle.cx_vread_exprs.specs.Tokens.{back, is_digit_in, kept_small, word_at, name_at}
+use Rattle.cx_text.specs.Spans.{back, Stops}
+use Rattle.cx_text.proofs.SpanLemmas.{front_again, back_again}
+use Rattle.cx_vread_exprs.specs.Tokens.{is_digit_in, kept_small, word_at, name_at}
 use Rattle.cx_vread.specs.Parts.{more_size_at, sizes_at, external_by, external_at, externals_at}
 use Rattle.cx_vread_exprs.proofs.ExprAgain.{name_again, small_again}
 use Rattle.cx_vread.proofs.Kept.{kept_external}
 use Rattle.cx_vread.proofs.ManyAgain.{joined_text, Again, many_again, all_again, lines_joined, Anything}
 use Rattle.cx_vread_exprs.proofs.NumberAgain.{clean, any_number_again}
-use Rattle.cx_vread_exprs.proofs.Spans.{Stops, front_again, back_again}
 
 word_again : (n rest : List ℕ) → is_word n ≡ true → Stops is_name_byte rest → word_at (clean (n ++ rest)) ≡ Some (n, clean rest)
 word_again n rest h ends =

@@ -19,7 +19,7 @@ use Rattle.cx_vread_exprs.proofs.ExprAgain.{closed, name_again}
 use Rattle.cx_vread_exprs.proofs.WholeExprs.{whole_again}
 use Rattle.cx_vread.proofs.ManyAgain.{joined_text, Again, all_again, lines_joined, Anything}
 use Rattle.cx_vread_exprs.proofs.NumberAgain.{clean, number_again, any_number_again}
-use Rattle.cx_vread_exprs.proofs.Spans.{Stops}
+use Rattle.cx_text.specs.Spans.{Stops}
 
 -- what is kept of a width that its greatest bit tells
 pub width_kept : (w : ℕ) → 0 < w → no_more 254 (capped (w - 1)) + 1 ≡ kept_small w

@@ -17,9 +17,10 @@ use Rattle.cx_velab.specs.Tables.{IsWidth, decl_width}
 use Rattle.cx_velab.specs.Coded.{AssignsHaveNumbers, EdgeHasNumbers, ItemHasNumbers}
 use Rattle.cx_velab.specs.Parts.{ModulesAreNamed}
 use Rattle.cx_vsim.specs.Trees.{IsSmall, CanBeCoded}
-use Rattle.cx_vsim.proofs.Positions.{position_here, origin_position, nets_there, ports_there, decls_there, share}
+use Rattle.cx_vsim.proofs.Positions.{origin_position, nets_there, ports_there, decls_there, share}
 use Rattle.cx_vsim.proofs.TidyLemmas.{Origins}
 use Rattle.cx_text.proofs.ListLaws.{there_below}
+use Rattle.cx_vnets.proofs.Numbering.{position_here}
 
 abbrev pub AssignsGiven : List Placed → Type 0
 AssignsGiven tree = (i k : ℕ) (p : Placed) (a : PlainAssign) → slice_get tree i ≡ Some p → slice_get p.part.assigns k ≡ Some a → origin_of tree i a.name ≡ Some (Given a.value)

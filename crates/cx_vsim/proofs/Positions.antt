@@ -1,7 +1,7 @@
 -- Numbers of names within an instance.
-use Rattle.std.proofs.Common.{◌≡◌, ℕ, zero, suc, ◌+◌, ◌<◌, ◌≤◌, ⊎_elim, Bool, true, false, List, [], ◌∷◌, ◌++◌, map, length, Option, Some, None, option_map, option_and_then, slice_get, refl, ap, sym, ◌∙◌, subst, arith, if◌then◌else◌}
+use Rattle.std.proofs.Common.{◌≡◌, ℕ, zero, suc, ◌+◌, ◌<◌, ◌≤◌, ⊎_elim, Bool, true, false, List, [], ◌∷◌, ◌++◌, map, length, Option, Some, option_map, option_and_then, slice_get, refl, ap, ◌∙◌, arith, if◌then◌else◌}
 use Rattle.std.specs.Option.{option_map_or}
-use Rattle.std.specs.Cmp.Lexicographic.{same_text, bytes_decides}
+use Rattle.std.specs.Cmp.Lexicographic.{bytes_decides}
 use Rattle.std.proofs.lemmas.Bool.Decides.{eqb_tells}
 use Rattle.std.proofs.lemmas.Option.{slice_get-map}
 use Rattle.cx_vtree.specs.Plain.{PlainPort, PlainDecl, WireOf, RegisterOf, ArrayOf}
@@ -13,15 +13,6 @@ use Rattle.cx_vnets.specs.Numbers.{before}
 use Rattle.cx_vlaws.specs.Names as facts
 use Rattle.cx_text.proofs.OptionLaws.{bind_some}
 use Rattle.cx_text.proofs.ListLaws.{front}
-
--- the first place of a name has it
-pub position_here : (ns : List (List ℕ)) (name : List ℕ) (k : ℕ) → position ns name ≡ Some k → slice_get ns k ≡ Some name
-position_here [] name k e = absurd (cc)
-position_here (n ∷ ns) name k e = go (same_name n name) (position ns name) k refl (position_here ns name) e where
-  go : (t : Bool) (o : Option ℕ) (k : ℕ) → same_name n name ≡ t → ((h : ℕ) → o ≡ Some h → slice_get ns h ≡ Some name) → (if t then Some 0 else option_map suc o) ≡ Some k → slice_get (n ∷ ns) k ≡ Some name
-  go true o k is later f = let same : 0 ≡ k = cc in subst (λ j. slice_get (n ∷ ns) j ≡ Some name) same (ap Some (same_text n name (sym is)))
-  go false None k is later f = absurd (cc)
-  go false (Some h) k is later f = let same : suc h ≡ k = cc in subst (λ j. slice_get (n ∷ ns) j ≡ Some name) same (later h refl)
 
 -- a name has a number
 abbrev pub HasPosition : List (List ℕ) → List ℕ → Type 0

@@ -22,12 +22,13 @@ use Rattle.cx_velab.specs.Driven.{KeepsRight, IsWhole, IsConnected, IsTied, Ties
 use Rattle.cx_vsim.specs.Trees.{CanBeBuilt}
 use Rattle.cx_vsim.specs.Tables.{exprs_at, IsPartOf}
 use Rattle.cx_vsim.specs.Passes.{RowTied, RowGiven}
-use Rattle.cx_vsim.proofs.Positions.{position_here, origin_position, nets_there, decls_there}
+use Rattle.cx_vsim.proofs.Positions.{origin_position, nets_there, decls_there}
 use Rattle.cx_vsim.proofs.PassLemmas.{lists_up, net_within}
 use Rattle.cx_text.proofs.ListLaws.{there_at, front}
 use Rattle.cx_vsim.proofs.Finding.{place_at}
 use Rattle.cx_velab.proofs.TablesLemmas.{places_length}
 use Rattle.cx_text.proofs.OptionLaws.{some_by}
+use Rattle.cx_vnets.proofs.Numbering.{position_here}
 
 -- the place that is read is that of the instance
 pub place_read : (tree : List Placed) (places : List NetPosition) (n i : ℕ) (x : NetPosition) → places ≡ all_places tree n → i < n → x ≡ get_or places i x → x ≡ place_of tree i

@@ -21,12 +21,13 @@ use Rattle.cx_velab.specs.declared.parts.ModulePart.{ModulePart}
 use Rattle.cx_vsim.specs.Trees.{CanBeBuilt}
 use Rattle.cx_vsim.specs.Tables.{exprs_at, IsPartOf}
 use Rattle.cx_vsim.specs.Passes.{AddsRowSets, AddsRowStores}
-use Rattle.cx_vsim.proofs.Positions.{position_here, origin_position}
+use Rattle.cx_vsim.proofs.Positions.{origin_position}
 use Rattle.cx_vsim.proofs.CodedLemmas.{set_among, store_among}
 use Rattle.cx_vsim.proofs.PassLemmas.{AreCoded, coded_after, sets_paired, item_sets_paired, item_stores_paired, array_within}
 use Rattle.cx_vsim.proofs.RowLemmas.{numbers_within}
 use Rattle.cx_text.proofs.ListLaws.{front}
 use Rattle.cx_text.proofs.OptionLaws.{some_by}
+use Rattle.cx_vnets.proofs.Numbering.{position_here}
 
 -- an instance without an edge changes nothing
 pub no_sets : (tree : List Placed) (codes : List Code) (reset i : ℕ) (p : Placed) (old : List Set) → slice_get tree i ≡ Some p → p.part.edge ≡ None → AddsRowSets tree codes reset i old old

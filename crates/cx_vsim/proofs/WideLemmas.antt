@@ -17,13 +17,14 @@ use Rattle.cx_vlaws.specs.MainPorts.{main_ports}
 use Rattle.cx_velab.specs.Zeros.{widths_at, InputsAreBits}
 use Rattle.cx_velab.specs.FitsLaws.{IsAsWide, OriginsAreAsWide, SetsAreAsWide, StoresAreAsWide}
 use Rattle.cx_vsim.specs.Trees.{IsEvenlyWide}
-use Rattle.cx_vsim.proofs.Positions.{position_here, position_there, origin_found, origin_position, ports_there, arrays_at_same}
+use Rattle.cx_vsim.proofs.Positions.{position_there, origin_found, origin_position, ports_there, arrays_at_same}
 use Rattle.cx_vsim.proofs.TidyLemmas.{Origins}
 use Rattle.cx_vsim.proofs.CodedLemmas.{SetsAre, StoresAre}
 use Rattle.cx_vtree.proofs.InstanceTreeLemmas.{driving_not_outside}
 use Rattle.cx_vtree.proofs.MeaningsLemmas.{port_width}
 use Rattle.cx_velab.proofs.CoveredLemmas.{no_input}
 use Rattle.cx_text.proofs.OptionLaws.{by_side}
+use Rattle.cx_vnets.proofs.Numbering.{position_here}
 
 -- where each name stands for its part, widths by number are those by name
 module _ (scope : Scope) where

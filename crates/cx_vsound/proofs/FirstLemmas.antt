@@ -20,21 +20,15 @@ use Rattle.cx_vtree.specs.PlainParts.{plain_instance}
 use Rattle.cx_vsound.specs.declared.counts.Sums.{Sums}
 use Rattle.cx_vsound.specs.Parts.{counts_in}
 use Rattle.cx_vsound.specs.Firsts.{HasFirst, first_number, instance_names, main_instances, module_names, number_by}
-
-option_or-none : {A : Type 0} (o : Option A) → option_or o None ≡ o
-option_or-none None = refl
-option_or-none (Some x) = refl
-
-none_is : {A : Type 0} (o : Option A) → is_some o ≡ false → o ≡ None
-none_is None e = refl
-none_is (Some x) e = absurd (cc)
+use Rattle.cx_text.proofs.ListLaws.{length-map}
+use Rattle.cx_text.proofs.OptionLaws.{none_of, option_or-none}
 
 -- a name without a number gets one
 pub entered : (m n : BTreeMap (Bor (List ℕ)) ℕ) (key : Bor (List ℕ)) (v : ℕ) → is_some (number_by m key.now) ≡ false → tree.Updates (λ x y. slice_cmp nat_cmp x.now y.now) m n key (Some v)
     → (q : List ℕ) → number_by n q ≡ option_or (number_by m q) (if same_name key.now q then Some v else None)
 entered m n key v none up q = btree_map_updates_str key.now m n (Some v) up q ∙ go (same_name key.now q) refl where
   go : (t : Bool) → same_name key.now q ≡ t → cond t (Some v) (number_by m q) ≡ option_or (number_by m q) (if t then Some v else None)
-  go true e = ap (λ o. option_or o (Some v)) (sym (none_is (number_by m key.now) none) ∙ ap (number_by m) (same_text key.now q (sym e)))
+  go true e = ap (λ o. option_or o (Some v)) (sym (none_of (number_by m key.now) none) ∙ ap (number_by m) (same_text key.now q (sym e)))
   go false e = sym (option_or-none (number_by m q))
 
 -- one name more
@@ -150,10 +144,6 @@ module _ (first : BTreeMap (Bor (List ℕ)) ℕ) where
 
   pub kind_none : (is : List PlainInstance) (q : List ℕ) → HasFirst first (instance_names is) → None ≡ number_by first q → None ≡ instance_kind is q
   kind_none is q has e = sym (kind-none is q (sym (e ∙ has q)))
-
-length-map : {A B : Type 0} (f : A → B) (xs : List A) → length (map f xs) ≡ length xs
-length-map f [] = refl
-length-map f (x ∷ xs) = ap suc (length-map f xs)
 
 -- one instance more
 pub instances_next : (m n : BTreeMap (Bor (List ℕ)) ℕ) (is : List Instance) (i : ℕ) (x : Instance) → HasFirst m (instance_names (map plain_instance (take i is)))

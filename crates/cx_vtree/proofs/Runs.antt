@@ -16,7 +16,7 @@ use Rattle.cx_text.proofs.ListLaws.{slice_get-next}
 abbrev IsIn : List ℕ → List (List ℕ) → Type 0
 IsIn n ns = (k : ℕ) × (slice_get ns k ≡ Some n)
 
-in_next : (n x : List ℕ) (ns : List (List ℕ)) → IsIn n ns → IsIn n (x ∷ ns)
+pub in_next : (n x : List ℕ) (ns : List (List ℕ)) → IsIn n ns → IsIn n (x ∷ ns)
 in_next n x ns h = (suc h.0, slice_get-next x ns h.0 ∙ h.1)
 
 in_here : (n x : List ℕ) (ns : List (List ℕ)) → same_name x n ≡ true → IsIn n (x ∷ ns)
@@ -28,13 +28,13 @@ by_test P true a b x e here there = here refl
 by_test P false a b x e here there = there e
 
 -- what has a kind is declared
-declared_in : (ds : List PlainDecl) (n : List ℕ) (kind : NetKind) → declared_kind ds n ≡ Some kind → IsIn n (declared_nets ds)
+pub declared_in : (ds : List PlainDecl) (n : List ℕ) (kind : NetKind) → declared_kind ds n ≡ Some kind → IsIn n (declared_nets ds)
 declared_in [] n kind e = absurd (cc)
 declared_in (WireOf x w ∷ ds) n kind e = by_test _ (same_name x n) _ _ kind e (in_here n x (declared_nets ds)) (λ f. in_next n x (declared_nets ds) (declared_in ds n kind f))
 declared_in (RegisterOf x w ∷ ds) n kind e = by_test _ (same_name x n) _ _ kind e (in_here n x (declared_nets ds)) (λ f. in_next n x (declared_nets ds) (declared_in ds n kind f))
 declared_in (ArrayOf x w k ∷ ds) n kind e = declared_in ds n kind e
 
-net_in : (ps : List PlainPort) (ds : List PlainDecl) (n : List ℕ) (kind : NetKind) → kind_in ps ds n ≡ Some kind → IsIn n (map (λ p. p.name) ps ++ declared_nets ds)
+pub net_in : (ps : List PlainPort) (ds : List PlainDecl) (n : List ℕ) (kind : NetKind) → kind_in ps ds n ≡ Some kind → IsIn n (map (λ p. p.name) ps ++ declared_nets ds)
 net_in [] ds n kind e = declared_in ds n kind e
 net_in (p ∷ ps) ds n kind e =
     by_test _ (same_name p.name n) _ _ kind e (in_here n p.name (map (λ p. p.name) ps ++ declared_nets ds))

@@ -1,5 +1,5 @@
 -- A port that is there is as wide in the net of its component as in the design.
-use Rattle.std.proofs.Common.{◌≡◌, ℕ, zero, suc, ◌+◌, ◌-◌, ◌<◌, ◌≤◌, Bool, true, false, ◌&&◌, if◌then◌else◌, List, [], ◌∷◌, ◌++◌, length, map, Some, None, slice_get, refl, ap, sym, ◌∙◌, subst, arith, length-append}
+use Rattle.std.proofs.Common.{◌≡◌, ℕ, zero, suc, ◌+◌, ◌-◌, ◌<◌, ◌≤◌, Bool, true, false, if◌then◌else◌, List, [], ◌∷◌, ◌++◌, length, map, Some, None, slice_get, refl, ap, sym, ◌∙◌, subst, arith, length-append}
 use Rattle.std.specs.Prelude.{◌^◌, nat_lt, nat_le, option_map, option_and_then}
 use Rattle.std.proofs.lemmas.Bool.{ltb-true, leb-true}
 use Rattle.std.proofs.lemmas.Bool.Decides.{nat_tests}
@@ -32,6 +32,7 @@ use Rattle.cx_laws.proofs.TreeLemmas.{cell_there, declared_there}
 use Rattle.cx_meaning.proofs.DesignsLemmas.{same_part}
 use Rattle.cx_meaning.proofs.SightsLaws.{in_at}
 use Rattle.cx_text.proofs.ListLaws.{there_at, front, there_below}
+use Rattle.cx_text.proofs.BoolLaws.{all_three}
 
 not_less : (a b : ℕ) → nat_lt a b ≡ false → b ≤ a
 not_less a b f = grind (arith, nat_tests)
@@ -95,16 +96,11 @@ signature_at part (suc m) w less e =
         ∙ by_output (m - length part.inputs) (nat_lt (m - length part.inputs) (length part.outputs)) few refl f
 
 -- LITERALS
-literal_parts : (a b c : Bool) → (a && b && c) ≡ true → (a ≡ true) × (b ≡ true) × (c ≡ true)
-literal_parts true true true e = (refl, refl, refl)
-literal_parts true true false e = never e
-literal_parts true false c e = never e
-literal_parts false b c e = never e
 
 literal_fits : (u v w : ℕ) (b : Bool) → keeps_literal u v ≡ b → (if b then Some u else None) ≡ Some w → IsOfWidth w (record { width = u; value = v })
 literal_fits u v w false keeps e = absurd cc
 literal_fits u v w true keeps e =
-    let parts = literal_parts (nat_le 1 u) (nat_le u 128) (nat_lt v (2 ^ u)) keeps in
+    let parts = all_three (nat_le 1 u) (nat_le u 128) (nat_lt v (2 ^ u)) keeps in
     let same : u ≡ w = cc in
     record { same_width = same; fits = record { some_bits = leb-true 1 u parts.0; few_bits = leb-true u 128 parts.1; in_range = ltb-true v (2 ^ u) parts.2 } }
 

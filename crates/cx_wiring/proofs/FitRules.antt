@@ -24,7 +24,7 @@ use Rattle.cx_rules.specs.LimitRule.{Limited, word_of, count_in, is_too_many, st
 use Rattle.cx_rules.specs.Invokes.{form_lasts}
 use Rattle.cx_rules.proofs.InvokesLemmas.{form_lasts-flat}
 use Rattle.cx_rules.proofs.LimitRuleLemmas.{keeps_limits}
-use Rattle.cx_rules.specs.Ports.{keeps_literal, width_of, written_width, is_source_only, path_of}
+use Rattle.cx_rules.specs.Ports.{width_of, is_source_only, path_of}
 use Rattle.cx_rules.specs.ShapeRules.{owner_length, is_bad_range}
 use Rattle.cx_rules.specs.Spots.{AnAssign, AStatement}
 use Rattle.cx_rules.specs.StaticControl.{is_island}
@@ -46,6 +46,7 @@ use Rattle.cx_wiring.proofs.FitLowering.{Fine, IsShort}
 use Rattle.cx_wiring.proofs.FitPorts.{whole, net, npart, part_is, port_wide, width_some}
 use Rattle.cx_text.proofs.NumberLaws.{never}
 use Rattle.cx_meaning.proofs.SightsLaws.{in_left, in_right, number_in}
+use Rattle.cx_rules.proofs.WidthRulesLemmas.{bit_width}
 
 -- WIDTHS that do not differ
 no_difference : (v w : ℕ) → differ (Some v) (Some w) ≡ false → v ≡ w
@@ -79,21 +80,6 @@ none_wide i (x ∷ atoms) none p m = by (is_wide i x.port) refl none (none_wide 
         either : In (x ∷ atoms) p → is_wide i p.port ≡ false
         either (inl same) = subst (λ (q : PlacedPort). is_wide i q.port ≡ false) same is
         either (inr n) = later e p n
-
--- a width is written as it is
-literal_written : (u v w : ℕ) (b : Bool) → (if b then Some u else None) ≡ Some w → Some u ≡ Some w
-literal_written u v w true e = e
-literal_written u v w false e = absurd cc
-
-written : (i : Instance) (p : PortRef) (w : ℕ) → width_of i p ≡ Some w → written_width i p ≡ Some w
-written i (ports.Cell c p) w e = e
-written i (ports.Input n) w e = e
-written i (ports.Output n) w e = e
-written i (ports.Done g) w e = e
-written i (ports.Literal u v) w e = literal_written u v w (keeps_literal u v) e
-
-one_wide : (i : Instance) (p : PortRef) (w : ℕ) → width_of i p ≡ Some w → is_wide i p ≡ false → w ≡ 1
-one_wide i p w e narrow = no_difference w 1 (ap (λ o. differ o (Some 1)) (sym (written i p w e)) ∙ narrow)
 
 few_rounds : (o : Option ℕ) → is_too_many o ≡ false → (n : ℕ) → o ≡ Some n → n < 2 ^ 32
 few_rounds None e n is = absurd cc
@@ -180,7 +166,7 @@ module _ (d : PlainDesign) (rules : IsDesign d) (flat : IsFlat d) (accepted : Is
     test_fits : (p : PlacedPort) → test_in v.form ≡ Some p → HasPortWidth (net d rules k here) (npart d rules k here) p.port 1
     test_fits p is =
         let w = width_some (whole d rules k here) p.port (is_statement.test p is) (good_test p is) in
-        let one = one_wide (whole d rules k here) p.port w.0 w.1 (narrow_test p is) in
+        let one = bit_width (whole d rules k here) p.port w.0 w.1 (narrow_test p is) in
         subst (λ x. HasPortWidth (net d rules k here) (npart d rules k here) p.port x) one (port_wide d rules k here p.port w.0 (is_statement.test p is) (is_statement.no_hole p is) w.1)
 
     no_statement_limit : statement_limit (whole d rules k here) v ≡ None
@@ -314,7 +300,7 @@ module _ (d : PlainDesign) (rules : IsDesign d) (flat : IsFlat d) (accepted : Is
         guard_of Always has narrow same short = tt
         guard_of (Atom p) has narrow same short =
             let w = has p (inl refl) in
-            subst (λ x. HasPortWidth (net d rules k here) (npart d rules k here) p.port x) (one_wide (whole d rules k here) p.port w.width w.known (narrow p (inl refl))) w.in_net
+            subst (λ x. HasPortWidth (net d rules k here) (npart d rules k here) p.port x) (bit_width (whole d rules k here) p.port w.width w.known (narrow p (inl refl))) w.in_net
         guard_of (Negation g) has narrow same short = guard_of g has narrow same short
         guard_of (All gs) has narrow same short = guards_of gs has narrow same short
         guard_of (Any gs) has narrow same short = guards_of gs has narrow same short

@@ -33,7 +33,6 @@ use Rattle.cx_control.specs.InstanceRules.{Stands}
 use Rattle.cx_control.specs.CallRules.{CallForm, CallRules}
 use Rattle.cx_control.specs.ControlRules.{ControlRules}
 use Rattle.cx_control.proofs.LeafLaws.{is_one_of, ActsAs, kind_acts}
-use Rattle.cx_control.proofs.ShapeLemmas.{in_some}
 use Rattle.cx_control.proofs.RegisterLemmas.{set, Captured, captured_is, done_of_one, one_of_dones}
 use Rattle.cx_control.proofs.HoleLemmas.{last_is_done, CaptureRules, wanted_are, Register, register, done_seen, all_done, hole_is_set}
 use Rattle.cx_net.specs.NetMeaning.{NetState, AHole, TheDone, NetLook, NetAround, is_true, truth_bit, zero_wide}
@@ -46,6 +45,7 @@ use Rattle.cx_wiring_runs.proofs.CallValues.{hole_wants, wants_hole}
 use Rattle.cx_wiring_runs.proofs.NodePorts.{set_bit}
 use Rattle.std.proofs.lemmas.Bool.{false_from_ne_true}
 use Rattle.cx_text.proofs.NumberLaws.{true_false_also}
+use Rattle.cx_rules.proofs.ShapeRulesLemmas.{a_target}
 
 -- an assignment that enables a primitive
 enables_in : (cells : Cells) (list : List PlainAssign) (a : PlainAssign) → In list a → enables_primitive cells a.target ≡ true → captures_in cells list ≡ true
@@ -145,7 +145,7 @@ module _ (d : PlainDesign) (numbers : Instance → NetState → ℕ → ℕ) (pa
           let it = captured_is assigns part.cells 0 r (subst (λ l. In l r) (sym f) (inl refl)) in
           let from : 0 + Captured.number it ≡ Captured.number it = omega arith in
           let row = form.registers r (Captured.cell it) (subst (λ n. slice_get part.cells n ≡ Some (Captured.cell it)) (sym (Captured.is it ∙ from)) (Captured.stands it)) (Captured.register it) in
-          let a = in_some (same_port (write_en_of r)) assigns (Captured.driven it) in
+          let a = a_target (same_port (write_en_of r)) assigns (Captured.driven it) in
           true_false_also (sym (enables_in cells assigns a.0 a.1 (ap (enables_primitive cells) (sym (same_is (write_en_of r) a.0.target a.2)) ∙ enabled row.0 r row.1)) ∙ none)
         where
           enabled : (w r : ℕ) → cell_at cells r ≡ OfRow (register_row w) → enables_primitive cells (write_en_of r) ≡ true

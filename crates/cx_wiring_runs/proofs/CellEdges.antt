@@ -14,10 +14,9 @@ use Rattle.cx_meaning.specs.Active.{Owned, source_order, drivers, offset_of}
 use Rattle.cx_meaning.specs.Sights.{In}
 use Rattle.cx_meaning.specs.Islands.{group_length}
 use Rattle.cx_rules.specs.Ports.{width_of}
-use Rattle.cx_rules.proofs.ForeignLemmas.{assigns_drive_in, acting_none}
+use Rattle.cx_rules.proofs.ForeignLemmas.{assigns_drive_in, acting_none, OwnerOf, continuous, of_group, owner_of}
 use Rattle.cx_frames.specs.Rests.{IsUndriven}
 use Rattle.cx_control.specs.Flows.{zero_of, first_on, given, cell_flow}
-use Rattle.cx_control.proofs.InstanceLemmas.{OwnerOf, continuous, of_group, owner_of}
 use Rattle.cx_control.proofs.CellLemmas.{idle_step}
 use Rattle.cx_net.specs.NetMeaning.{NetState, NetLook, NetAround, APort, AHole, is_true, truth_bit, zero_wide}
 use Rattle.cx_net.specs.NetEdges.{inputs_from}

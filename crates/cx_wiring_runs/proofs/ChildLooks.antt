@@ -2,24 +2,18 @@
 use Rattle.std.proofs.Common.{◌≡◌, ℕ, zero, suc, ◌+◌, ◌-◌, ◌<◌, ◌==◌, ◌&&◌, true, if◌then◌else◌, List, [], ◌∷◌, length, Some, unwrap_or, sym, ap, ap₂, ◌∙◌, arith}
 use Rattle.std.proofs.lemmas.Bool.{lt-ltb}
 use Rattle.cx_prim.specs.Rows.{Row}
-use Rattle.cx_meaning.specs.declared.kinds.PortDecl.{PortDecl}
 use Rattle.cx_meaning.specs.declared.ports.PortRef.TheVariants as ports
 use Rattle.cx_meaning.specs.Designs.{PlainComponent}
 use Rattle.cx_meaning.specs.Instances as instances
 use Rattle.cx_meaning.specs.Instances.{Instance, Cells, no_cells, a_primitive, an_instance, Nothing, OfRow, OfInstance, cell_at}
 use Rattle.cx_meaning.specs.Sights.{AnInput, output_port}
-use Rattle.cx_rules.specs.Ports.{declared_width}
 use Rattle.cx_net.specs.Nets.{PlainNetComponent}
 use Rattle.cx_net.specs.NetTree.{NetInstance, AChild, net_part, net_cell_at, NetCells, no_net_cells, a_row, a_child}
 use Rattle.cx_net.specs.NetMeaning.{NetState, below_cell, NetLook, NetAround, APort, around_child, child_port_width, net_at_width, net_part_port, is_port_of}
 use Rattle.cx_wiring.specs.NetBits.{input_width, input_width_below}
 use Rattle.cx_wiring.specs.PartNets.{net_of_instance, net_of_cells}
 use Rattle.cx_wiring_runs.specs.Blocks.{block, block_below, Solves}
-
-declared_there : (decls : List PortDecl) (n w : ℕ) → declared_width decls n ≡ Some w → n < length decls
-declared_there [] n w e = absurd cc
-declared_there (decl ∷ decls) zero w e = omega arith
-declared_there (decl ∷ decls) (suc n) w e = let less : n < length decls = declared_there decls n w e in omega arith
+use Rattle.cx_rules.proofs.PortsLemmas.{declared_less}
 
 input_at : (cells : NetCells) (c : ℕ) (child : NetInstance) → net_cell_at cells c ≡ AChild child → (n : ℕ) → input_width_below cells c n ≡ input_width child n
 input_at no_net_cells c child is n = absurd cc
@@ -37,12 +31,12 @@ go_bit child = ap (λ b. b && true) (lt-ltb 0 (2 + length (net_part child).input
 
 input_port : (child : NetInstance) (n w : ℕ) → input_width child n ≡ Some w → is_port_of (AChild child) (suc n) ≡ true
 input_port child n w e =
-    let less : n < length (net_part child).inputs = declared_there (net_part child).inputs n w e in
+    let less : n < length (net_part child).inputs = declared_less (net_part child).inputs n w e in
     lt-ltb (suc n) (2 + length (net_part child).inputs + length (net_part child).outputs) (omega arith)
 
 input_bit : (child : NetInstance) (n : ℕ) → input_width child n ≡ Some 1 → (is_port_of (AChild child) (suc n) && (net_at_width (AChild child) (suc n) == 1)) ≡ true
 input_bit child n e =
-    let less : n < length (net_part child).inputs = declared_there (net_part child).inputs n 1 e in
+    let less : n < length (net_part child).inputs = declared_less (net_part child).inputs n 1 e in
     let wide : child_port_width (net_part child) (net_part_port (net_part child) (suc n)) ≡ 1 =
     ap (λ b. child_port_width (net_part child) (if b then AnInput n else output_port (length (net_part child).outputs) (n - length (net_part child).inputs))) (lt-ltb n (length (net_part child).inputs) less)
     ∙ ap (λ o. unwrap_or o 1) e in

@@ -36,7 +36,7 @@ use Rattle.cx_control.specs.CallRules.{CallRules}
 use Rattle.cx_control.specs.ControlRules.{ControlRules}
 use Rattle.cx_control.proofs.CallLaws.{ChildLaws}
 use Rattle.cx_control.proofs.LeafLaws.{true_false, ActsAs, IsQuietEnd, turn_number, kind_ends, island_number, kind_number}
-use Rattle.cx_control.proofs.ControlLaws.{IslandsDo, called_child}
+use Rattle.cx_control.proofs.ControlLaws.{IslandsDo}
 use Rattle.cx_control.proofs.StandLaws.{parts_stand}
 use Rattle.cx_control.proofs.KeepLaws as keeps
 use Rattle.cx_control.proofs.KeepLaws.{KeepsBelow}
@@ -56,6 +56,7 @@ use Rattle.cx_wiring_runs.proofs.GoingLaws.{told_in, HoleAgrees, Source, of_grou
 use Rattle.cx_text.proofs.BoolLaws.{and_left}
 use Rattle.cx_meaning.proofs.InstancesLemmas.{not_just}
 use Rattle.cx_meaning.proofs.DesignsLemmas.{driver_there}
+use Rattle.cx_meaning.proofs.ControlLemmas.{called_child}
 
 -- a group is not both plain and comb
 plain_comb : {A : Type 0} (kind : GroupKind) → is_plain kind ≡ true → is_comb kind ≡ true → A

@@ -21,7 +21,7 @@ use Rattle.cx_lockstep.specs.Machines.{First, Second, InPar, left_of, right_of, 
 use Rattle.cx_lockstep.specs.Statements.{LeafMachines, machine_of, parts_machine, arms_machine}
 use Rattle.cx_lockstep.specs.Lawful.{IsPart, of_seq, of_par, then_branch, else_branch, of_while, of_repeat, Apart, AreApart}
 use Rattle.cx_lockstep.specs.Running.{Running, AGroup, AnIsland, at_control, par_runs, leaf_of, running, parts_run, arms_run}
-use Rattle.cx_lockstep.proofs.ArmLaws as arm_laws
+use Rattle.cx_text.proofs.BoolLaws.{neither_first, neither_second}
 use Rattle.cx_control.specs.Codings.{at_fine}
 use Rattle.cx_control.specs.StatementCodings.{LeafCodings}
 use Rattle.cx_control.specs.Spots.{Spot, Cell, Holds, Kept, spots_of, reads_spot}
@@ -287,10 +287,10 @@ module _ (i : Instance) (children : ℕ → Coded) (codings : LeafCodings (leaf_
       par_agree s ss first later apart p run goes clean = (
         at_agrees s first (left_of p) (λ r j. run r (in_left (at_control (running (leaf_machines i children) s) (left_of p)) (at_control (arms_run (leaf_machines i children) ss) (right_of p)) r j))
             (left_arm s ss (at_control (goes_at s) (left_of p)) (at_control (arms_go ss) (right_of p)) apart.0 (at_right ss (right_of p)) goes)
-            (arm_laws.or_left (faults (machine_of (leaf_machines i children) s) (left_of p) seen) (faults (arms_machine (leaf_machines i children) ss) (right_of p) seen) clean),
+            (neither_first (faults (machine_of (leaf_machines i children) s) (left_of p) seen) (faults (arms_machine (leaf_machines i children) ss) (right_of p) seen) clean),
         rest_agree ss later (right_of p) (λ r j. run r (in_right (at_control (running (leaf_machines i children) s) (left_of p)) (at_control (arms_run (leaf_machines i children) ss) (right_of p)) r j))
             (right_arms s ss (at_control (goes_at s) (left_of p)) (at_control (arms_go ss) (right_of p)) apart.0 (at_left s (left_of p)) (at_right ss (right_of p)) goes)
-            (arm_laws.or_right (faults (machine_of (leaf_machines i children) s) (left_of p) seen) (faults (arms_machine (leaf_machines i children) ss) (right_of p) seen) clean),
+            (neither_second (faults (machine_of (leaf_machines i children) s) (left_of p) seen) (faults (arms_machine (leaf_machines i children) ss) (right_of p) seen) clean),
       )
 
       mutual

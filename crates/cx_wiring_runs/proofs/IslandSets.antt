@@ -1,8 +1,8 @@
 -- The groups of an island that are active in one of its cycles may be active together, whatever its samples are. So nothing leads in a
 -- circle under them.
-use Rattle.std.proofs.Common.{◌≡◌, ◌⊎◌, inl, inr, ℕ, suc, ◌+◌, ◌-◌, ◌%◌, Bool, true, false, if◌then◌else◌, List, [], ◌∷◌, ◌++◌, Option, Some, None, refl, sym, ap, subst}
+use Rattle.std.proofs.Common.{◌≡◌, ◌⊎◌, inl, inr, ℕ, suc, ◌+◌, ◌-◌, ◌%◌, Bool, true, false, if◌then◌else◌, List, [], ◌++◌, Option, Some, None, refl, sym, ap, subst}
 use Rattle.std.proofs.Math.Path.{fun_ext}
-use Rattle.std.specs.Prelude.{nat_eq, nat_lt}
+use Rattle.std.specs.Prelude.{nat_lt}
 use Rattle.cx_text.specs.declared.places.Place.{Place}
 use Rattle.cx_meaning.specs.Designs.{PlainComponent, PlainForm, Empty, Enable, Seq, Par, If, While, Repeat, StaticSeq, StaticPar, StaticIf, StaticRepeat, Timed, PlainStatement, Placed, PlainStatements, no_statements, a_statement, list_of}
 use Rattle.cx_meaning.specs.Active.{Active, Entry, nothing, entries, offset_in}
@@ -12,19 +12,11 @@ use Rattle.cx_laws.specs.Positions.{entry_at, no_entry}
 use Rattle.cx_laws.specs.Samples.{Samples, ifs_of, form_by, statement_by, while_by, parts_by, arms_by, active_by}
 use Rattle.cx_meaning.specs.Control.{groups_of}
 use Rattle.cx_control.proofs.TogetherLemmas.{together_groups}
-use Rattle.cx_control.specs.Together.{or_else, union, IsTogether, at_rest, at_offset, in_static_seq, in_static_par, in_static_then, in_static_else, in_static_repeat, AreTogether, no_arm, an_arm}
-
--- entries of two lists
-offset_both : (xs ys : List Entry) (g : ℕ) → offset_in (xs ++ ys) g ≡ or_else (offset_in xs g) (offset_in ys g)
-offset_both [] ys g = refl
-offset_both (x ∷ xs) ys g = by (nat_eq x.group g) (offset_both xs ys g)
-  where
-    by : (b : Bool) → offset_in (xs ++ ys) g ≡ or_else (offset_in xs g) (offset_in ys g) → (if b then Some x.offset else offset_in (xs ++ ys) g) ≡ or_else (if b then Some x.offset else offset_in xs g) (offset_in ys g)
-    by true later = refl
-    by false later = later
+use Rattle.cx_control.specs.Together.{union, IsTogether, at_rest, at_offset, in_static_seq, in_static_par, in_static_then, in_static_else, in_static_repeat, AreTogether, no_arm, an_arm}
+use Rattle.cx_meaning.proofs.ActiveLemmas.{offset-both}
 
 entries_both : (xs ys : List Entry) → union (entries xs) (entries ys) ≡ entries (xs ++ ys)
-entries_both xs ys = ap (λ (f : ℕ → Option ℕ). record { offset = f; done_cell = None }) (fun_ext (λ g. sym (offset_both xs ys g)))
+entries_both xs ys = ap (λ (f : ℕ → Option ℕ). record { offset = f; done_cell = None }) (fun_ext (λ g. sym (offset-both xs ys g)))
 
 module _ (part : PlainComponent) (kept : Samples) where
   abbrev by : PlainForm → ℕ → ℕ → List Entry

@@ -18,10 +18,9 @@ use Rattle.cx_meaning.specs.Calls.{called, captures}
 use Rattle.cx_rules.specs.Ports.{width_of}
 use Rattle.cx_rules.specs.Footprints.{Reads, driven}
 use Rattle.cx_rules.proofs.FoundLemmas.{seen_found}
-use Rattle.cx_rules.proofs.ForeignLemmas.{assigns_drive_in}
+use Rattle.cx_rules.proofs.ForeignLemmas.{assigns_drive_in, OwnerOf, continuous, of_group, owner_of}
 use Rattle.cx_control.specs.Apart.{IsApart}
 use Rattle.cx_control.specs.Flows.{Values, Reaches, zero_of, is_set, cell_flow, Solves as FlowSolves}
-use Rattle.cx_control.proofs.InstanceLemmas.{OwnerOf, continuous, of_group, owner_of}
 use Rattle.cx_lockstep.specs.Worlds.{Machine, is_done}
 use Rattle.cx_lockstep.specs.Statements.{LeafMachines}
 use Rattle.cx_lockstep.specs.Running.{AGroup}

@@ -27,11 +27,10 @@ use Rattle.cx_meaning.specs.Calls.{hole_turn, called, captures}
 use Rattle.cx_rules.specs.Items.{Dynamic, is_comb}
 use Rattle.cx_rules.specs.Ports.{width_of}
 use Rattle.cx_rules.specs.Footprints.{Reads, driven}
-use Rattle.cx_rules.proofs.ForeignLemmas.{assigns_drive_in}
+use Rattle.cx_rules.proofs.ForeignLemmas.{assigns_drive_in, OwnerOf, continuous, of_group, owner_of}
 use Rattle.cx_frames.proofs.CircleFrames.{capture_acyclic}
 use Rattle.cx_control.specs.Apart.{IsApart}
 use Rattle.cx_control.specs.Flows.{Values, zero_of, first_on, Solves as FlowSolves}
-use Rattle.cx_control.proofs.InstanceLemmas.{OwnerOf, continuous, of_group, owner_of}
 use Rattle.cx_control.proofs.CellLemmas.{quiet_step}
 use Rattle.cx_lockstep.specs.Worlds.{At, Done, Machine, edge_of, is_done}
 use Rattle.cx_lockstep.specs.Statements.{LeafMachines}

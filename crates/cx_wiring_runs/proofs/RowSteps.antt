@@ -12,9 +12,8 @@ use Rattle.cx_meaning.specs.Sights.{In}
 use Rattle.cx_meaning.specs.Control.{group_drives}
 use Rattle.cx_rules.specs.Items.{is_comb}
 use Rattle.cx_rules.specs.Ports.{width_of}
-use Rattle.cx_rules.proofs.ForeignLemmas.{assigns_drive_in, acting_none}
+use Rattle.cx_rules.proofs.ForeignLemmas.{assigns_drive_in, acting_none, OwnerOf, continuous, of_group, owner_of}
 use Rattle.cx_control.specs.Flows.{Values, zero_of, first_on, side_flow, cell_flow}
-use Rattle.cx_control.proofs.InstanceLemmas.{OwnerOf, continuous, of_group, owner_of}
 use Rattle.cx_control.specs.Spots.{Cell, Kept, cells_in}
 use Rattle.cx_net.specs.NetMeaning.{NetState, NetLook, NetAround}
 use Rattle.cx_wiring.specs.PartNets.{wired_in, timers_of}

@@ -21,11 +21,11 @@ use Rattle.cx_meaning.specs.Control.{groups_of}
 use Rattle.cx_rules.specs.Ports.{declared_width, cell_width, width_of, is_source_only}
 use Rattle.cx_rules.specs.ShapeRules.{is_hole}
 use Rattle.cx_rules.specs.Circles.{IsAcyclic, AcyclicBelow}
-use Rattle.cx_rules.proofs.FoundLemmas.{seen_found}
+use Rattle.cx_rules.proofs.FoundLemmas.{seen_found, source_in}
 use Rattle.cx_rules.specs.Footprints.{AssignNames, Reads, named, Rests, Leads, Depends, at_once, by_way_of}
 use Rattle.cx_control.specs.Apart.{IsApart, of_cell}
 use Rattle.cx_control.specs.Flows.{Values, zero_of, given, side_flow, part_flow, cell_flow, flow, Solves as FlowSolves, Reaches, Undisturbed}
-use Rattle.cx_control.proofs.InstanceLemmas.{OwnerOf, continuous, of_group, owner_of, go_narrow}
+use Rattle.cx_control.proofs.InstanceLemmas.{go_narrow}
 use Rattle.cx_control.proofs.CellLemmas.{cell_step}
 use Rattle.cx_control.proofs.LeadsLemmas.{Stands, acting_stands, Inside, leads_inside, apart_assigns, apart_holes}
 use Rattle.cx_control.proofs.PortFlows.{seen_flows}
@@ -38,8 +38,8 @@ use Rattle.cx_wiring_runs.specs.Blocks.{block, Solves}
 use Rattle.cx_wiring_runs.specs.PortValues.{around_of, port_value, active_now}
 use Rattle.cx_wiring_runs.proofs.StillPorts.{Still, resting, depends_still, hole_moves, still_continuous}
 use Rattle.cx_wiring_runs.proofs.WireSolves.{wires_solve}
-use Rattle.cx_laws.proofs.SourceLemmas.{source_in}
 use Rattle.cx_meaning.proofs.ActiveLemmas.{only_self}
+use Rattle.cx_rules.proofs.ForeignLemmas.{OwnerOf, continuous, of_group, owner_of}
 
 done_bit : (b : Bool) → Value (truth_bit b) ≡ bit_of b
 done_bit true = refl

@@ -22,6 +22,8 @@ use Rattle.cx_wiring.specs.PartNets.{timer_cells, wired_in, timers_of, net_of_in
 use Rattle.cx_wiring.proofs.TimerCells.{cells-lowered_component}
 use Rattle.cx_wiring.proofs.ExternalLaws.{rows_of-lowered_component}
 use Rattle.cx_wiring_runs.specs.Blocks.{has_cell, has_cell_below}
+use Rattle.cx_meaning.proofs.SightsLaws.{in_at}
+use Rattle.cx_rules.proofs.SizesLemmas.{rows-both}
 
 -- A RESET leaves a start that was loaded
 pub with_own : (words : List ℕ) (s : CellState) → with_words (cell_states.words_of (with_words words s)) s ≡ with_words words s
@@ -52,13 +54,6 @@ reset_loaded (e ∷ es) (w ∷ ws) c s = by (just e c) (reset_loaded es ws c s)
     by false later = later
 
 -- EXTERNAL CELLS have one number in a component and in its net
-rows_split : (xs ys : List PlainCell) → rows_of (xs ++ ys) ≡ rows_of xs ++ rows_of ys
-rows_split [] ys = refl
-rows_split (x ∷ xs) ys = ap (if_external x.external x) (rows_split xs ys) ∙ one x.external
-  where
-    one : (b : Bool) → if_external b x (rows_of xs ++ rows_of ys) ≡ if_external b x (rows_of xs) ++ rows_of ys
-    one true = refl
-    one false = refl
 
 none_behind : (xs ys : List PlainRow) → xs ++ ys ≡ xs → ys ≡ []
 none_behind xs [] e = refl
@@ -86,7 +81,7 @@ module _ (d : PlainDesign) (numbers : Instance → NetState → ℕ → ℕ) whe
       externals_numbered (order (lowered_of d)) (lowered_component part).part.cells 0
       ∙ ap (externals_from 0) (cells-lowered_component part)
       ∙ externals_before part.cells (timer_cells part)
-      (none_behind (rows_of part.cells) (rows_of (timer_cells part)) (sym (rows_split part.cells (timer_cells part)) ∙ ap rows_of (sym (cells-lowered_component part)) ∙ rows_of-lowered_component part)) 0
+      (none_behind (rows_of part.cells) (rows_of (timer_cells part)) (sym (rows-both part.cells (timer_cells part)) ∙ ap rows_of (sym (cells-lowered_component part)) ∙ rows_of-lowered_component part)) 0
 
   abbrev net_at : Instance → NetInstance
   net_at = net_of_instance (wired_in d) timers_of numbers
@@ -167,11 +162,6 @@ memory_there child (x ∷ xs) (suc n) cell primitive e is = by x.kind ∙ memory
     by (OfPrimitive p) = refl
     by (OfComponent k) = refl
 
-member : {A : Type 0} (xs : List A) (n : ℕ) (x : A) → slice_get xs n ≡ Some x → In xs x
-member {A} [] n x e = absurd cc
-member {A} (y ∷ ys) zero x e = let same : y ≡ x = cc in inl same
-member {A} (y ∷ ys) (suc n) x e = inr (member ys n x e)
-
 pub external_there : (d : PlainDesign) → IsDesign d → (c : ℕ) → In (externals_from 0 (PlainComponent.cells (part_of (tree_of d)))) c → has_cell (tree_of d) (c ∷ []) ≡ true
 external_there d design = by (length d.components) design.main_there
   where
@@ -186,5 +176,5 @@ external_there d design = by (length d.components) design.main_there
         let at : c ≡ e.0 = e.1 ∙ omega arith in
         let cell = e.2.0 in
         let stands = e.2.1 in
-        let p = of_kind cell.kind (((design.components d.main design.main_there).cells cell (member (component_at d d.main).cells e.0 cell stands)).external e.2.2) in
+        let p = of_kind cell.kind (((design.components d.main design.main_there).cells cell (in_at (component_at d d.main).cells e.0 cell stands)).external e.2.2) in
         ap (λ k. has_cell_below (cells_for (tree_within d n) (component_at d d.main).cells) k []) at ∙ memory_there (tree_within d n) (component_at d d.main).cells e.0 cell p.0 stands p.1

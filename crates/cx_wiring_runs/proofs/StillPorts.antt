@@ -14,8 +14,8 @@ use Rattle.cx_meaning.specs.Sights.{In, PartPort, AnOutput, ItsDone, part_port}
 use Rattle.cx_rules.specs.Ports.{is_part_output, is_cell_output, is_source_only}
 use Rattle.cx_rules.specs.ShapeRules.{is_hole}
 use Rattle.cx_rules.specs.Footprints.{AssignNames, Rests, literal_rests, input_rests, registered_rests, output_rests, done_rests, combinational_rests, SideLeads, PartLeads, CellLeads, Leads, Depends, at_once, by_way_of}
-use Rattle.cx_control.proofs.InstanceLemmas.{OwnerOf, continuous, of_group, owner_of}
 use Rattle.cx_control.proofs.LeadsLemmas.{Stands, acting_stands}
+use Rattle.cx_rules.proofs.ForeignLemmas.{OwnerOf, continuous, of_group, owner_of}
 
 -- it rests on state, or is an input that an output which rests on state reads
 pub data Still (i : Instance) : PortRef → Type 0 where

@@ -8,7 +8,7 @@ use Rattle.cx_meaning.specs.Sights.{In}
 use Rattle.cx_rules.specs.Footprints.{Leads, Depends, at_once}
 use Rattle.cx_rules.specs.Circles.{IsAcyclic}
 use Rattle.cx_rules.proofs.Finite.{Distinct, distinct_few}
-use Rattle.cx_control.proofs.HeldLemmas.{depends_then}
+use Rattle.cx_rules.proofs.CircleLemmas.{depends_then}
 
 module _ (i : Instance) (act : Active) (acyclic : IsAcyclic i act) (ports : List PortRef) (P : PortRef → Type 0) (step : (p : PortRef) → In ports p → ((q : PortRef) → In ports q → Leads i act p q → P q) → P p) where
   -- so many further steps are enough where more ports than all would have been passed: each of them depends on this one

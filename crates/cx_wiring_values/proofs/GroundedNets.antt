@@ -27,8 +27,8 @@ use Rattle.cx_wiring_values.proofs.SettledLooks.{IsSettled, settled_look}
 use Rattle.cx_wiring_values.proofs.CellForms.{TableTree, net_table, forms_come}
 use Rattle.cx_wiring_values.proofs.GroundTree.{Ruled, Down, tree_known}
 use Rattle.cx_meaning.proofs.DesignsLemmas.{same_part}
-use Rattle.cx_laws.proofs.SourceLemmas.{source_in}
 use Rattle.cx_rules.proofs.CirclesLemmas.{own_acyclic}
+use Rattle.cx_rules.proofs.FoundLemmas.{source_in}
 
 module _ (d : PlainDesign) (design : IsDesign d) (flat : IsFlat d) (accepted : IsAccepted d) where
   -- nothing leads in a circle under what control may have active at once

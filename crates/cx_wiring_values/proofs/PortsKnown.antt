@@ -20,8 +20,7 @@ use Rattle.cx_meaning.specs.Sights.{In, PartPort, Go, AnInput, AnOutput, ItsDone
 use Rattle.cx_rules.specs.Footprints.{AssignNames, Mentions, Rests, literal_rests, input_rests, registered_rests, output_rests, done_rests, combinational_rests, SideLeads, PartLeads, CellLeads, Leads, Depends, at_once, by_way_of}
 use Rattle.cx_rules.specs.Circles.{IsAcyclic}
 use Rattle.cx_rules.specs.Wellformed.{IsThere, port_count}
-use Rattle.cx_rules.proofs.FoundLemmas.{same_is}
-use Rattle.cx_control.proofs.InstanceLemmas.{OwnerOf, continuous, of_group, owner_of}
+use Rattle.cx_rules.proofs.FoundLemmas.{same_is, source_in}
 use Rattle.cx_control.proofs.UnionLemmas.{stands_acting}
 use Rattle.cx_net.specs.Nets.{PlainNetExpr, OfPort, OfWire, ToPort, ToWire, PlainNetDriver, PlainNetComponent}
 use Rattle.cx_net.specs.NetTree.{NetCells, ARow, AChild, net_part, net_cell_at}
@@ -52,7 +51,7 @@ use Rattle.cx_wiring_values.proofs.NodeReads.{target_known, wire_takes}
 use Rattle.cx_wiring_values.proofs.AssignsKnown.{AssignsRead, assigns_read, LookFed, GoesKnown, NamesKnown, assigns_fed}
 use Rattle.cx_text.proofs.ListLaws.{one_of, behind}
 use Rattle.cx_meaning.proofs.SightsLaws.{in_left, in_right}
-use Rattle.cx_laws.proofs.SourceLemmas.{source_in}
+use Rattle.cx_rules.proofs.ForeignLemmas.{OwnerOf, continuous, of_group, owner_of}
 
 -- CELLS OF THE NET are those of the instance, and timers behind them
 module _ (W : PlainComponent → PlainNetComponent) (T : PlainComponent → List Row) (N : Instance → NetState → ℕ → ℕ) where

@@ -17,6 +17,7 @@ use Rattle.cx_prim.proofs.TableCases.{OfEachKind, of_row}
 use Rattle.cx_meaning.specs.Rows.{side_from, side_of}
 use Rattle.cx_text.proofs.BoolLaws.{and_right}
 use Rattle.cx_text.proofs.NumberLaws.{never}
+use Rattle.cx_meaning.proofs.RowsLemmas.{named_plain}
 
 abbrev AreNarrow : List PortRow → Type 0
 AreNarrow [] = Unit {0}
@@ -98,12 +99,6 @@ named_narrow : (list : List PortName) (widths : List ℕ) (rest : List PortRow) 
 named_narrow [] widths rest h = h
 named_narrow (name ∷ list) [] rest h = h
 named_narrow (name ∷ list) (w ∷ widths) rest h = ((λ e. absurd (plain_apart e)), named_narrow list widths rest h)
-
-named_plain : (list : List PortName) (widths : List ℕ) (rest : List PortRow) (m : ℕ) → m < length list → m < length widths → side_from (ports_named list widths ++ rest) m ≡ sides.Plain
-named_plain [] widths rest m less few = absurd (omega arith)
-named_plain (name ∷ list) [] rest m less few = absurd (omega arith)
-named_plain (name ∷ list) (w ∷ widths) rest zero less few = refl
-named_plain (name ∷ list) (w ∷ widths) rest (suc m) less few = named_plain list widths rest m (omega arith) (omega arith)
 
 memory_has : (w : ℕ) (sizes address_widths : List ℕ) → IsLayout w sizes address_widths → HasRowPorts (memory_row w sizes address_widths)
 memory_has w sizes address_widths layout = record {

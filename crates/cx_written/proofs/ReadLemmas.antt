@@ -1,5 +1,5 @@
 -- WHAT IS WRITTEN IS READ as the tree that was printed, behind lines of comments.
-use Rattle.std.proofs.Common.{◌≡◌, ℕ, false, List, [], ◌∷◌, refl, sym, ◌∙◌, subst, append-nil}
+use Rattle.std.proofs.Common.{◌≡◌, ℕ, false, List, [], ◌∷◌, sym, ◌∙◌, subst, append-nil}
 use Rattle.std.specs.List.{AllByRecursion}
 use Rattle.cx_text.specs.declared.places.Place.{Place}
 use Rattle.cx_text.specs.Places.{start, after_bytes}
@@ -25,6 +25,7 @@ use Rattle.cx_written.specs.Written.{IsWritten, IsReadAs}
 use Rattle.cx_written.proofs.CommentLemmas.{shifted, behind_comments}
 use Rattle.cx_written.proofs.RisingLemmas.{text_in_order}
 use Rattle.cx_written.proofs.SameTrees.{same_design, same_accepted}
+use Rattle.cx_print.proofs.PrintLemmas.{no_tokens}
 
 -- some of what rises rises
 kept_of : (P : Place → Type 0) {some all : List Place} → AreOf some all → AllByRecursion P all → AllByRecursion P some
@@ -43,9 +44,6 @@ stand_in_order (part ∷ rest) [] s h = absurd s
 stand_in_order (part ∷ rest) (old ∷ more) s h = (kept_rise s.0 h.0, stand_in_order rest more s.1 h.1)
 
 -- TOKENS of the kinds of a printed tree are read as that tree
-no_tokens : (ts : List Token) → kinds_of ts ≡ [] → ts ≡ []
-no_tokens [] e = refl
-no_tokens (t ∷ ts) e = absurd cc
 
 record Read (tree : PlainTree) (tokens : List Token) : Type 0 where
   pub again : PlainTree

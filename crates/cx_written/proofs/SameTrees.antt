@@ -1,5 +1,5 @@
 -- TREES THAT ARE THE SAME apart from places: their designs are, and one is accepted where the other is.
-use Rattle.std.proofs.Common.{◌≡◌, ℕ, zero, suc, Bool, true, false, List, [], ◌∷◌, codes, map, get_or, Option, Some, None, length, refl, sym, ap, ◌∙◌, if◌then◌else◌}
+use Rattle.std.proofs.Common.{◌≡◌, ℕ, zero, suc, List, [], ◌∷◌, codes, map, get_or, Option, Some, None, length, refl, sym, ap, ◌∙◌}
 use Rattle.std.specs.List.{AllByRecursion}
 use Rattle.cx_text.proofs.ListLaws.{length-map}
 use Rattle.cx_text.specs.declared.diagnostics.Diagnostic.{Diagnostic}
@@ -19,6 +19,7 @@ use Rattle.cx_written.proofs.BareControl.{inputs-bare, outputs-bare, cells-bare,
 use Rattle.cx_written.proofs.BareItems.{bare_break}
 use Rattle.cx_written.proofs.BareTrees.{name_breaks-bare}
 use Rattle.cx_written.proofs.WrittenOrder.{bare_order, order-bare}
+use Rattle.cx_names.proofs.Base.{first_none}
 
 -- DESIGNS
 same_part : (old new : ast.PlainTree) (part other : ast.PlainComponent) → without_places old ≡ without_places new → bare_component part ≡ bare_component other → Rise (places_in part) → Rise (places_in other)
@@ -63,17 +64,6 @@ same_design old new e h i =
     }
 
 -- NAMES: there is no first break where there is none
-no_first : (ds : List Diagnostic) → first_break ds ≡ None → ds ≡ []
-no_first [] e = refl
-no_first (d ∷ ds) e = absurd (by (first_break ds) e)
-  where
-    chosen : (b : Bool) (x y : Diagnostic) → (if b then Some x else Some y) ≡ None → ⊥
-    chosen true x y f = cc
-    chosen false x y f = cc
-
-    by : (o : Option Diagnostic) → earlier d o ≡ None → ⊥
-    by None f = cc
-    by (Some x) f = chosen (comes_before (key_of x) (key_of d)) x d f
 
 none_mapped : {A B : Type 0} (f : A → B) (xs : List A) → map f xs ≡ [] → xs ≡ []
 none_mapped f [] e = refl
@@ -81,7 +71,7 @@ none_mapped f (x ∷ xs) e = absurd cc
 
 same_names : (old new : ast.PlainTree) → without_places old ≡ without_places new → names_break old ≡ None → names_break new ≡ None
 same_names old new e h =
-    let none : map bare_break (name_breaks new) ≡ [] = name_breaks-bare new ∙ ap name_breaks (sym e) ∙ sym (name_breaks-bare old) ∙ ap (map bare_break) (no_first (name_breaks old) h) in
+    let none : map bare_break (name_breaks new) ≡ [] = name_breaks-bare new ∙ ap name_breaks (sym e) ∙ sym (name_breaks-bare old) ∙ ap (map bare_break) (first_none (name_breaks old) h) in
     ap first_break (none_mapped bare_break (name_breaks new) none)
 
 -- ACCEPTED where the other is, and its design with it

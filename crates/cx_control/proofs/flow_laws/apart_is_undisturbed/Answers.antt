@@ -1,8 +1,8 @@
 use Rattle.cx_meaning.specs.Instances.{tree_of, instance_at}
 use Rattle.cx_control.proofs.InstanceLemmas.{instance_ports, instance_outputs}
 use Rattle.cx_control.proofs.LeadsLemmas.{apart_assigns, apart_holes}
-use Rattle.cx_laws.proofs.SourceLemmas.{source_in}
 use Rattle.cx_control.proofs.flow_laws.apart_is_undisturbed.Goals as goal
+use Rattle.cx_rules.proofs.FoundLemmas.{source_in}
 
 pub returns-clause-assigns : goal.returns-clause-assigns
 returns-clause-assigns c = λ d path s act go p cell q o design accepted apart of reaches stands target.

@@ -3,9 +3,9 @@ use Rattle.cx_rules.specs.Items.{Dynamic}
 use Rattle.cx_rules.proofs.CircleLemmas.{instance_acyclic, instance_group}
 use Rattle.cx_control.proofs.InstanceLemmas.{instance_ports, instance_outputs}
 use Rattle.cx_control.proofs.TogetherLemmas.{together_acyclic, groups_acyclic, instance_unshared}
-use Rattle.cx_laws.proofs.SourceLemmas.{source_in}
 use Rattle.cx_rules.proofs.CirclesLemmas.{own_acyclic}
 use Rattle.cx_control.proofs.flow_laws.together_is_acyclic.Goals as goal
+use Rattle.cx_rules.proofs.FoundLemmas.{source_in}
 
 pub returns : goal.returns
 returns c = λ d path act design accepted together.

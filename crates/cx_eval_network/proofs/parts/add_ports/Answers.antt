@@ -1,8 +1,9 @@
 use Rattle.std.proofs.Common.{◌≡◌, ◌+◌, Some, None, sym, ap, ◌∙◌, subst, arith}
 use Rattle.cx_design_leads.specs.Nodes.{below, node_of}
 use Rattle.cx_eval_network.specs.Parts.{ArePorts}
-use Rattle.cx_eval_network.proofs.PartLemmas.{is_below, not_below, ports_more}
+use Rattle.cx_eval_network.proofs.PartLemmas.{not_below, ports_more}
 use Rattle.cx_eval_network.proofs.parts.add_ports.Goals as goal
+use Rattle.cx_design_leads.proofs.NodeLemmas.{is_below}
 
 pub returns-in-None : goal.returns-in-None
 returns-in-None c = record {

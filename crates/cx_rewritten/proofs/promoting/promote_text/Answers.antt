@@ -2,8 +2,8 @@ use Rattle.cx_ast.specs.PlainTree.{plain_tree}
 use Rattle.cx_design.specs.PlainDesigns.{plain_design}
 use Rattle.cx_names.proofs.TargetLemmas.{targets_in_text}
 use Rattle.cx_print.proofs.FileGiven.{tree_of_text}
-use Rattle.cx_rewritten.proofs.AlikeLemmas.{tree_design}
 use Rattle.cx_rewritten.proofs.promoting.promote_text.Goals as goal
+use Rattle.cx_promote.proofs.PromotedLemmas.{tree_design}
 
 pub written-requires : goal.written-requires
 written-requires c =

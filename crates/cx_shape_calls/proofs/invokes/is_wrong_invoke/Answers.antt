@@ -4,13 +4,14 @@ use Rattle.cx_rules.specs.Ports.{component_of}
 use Rattle.cx_design.specs.PlainForms.{plain_assigns, plain_invoke}
 use Rattle.cx_design.specs.PlainDesigns.{plain_design}
 use Rattle.cx_shape_calls.specs.StaticInvokes.{input_count, is_restless, some_unbound}
-use Rattle.cx_shape_calls.proofs.InvokeLemmas.{marked_wrong, marked_late, no_latency}
+use Rattle.cx_shape_calls.proofs.InvokeLemmas.{marked_wrong, marked_late}
 use Rattle.cx_shape_calls.proofs.invokes.is_wrong_invoke.Goals as goal
+use Rattle.cx_text.proofs.OptionLaws.{none_of}
 
 pub returns-then-is_none : goal.returns-then-is_none
 returns-then-is_none c =
     let w = plain_invoke c.args.invoke.now in
-    record { value = marked_wrong (plain_design c.args.design.now) c.args.number w (inl (no_latency w.latency (c.is_none.ensures ∙ ap not c.if-is_none.true))) }
+    record { value = marked_wrong (plain_design c.args.design.now) c.args.number w (inl (none_of w.latency (c.is_none.ensures ∙ ap not c.if-is_none.true))) }
 
 pub returns-then-unbound : goal.returns-then-unbound
 returns-then-unbound c =

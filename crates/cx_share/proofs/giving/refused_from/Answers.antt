@@ -3,8 +3,9 @@ use Rattle.std.proofs.lemmas.Bool.{cases_lt}
 use Rattle.std.proofs.lemmas.List.{length-map}
 use Rattle.cx_share.specs.declared.giving.Kept.{Kept}
 use Rattle.cx_share.specs.Givings.{near_of}
-use Rattle.cx_share.proofs.RefusedLemmas.{near_got, within_and}
+use Rattle.cx_share.proofs.RefusedLemmas.{near_got}
 use Rattle.cx_share.proofs.giving.refused_from.Goals as goal
+use Rattle.cx_text.proofs.BoolLaws.{and_both}
 
 pub loop-number-init : goal.loop-number-init
 loop-number-init c =
@@ -36,7 +37,7 @@ loop-number-preserved c =
     record {
       wide = c.keep.ensures.count ∙ c.loop-number.invariant.wide;
       within = λ k low less x e.
-          let both = within_and (get_or c.loop-number.near x false) (get_or (get_or kept number c.index-kept-number.result).near x false) (sym (c.keep.ensures.value x) ∙ e) in
+          let both = and_both (get_or c.loop-number.near x false) (get_or (get_or kept number c.index-kept-number.result).near x false) (sym (c.keep.ensures.value x) ∙ e) in
           ⊎_elim (λ h. c.loop-number.invariant.within k low h x both.0)
           (λ h.
           let same : number ≡ k = omega (arith, h, less) in
