@@ -106,6 +106,25 @@ class Lane:
         return self.stretches.within(begin, end)
 
 
+@dataclasses.dataclass
+class Inner:
+    """An instance of a static component, which runs as copies of its groups where it is invoked: by the name of each its copies, with their stretches."""
+
+    path: str
+    copies: dict = dataclasses.field(default_factory=dict)
+    par = None
+
+    def told(self):
+        return self.path
+
+    def has_run(self):
+        return any(one for found in self.copies.values() for _, one in found)
+
+    def active(self, begin, end):
+        """Of each group when it is active between two turns, by any copy."""
+        return {name: [it for _, one in found for it in one.within(begin, end)] for name, found in self.copies.items()}
+
+
 class Net:
     """A wire of an instance that is looked at: that control is `at` a statement, that a group does `go`, that a `par` comes to its `end`."""
 
@@ -216,6 +235,17 @@ class Activity:
     def active(self, path, name, begin, end):
         """When a group of an instance is active, between two turns."""
         return self.groups.get((path, name), Stretches()).within(begin, end)
+
+    def inner(self, lane):
+        """The instances of static components that are invoked in that of a lane, in the order of their cells."""
+        found = {}
+        for group in lane.part.groups.values() if lane.par is None else ():
+            if group.copied and group.call is None:
+                path = f'{lane.path}.{group.copied.cell}' if lane.path else group.copied.cell
+                one = found.setdefault(path, Inner(path))
+                one.copies.setdefault(group.copied.name, []).append((group, self.groups.get((lane.path, group.name), Stretches())))
+        order = {cell.name.rpartition('.')[0]: at for at, cell in reversed(list(enumerate(lane.part.cells)))}
+        return sorted(found.values(), key=lambda it: order.get(it.path.removeprefix(f'{lane.path}.'), len(order)))
 
     def arms(self, lane, par):
         return [it for it in self.lanes if it.par is par and it.path == lane.path]

@@ -153,7 +153,7 @@ class Cell:
 
 @dataclasses.dataclass
 class Group:
-    """`length` is that of a static group, else None; `call` is the invoke that it stands for, else None."""
+    """`length` is that of a static group, else None; `call` is the invoke that it stands for, else None; `copied` what a group of a flat design is a copy of (tools/flattening.py)."""
 
     name: str
     comb: bool
@@ -164,6 +164,7 @@ class Group:
     first: Token
     last: Token
     call: object = None
+    copied: object = None
 
     @property
     def line(self):

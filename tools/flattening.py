@@ -4,6 +4,7 @@ Its groups have names of their own here, for people alone: `c.p` is the copy of 
 """
 import copy
 import dataclasses
+from typing import NamedTuple
 
 import design as designs
 from design import Assign, Cell, Component, Group, Guard, Operand, Statement
@@ -25,6 +26,14 @@ def mapped(assign, move):
 
 def wire(operand, cell, output, port):
     return Operand(operand.first, operand.last, cell=f'{cell}.{output}.', port=port)
+
+
+class Copied(NamedTuple):
+    """What a group is a copy of: the group of that name of the static cell at that path, for the invokes that lead to it, the outermost first."""
+
+    cell: str
+    name: str
+    invokes: tuple
 
 
 class Flat:
@@ -77,8 +86,9 @@ class Flat:
             enabled = {inner.name for inner in kid.control.all() if inner.kind == 'enable'}
             for name, group in kid.groups.items():
                 if name in enabled:
-                    copied = f'{it.called}.{name}'
-                    yield copied, dataclasses.replace(group, name=copied, assigns=[mapped(assign, move) for assign in group.assigns])
+                    copied, inner = f'{it.called}.{name}', group.copied
+                    source = Copied(f'{it.name}.{inner.cell}', inner.name, (it, *inner.invokes)) if inner else Copied(it.name, name, (it,))
+                    yield copied, dataclasses.replace(group, name=copied, copied=source, assigns=[mapped(assign, move) for assign in group.assigns])
 
     def statement(self, it):
         if it.kind == 'invoke' and it.name in self.kids:

@@ -2,6 +2,8 @@
 import html
 import re
 
+import activity
+
 WIDTH, ROW, LETTER = 1240, 20, 6.6
 LEFT, RIGHT = 250, 10
 MOST_LANES, MOST_NAMES, MOST_TALL = 150, 14, 24
@@ -18,8 +20,8 @@ def save(path, text):
 
 
 def stem(name):
-    """A name without the number behind it: groups that are copies of one another have one colour."""
-    return re.sub(r'\d+$', '', name)
+    """A name without the number behind it, and without the static cells before it: groups that are copies of one another have one colour."""
+    return re.sub(r'\d+$', '', re.sub(r'[^&]*\.', ' ', name).strip())
 
 
 class Colours:
@@ -107,6 +109,10 @@ def ticks(begin, end):
 
 def pieces(run, lane, begin, end):
     """What goes on in a lane: the first turn, the one behind the last, the name, what it is, and the line."""
+    if isinstance(lane, activity.Inner):
+        lines = {name: found[0][0].line for name, found in lane.copies.items()}
+        yield from ((first, last, ' & '.join(now), 'group', lines[now[0]]) for first, last, now in changes_of(lane.active(begin, end), begin, end) if now)
+        return
     for it in lane.within(begin, end):
         statement, told = it.of, it.of.told()
         if statement.static:
@@ -132,16 +138,21 @@ def island(run, lane, stretch):
 def changes(run, lane, stretch):
     """Of an island, from change to change, the names of the groups that are active."""
     active = {name: run.active(lane.path, name, stretch.begin, stretch.end) for name in sorted({it.name for it in stretch.of.all() if it.kind == 'enable'})}
-    edges = sorted({(stretch.begin, '', 0), *((turn, name, step) for name, found in active.items() for it in found for turn, step in ((it.begin, 1), (it.end, -1)))})
-    now, at = set(), stretch.begin
+    yield from changes_of(active, stretch.begin, stretch.end)
+
+
+def changes_of(active, begin, end):
+    """From change to change between two turns, the names of those that are active, of stretches by names."""
+    edges = sorted({(begin, '', 0), *((turn, name, step) for name, found in active.items() for it in found for turn, step in ((it.begin, 1), (it.end, -1)))})
+    now, at = set(), begin
     for turn, name, step in edges:
         if turn > at:
             yield at, turn, sorted(now)
             at = turn
         if step:
             (now.add if step > 0 else now.discard)(name)
-    if at < stretch.end:
-        yield at, stretch.end, sorted(now)
+    if at < end:
+        yield at, end, sorted(now)
 
 
 def shares_of(found, begin, scale, size):
@@ -175,6 +186,7 @@ def in_order(run):
         for lane in run.lanes:
             if lane.around is around and lane.stretches:
                 yield lane, depth
+                yield from ((one, depth + 1 + one.path.removeprefix(f'{lane.path}.').count('.')) for one in run.inner(lane) if one.has_run())
                 yield from below(lane, depth + 1)
     yield from below(None, 0)
 

@@ -5,14 +5,15 @@
 
 DESIGN and DATA are the files that `interp` takes, and TURNS its budget (1,000,000 if left out). Printed are
 
-  - how many turns each group is active, the most first, with its part of all turns, its instance and its line; a group that is never active too;
+  - how many turns each group is active, the most first, with its part of all turns, its instance and its line; a group that is never active too; below a
+    group of a static component that is invoked more than once each invoke, with the turns that were seen of it, and its line;
   - of each `par` how long its arms take, which is the slowest, and how long the others wait for it;
   - on what the turns pass: on the groups, on the turns in which a group is seen to be done, on tests, on idle turns, and on calls, each turn once. While a
     `par` runs that is its arm that ends last.
 
 Counts are those of `calyx_cli profile`, or of a file of what it wrote; where the program does not know the command they are counted here, and that is told.
 The pictures are SVG, which any browser shows: `--flame` has a bar for each statement, as wide as the turns that pass in it, above the statement that it stands
-in; `--timeline` has a lane for each arm and each instance over the turns, of all turns or from one to another. A name is shown where the mouse is.
+in; `--timeline` has a lane for each arm and each instance over the turns, of all turns or from one to another; of a static component's instance by its groups. A name is shown where the mouse is.
 """
 import re
 import sys
@@ -73,7 +74,9 @@ def seen(run):
     for (path, name), stretches in run.groups.items():
         part = next(lane.part for lane in run.lanes if lane.path == path)
         if not part.groups[name].comb and part.groups[name].call is None and name not in call_groups(run.design, part):
-            found[f'{path}.{name}' if path else name] = sum(it.turns for it in stretches)
+            whole = f'{part.groups[name].copied.cell}.{part.groups[name].copied.name}' if part.groups[name].copied else name
+            whole = f'{path}.{whole}' if path else whole
+            found[whole] = found.get(whole, 0) + sum(it.turns for it in stretches)
     return run.turns, found
 
 
@@ -92,17 +95,32 @@ def table(titles, rows):
         yield '  '.join(word.rjust(width) if to_right else word.ljust(width) for word, width, to_right in zip(row, widths, right)).rstrip()
 
 
-def group_rows(run, turns, counts):
-    """A row for each counted group, the most active first."""
-    by_path = {lane.path: lane.part for lane in run.lanes}
-    rows = []
-    for path, count in counts.items():
+def component_at(design, path):
+    """The component of the instance at a path; None where none stands there."""
+    part = design.by_name['main']
+    for name in path.split('.') if path else ():
+        cell = part.cell(name) if part else None
+        part = design.by_name.get(cell.kind) if cell else None
+    return part
+
+
+def group_rows(design, run, turns, counts):
+    """A row for each counted group, the most active first, and behind it one for each invoke by which it runs, where there are more."""
+    inner = {one.path: one for lane in run.lanes for one in run.inner(lane)}
+    for path, count in sorted(counts.items(), key=lambda it: (-it[1], it[0])):
         instance, _, name = path.rpartition('.')
-        part = by_path.get(instance)
+        part = component_at(design, instance)
         group = part.groups.get(name) if part else None
-        rows.append((count, path, name, instance or 'main', group.line if group else '-'))
-    rows.sort(key=lambda row: (-row[0], row[1]))
-    return [(name, count, percent(count, turns), instance, line) for count, _, name, instance, line in rows]
+        yield name, count, percent(count, turns), instance or 'main', group.line if group else '-'
+        copies = inner[instance].copies.get(name, ()) if instance in inner else ()
+        for copy, stretches in copies if len(copies) > 1 else ():
+            active = sum(it.turns for it in stretches)
+            yield copy_name(copy), active, percent(active, turns), '', ','.join(str(it.line) for it in copy.copied.invokes)
+
+
+def copy_name(copy):
+    """The invokes that lead to a copy of a group, the outermost first."""
+    return '  by ' + ' / '.join(designs.call_name(it) for it in copy.copied.invokes)
 
 
 def percent(part, whole):
@@ -222,11 +240,11 @@ def enclosing(root, statement):
     return [f'{it.told()} (line {it.line})' for it in down(root)]
 
 
-def report(run, turns, counts):
+def report(design, run, turns, counts):
     """All that is printed."""
     yield f'{turns} turns' + ('' if run.is_whole else f'; what follows was seen of the first {run.turns}')
     yield ''
-    yield from table(('group', 'active', 'of all', 'instance', 'line'), group_rows(run, turns, counts))
+    yield from table(('group', 'active', 'of all', 'instance', 'line'), group_rows(design, run, turns, counts))
     found = pars(run)
     for rounds in found:
         yield ''
@@ -249,9 +267,10 @@ def main():
     text, told = program.compiled(written)
     if text is None:
         sys.exit(told)
-    run = activity.Activity(flattening.flattened(designs.read(written)), text, given.memories(data_path, text), budget)
+    design = designs.read(written)
+    run = activity.Activity(flattening.flattened(design), text, given.memories(data_path, text), budget)
     turns, counts = read_counts(given.text_of(chosen['--counts'])) if '--counts' in chosen else counted(path, data_path, str(budget), run)
-    print('\n'.join(report(run, turns, counts)))
+    print('\n'.join(report(design, run, turns, counts)))
     if '--flame' in chosen:
         pictures.save(chosen['--flame'], pictures.flame(Passed(run).ways, run.turns))
     if '--timeline' in chosen:

@@ -10,6 +10,7 @@ from common import EXAMPLES, TOOLS, Folder, example
 
 import activity
 import design
+import flattening
 import given
 import pictures
 import profile
@@ -22,7 +23,7 @@ def seen(text, data, cycles=1000000):
     assert written, told
     with Folder(d__json=data) as folder:
         held = given.memories(os.path.join(folder, 'd.json'), written)
-    return activity.Activity(design.read(text), written, held, cycles)
+    return activity.Activity(flattening.flattened(design.read(text)), written, held, cycles)
 
 
 def store(name, cell, value):
@@ -77,6 +78,42 @@ class Arms(unittest.TestCase):
         finally:
             activity.shutil.which = kept
         self.assertEqual((rounds.turns, rounds.taken), (12, [4, 12, 8]))
+
+
+# Each invoke of `m` runs `p` one cycle and `q` two; `h` has an `m` of its own, which it invokes twice.
+TWO_LEVELS = ("component main() -> () { cells { m = low(); h = high(); x = std_reg(32); } wires { static<1> group own { x.in = 32'd1; x.write_en = 1'd1; } } control { repeat 2 { "
+              "static seq { static invoke m(x = x.out)(); own; static invoke h(x = x.out)(); static invoke m(x = x.out)(); } } } }\n"
+              'static<7> component high(x: 32) -> () { cells { m = low(); k = std_reg(32); } wires { } control { static seq { static invoke m(x = x)(); static invoke m(x = x)(y = k.in); } } }\n'
+              "static<3> component low(x: 32) -> (y: 32) { cells { r = std_reg(32); } wires { y = r.out; static<1> group p { r.in = x; r.write_en = 1'd1; } static<2> group q { r.in = %0 ? 32'd2; "
+              "r.in = %1 ? 32'd3; r.write_en = 1'd1; } group never { r.in = 32'd9; r.write_en = 1'd1; never[done] = r.done; } } control { static seq { p; q; } } }\n")
+
+
+class StaticComponents(unittest.TestCase):
+    def test_counts_are_those_of_copies(self):
+        for text, data in ((TWO_LEVELS, '{}'), (example('static_component.futil'), example('static_component.json'))):
+            with Folder(d__futil=text, d__json=data) as folder:
+                status, out, told = program.run('profile', os.path.join(folder, 'd.futil'), os.path.join(folder, 'd.json'), '1000')
+            self.assertEqual(status, 0, told)
+            turns, counts = profile.read_counts(out.decode())
+            seen_turns, seen_counts = profile.seen(seen(text, data))
+            self.assertEqual((seen_turns, seen_counts), (turns, {path: count for path, count in counts.items() if count or path in seen_counts}))
+
+    def test_rows_of_invokes(self):
+        run = seen(TWO_LEVELS, '{}')
+        rows = list(profile.group_rows(design.read(TWO_LEVELS), run, *profile.seen(run)))
+        self.assertEqual([row[:2] + row[3:] for row in rows], [
+            ('q', 8, 'h.m', 3), ('  by invoke h / invoke m', 4, '', '1,2'), ('  by invoke h / invoke m 2', 4, '', '1,2'),
+            ('q', 8, 'm', 3), ('  by invoke m', 4, '', '1'), ('  by invoke m 2', 4, '', '1'),
+            ('p', 4, 'h.m', 3), ('  by invoke h / invoke m', 2, '', '1,2'), ('  by invoke h / invoke m 2', 2, '', '1,2'),
+            ('p', 4, 'm', 3), ('  by invoke m', 2, '', '1'), ('  by invoke m 2', 2, '', '1'), ('own', 2, 'main', 1)])
+
+    def test_a_lane_for_each_instance(self):
+        run = seen(TWO_LEVELS, '{}')
+        found = {lane.told(): list(pictures.pieces(run, lane, 0, 15)) for lane, _ in pictures.in_order(run)}
+        self.assertEqual(list(found), ['main', 'm', 'h.m'])
+        self.assertEqual([it[:3] for it in found['m']], [(0, 1, 'p'), (1, 3, 'q'), (11, 12, 'p'), (12, 14, 'q')])
+        self.assertEqual([it[:3] for it in found['h.m']], [(4, 5, 'p'), (5, 7, 'q'), (7, 8, 'p'), (8, 10, 'q')])
+        self.assertEqual(pictures.stem('m 2.p & h.m.q1 & own'), 'p & q1 & own')
 
 
 class Pictures(unittest.TestCase):
