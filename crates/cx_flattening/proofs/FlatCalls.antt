@@ -197,7 +197,7 @@ module _ (part : PlainComponent) (cells : Cells) (flat : Instance) (held : Held)
   lifted More y s z stands h = ap (lift_answer e z) h
 
   -- the inputs of the call
-  inputs_alike : (s z : State) → Stands i 0 s z → inputs_of_call flat held g e z ≡ inputs_of_call i held g c s
+  pub inputs_alike : (s z : State) → Stands i 0 s z → inputs_of_call flat held g e z ≡ inputs_of_call i held g c s
   inputs_alike s z stands =
       fun_ext (λ input. ap (seen flat held (group g) z) (sym (own-kept (flat_kids cells) part c (suc input) kept))
       ∙ flat_seen i flat held (group g) (group g) [] s z (ports.Cell c (suc input)) (record {

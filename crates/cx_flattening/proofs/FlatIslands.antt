@@ -189,7 +189,7 @@ turn_then_as i flat s z (answers.Goes after) y go more h idles later =
 turn_then_as i flat s z (answers.Faults f) y go more h idles later = ap (λ u. turn_then (idle flat) z u more) h
 
 mutual
-  spots_all : (R : Spot → PortRef → Type 0) → ((x : Spot) (q : PortRef) → R x q) → (i : Instance) (first : ℕ) (at : Path) → AllSpots R i first at
+  pub spots_all : (R : Spot → PortRef → Type 0) → ((x : Spot) (q : PortRef) → R x q) → (i : Instance) (first : ℕ) (at : Path) → AllSpots R i first at
   spots_all R all (Node part cells) first at = (λ p named own. all _ _, spots_all_below R all cells (flat_kids cells) part 0 first at)
 
   spots_all_below : (R : Spot → PortRef → Type 0) → ((x : Spot) (q : PortRef) → R x q) → (rest : Cells) (kids : Kids) (part : PlainComponent) (c first : ℕ) (at : Path) → SpotsBelow R kids part rest c first at
@@ -216,16 +216,16 @@ sampled_now h k t below look x q same e u =
     ap (λ y. if nat_eq t u then is_one (truth_of y) else k q u) e ∙ ap (λ b. if nat_eq t u then is_one (truth_of (below x.at x.port)) else b) (same u)
 
 module _ (i flat : Instance) (form : PlainForm) (held : Held) (its : IsIsland i flat form) where
-  abbrev F : PlainForm
+  abbrev pub F : PlainForm
   F = flat_form (flat_kids (cells_of i)) (part_of i) form
 
-  abbrev L : List Event
+  abbrev pub L : List Event
   L = island_events i form
 
-  abbrev M : List Occurrence
+  abbrev pub M : List Occurrence
   M = form_flat (part_of flat) F 0 []
 
-  lengths : (g : ℕ) → group_length (part_of flat) g ≡ group_length (flat_part i) g
+  pub lengths : (g : ℕ) → group_length (part_of flat) g ≡ group_length (flat_part i) g
   lengths g = ap (λ gs. kind_length (get_or gs g no_group).kind) its.flattened.0.groups
 
   list_is : M ≡ form_flat (flat_part i) F 0 []
@@ -252,10 +252,10 @@ module _ (i flat : Instance) (form : PlainForm) (held : Held) (its : IsIsland i 
     told_there = spots_told i i 0 [] (told_below i)
 
     module _ (h : History) (k : islands.History) (t : ℕ) (agree : AgreesAt h k i 0 []) (inputs : (n u : ℕ) → k (ports.Input n) u ≡ h (spot [] (ports.Input n)) u) where
-      abbrev now : History
+      abbrev pub now : History
       now = and_now h t (look_below i held s)
 
-      abbrev flat_now : islands.History
+      abbrev pub flat_now : islands.History
       flat_now = islands.and_now k t (seen flat held nothing z)
 
       -- what is known of a port that is tested in this cycle
@@ -271,13 +271,13 @@ module _ (i flat : Instance) (form : PlainForm) (held : Held) (its : IsIsland i 
       input_seen : (n : ℕ) → seen flat held nothing z (ports.Input n) ≡ look_below i held s [] (ports.Input n)
       input_seen n = flat_seen i flat held nothing nothing [] s z (ports.Input n) calm_beside tt ∙ look_own i held s (ports.Input n)
 
-      known_input : (n : ℕ) → Known (spot [] (ports.Input n)) (ports.Input n)
+      pub known_input : (n : ℕ) → Known (spot [] (ports.Input n)) (ports.Input n)
       known_input n = (sampled_now h k t (look_below i held s) (seen flat held nothing z) (spot [] (ports.Input n)) (ports.Input n) (inputs n) (input_seen n), (input_seen n, told_input i n))
 
-      agree_now : AgreesAt now flat_now i 0 []
+      pub agree_now : AgreesAt now flat_now i 0 []
       agree_now = all_joined Known Known (SampledAlike now flat_now) (λ x q a b. a.0) i 0 [] known known
 
-      acts_now : ActsAs i (entries (own_entries (deeds_in now t L))) (deeds_in now t L) (entries (active_in flat_now t M))
+      pub acts_now : ActsAs i (entries (own_entries (deeds_in now t L))) (deeds_in now t L) (entries (active_in flat_now t M))
       acts_now =
           subst (λ l. ActsAs i (entries (own_entries (deeds_in now t L))) (deeds_in now t L) (entries (active_in flat_now t l))) (sym list_is)
           (island_acts i form now flat_now t its.fair its.controlled its.static agree_now (λ n u. (known_input n).0 u) (its.once now t))
@@ -293,7 +293,7 @@ module _ (i flat : Instance) (form : PlainForm) (held : Held) (its : IsIsland i 
         no_circle = its.no_circle now t;
       })
 
-      turn_now : TurnAs i (whole_turn i held L t now s) (island_turn flat held M t flat_now z)
+      pub turn_now : TurnAs i (whole_turn i held L t now s) (island_turn flat held M t flat_now z)
       turn_now =
           unclear_as i (first_unclear (look_below i held s) (looked_in now t L)) (islands.first_unclear (seen flat held nothing z) (looked_at flat_now t M)) _ _
           (ap (λ l. islands.first_unclear (seen flat held nothing z) (looked_at flat_now t l)) list_is

@@ -16,7 +16,7 @@ use Rattle.cx_flattening.proofs.FlatStatements.{statement_as, twin_place}
 use Rattle.cx_meaning.proofs.RunningLemmas.{child_runs}
 use Rattle.cx_rewrites.proofs.StandingLemmas.{idle_below-child}
 
-child_settled : (part : PlainComponent) (cells : Cells) (c : ℕ) (child : Instance) (z : State) → cell_at cells c ≡ OfInstance child → IsSettled (Node part cells) z → IsSettled child (under c z)
+pub child_settled : (part : PlainComponent) (cells : Cells) (c : ℕ) (child : Instance) (z : State) → cell_at cells c ≡ OfInstance child → IsSettled (Node part cells) z → IsSettled child (under c z)
 child_settled part cells c child z at settled path = sym (idle_below-child cells c child path (z (c ∷ path)) at) ∙ settled (c ∷ path)
 
 first_zero : (a : ℕ) → 0 + a ≡ a
@@ -28,7 +28,7 @@ module _ (part : PlainComponent) (cells : Cells) (P : PlainComponent) (C : Cells
   abbrev e : ℕ
   e = kept_at (flat_kids cells) c
 
-  twin_runs : Stands (Node part cells) 0 s z → IsSettled (Node P C) z
+  pub twin_runs : Stands (Node part cells) 0 s z → IsSettled (Node P C) z
       → ((twin : Instance) → cell_at C (kept_at (flat_kids cells) (0 + c)) ≡ OfInstance twin → Stands child 0 (under c s) (under e z) → IsSettled twin (under e z)
       → AnswerAs child (whole_below cells c h (under c s) n) (run_control twin h (under e z) n))
       → AnswerAs child (whole_below cells c h (under c s) n) (control_below C e h (under e z) n)

@@ -107,17 +107,17 @@ module _ (part : PlainComponent) (cells : Cells) (P : PlainComponent) (C : Cells
   fair : IsFair i
   fair = fair_own i its.fair
 
-  idles : (s z : State) → Stands i 0 s z → Stands i 0 (idle i s) (idle flat z)
+  pub idles : (s z : State) → Stands i 0 s z → Stands i 0 (idle i s) (idle flat z)
   idles s z stands = idle_stands i flat s z its.flattened.1 stands
 
-  settles : (z : State) → IsSettled flat (idle flat z)
+  pub settles : (z : State) → IsSettled flat (idle flat z)
   settles z = idle_settles flat its.idle z
 
   zero_plus : (a : ℕ) → 0 + a ≡ a
   zero_plus a = omega arith
 
   -- A GROUP is of one kind in both, and calls the same child
-  its_group : (g : ℕ) → g < length part.groups → group_at P g ≡ moved_group (own_port kids part) (group_at part g)
+  pub its_group : (g : ℕ) → g < length part.groups → group_at P g ≡ moved_group (own_port kids part) (group_at part g)
   its_group g there =
       ap (λ gs. get_or gs g no_group) its.flattened.0.groups
       ∙ get_or_append_left (map (moved_group (own_port kids part)) part.groups) (flat_map (copies kids part) part.invokes) no_group g
@@ -154,7 +154,7 @@ module _ (part : PlainComponent) (cells : Cells) (P : PlainComponent) (C : Cells
   list_called (a ∷ rest) own =
       target_called a.target (called_in cells rest) (called_in C (map (moved_assign (own_port kids part)) rest)) (own a (inl refl)) (list_called rest (λ x j. own x (inr j)))
 
-  its_called : (g : ℕ) → g < length part.groups → called flat g ≡ kept_done kids (called i g)
+  pub its_called : (g : ℕ) → g < length part.groups → called flat g ≡ kept_done kids (called i g)
   its_called g there =
       ap (λ x. called_in C x.assigns) (its_group g there)
       ∙ list_called (group_at part g).assigns (λ a j. fair.targets.groups (group_at part g) a (in_at part.groups g (group_at part g) (there_below part.groups g there)) j)
@@ -240,10 +240,10 @@ module _ (part : PlainComponent) (cells : Cells) (P : PlainComponent) (C : Cells
             (ap (λ m. groups_drive P (groups_in_all (flat_statements kids part later)) (m + e)) (zero_plus (start_of kids part c)) ∙ later_off later asks.1.1.1 c e child there kid less (asks.1.1.0 c on)) path
             ∙ sym ((run_stays flat its.lawful its.bare held (flat_statement kids part first) z w n t one).1 (0 + start_of kids part c + e) (off, λ rest. settled ((0 + start_of kids part c + e) ∷ rest)) path)
 
-    abbrev whole_test : PortRef → Option ℕ → State → Test Fault
+    abbrev pub whole_test : PortRef → Option ℕ → State → Test Fault
     whole_test = test i held
 
-    abbrev flat_tests : PortRef → Option ℕ → State → Test Fault
+    abbrev pub flat_tests : PortRef → Option ℕ → State → Test Fault
     flat_tests p = test flat held (own_port kids part p)
 
     -- A STATEMENT

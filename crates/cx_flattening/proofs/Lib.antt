@@ -8,14 +8,14 @@ mod Sorting
 mod MovedDrivers
 mod CopiedAssigns
 mod FirstFaults
-mod Placing
+pub mod Placing
 mod PortLemmas
 mod FlatAssigns
 mod FlatDrivers
-mod LevelSights
+pub mod LevelSights
 mod RestingPorts
 mod MovedTwice
-mod Standing
+pub mod Standing
 mod StillPorts
 mod FlatOutputs
 mod FlatSights
@@ -26,26 +26,26 @@ mod FlatTops
 mod CopiedControl
 mod FlatGroups
 mod FlatLengths
-mod FlatTurns
+pub mod FlatTurns
 pub mod Windows
-mod FlatDeeds
-mod FlatActs
-mod FlatLists
+pub mod FlatDeeds
+pub mod FlatActs
+pub mod FlatLists
 mod FlatSpots
 mod FlatLooks
 mod IdleStands
-mod FlatIslands
+pub mod FlatIslands
 mod FlatRows
-mod FlatTests
-mod FlatCalls
+pub mod FlatTests
+pub mod FlatCalls
 pub mod CellLayout
 pub mod Reached
 pub mod TreeLevels
 mod FlatTrees
 mod FlatStarts
 mod FlatArms
-mod FlatStatements
-mod FlatRuns
+pub mod FlatStatements
+pub mod FlatRuns
 mod RowReads
 pub mod Ruled
 mod Statements
@@ -58,7 +58,7 @@ mod SafeLevels
 mod SafeOutputs
 mod FlatSafe
 pub mod FlatDeeper
-mod StillActs
+pub mod StillActs
 pub mod DeedSources
 pub mod DeedsApart
 pub mod DeedsOnce
@@ -71,7 +71,7 @@ mod FlatDepends
 mod FlatCallees
 mod StaticControls
 mod AcceptedAsks
-mod AcceptedRuns
+pub mod AcceptedRuns
 mod FaultRuns
 pub mod FlatSizes
 pub mod FlatFolds
@@ -87,7 +87,7 @@ mod FlatTyped
 mod TypedParts
 pub mod FlatWidths
 mod TypedTests
-mod FlatCounts
+pub mod FlatCounts
 pub mod FlatKinds
 pub mod FlatShapes
 pub mod FlatStands

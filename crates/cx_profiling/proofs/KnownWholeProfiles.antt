@@ -6,7 +6,10 @@ use Rattle.cx_meaning.specs.Instances.{tree_of}
 use Rattle.cx_meaning.proofs.KnownDesigns.{assign, timed_group, child_cell, mem, reg, st, enable, seq, component, number, one_bit, store}
 use Rattle.cx_meaning.proofs.KnownRuns.{Ends, told}
 use Rattle.cx_flattening.specs.Whole.{whole_main}
+use Rattle.cx_flattening.specs.FlatDesign.{flat_design}
 use Rattle.cx_profiling.specs.Counters.{entries_of}
+use Rattle.cx_profiling.specs.Counting.{tally_of}
+use Rattle.cx_profiling.specs.FlatEntries.{entry_at, flat_entries, count_at}
 use Rattle.cx_profiling.specs.WholeCounting.{whole_tally_of}
 use Rattle.cx_profiling.specs.Instrumented.{instrumented}
 
@@ -56,3 +59,14 @@ known_two_of_three = refl
 -- 8 + 2 * 2 turns, and the counts in the new memory
 known_two_and_one_instrumented : told (instrumented two_and_one) (whole_main (instrumented two_and_one) ((5 ∷ []) ∷ (7 ∷ 9 ∷ []) ∷ []) 1000) ≡ Ends 12 ((7 ∷ []) ∷ (1 ∷ 3 ∷ []) ∷ [])
 known_two_and_one_instrumented = refl
+
+-- in the flat design st keeps its number, and p has a copy for each of the three invokes, behind the two groups of main
+known_flat_entries : map (flat_entries two_and_one) (entries_of (tree_of two_and_one)) ≡ ((entry_at [] 1 ∷ []) ∷ (entry_at [] 2 ∷ entry_at [] 3 ∷ entry_at [] 4 ∷ []) ∷ [])
+known_flat_entries = refl
+
+-- each of which acts in one cycle; within three turns the third does not
+known_flat_counts : map (count_at (tally_of (flat_design two_and_one) ((5 ∷ []) ∷ []) 1000)) (entry_at [] 1 ∷ entry_at [] 2 ∷ entry_at [] 3 ∷ entry_at [] 4 ∷ []) ≡ (1 ∷ 1 ∷ 1 ∷ 1 ∷ [])
+known_flat_counts = refl
+
+known_flat_three : map (count_at (tally_of (flat_design two_and_one) ((5 ∷ []) ∷ []) 3)) (entry_at [] 1 ∷ entry_at [] 2 ∷ entry_at [] 3 ∷ entry_at [] 4 ∷ []) ≡ (0 ∷ 1 ∷ 1 ∷ 0 ∷ [])
+known_flat_three = refl

@@ -88,3 +88,15 @@ pub mod WholeAlike
 pub mod AcceptedStages
 pub mod MemoryNames
 pub mod PathsKept
+pub mod CountFrames
+pub mod IslandCounts
+pub mod CountAgreement
+pub mod CountInputs
+pub mod SampledCounts
+pub mod FlatTotals
+pub mod FlatMade
+pub mod FlatTells
+pub mod FlatControl
+pub mod FlatCountings
+pub mod EntriesThere
+pub mod FlatEntriesThere

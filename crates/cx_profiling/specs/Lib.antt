@@ -1,6 +1,8 @@
 pub mod Counting
+pub mod StatementCounts
 pub mod WholeCounting
 pub mod Counters
+pub mod FlatEntries
 pub mod FreeNames
 pub mod Instrumented
 pub mod Growing
