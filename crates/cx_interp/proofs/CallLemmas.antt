@@ -14,13 +14,12 @@ use Rattle.cx_meaning.specs.Control.{assigns_drive, group_drives}
 use Rattle.cx_meaning.specs.Running.{run_control, control_below}
 use Rattle.cx_design.specs.PlainActives.{TellsFault}
 use Rattle.cx_state.specs.Tables.{IsNumber}
-use Rattle.cx_state.proofs.PreOrder.{stands}
 use Rattle.cx_state.specs.States.{PlainInstance, inputs_held, StandsFor, under_path}
 use Rattle.cx_frames.specs.Ran.{Outcome, Ended, Faulted, Unfinished, AnswersAs}
 use Rattle.cx_turns.specs.declared.tables.GroupRow.{GroupRow}
 use Rattle.cx_turns.specs.Children.{HasChild, HasControl, HoldsCall}
 use Rattle.cx_turns.specs.Groups.{HasLength, IsGroupRow, group_driving}
-use Rattle.cx_turns.proofs.Measures.{instance_child, below}
+use Rattle.cx_turns.proofs.Measures.{instance_child}
 use Rattle.cx_turns.proofs.PathLemmas.{settled_under, settled_put}
 use Rattle.cx_turns.proofs.ChildLemmas.{append_one, called_is, child_after, put_child, put_other, under_child}
 use Rattle.cx_interp.specs.declared.answers.Answer as told

@@ -1,12 +1,12 @@
 -- What a loop has left to do: whatever comes of the rest is what comes of the whole.
-use Rattle.std.proofs.Common.{◌≡◌, ℕ, zero, suc, ◌+◌, ◌-◌, ◌≤◌, ◌<◌, List, refl, sym, ap, ◌∙◌, subst, arith}
+use Rattle.std.proofs.Common.{◌≡◌, ℕ, ◌+◌, ◌-◌, List, refl, sym, ap, subst, arith}
 use Rattle.cx_meaning.specs.Designs.{PlainDesign}
 use Rattle.cx_state.specs.States.{PlainInstance}
 use Rattle.cx_turns.specs.Groups.{Driving}
 use Rattle.cx_interp.specs.declared.answers.Answer.TheVariants.{End, Fault, More}
 use Rattle.cx_interp.specs.declared.answers.Answer.{Answer}
 use Rattle.cx_interp.specs.Doings.{Doing, then_does}
-use Rattle.cx_interp.specs.Done.{IsWithin, later, Done}
+use Rattle.cx_interp.specs.Done.{later, Done}
 use Rattle.cx_interp.proofs.DoneLemmas.{Stops, done_then, done_stopped}
 
 -- from the rows now, what comes of the rest with what is left of the budget, is what comes of the whole from the first rows

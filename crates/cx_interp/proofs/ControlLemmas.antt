@@ -241,7 +241,7 @@ module _ (d : PlainDesign) (n : ℕ) (body : PlainStatement) where
       subst (λ t. Done d initial now n (statement_drives body) whole budget (End t)) sum
       (goes now (End 0) (subst (λ j. Done d now now n (statement_drives body) (rounds_do j) (budget - spent) (End 0)) (sym none) (done_stay d n (statement_drives body) now (budget - spent) fits)))
 
-drop_past : {A : Type 0} (xs : List A) (k : ℕ) → length xs ≤ k → drop k xs ≡ []
+pub drop_past : {A : Type 0} (xs : List A) (k : ℕ) → length xs ≤ k → drop k xs ≡ []
 drop_past xs zero le = no_items xs (omega arith)
   where
     no_items : {A : Type 0} (xs : List A) → length xs ≡ 0 → xs ≡ []

@@ -11,3 +11,8 @@ pub mod EnableLemmas
 pub mod CaptureLemmas
 pub mod CallLemmas
 pub mod RunLemmas
+pub mod TableCounts
+pub mod GrowthLemmas
+pub mod LoopCounts
+pub mod ControlCounts
+pub mod ZeroCounts

@@ -8,6 +8,9 @@ use Rattle.cx_meaning.specs.Sights.{Held}
 use Rattle.cx_meaning.specs.Answers.{Answer, End, More, after_turns, turn_then}
 use Rattle.cx_meaning.specs.Answers as answers
 use Rattle.cx_meaning.specs.Calls.{group_turn}
+use Rattle.cx_meaning.specs.Active.{group}
+use Rattle.cx_rewrites.specs.Tallies.{Tally, none, plus, turn_count}
+use Rattle.cx_profiling.specs.Counting.{made_with, once}
 use Rattle.cx_design.specs.declared.actives.PortFault.{PortFault}
 use Rattle.cx_state.specs.Tables.{IsNumber}
 use Rattle.cx_state.specs.States.{PlainInstance, inputs_held, IsStateOf, StandsFor, under_path, put_path}
@@ -22,23 +25,29 @@ use Rattle.cx_interp.specs.declared.answers.Answer.TheVariants as result
 use Rattle.cx_interp.specs.Doings.{Doing, turns_do}
 use Rattle.cx_interp.specs.Done.{Done}
 use Rattle.cx_interp.specs.Pauses.{AnswersIdle, Paused}
+use Rattle.cx_interp.specs.Counts.{HasRows, KeepsShape, GrowsAt, at_path, Grows}
+use Rattle.cx_interp.specs.Counted.{GrowsBy, turns_count_of}
+use Rattle.cx_interp.proofs.GrowthLemmas.{grows_not, grows_both, grows_cycle, rows_kept}
 use Rattle.cx_interp.proofs.IslandLoop.{twice_later, none_later}
 use Rattle.cx_meaning.proofs.InstancesLemmas.{top_idle}
 
--- the state after so many turns that went on, and what comes of the rest
-pub record Going (d : PlainDesign) (old rows : List PlainInstance) (n g budget taken : ℕ) (path : Path) (s : State) : Type 0 where
+-- the state after so many turns that went on, and what comes of the rest; and whatever is counted of the rest is what is counted of
+-- the whole
+pub record Going (d : PlainDesign) (old rows : List PlainInstance) (initially so_far : List (List ℕ)) (n g budget taken : ℕ) (path : Path) (s : State) : Type 0 where
   pub now : State
   pub stands : StandsFor (tree_of d) rows (put_path path now s)
   pub busy : IsBusy (group_driving g (instance_at (tree_of d) path)) (under_path path s) now
   pub held : HeldAlike old rows
   pub same : turns_do g (instance_at (tree_of d) path) (inputs_held old n) (under_path path s) budget ≡ after_turns taken (turns_do g (instance_at (tree_of d) path) (inputs_held old n) now (budget - taken))
+  pub counted : HasRows d initially → (new : List (List ℕ)) → Grows d so_far new (at_path path (turns_count_of g (instance_at (tree_of d) path) (inputs_held old n) now (budget - taken)))
+      → Grows d initially new (at_path path (turns_count_of g (instance_at (tree_of d) path) (inputs_held old n) (under_path path s) budget))
 
-abbrev pub AreGoing : PlainDesign → List PlainInstance → List PlainInstance → ℕ → ℕ → ℕ → ℕ → Type 0
-AreGoing d old rows n g budget taken = (path : Path) (s : State) → IsNumber d n path → StandsFor (tree_of d) old s → IsSettled (tree_of d) s → Going d old rows n g budget taken path s
+abbrev pub AreGoing : PlainDesign → List PlainInstance → List PlainInstance → List (List ℕ) → List (List ℕ) → ℕ → ℕ → ℕ → ℕ → Type 0
+AreGoing d old rows initially so_far n g budget taken = (path : Path) (s : State) → IsNumber d n path → StandsFor (tree_of d) old s → IsSettled (tree_of d) s → Going d old rows initially so_far n g budget taken path s
 
 module _ (d : PlainDesign) (n g : ℕ) where
-  pub going_start : (rows : List PlainInstance) (budget : ℕ) → AreGoing d rows rows n g budget 0
-  going_start rows budget path s number stands settled =
+  pub going_start : (rows : List PlainInstance) (table : List (List ℕ)) (budget : ℕ) → AreGoing d rows rows table table n g budget 0
+  going_start rows table budget path s number stands settled =
       let all : budget - 0 ≡ budget = omega arith in
       record {
         now = under_path path s;
@@ -46,9 +55,10 @@ module _ (d : PlainDesign) (n g : ℕ) where
         busy = record { top = refl; others = λ c below e. refl; deeper = λ c e below. refl };
         held = λ m input. refl;
         same = sym (none_later _) ∙ ap (λ b. after_turns 0 (turns_do g (instance_at (tree_of d) path) (inputs_held rows n) (under_path path s) b)) (sym all);
+        counted = λ has later one. subst (λ b. Grows d table later (at_path path (turns_count_of g (instance_at (tree_of d) path) (inputs_held rows n) (under_path path s) b))) all one;
       }
 
-  module _ (old rows new : List PlainInstance) (budget taken : ℕ) (lt : taken < budget) where
+  module _ (old rows new : List PlainInstance) (initially so_far : List (List ℕ)) (budget taken : ℕ) (lt : taken < budget) where
     abbrev left : ℕ
     left = budget - (taken + 1)
 
@@ -59,11 +69,17 @@ module _ (d : PlainDesign) (n g : ℕ) where
     step : (i : Instance) (held : Held) (now : State) (t : answers.Turn State Fault) → group_turn i held g now ≡ t → turns_do g i held now (budget - taken) ≡ turn_then (idle i) now t (λ after. turns_do g i held after left)
     step i held now t e = ap (turns_do g i held now) (sym one_more) ∙ ap (λ x. turn_then (idle i) now x (λ after. turns_do g i held after left)) e
 
+    -- what is counted in it, and behind it
+    counts_step : (i : Instance) (held : Held) (now : State) (t : answers.Turn State Fault) → group_turn i held g now ≡ t
+        → turns_count_of g i held now (budget - taken) ≡ turn_count t (λ after. plus (made_with (group g)) (turns_count_of g i held after left))
+    counts_step i held now t e =
+        ap (turns_count_of g i held now) (sym one_more) ∙ ap (λ x. turn_count x (λ after. plus (made_with (group g)) (turns_count_of g i held after left))) e
+
     held_same : HeldAlike old rows → inputs_held rows n ≡ inputs_held old n
     held_same alike = fun_ext (λ input. alike n input)
 
-    pub going_on : AreGoing d old rows n g budget taken → Taken d rows new n g (group_driving g) turns.Goes → AreGoing d old new n g budget (taken + 1)
-    going_on going taken_one path s number stands settled =
+    pub going_on : (finally : List (List ℕ)) → KeepsShape initially so_far → GrowsAt n (λ h. once ((group g).offset h)) so_far finally → AreGoing d old rows initially so_far n g budget taken → Taken d rows new n g (group_driving g) turns.Goes → AreGoing d old new initially finally n g budget (taken + 1)
+    going_on finally shape cycle going taken_one path s number stands settled =
         let k = going path s number stands settled in
         let i : Instance = instance_at (tree_of d) path in
         let r = taken_one.tells path s k.now number settled k.busy k.stands in
@@ -74,9 +90,26 @@ module _ (d : PlainDesign) (n g : ℕ) where
           busy = r.3;
           held = λ m input. r.4 m input ∙ k.held m input;
           same = k.same ∙ ap (after_turns taken) (step i (inputs_held old n) k.now (answers.Goes r.0) turn) ∙ twice_later taken 1 (turns_do g i (inputs_held old n) r.0 left);
+          counted = λ has later one.
+              k.counted has later
+              (subst (λ (t : Tally). Grows d so_far later (at_path path t)) (sym (counts_step i (inputs_held old n) k.now (answers.Goes r.0) turn))
+              (grows_both d so_far finally later path (made_with (group g)) (turns_count_of g i (inputs_held old n) r.0 left) (grows_cycle d n path (group g) so_far finally (rows_kept d initially so_far shape has) number cycle) one));
         }
 
-    pub going_ends : AreGoing d old rows n g budget taken → Taken d rows new n g (group_driving g) turns.Ends → Paused d old new n (group_driving g) (turns_do g) budget (result.End (taken + 1))
+    -- a turn that does not go on counts nothing, and nothing is counted behind it
+    counts_stop : (i : Instance) (held : Held) (now : State) (t : answers.Turn State Fault) (path : Path) → group_turn i held g now ≡ t → (turn_count t (λ after. plus (made_with (group g)) (turns_count_of g i held after left)) ≡ none)
+        → Grows d so_far so_far (at_path path (turns_count_of g i held now (budget - taken)))
+    counts_stop i held now t path e nothing = subst (λ (x : Tally). Grows d so_far so_far (at_path path x)) (sym (counts_step i held now t e ∙ nothing)) (grows_not d so_far path)
+
+    pub going_counts : AreGoing d old rows initially so_far n g budget taken → Taken d rows new n g (group_driving g) turns.Ends → GrowsBy d old initially so_far n (turns_count_of g) budget
+    going_counts going taken_one has path s number stands settled =
+        let k = going path s number stands settled in
+        let i : Instance = instance_at (tree_of d) path in
+        let r = taken_one.tells path s k.now number settled k.busy k.stands in
+        let turn : group_turn i (inputs_held old n) g k.now ≡ answers.Ends = subst (λ h. group_turn i h g k.now ≡ answers.Ends) (held_same k.held) r.0 in
+        k.counted has so_far (counts_stop i (inputs_held old n) k.now answers.Ends path turn refl)
+
+    pub going_ends : AreGoing d old rows initially so_far n g budget taken → Taken d rows new n g (group_driving g) turns.Ends → Paused d old new n (group_driving g) (turns_do g) budget (result.End (taken + 1))
     going_ends going taken_one = record {
       pauses = λ path s number stands settled.
           let k = going path s number stands settled in
@@ -97,7 +130,7 @@ module _ (d : PlainDesign) (n g : ℕ) where
       fits = taken_one.fits;
     }
 
-    pub going_faults : (fault : PortFault) → AreGoing d old rows n g budget taken → Taken d rows new n g (group_driving g) (turns.Faults fault) → Paused d old new n (group_driving g) (turns_do g) budget (result.Fault fault taken)
+    pub going_faults : (fault : PortFault) → AreGoing d old rows initially so_far n g budget taken → Taken d rows new n g (group_driving g) (turns.Faults fault) → Paused d old new n (group_driving g) (turns_do g) budget (result.Fault fault taken)
     going_faults fault going taken_one = record {
       pauses = λ path s number stands settled.
           let k = going path s number stands settled in
@@ -120,8 +153,8 @@ module _ (d : PlainDesign) (n g : ℕ) where
       fits = taken_one.fits;
     }
 
-  pub going_more : (old rows : List PlainInstance) (budget taken : ℕ) → budget ≤ taken → IsStateOf d rows → AreGoing d old rows n g budget taken → Paused d old rows n (group_driving g) (turns_do g) budget result.More
-  going_more old rows budget taken le fits going = record {
+  pub going_more : (old rows : List PlainInstance) (initially so_far : List (List ℕ)) (budget taken : ℕ) → budget ≤ taken → IsStateOf d rows → AreGoing d old rows initially so_far n g budget taken → Paused d old rows n (group_driving g) (turns_do g) budget result.More
+  going_more old rows initially so_far budget taken le fits going = record {
     pauses = λ path s number stands settled.
         let k = going path s number stands settled in
         let i : Instance = instance_at (tree_of d) path in

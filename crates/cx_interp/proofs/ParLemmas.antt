@@ -75,7 +75,7 @@ module _ (d : PlainDesign) (n : ℕ) (list : List PlainStatement) (stands : Form
   abbrev visited : Visited
   visited = record { context = Dynamic; form = Par (statements_of list); place = stands.0 }
 
-  there : (path : Path) → IsNumber d n path → In (statements_in (part_of (instance_at (tree_of d) path))) visited
+  pub there : (path : Path) → IsNumber d n path → In (statements_in (part_of (instance_at (tree_of d) path))) visited
   there path number = stands.1 path visited number (inl refl)
 
   -- one more arm

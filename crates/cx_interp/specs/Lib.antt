@@ -4,3 +4,5 @@ pub mod Pauses
 pub mod Callees
 pub mod Runs
 pub mod IslandCycles
+pub mod Counts
+pub mod Counted

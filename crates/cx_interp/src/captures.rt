@@ -140,6 +140,7 @@ pub(crate) fn end_call(
     ensures machine { IsAt plan.now machine.new }
     ensures done { (old : List PlainInstance) (first : Doing) → Done (design_of plan.now) old (rows_of machine.old) instance (group_driving group) first budget answer
         → Done (design_of plan.now) old (rows_of machine.new) instance (group_driving group) (then_does first (after_does group cell)) budget result }
+    ensures ends { (turns : ℕ) → result ≡ Answer.End turns → (first : ℕ) × (answer ≡ Answer.End first) }
 {
     match answer {
         Answer::End(turns) => later(

@@ -5,15 +5,19 @@ ghost use Rattle.cx_meaning.specs.Designs as plain;
 ghost use Rattle.cx_design.specs.PlainForms.{plain_form, plain_statement, plain_statements};
 ghost use Rattle.cx_turns.specs.Groups.{HasLength, IsGroupOf, IsGroupRow};
 ghost use Rattle.cx_turns.specs.Machines.{design_of, rows_of, IsPlan, IsAt, IsInstance, FormStands, StandsIn, StandIn};
+ghost use Rattle.cx_interp.specs.Counted.{Counted, form_counts, statement_counts};
+ghost use Rattle.cx_interp.specs.Counts.{plain_counts};
 ghost use Rattle.cx_interp.specs.Doings.{form_does, form_drives, statement_does, statement_drives};
 ghost use Rattle.cx_interp.specs.Done.{Done};
 
 use crate::answers::{Answer, idle_turn, join, later, limit};
 use crate::captures::end_call;
+use crate::counts::Counts;
 use crate::groups::run_group;
 use crate::islands::run_island;
 use cx_design::{Form, PlacedPort, Statement};
 use cx_frames::arm_laws::{next_arm, own_inputs_suffice, whole_par};
+use cx_profiling::counting_laws::{arms_add_up, own_inputs_suffice_for_counts};
 use cx_turns::GroupRow;
 use cx_turns::calls::{group_length, group_row};
 use cx_turns::children::{child_number, control_of, hold_inputs};
@@ -25,6 +29,7 @@ use cx_turns::plan::Plan;
 pub(crate) fn run_statement(
     plan: &Plan<'_>,
     machine: &mut Machine<'_>,
+    counts: &mut Counts,
     instance: usize,
     statement: &Statement,
     budget: u64,
@@ -35,8 +40,9 @@ pub(crate) fn run_statement(
     requires statement { StandsIn (design_of plan.now) instance (plain_statement statement.now) }
     ensures machine { IsAt plan.now machine.new }
     ensures done { Done (design_of plan.now) (rows_of machine.old) (rows_of machine.new) instance (statement_drives (plain_statement statement.now)) (statement_does (plain_statement statement.now)) budget result }
+    ensures counted { Counted (design_of plan.now) (rows_of machine.old) (plain_counts counts.old) (plain_counts counts.new) instance (statement_counts (plain_statement statement.now)) budget result }
 {
-    run_form(plan, machine, instance, &statement.form, budget)
+    run_form(plan, machine, counts, instance, &statement.form, budget)
 }
 
 /// Runs what a form says.
@@ -44,6 +50,7 @@ pub(crate) fn run_statement(
 fn run_form(
     plan: &Plan<'_>,
     machine: &mut Machine<'_>,
+    counts: &mut Counts,
     instance: usize,
     form: &Form,
     budget: u64,
@@ -54,26 +61,31 @@ fn run_form(
     requires form { FormStands (design_of plan.now) instance (plain_form form.now) }
     ensures machine { IsAt plan.now machine.new }
     ensures done { Done (design_of plan.now) (rows_of machine.old) (rows_of machine.new) instance (form_drives (plain_form form.now)) (form_does (plain_form form.now)) budget result }
+    ensures counted { Counted (design_of plan.now) (rows_of machine.old) (plain_counts counts.old) (plain_counts counts.new) instance (form_counts (plain_form form.now)) budget result }
 {
     match form {
         Form::Empty => idle_turn(budget),
-        Form::Enable(group) => run_enable(plan, machine, instance, form, *group, budget),
-        Form::Seq(parts) => run_seq(plan, machine, instance, parts, budget),
-        Form::Par(arms) => run_par(plan, machine, instance, arms, budget),
+        Form::Enable(group) => run_enable(plan, machine, counts, instance, form, *group, budget),
+        Form::Seq(parts) => run_seq(plan, machine, counts, instance, parts, budget),
+        Form::Par(arms) => run_par(plan, machine, counts, instance, arms, budget),
         Form::If {
             test,
             comb,
             yes,
             no,
-        } => run_if(plan, machine, instance, *test, *comb, yes, no, budget),
+        } => run_if(
+            plan, machine, counts, instance, *test, *comb, yes, no, budget,
+        ),
         Form::While { test, comb, body } => {
-            run_while(plan, machine, instance, *test, *comb, body, budget)
+            run_while(plan, machine, counts, instance, *test, *comb, body, budget)
         }
-        Form::Repeat { count, body } => run_repeat(plan, machine, instance, *count, body, budget),
-        Form::StaticSeq { .. } => run_island(plan, machine, instance, form, budget),
-        Form::StaticPar { .. } => run_island(plan, machine, instance, form, budget),
-        Form::StaticIf { .. } => run_island(plan, machine, instance, form, budget),
-        Form::StaticRepeat { .. } => run_island(plan, machine, instance, form, budget),
+        Form::Repeat { count, body } => run_repeat(
+            plan, machine, counts, instance, *count, body, budget,
+        ),
+        Form::StaticSeq { .. } => run_island(plan, machine, counts, instance, form, budget),
+        Form::StaticPar { .. } => run_island(plan, machine, counts, instance, form, budget),
+        Form::StaticIf { .. } => run_island(plan, machine, counts, instance, form, budget),
+        Form::StaticRepeat { .. } => run_island(plan, machine, counts, instance, form, budget),
         Form::StaticInvoke(_) => Answer::More,
         Form::Timed(_) => Answer::More,
     }
@@ -84,6 +96,7 @@ fn run_form(
 fn run_seq(
     plan: &Plan<'_>,
     machine: &mut Machine<'_>,
+    counts: &mut Counts,
     instance: usize,
     parts: &[Statement],
     budget: u64,
@@ -94,13 +107,14 @@ fn run_seq(
     requires parts { StandIn (design_of plan.now) instance (plain_statements parts.now) }
     ensures machine { IsAt plan.now machine.new }
     ensures done { Done (design_of plan.now) (rows_of machine.old) (rows_of machine.new) instance (form_drives (plain.Seq (plain_statements parts.now))) (form_does (plain.Seq (plain_statements parts.now))) budget result }
+    ensures counted { Counted (design_of plan.now) (rows_of machine.old) (plain_counts counts.old) (plain_counts counts.new) instance (form_counts (plain.Seq (plain_statements parts.now))) budget result }
 {
     if parts.is_empty() {
         return idle_turn(budget);
     }
     let mut spent = 0;
     for part in parts {
-        match run_statement(plan, machine, instance, part, budget - spent) {
+        match run_statement(plan, machine, counts, instance, part, budget - spent) {
             Answer::End(turns) => spent += turns,
             Answer::Fault(fault, turn) => return Answer::Fault(fault, spent + turn),
             Answer::More => return Answer::More,
@@ -114,6 +128,7 @@ fn run_seq(
 fn run_par(
     plan: &Plan<'_>,
     machine: &mut Machine<'_>,
+    counts: &mut Counts,
     instance: usize,
     arms: &[Statement],
     budget: u64,
@@ -124,8 +139,10 @@ fn run_par(
     requires form { FormStands (design_of plan.now) instance (plain.Par (plain_statements arms.now)) }
     ensures machine { IsAt plan.now machine.new }
     ensures done { Done (design_of plan.now) (rows_of machine.old) (rows_of machine.new) instance (form_drives (plain.Par (plain_statements arms.now))) (form_does (plain.Par (plain_statements arms.now))) budget result }
+    ensures counted { Counted (design_of plan.now) (rows_of machine.old) (plain_counts counts.old) (plain_counts counts.new) instance (form_counts (plain.Par (plain_statements arms.now))) budget result }
 {
     next_arm();
+    arms_add_up();
     whole_par();
     if arms.is_empty() {
         return idle_turn(budget);
@@ -133,7 +150,7 @@ fn run_par(
     let mut joined = Answer::End(0);
     for arm in arms {
         let turns = limit(budget, joined);
-        let answer = run_statement(plan, machine, instance, arm, turns);
+        let answer = run_statement(plan, machine, counts, instance, arm, turns);
         joined = join(joined, answer);
     }
     joined
@@ -144,6 +161,7 @@ fn run_par(
 fn run_if(
     plan: &Plan<'_>,
     machine: &mut Machine<'_>,
+    counts: &mut Counts,
     instance: usize,
     port: PlacedPort,
     comb: Option<u32>,
@@ -158,13 +176,20 @@ fn run_if(
     ensures machine { IsAt plan.now machine.new }
     ensures done { Done (design_of plan.now) (rows_of machine.old) (rows_of machine.new) instance (form_drives (plain.If port comb (plain_statement yes.now) (plain_statement no.now)))
         (form_does (plain.If port comb (plain_statement yes.now) (plain_statement no.now))) budget result }
+    ensures counted { Counted (design_of plan.now) (rows_of machine.old) (plain_counts counts.old) (plain_counts counts.new) instance (form_counts (plain.If port comb (plain_statement yes.now) (plain_statement no.now))) budget result }
 {
     if budget == 0 {
         return Answer::More;
     }
     match test(plan, machine, instance, port.port, comb) {
-        Ok(true) => later(1, run_statement(plan, machine, instance, yes, budget - 1)),
-        Ok(false) => later(1, run_statement(plan, machine, instance, no, budget - 1)),
+        Ok(true) => later(
+            1,
+            run_statement(plan, machine, counts, instance, yes, budget - 1),
+        ),
+        Ok(false) => later(
+            1,
+            run_statement(plan, machine, counts, instance, no, budget - 1),
+        ),
         Err(fault) => Answer::Fault(fault, 0),
     }
 }
@@ -174,6 +199,7 @@ fn run_if(
 fn run_while(
     plan: &Plan<'_>,
     machine: &mut Machine<'_>,
+    counts: &mut Counts,
     instance: usize,
     port: PlacedPort,
     comb: Option<u32>,
@@ -187,6 +213,7 @@ fn run_while(
     ensures machine { IsAt plan.now machine.new }
     ensures done { Done (design_of plan.now) (rows_of machine.old) (rows_of machine.new) instance (form_drives (plain.While port comb (plain_statement body.now)))
         (form_does (plain.While port comb (plain_statement body.now))) budget result }
+    ensures counted { Counted (design_of plan.now) (rows_of machine.old) (plain_counts counts.old) (plain_counts counts.new) instance (form_counts (plain.While port comb (plain_statement body.now))) budget result }
 {
     let mut spent = 0;
     while spent < budget {
@@ -196,7 +223,7 @@ fn run_while(
             Err(fault) => return Answer::Fault(fault, spent),
         }
         spent += 1;
-        match run_statement(plan, machine, instance, body, budget - spent) {
+        match run_statement(plan, machine, counts, instance, body, budget - spent) {
             Answer::End(turns) => spent += turns,
             Answer::Fault(fault, turn) => return Answer::Fault(fault, spent + turn),
             Answer::More => return Answer::More,
@@ -210,6 +237,7 @@ fn run_while(
 fn run_repeat(
     plan: &Plan<'_>,
     machine: &mut Machine<'_>,
+    counts: &mut Counts,
     instance: usize,
     count: u64,
     body: &Statement,
@@ -221,13 +249,14 @@ fn run_repeat(
     requires body { StandsIn (design_of plan.now) instance (plain_statement body.now) }
     ensures machine { IsAt plan.now machine.new }
     ensures done { Done (design_of plan.now) (rows_of machine.old) (rows_of machine.new) instance (form_drives (plain.Repeat count (plain_statement body.now))) (form_does (plain.Repeat count (plain_statement body.now))) budget result }
+    ensures counted { Counted (design_of plan.now) (rows_of machine.old) (plain_counts counts.old) (plain_counts counts.new) instance (form_counts (plain.Repeat count (plain_statement body.now))) budget result }
 {
     if count == 0 {
         return idle_turn(budget);
     }
     let mut spent = 0;
     for _round in 0..count {
-        match run_statement(plan, machine, instance, body, budget - spent) {
+        match run_statement(plan, machine, counts, instance, body, budget - spent) {
             Answer::End(turns) => spent += turns,
             Answer::Fault(fault, turn) => return Answer::Fault(fault, spent + turn),
             Answer::More => return Answer::More,
@@ -241,6 +270,7 @@ fn run_repeat(
 fn run_enable(
     plan: &Plan<'_>,
     machine: &mut Machine<'_>,
+    counts: &mut Counts,
     instance: usize,
     form: &Form,
     group: u32,
@@ -254,10 +284,11 @@ fn run_enable(
     requires group { IsGroupOf (design_of plan.now) instance group }
     ensures machine { IsAt plan.now machine.new }
     ensures done { Done (design_of plan.now) (rows_of machine.old) (rows_of machine.new) instance (form_drives (plain_form form.now)) (form_does (plain_form form.now)) budget result }
+    ensures counted { Counted (design_of plan.now) (rows_of machine.old) (plain_counts counts.old) (plain_counts counts.new) instance (form_counts (plain_form form.now)) budget result }
 {
     match group_length(plan, instance, group) {
-        Some(_) => run_island(plan, machine, instance, form, budget),
-        None => run_dynamic(plan, machine, instance, group, budget),
+        Some(_) => run_island(plan, machine, counts, instance, form, budget),
+        None => run_dynamic(plan, machine, counts, instance, group, budget),
     }
 }
 
@@ -266,6 +297,7 @@ fn run_enable(
 fn run_dynamic(
     plan: &Plan<'_>,
     machine: &mut Machine<'_>,
+    counts: &mut Counts,
     instance: usize,
     group: u32,
     budget: u64,
@@ -277,11 +309,20 @@ fn run_dynamic(
     requires dynamic { HasLength (design_of plan.now) instance group None }
     ensures machine { IsAt plan.now machine.new }
     ensures done { Done (design_of plan.now) (rows_of machine.old) (rows_of machine.new) instance (form_drives (plain.Enable group)) (form_does (plain.Enable group)) budget result }
+    ensures counted { Counted (design_of plan.now) (rows_of machine.old) (plain_counts counts.old) (plain_counts counts.new) instance (form_counts (plain.Enable group)) budget result }
 {
     let row = group_row(plan, instance, group);
     match row.callee {
-        Some(cell) => run_call(plan, machine, instance, group, row, cell, budget),
-        None => run_group(plan, machine, instance, group, row.cells.as_slice(), budget),
+        Some(cell) => run_call(plan, machine, counts, instance, group, row, cell, budget),
+        None => run_group(
+            plan,
+            machine,
+            counts,
+            instance,
+            group,
+            row.cells.as_slice(),
+            budget,
+        ),
     }
 }
 
@@ -290,6 +331,7 @@ fn run_dynamic(
 fn run_call(
     plan: &Plan<'_>,
     machine: &mut Machine<'_>,
+    counts: &mut Counts,
     instance: usize,
     group: u32,
     row: &GroupRow,
@@ -305,11 +347,13 @@ fn run_call(
     requires callee { row.now.callee ≡ Some cell }
     ensures machine { IsAt plan.now machine.new }
     ensures done { Done (design_of plan.now) (rows_of machine.old) (rows_of machine.new) instance (form_drives (plain.Enable group)) (form_does (plain.Enable group)) budget result }
+    ensures counted { Counted (design_of plan.now) (rows_of machine.old) (plain_counts counts.old) (plain_counts counts.new) instance (form_counts (plain.Enable group)) budget result }
 {
     own_inputs_suffice();
+    own_inputs_suffice_for_counts();
     let child = child_number(plan, instance, cell);
     hold_inputs(plan, machine, instance, group, cell, child);
     let control = control_of(plan, child);
-    let answer = run_statement(plan, machine, child, control, budget);
+    let answer = run_statement(plan, machine, counts, child, control, budget);
     end_call(plan, machine, instance, group, row, cell, budget, answer)
 }

@@ -1,18 +1,23 @@
 //! Static control: islands, which keep nothing of earlier cycles but the samples of their static ifs.
 
-ghost use Rattle.std.specs.Prelude.{◌≡◌, ◌<◌, ◌-◌, ◌^◌};
+ghost use Rattle.std.specs.Prelude.{◌≡◌, ◌<◌, ◌-◌, ◌^◌, IfOk};
 ghost use Rattle.cx_meaning.specs.Islands as islands;
 ghost use Rattle.cx_design.specs.PlainForms.{plain_component, plain_form};
+ghost use Rattle.cx_laws.specs.Samples.{active_by};
 ghost use Rattle.cx_interp_islands.specs.Sampled.{AreSampled};
 ghost use Rattle.cx_turns.specs.Islands.{HasPart, IsIsland, SampledBefore, SamplesTaken};
 ghost use Rattle.cx_turns.specs.Machines.{design_of, rows_of, IsPlan, IsAt, IsInstance, FormStands};
+ghost use Rattle.cx_turns.specs.Rooms.{HasActive};
 ghost use Rattle.cx_turns.specs.Turns.{cycle_as};
+ghost use Rattle.cx_interp.specs.Counted.{Counted, form_counts, sampled_counts};
+ghost use Rattle.cx_interp.specs.Counts.{plain_counts};
 ghost use Rattle.cx_interp.specs.Doings.{form_does, form_drives};
 ghost use Rattle.cx_interp.specs.Done.{Done};
 ghost use Rattle.cx_interp.specs.IslandCycles.{CycleTaken, sampled_does, samples_in};
 ghost use Rattle.cx_interp.specs.Pauses.{Paused};
 
 use crate::answers::Answer;
+use crate::counts::Counts;
 use cx_design::{Component, Form, PortFault};
 use cx_design_sizes::form_length;
 use cx_frames::apart_laws::{active_groups_within, listed_cells_suffice};
@@ -25,6 +30,7 @@ use cx_laws::laws::{
     timers_give_the_active_groups,
 };
 use cx_meaning::laws::{designs_keep_idle, idle_settles};
+use cx_profiling::counting_laws::islands_count_by_samples;
 use cx_state::alike_laws::{rows_stand, states_are_seen_alike};
 use cx_turns::calls::instance_part;
 use cx_turns::machine::{Machine, fault_in};
@@ -87,6 +93,7 @@ fn take_cycle(
     ensures machine { IsAt plan.now machine.new }
     ensures sampled { AreSampled (plain_component part.now) cycle (plain_form form.now) (samples_in machine.new) }
     ensures taken { CycleTaken (design_of plan.now) (rows_of machine.old) (rows_of machine.new) instance (plain_form form.now) (form_drives (plain_form form.now)) cycle (samples_in machine.old) (samples_in machine.new) (cycle_as result) }
+    ensures active { IfOk result (λ _. HasActive machine.new.room.active (active_by (plain_component part.now) (samples_in machine.new) cycle (plain_form form.now))) }
 {
     taken_samples_are_of_a_run();
     samples_give_the_cycle();
@@ -109,10 +116,11 @@ fn take_cycle(
         .cycle(&mut sight.state, instance, &machine.room.active)
 }
 
-/// Takes the cycles of an island. The idle edges behind them are left to do.
+/// Takes the cycles of an island, and counts them. The idle edges behind them are left to do.
 fn take_cycles(
     plan: &Plan<'_>,
     machine: &mut Machine<'_>,
+    counts: &mut Counts,
     instance: usize,
     part: &Component,
     form: &Form,
@@ -127,6 +135,8 @@ fn take_cycles(
     ensures machine { IsAt plan.now machine.new }
     ensures paused { Paused (design_of plan.now) (rows_of machine.old) (rows_of machine.new) instance (form_drives (plain_form form.now))
         (sampled_does (plain_form form.now) (islands.form_length (plain_component part.now) (plain_form form.now)) (samples_in machine.old)) budget result }
+    ensures counted { Counted (design_of plan.now) (rows_of machine.old) (plain_counts counts.old) (plain_counts counts.new) instance
+        (sampled_counts (plain_form form.now) (islands.form_length (plain_component part.now) (plain_form form.now)) (samples_in machine.old)) budget result }
 {
     accepted_islands_are_short();
     let length = form_length(part, form);
@@ -134,6 +144,7 @@ fn take_cycles(
         if let Err(fault) = take_cycle(plan, machine, instance, part, form, cycle) {
             return Answer::Fault(fault, cycle);
         }
+        counts.add_active(instance, &machine.room.active);
     }
     if length < budget {
         Answer::End(length + 1)
@@ -146,6 +157,7 @@ fn take_cycles(
 pub(crate) fn run_island(
     plan: &Plan<'_>,
     machine: &mut Machine<'_>,
+    counts: &mut Counts,
     instance: usize,
     form: &Form,
     budget: u64,
@@ -157,13 +169,15 @@ pub(crate) fn run_island(
     requires island { IsIsland (design_of plan.now) instance (plain_form form.now) }
     ensures machine { IsAt plan.now machine.new }
     ensures done { Done (design_of plan.now) (rows_of machine.old) (rows_of machine.new) instance (form_drives (plain_form form.now)) (form_does (plain_form form.now)) budget result }
+    ensures counted { Counted (design_of plan.now) (rows_of machine.old) (plain_counts counts.old) (plain_counts counts.new) instance (form_counts (plain_form form.now)) budget result }
 {
     designs_keep_idle();
     idle_settles();
     accepted_has_no_empty_if();
     islands_run_by_samples();
+    islands_count_by_samples();
     let part = instance_part(plan, instance);
-    let answer = take_cycles(plan, machine, instance, part, form, budget);
+    let answer = take_cycles(plan, machine, counts, instance, part, form, budget);
     rest_all(plan, machine, instance);
     answer
 }

@@ -22,3 +22,6 @@ returns-clause-done c =
     (listed_in c.args.cells.now) (λ path k number off. sym (c.requires.listed path k number) ∙ off)
     (λ path s. c.idle_settles.ensures (instance_at (tree_of (design_of c.args.plan.now)) path) s (rows_at (tree_of (design_of c.args.plan.now)) path (c.designs_keep_idle.ensures (design_of c.args.plan.now))))
     c.take_turns-answer.ensures.paused c.rest.ensures.rested
+
+pub returns-clause-counted : goal.returns-clause-counted
+returns-clause-counted c = c.take_turns-answer.ensures.counted

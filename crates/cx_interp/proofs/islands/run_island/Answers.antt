@@ -1,6 +1,6 @@
 use Rattle.std.proofs.Common.{◌≡◌, ℕ, true, false, sym, ap, ◌∙◌, subst}
-use Rattle.cx_meaning.specs.Designs.{PlainComponent}
-use Rattle.cx_meaning.specs.Instances.{instance_at, tree_of}
+use Rattle.cx_meaning.specs.Designs.{PlainComponent, PlainForm}
+use Rattle.cx_meaning.specs.Instances.{Instance, instance_at, tree_of}
 use Rattle.cx_meaning.specs.Cycles.{every_cell}
 use Rattle.cx_meaning.specs.Islands.{form_length}
 use Rattle.cx_design.specs.PlainForms.{plain_component, plain_form}
@@ -8,11 +8,18 @@ use Rattle.cx_turns.specs.Machines.{design_of, rows_of}
 use Rattle.cx_turns.specs.Rooms.{HasRoom}
 use Rattle.cx_turns.proofs.IslandLemmas.{there, stands_there}
 use Rattle.cx_turns.proofs.RestLemmas.{rows_at}
+use Rattle.cx_laws.specs.Samples.{Samples}
+use Rattle.cx_rewrites.specs.Tallies.{Tally}
+use Rattle.cx_profiling.specs.StatementCounts.{sampled_count_from}
+use Rattle.cx_interp.specs.Counts.{plain_counts}
+use Rattle.cx_interp.specs.Counted.{form_counts, sampled_counts}
 use Rattle.cx_interp.specs.Doings.{form_does, form_drives}
 use Rattle.cx_interp.specs.IslandCycles.{sampled_does, samples_in}
 use Rattle.cx_interp.proofs.EnableLemmas.{done_same_at}
 use Rattle.cx_interp.proofs.IslandRuns.{samples_run}
 use Rattle.cx_interp.proofs.LoopLemmas.{done_rested}
+use Rattle.cx_interp.proofs.ControlCounts.{island_counts}
+use Rattle.cx_interp.proofs.GrowthLemmas.{counted_same_at}
 use Rattle.cx_interp.proofs.islands.run_island.Goals as goal
 
 pub returns-clause-machine : goal.returns-clause-machine
@@ -39,3 +46,19 @@ returns-clause-done c =
     (λ path k number off. absurd (let f : true ≡ false = off in cc))
     (λ path s. c.idle_settles.ensures (instance_at (tree_of (design_of c.args.plan.now)) path) s (rows_at (tree_of (design_of c.args.plan.now)) path (c.designs_keep_idle.ensures (design_of c.args.plan.now))))
     c.take_cycles-answer.ensures.paused c.rest_all.ensures.rested)
+
+pub returns-clause-counted : goal.returns-clause-counted
+returns-clause-counted c =
+    let form : PlainForm = plain_form c.args.form.now in
+    let count : ℕ = form_length (plain_component c.instance_part-part.result.now) form in
+    let first : Samples = samples_in c.args.machine.now in
+    counted_same_at (design_of c.args.plan.now) c.args.instance (rows_of c.args.machine.now) (plain_counts c.args.counts.now) (plain_counts c.take_cycles-answer.new.counts) (sampled_counts form count first) (form_counts form) c.args.budget c.take_cycles-answer.result
+    (λ path held s number q g.
+    let i : Instance = instance_at (tree_of (design_of c.args.plan.now)) path in
+    ap (λ k. sampled_count_from i held form k 0 first s c.args.budget q g) (ap (λ (p : PlainComponent). form_length p form) (c.instance_part-part.ensures path number))
+    ∙ c.islands_count_by_samples.ensures i held form first s c.args.budget
+    (c.accepted_has_no_empty_if.ensures (design_of c.args.plan.now) path (there form c.requires.form.0) c.requires.plan.flat c.requires.plan.accepted
+    (stands_there (design_of c.args.plan.now) c.args.instance form c.requires.form path number))
+    q g
+    ∙ ap (λ (t : Tally). t q g) (island_counts i held form s c.args.budget (c.requires.island path number)))
+    c.take_cycles-answer.ensures.counted

@@ -1,4 +1,6 @@
-use Rattle.std.proofs.Common.{sym, subst, arith}
+use Rattle.std.proofs.Common.{Result, Ok, Err, sym, subst, arith}
+use Rattle.std.specs.Prelude.{IfOk}
+use Rattle.cx_design.specs.declared.actives.PortFault.{PortFault}
 use Rattle.cx_meaning.specs.Cycles.{every_cell}
 use Rattle.cx_meaning.specs.Instances.{part_of}
 use Rattle.cx_design.specs.PlainDesigns.{plain_design}
@@ -83,3 +85,15 @@ returns-clause-taken c =
     (active_is part form c.args.cycle next sampled (λ h kept. c.samples_give_the_cycle.ensures.active part form h c.args.cycle next kept) (λ h. c.timers_give_the_active_groups.ensures part form h c.args.cycle c.requires.within))
     (λ i cell off. c.active_groups_within.ensures.island (part_of i) form c.requires.form.0 sampled.0 c.args.cycle cell off)
     (λ path held act listed s undriven settled. c.listed_cells_suffice.ensures d path held act listed s c.requires.plan.accepted undriven settled) cycled
+
+pub returns-clause-active : goal.returns-clause-active
+returns-clause-active c =
+    let part = plain_component c.args.part.now in
+    let form = plain_form c.args.form.now in
+    let next = samples_in c.sample.new.machine in
+    let has : HasActive c.activate.new.active (active_by part next c.args.cycle form) = subst (λ items. HasActive c.activate.new.active (active_by part (samples_of items) c.args.cycle form)) c.deref.ensures.value c.activate.ensures.value in
+    whatever c.cycle.result has
+  where
+    whatever : {P : Type 0} (r : Result (Unit {0}) PortFault) → P → IfOk r (λ _. P)
+    whatever (Ok done) p = p
+    whatever (Err fault) p = tt

@@ -1,11 +1,10 @@
-use Rattle.std.proofs.Common.{◌≡◌, sym, ap, ◌∙◌, subst}
+use Rattle.std.proofs.Common.{sym, ap, ◌∙◌, subst}
 use Rattle.cx_design.specs.declared.designs.Design.{Design}
 use Rattle.cx_design.specs.PlainDesigns.{plain_design}
-use Rattle.cx_meaning.specs.Instances.{State, tree_of, words_of}
+use Rattle.cx_meaning.specs.Instances.{tree_of, words_of}
 use Rattle.cx_meaning.specs.Running.{run_main}
 use Rattle.cx_text.specs.Loading.{plain_loaded, with_words}
 use Rattle.cx_state.specs.States.{plain_state, IsStateOf, StandsFor}
-use Rattle.cx_interp.specs.Runs.{HasRun}
 use Rattle.cx_interp.proofs.RunLemmas.{ends_at}
 use Rattle.cx_interp.proofs.interp.Ran.memories.Goals as goal
 
