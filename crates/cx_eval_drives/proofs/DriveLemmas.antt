@@ -1,5 +1,5 @@
 -- The drivers of a target, one by one from the last.
-use Rattle.std.proofs.Common.{◌≡◌, ℕ, nat_eq, Bool, true, false, List, [], ◌∷◌, map, drop, Option, Some, None, refl, sym, ap, ◌∙◌, if◌then◌else◌}
+use Rattle.std.proofs.Common.{◌≡◌, ℕ, nat_eq, Bool, true, false, List, [], ◌∷◌, map, Option, Some, None, refl, sym, ap, ◌∙◌, if◌then◌else◌}
 use Rattle.cx_meaning.specs.declared.ports.PortRef.{PortRef}
 use Rattle.cx_meaning.specs.declared.sights.Seen.{Seen}
 use Rattle.cx_meaning.specs.Truths as truths
@@ -12,8 +12,6 @@ use Rattle.cx_design.specs.declared.actives.Active.{Active}
 use Rattle.cx_design.specs.declared.actives.Active.TheVariants as actives
 use Rattle.cx_design.specs.declared.actives.ActiveEntry.{ActiveEntry}
 use Rattle.cx_design.specs.PlainActives.{plain_entry, plain_active, capture_of}
-use Rattle.cx_design_parts.specs.Plain.{plain_owned}
-use Rattle.cx_design_parts.specs.declared.ordering.OwnedAssign.{OwnedAssign}
 use Rattle.cx_eval_drives.specs.declared.targets.Drive.{Drive}
 use Rattle.cx_eval_drives.specs.declared.targets.Drive.TheVariants as drives
 use Rattle.cx_eval_drives.specs.Drives.{kept_if, owned_for, acting_of, offset_among, offset_by, with_driver, with_assign, drive_of}
@@ -80,9 +78,3 @@ target_if false act offset a rest xs h e = e
 pub acting_is : (act : plain.Active) (offset : Option ℕ → Option ℕ) (p : PortRef) (xs : List Owned) → ((owner : Option ℕ) → offset_of act owner ≡ offset owner) → acting act p xs ≡ acting_of offset (owned_for p xs)
 acting_is act offset p [] h = refl
 acting_is act offset p (a ∷ xs) h = target_if (same_port a.assign.target p) act offset a (acting act p xs) (owned_for p xs) h (acting_is act offset p xs h)
-
--- all drivers are gone through
-pub ended : (undriven x : Seen) (look : Look) (offset : Option ℕ → Option ℕ) (xs : List OwnedAssign) (left : ℕ) (d : Drive) → left ≡ 0 → d ≡ drive_of look offset (map plain_owned (drop left xs)) → x ≡ seen_of undriven d
-    → x ≡ target_seen undriven look (acting_of offset (map plain_owned xs))
-ended undriven x look offset xs left d z e f =
-    f ∙ ap (seen_of undriven) (e ∙ ap (λ n. drive_of look offset (map plain_owned (drop n xs))) z) ∙ target_is undriven look offset (map plain_owned xs)

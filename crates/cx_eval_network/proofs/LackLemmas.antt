@@ -1,29 +1,23 @@
 -- The first node that is not known, and where a found port and the instance at a cell stand.
-use Rattle.std.proofs.Common.{◌≡◌, ℕ, ◌<◌, inl, inr, Bool, true, false, Option, Some, None, List, [], ◌∷◌, length, nat_lt, refl, sym, ap, ◌∙◌, subst}
-use Rattle.std.specs.Prelude.{if◌then◌else◌, slice_get}
-use Rattle.cx_meaning.specs.declared.sights.Seen.{Seen}
-use Rattle.cx_meaning.specs.Instances.{cell_at, cells_of}
+use Rattle.std.proofs.Common.{◌≡◌, ℕ, ◌<◌, inl, inr, Bool, true, false, Some, None, List, [], ◌∷◌, length, nat_lt, refl, sym, ap, ◌∙◌, subst}
+use Rattle.std.specs.Prelude.{if◌then◌else◌}
 use Rattle.cx_meaning.specs.Sights.{In}
-use Rattle.cx_rules.specs.Ports.{component_of}
 use Rattle.cx_state.specs.declared.tables.InstanceRow.{InstanceRow}
 use Rattle.cx_state.specs.Tables.{child_of}
 use Rattle.cx_eval_network.specs.declared.marks.NodeMark.{NodeMark}
-use Rattle.cx_eval_network.specs.declared.marks.NodeMark.TheVariants.{Unseen, Open, Known}
-use Rattle.cx_eval_network.specs.Demands.{AreKnown, IsRight, is_known, known_at}
+use Rattle.cx_eval_network.specs.Demands.{known_at}
 use Rattle.cx_eval_network.specs.declared.numbering.NodePort.{NodePort}
-use Rattle.cx_eval_network.specs.Networks as networks
-use Rattle.cx_eval_network.specs.Networks.{Asked, active_at, nodes_of}
+use Rattle.cx_eval_network.specs.Networks.{Asked}
 use Rattle.cx_eval_network.specs.declared.asking.Asking.{Asking}
 use Rattle.cx_eval_network.specs.Asked.{CanAsk, child_in}
 use Rattle.cx_eval_network.specs.Askings.{IsFound, asked_of}
 use Rattle.cx_eval_network.specs.Lacking.{unknown_in}
-use Rattle.cx_eval_network.proofs.AskLemmas.{there}
 use Rattle.cx_text.proofs.OptionLaws.{same_some, none_is_some}
 use Rattle.cx_text.proofs.NumberLaws.{lt_true}
 
 -- THE FIRST that is not known
 module _ (marks : List NodeMark) where
-  first_none : (ms : List ℕ) → None ≡ unknown_in marks ms → (m : ℕ) → In ms m → known_at marks m ≡ true
+  pub first_none : (ms : List ℕ) → None ≡ unknown_in marks ms → (m : ℕ) → In ms m → known_at marks m ≡ true
   first_none [] e m i = absurd i
   first_none (k ∷ ks) e m i = choice (known_at marks k) refl (λ f j. first_none ks f m j) e i
     where
@@ -42,16 +36,6 @@ module _ (marks : List NodeMark) where
       choice true is behind f = let r = behind f in (inr r.0, r.1)
       choice false is behind f = let same : m ≡ k = same_some m k f in (inl (sym same), ap (known_at marks) same ∙ is)
 
-  -- where what is known is right, all are known with their values
-  pub all_known : (value : ℕ → Seen) → IsRight value marks → (ms : List ℕ) → None ≡ unknown_in marks ms → AreKnown value marks ms
-  all_known value right ms e m i = by (slice_get marks m) refl (first_none ms e m i)
-    where
-      by : (o : Option NodeMark) → slice_get marks m ≡ o → is_known o ≡ true → slice_get marks m ≡ Some (Known (value m))
-      by None is known = absurd (let no : false ≡ true = known in cc)
-      by (Some Unseen) is known = absurd (let no : false ≡ true = known in cc)
-      by (Some Open) is known = absurd (let no : false ≡ true = known in cc)
-      by (Some (Known x)) is known = is ∙ ap (λ y. Some (Known y)) (right m x is)
-
 -- WHAT A FOUND PORT leads to
 module _ (asking : Asking) (can : CanAsk (asked_of asking) asking.nodes.now asking.drivers.now) (found : NodePort) (f : IsFound (asked_of asking) found) where
   abbrev a : Asked
@@ -59,9 +43,6 @@ module _ (asking : Asking) (can : CanAsk (asked_of asking) asking.nodes.now aski
 
   abbrev k : ℕ
   k = found.instance
-
-  pub cells_there : (c : ℕ) → cell_at (cells_of (networks.instance_of a k)) c ≡ cell_at (cells_of (component_of a.design found.component)) c
-  cells_there c = ap (λ i. cell_at (cells_of i) c) (there asking can found f ∙ ap (component_of a.design) (sym f.component))
 
   pub component_within : found.component < length a.design.components
   component_within = subst (λ m. m < length a.design.components) (sym f.component) (can.network.table.there k f.within)

@@ -15,3 +15,8 @@ pub mod StepLemmas
 pub mod AskLemmas
 pub mod LackLemmas
 pub mod PlanLemmas
+pub mod EvaluateLemmas
+pub mod LookLemmas
+pub mod GatheredLemmas
+pub mod OwnLemmas
+pub mod ApartLemmas

@@ -1,17 +1,14 @@
 -- What outputs read, and ports by their sides.
-use Rattle.std.proofs.Common.{◌≡◌, ℕ, zero, suc, ◌<◌, ◌≤◌, ⊎_elim, Bool, true, false, nat_lt, List, [], ◌∷◌, get_or, length, take, Option, Some, None, refl, sym, ap, ◌∙◌, subst, arith}
+use Rattle.std.proofs.Common.{◌≡◌, ℕ, zero, suc, ◌<◌, ◌≤◌, Bool, true, false, List, [], ◌∷◌, get_or, length, take, Option, Some, None, refl, ap, ◌∙◌, arith}
 use Rattle.std.specs.Prelude.{slice_get, if◌then◌else◌}
-use Rattle.std.proofs.Math.Path.{fun_ext}
-use Rattle.std.proofs.lemmas.Bool.{cases_lt}
-use Rattle.std.proofs.lemmas.List.{length-take, get_or_past}
+use Rattle.std.proofs.lemmas.List.{length-take}
 use Rattle.cx_bits.specs.BitVector.{BitVector}
 use Rattle.cx_prim.specs.declared.ports.PortRow.{PortRow}
 use Rattle.cx_prim.specs.declared.ports.Side.{Side}
-use Rattle.cx_prim.specs.declared.ports.Side.TheVariants.{Output, Registered}
-use Rattle.cx_prim.specs.Rows.{FitsPorts, HasSide, Row, input, is_output_side}
+use Rattle.cx_prim.specs.declared.ports.Side.TheVariants.{Registered}
+use Rattle.cx_prim.specs.Rows.{HasSide, Row, is_output_side}
 use Rattle.cx_meaning.specs.Rows.{side_from, side_of}
 use Rattle.cx_design_parts.specs.Outputs.{is_read_port, read_count}
-use Rattle.cx_bits.proofs.BitVectorLemmas.{none_is}
 
 pub few_read : (list : List PortRow) → read_count list ≤ length list
 few_read [] = omega arith
@@ -20,17 +17,6 @@ few_read (port ∷ list) = choice (is_read_port port) (few_read list)
     choice : (b : Bool) → read_count list ≤ length list → (if b then suc (read_count list) else 0) ≤ suc (length list)
     choice true h = omega (arith, h)
     choice false h = omega arith
-
-past_false : (p n m : ℕ) → n ≤ m → m ≤ p → nat_lt p n ≡ false
-past_false p n m few past = grind arith
-
--- marks of the first so many, at every number
-pub marks_are : (wanted : List Bool) (count : ℕ) → count ≤ length wanted → ((p : ℕ) → p < length wanted → get_or wanted p false ≡ nat_lt p count) → (p : ℕ) → get_or wanted p false ≡ nat_lt p count
-marks_are wanted count few marked p =
-    ⊎_elim
-    (λ lt. marked p lt)
-    (λ past. get_or_past wanted p false past ∙ sym (past_false p count (length wanted) few past))
-    (cases_lt p (length wanted))
 
 -- the port of a number, and its side
 port_there : (list : List PortRow) (n : ℕ) → n < length list → (port : PortRow) × (slice_get list n ≡ Some port) × (port.side ≡ side_from list n)
@@ -73,17 +59,8 @@ bare_take (suc count) (x ∷ xs) bare (suc n) = bare_take count xs (λ k. bare (
 take_count : {A : Type 0} (count : ℕ) (xs : List A) → count ≤ length xs → length (take count xs) ≡ count
 take_count count xs few = let t = length-take count xs in omega (arith, t, few)
 
-pub bare_fits : (ports : List PortRow) (count : ℕ) → count ≡ length ports → count ≤ 9 → FitsPorts ports (take count nine_none)
-bare_fits ports count is few = record {
-  count = take_count count nine_none few ∙ is;
-  widths = λ n port b at e. absurd (none_is (get_or (take count nine_none) n None) b (bare_take count nine_none bare_nine.none n) e);
-}
-
-abbrev pub nine_false : List Bool
-nine_false = false ∷ false ∷ false ∷ false ∷ false ∷ false ∷ false ∷ false ∷ false ∷ []
-
-pub false_count : (count : ℕ) → count ≤ 9 → length (take count nine_false) ≡ count
-false_count count few = take_count count nine_false few
+pub front_bare : (count n : ℕ) → get_or (take count nine_none) n None ≡ None
+front_bare count n = bare_take count nine_none bare_nine.none n
 
 pub none_count : (count : ℕ) → count ≤ 9 → length (take count nine_none) ≡ count
 none_count count few = take_count count nine_none few

@@ -1,5 +1,5 @@
 -- What cells of a component hold, and the groups that call them.
-use Rattle.std.proofs.Common.{◌≡◌, ℕ, zero, suc, ◌-◌, ◌<◌, ◌≤◌, List, [], ◌∷◌, get_or, length, map, drop, Option, Some, None, refl, sym, ap, ◌∙◌, subst, arith}
+use Rattle.std.proofs.Common.{◌≡◌, ℕ, zero, suc, ◌-◌, ◌<◌, ◌≤◌, List, [], ◌∷◌, get_or, length, drop, Option, Some, None, refl, sym, ap, ◌∙◌, subst, arith}
 use Rattle.std.specs.Prelude.{slice_get}
 use Rattle.std.proofs.Math.Seq.{drop-cons}
 use Rattle.cx_prim.specs.CellStates.{CellState, IsState}
@@ -10,7 +10,7 @@ use Rattle.cx_meaning.specs.Designs.{PlainCell, PlainComponent, PlainDesign, Pla
 use Rattle.cx_meaning.specs.Instances.{Instance, Cells, OfRow, add_cell, cell_at, cells_for, cells_of, part_of, tree_within}
 use Rattle.cx_rules.specs.Ports.{component_of}
 use Rattle.cx_design.specs.declared.groups.Assign.{Assign}
-use Rattle.cx_design.specs.PlainForms.{plain_assigns, plain_assign}
+use Rattle.cx_design.specs.PlainForms.{plain_assigns}
 use Rattle.cx_state.specs.States.{HoldCells, HoldsKind}
 use Rattle.cx_meaning.proofs.InstancesLemmas.{kind_skip}
 use Rattle.cx_rules.proofs.PortsLemmas.{part_is}

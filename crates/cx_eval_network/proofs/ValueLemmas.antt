@@ -2,7 +2,6 @@
 use Rattle.std.proofs.Common.{◌≡◌, ℕ, ◌+◌, ◌<◌, ◌≤◌, ◌⊎◌, inl, inr, ⊎_elim, Bool, true, false, nat_le, Option, Some, None, List, [], ◌∷◌, ◌++◌, length, map, slice_get, refl, sym, ap, ◌∙◌, subst, append_assoc, arith}
 use Rattle.std.proofs.Math.Path.{fun_ext}
 use Rattle.std.specs.Prelude.{option_map, option_to_list, if◌then◌else◌}
-use Rattle.cx_prim.specs.declared.ports.PortRow.{PortRow}
 use Rattle.cx_prim.specs.declared.ports.Side.{Side}
 use Rattle.cx_prim.specs.declared.ports.Side.TheVariants as sides
 use Rattle.cx_prim.specs.Rows.{Row}
@@ -18,7 +17,7 @@ use Rattle.cx_rules.specs.Footprints.{AssignNames, Leads}
 use Rattle.cx_rules.specs.Items.{sources_of}
 use Rattle.cx_rules.specs.Ports.{component_of}
 use Rattle.cx_rules.specs.Wellformed.{IsDesign, IsThere, StandsIn, port_count}
-use Rattle.cx_design_parts.specs.Outputs.{is_read_port, read_count}
+use Rattle.cx_design_parts.specs.Outputs.{read_count}
 use Rattle.cx_state.specs.Tables.{IsNumber, child_of, row_at}
 use Rattle.cx_state.proofs.TableLemmas.{further}
 use Rattle.cx_state.specs.States.{inputs_held, under_path}
@@ -192,7 +191,7 @@ module _ (a : Asked) (nodes : Nodes) (h : IsNetwork a nodes) (marks : List NodeM
       (led_node a.design (row_at a.rows k).component h.design (h.table.there k lt) (active_at a k) found.port q leads)
 
   -- and so is the output of the instance at a cell
-  child_path : (k c : ℕ) (child : Instance) → k < length a.rows → cell_at (cells_of (instance_of a k)) c ≡ OfInstance child → path_at a.design (child_of a.rows a.children k c) ≡ path_at a.design k ++ c ∷ []
+  pub child_path : (k c : ℕ) (child : Instance) → k < length a.rows → cell_at (cells_of (instance_of a k)) c ≡ OfInstance child → path_at a.design (child_of a.rows a.children k c) ≡ path_at a.design k ++ c ∷ []
   child_path k c child lt e =
       let later = child_later a nodes h k c child lt e in
       let at : IsNumber a.design (child_of a.rows a.children k c) (path_at a.design k ++ c ∷ []) = h.table.child k c (path_at a.design k) child (number_at a nodes h k lt) e in
@@ -201,7 +200,7 @@ module _ (a : Asked) (nodes : Nodes) (h : IsNetwork a nodes) (marks : List NodeM
       same_path : {x y : Path} → Some x ≡ Some y → x ≡ y
       same_path e = cc
 
-  child_seen : (k c n : ℕ) (child : Instance) → a.instance ≤ k → k < length a.rows → cell_at (cells_of (instance_of a k)) c ≡ OfInstance child
+  pub child_seen : (k c n : ℕ) (child : Instance) → a.instance ≤ k → k < length a.rows → cell_at (cells_of (instance_of a k)) c ≡ OfInstance child
       → seen_at a (child_of a.rows a.children k c) (ports.Output n) ≡ seen child unheld nothing (under c (under_path (path_at a.design k) whole)) (ports.Output n)
   child_seen k c n child from lt e =
       let j = child_of a.rows a.children k c in

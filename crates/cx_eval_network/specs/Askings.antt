@@ -1,15 +1,21 @@
--- What an asking stands for, and the place of a port in it.
-use Rattle.std.specs.Prelude.{◌≡◌, ◌≤◌, ◌<◌, Some, length}
+-- What an asking stands for, and what a look at a port in it finds.
+use Rattle.std.specs.Prelude.{◌≡◌, ◌≤◌, ◌<◌, List, Some, length}
 use Rattle.cx_design.specs.declared.actives.Active.TheVariants as actives
 use Rattle.cx_design.specs.PlainDesigns.{plain_design}
-use Rattle.cx_state.specs.States.{instance_state, plain_state}
+use Rattle.cx_state.specs.States.{plain_state}
 use Rattle.cx_eval_network.specs.declared.numbering.NodePort.{NodePort}
 use Rattle.cx_state.specs.Tables.{row_at}
 use Rattle.cx_design_leads.specs.Nodes.{node_of}
 use Rattle.cx_eval_network.specs.Nodes.{part_at}
-use Rattle.cx_eval_network.specs.Networks.{Asked}
-use Rattle.cx_eval_network.specs.declared.step_places.PortContext.{PortContext}
-use Rattle.cx_eval_network.specs.Asked.{CanAsk, active_in, asked, held_in}
+use Rattle.cx_eval_network.specs.declared.marks.NodeMark.{NodeMark}
+use Rattle.cx_eval_network.specs.declared.network.Found.{Found}
+use Rattle.cx_eval_network.specs.Demands.{Looked}
+use Rattle.cx_eval_network.specs.Evaluated.{AreSeen}
+use Rattle.cx_eval_network.specs.LeadPorts.{lead_ports}
+use Rattle.cx_eval_network.specs.Networks.{Asked, active_at, instance_of, seen_at}
+use Rattle.cx_eval_network.specs.Planned.{numbers_of}
+use Rattle.cx_eval_network.specs.Plans.{Deciding, decides}
+use Rattle.cx_eval_network.specs.Asked.{CanAsk, asked}
 use Rattle.cx_eval_network.specs.declared.asking.Asking.{Asking}
 
 abbrev pub asked_of : Asking → Asked
@@ -20,20 +26,20 @@ pub record IsAsking (a : Asking) : Type 0 where
   pub can : CanAsk (asked_of a) a.nodes.now a.drivers.now
   pub nothing : a.nothing.now ≡ actives.Nothing
 
--- the place of a port that is found
-pub record IsPlaceOf (a : Asking) (found : NodePort) (place : PortContext) : Type 0 where
-  pub design : place.design.now ≡ a.design.now
-  pub drivers : place.drivers.now ≡ a.drivers.now
-  pub active : place.active.now ≡ active_in a.instance a.active.now found.instance
-  pub cells : place.cells.now ≡ (instance_state (plain_state a.state.now) found.instance).cells
-  pub held : place.held.now ≡ held_in a.instance (plain_state a.state.now) found.instance
-  pub component : place.component ≡ found.component
-  pub port : place.port ≡ found.port
-  pub number : place.number ≡ found.number
-
 -- a port that is found in the asked instance or in a later one
 pub record IsFound (a : Asked) (found : NodePort) : Type 0 where
   pub from : a.instance ≤ found.instance
   pub within : found.instance < length a.rows
   pub component : found.component ≡ (row_at a.rows found.instance).component
   pub number : node_of (part_at a.design a.rows found.instance) found.port ≡ Some found.number
+
+-- what decides it, what is known of the ports of its instance, and what a look at it finds, by the numbers of these
+abbrev pub decided_by : Asked → NodePort → Deciding
+decided_by a found = decides (part_at a.design a.rows found.instance) found.port
+
+abbrev pub OwnSeen : Asked → NodePort → List NodeMark → Type 0
+OwnSeen a found own = AreSeen (part_at a.design a.rows found.instance) (seen_at a found.instance) own
+
+abbrev pub LookedOwn : Asked → NodePort → List NodeMark → Found → Type 0
+LookedOwn a found own result =
+    Looked (numbers_of (part_at a.design a.rows found.instance) (lead_ports (instance_of a found.instance) (active_at a found.instance) found.port)) (seen_at a found.instance found.port) own result

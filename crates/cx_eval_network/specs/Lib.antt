@@ -3,10 +3,13 @@ pub mod Touches
 pub mod Ports
 pub mod Parts
 pub mod LeadPorts
+pub mod Literals
+pub mod Planned
 pub mod Plans
 pub mod Nodes
 pub mod Networks
-pub mod Places
+pub mod Below
+pub mod Evaluated
 pub mod Asked
 pub mod Askings
 pub mod Lacking

@@ -3,7 +3,7 @@ use Rattle.std.specs.Prelude.{◌≡◌, ℕ, ◌<◌, nat_eq, nat_le, Bool, tru
 use Rattle.cx_meaning.specs.declared.ports.PortRef.{PortRef}
 use Rattle.cx_meaning.specs.declared.ports.PortRef.TheVariants as ports
 use Rattle.cx_meaning.specs.declared.sights.Seen.{Seen}
-use Rattle.cx_meaning.specs.declared.sights.Seen.TheVariants.{Undefined, Value}
+use Rattle.cx_meaning.specs.declared.sights.Seen.TheVariants.{Undefined}
 use Rattle.cx_meaning.specs.Designs.{PlainDesign}
 use Rattle.cx_meaning.specs.Instances.{Instance, At, Nothing, OfRow, OfInstance, Path, cell_at, cells_of, instance_at, part_of, paths_of, tree_of}
 use Rattle.cx_meaning.specs.Active.{Active, nothing}
@@ -22,6 +22,7 @@ use Rattle.cx_eval_network.specs.declared.numbering.NodePort.{NodePort}
 use Rattle.cx_eval_network.specs.declared.numbering.Nodes.{Nodes}
 use Rattle.cx_eval_network.specs.Nodes.{IsNodesOf, found_at, node_at}
 use Rattle.cx_eval_network.specs.LeadPorts.{lead_ports}
+pub use Rattle.cx_eval_network.specs.Literals.{literal_seen}
 
 -- what is asked: an instance of a design under an active set, in a state by its rows
 pub record Asked : Type 0 where
@@ -103,13 +104,6 @@ shown None = Undefined
 shown (Some Unseen) = Undefined
 shown (Some Open) = Undefined
 shown (Some (Known x)) = x
-
-abbrev pub literal_seen : PortRef → Seen
-literal_seen (ports.Cell c p) = Undefined
-literal_seen (ports.Input n) = Undefined
-literal_seen (ports.Output n) = Undefined
-literal_seen (ports.Done g) = Undefined
-literal_seen (ports.Literal w v) = if keeps_literal w v then Value (record { width = w; value = v }) else Undefined
 
 abbrev pub node_shown : List NodeMark → PortRef → Option ℕ → Seen
 node_shown marks q None = literal_seen q

@@ -1,48 +1,72 @@
--- What is known of each port of a component before any run: the nodes that it leads to in its instance, by the groups whose
--- assignments name them, and what it is seen as where nothing drives it.
-use Rattle.std.specs.Prelude.{◌≡◌, ℕ, List, [], ◌∷◌, ◌++◌, Option, Some, None, length, option_to_list, slice_get, ◌<◌}
+-- What decides each port of a component, and the plan of it.
+use Rattle.std.specs.Prelude.{◌≡◌, ℕ, ◌<◌, false, List, Some, length, map, slice_get}
+use Rattle.cx_prim.specs.declared.ports.Side.{Side}
+use Rattle.cx_prim.specs.declared.ports.Side.TheVariants as sides
+use Rattle.cx_prim.specs.Rows.{Row}
 use Rattle.cx_meaning.specs.declared.ports.PortRef.{PortRef}
+use Rattle.cx_meaning.specs.declared.ports.PortRef.TheVariants as ports
 use Rattle.cx_meaning.specs.declared.sights.Seen.{Seen}
-use Rattle.cx_meaning.specs.Active as plain
-use Rattle.cx_meaning.specs.Active.{drivers}
+use Rattle.cx_meaning.specs.declared.sights.Seen.TheVariants.{Undefined}
+use Rattle.cx_meaning.specs.Active.{source_order}
+use Rattle.cx_meaning.specs.Rows.{side_of}
 use Rattle.cx_meaning.specs.Designs.{PlainDesign}
-use Rattle.cx_meaning.specs.Instances.{Instance, State, part_of}
-use Rattle.cx_meaning.specs.Sights.{Below, Held, Look, step, target_seen}
+use Rattle.cx_meaning.specs.Instances.{Instance, At, Nothing, OfRow, OfInstance, cell_at, cells_of, part_of}
+use Rattle.cx_meaning.specs.Sights.{PartPort, Go, AnInput, AnOutput, ItsDone, bit_of, part_port}
 use Rattle.cx_rules.specs.Ports.{component_of}
-use Rattle.cx_design.specs.declared.actives.Active.{Active}
-use Rattle.cx_design.specs.PlainActives.{plain_active}
 use Rattle.cx_design.specs.PlainDesigns.{plain_design}
+use Rattle.cx_design_parts.specs.Outputs.{read_count}
 use Rattle.cx_design_leads.specs.Nodes.{IsNodesOf, node_count, node_of}
-use Rattle.cx_eval_drives.specs.Drives.{offset_by}
+use Rattle.cx_eval_drives.specs.Drives.{owned_for}
 use Rattle.cx_eval_drives.specs.Drivers.{AreDrivers}
-use Rattle.cx_eval_network.specs.LeadPorts.{lead_ports}
-use Rattle.cx_eval_network.specs.declared.plans.OwnedLeads.{OwnedLeads}
-use Rattle.cx_eval_network.specs.declared.plans.PortPlan.{PortPlan}
-use Rattle.cx_eval_network.specs.declared.plans.PartPlans.{PartPlans}
+use Rattle.cx_eval_network.specs.Planned.{NumberedAssign, assign_plan, numbered_assign}
+use Rattle.cx_eval_network.specs.declared.planned.PortPlan.{PortPlan}
+use Rattle.cx_eval_network.specs.declared.planned.PortPlan.TheVariants as plans
+use Rattle.cx_eval_network.specs.declared.planned.PartPlans.{PartPlans}
 use Rattle.cx_eval_network.specs.declared.plans.PlannedPart.{PlannedPart}
 
--- the numbers of ports that have one
-abbrev pub numbers_of : Instance → List PortRef → List ℕ
-numbers_of i [] = []
-numbers_of i (q ∷ qs) = option_to_list (node_of i q) ++ numbers_of i qs
+-- WHAT DECIDES a port: its assignments, with what it is seen as where no guard is 1; the state of its primitive with so many
+-- inputs of this, the first; or no port of its instance
+pub data Deciding : Type 0 where
+  Assigns : (undriven : Seen) (assigns : List NumberedAssign) → Deciding
+  Inputs : (reads : ℕ) → Deciding
+  Apart : Deciding
 
--- the numbers that assignments name, of those whose owner is active
-abbrev pub if_led : Option ℕ → List ℕ → List ℕ → List ℕ
-if_led None numbers rest = rest
-if_led (Some offset) numbers rest = numbers ++ rest
+abbrev pub assigned : Instance → PortRef → Seen → Deciding
+assigned i p undriven = Assigns undriven (map (assign_plan i) (owned_for p (source_order (part_of i))))
 
-abbrev pub led_by : (Option ℕ → Option ℕ) → List OwnedLeads → List ℕ
-led_by offset [] = []
-led_by offset (l ∷ ls) = if_led (offset l.owner) l.numbers.items (led_by offset ls)
+module _ (i : Instance) (p : PortRef) where
+  abbrev pub side_decides : Row → Side → Deciding
+  side_decides row sides.Enable = assigned i p (bit_of false)
+  side_decides row sides.Plain = assigned i p Undefined
+  side_decides row sides.Output = Inputs (read_count row.ports)
+  side_decides row sides.Registered = Inputs 0
 
--- a plan of a port, by the ports that it depends on at once and by what one step gives: it has the numbers of these; and where it
--- tells what the port is seen as undriven, a step is what the drivers of the port come to
-pub record IsPlan (i : Instance) (leads : plain.Active → List PortRef) (steps : Held → plain.Active → State → Look → Below → Seen) (p : PortRef) (plan : PortPlan) : Type 0 where
-  pub leads_are : (active : Active) → led_by (offset_by active) plan.leads.items ≡ numbers_of i (leads (plain_active i active))
-  pub undriven : (x : Seen) → plan.undriven ≡ Some x → (held : Held) (act : plain.Active) (s : State) (look : Look) (below : Below) → steps held act s look below ≡ target_seen x look (drivers (part_of i) act p)
+  abbrev pub part_decides : PartPort → Deciding
+  part_decides Go = assigned i p (bit_of false)
+  part_decides (AnInput n) = assigned i p Undefined
+  part_decides (AnOutput n) = Apart
+  part_decides ItsDone = Apart
+
+  abbrev pub cell_decides : ℕ → At → Deciding
+  cell_decides n Nothing = Apart
+  cell_decides n (OfRow row) = side_decides row (side_of row n)
+  cell_decides n (OfInstance child) = part_decides (part_port (part_of child) n)
+
+abbrev pub decides : Instance → PortRef → Deciding
+decides i (ports.Cell c n) = cell_decides i (ports.Cell c n) n (cell_at (cells_of i) c)
+decides i (ports.Input n) = Apart
+decides i (ports.Output n) = assigned i (ports.Output n) Undefined
+decides i (ports.Done g) = assigned i (ports.Done g) (bit_of false)
+decides i (ports.Literal w v) = Apart
+
+-- THE PLAN of a port has what decides it
+abbrev pub planned : PortPlan → Deciding
+planned (plans.Driven plan) = Assigns plan.undriven (map numbered_assign plan.assigns.items)
+planned (plans.Output reads) = Inputs reads
+planned plans.Apart = Apart
 
 abbrev pub IsPlanOf : Instance → PortRef → PortPlan → Type 0
-IsPlanOf i p = IsPlan i (λ act. lead_ports i act p) (λ held act s look below. step i held act s look below p) p
+IsPlanOf i p plan = planned plan ≡ decides i p
 
 -- the plan of each port of a component, by its number
 pub record ArePlans (i : Instance) (plans : List PortPlan) : Type 0 where

@@ -3,13 +3,13 @@
 //! each value once.
 #![tactic(auto)]
 
+mod apart;
 mod asking;
-mod below;
 mod called;
 mod children;
 pub mod demand_laws;
 mod demands;
-mod driven;
+mod evaluating;
 mod finding;
 mod instance_ports;
 mod literals;
@@ -23,17 +23,13 @@ mod numbering;
 mod outputs;
 mod parts;
 mod places;
+mod planned;
+mod planning;
 mod plans;
-mod step_below;
-mod step_places;
-mod steps;
 mod touched;
-mod unknown;
-mod values;
 
 pub use asking::Asking;
 pub use demands::Marks;
-pub use driven::driven_seen;
 pub use instance_ports::InstancePorts;
 pub use literals::literal_seen;
 pub use marks::{NodeMark, is_known};
@@ -44,9 +40,6 @@ pub use network_laws::{
 };
 pub use node_laws::{later_nodes_are_greater, nodes_are_apart, nodes_are_within, ports_have_nodes};
 pub use numbering::{InstanceNodes, NodePort, Nodes};
-pub use outputs::{combinational_seen, registered_seen};
 pub use parts::PartNodes;
-pub use plans::{OwnedLeads, PartPlans, PlannedPart, PortPlan};
-pub use step_below::Below;
-pub use step_places::PortContext;
-pub use steps::step_seen;
+pub use planned::{DrivenPlan, PartPlans, PlannedAssign, PlannedGuard, PlannedPort, PortPlan};
+pub use plans::PlannedPart;

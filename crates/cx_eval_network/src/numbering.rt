@@ -13,7 +13,8 @@ ghost use Rattle.cx_eval_network.specs.Plans.{HavePlans, IsPlanOf};
 
 use crate::instance_ports::InstancePorts;
 use crate::parts::PartNodes;
-use crate::plans::{PartPlans, PortPlan, all_plans};
+use crate::planned::{PartPlans, PortPlan};
+use crate::plans::all_plans;
 use cx_design::{Design, PortRef};
 use cx_state::{InstanceRow, InstanceTable};
 use cx_text::Memory;

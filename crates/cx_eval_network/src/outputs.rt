@@ -1,66 +1,200 @@
-//! Outputs of primitives by one step.
+//! Outputs of primitives.
 
-ghost use Rattle.std.specs.Prelude.{◌≡◌, ◌<◌, ◌≤◌, ℕ, [], false, get_or, length, nat_lt};
+ghost use Rattle.std.specs.Prelude.{◌≡◌, ◌+◌, ◌^◌, ◌<◌, ◌≤◌, ℕ, IfNone, IfSome, None, Some, get_or, length, nat_lt};
 ghost use Rattle.cx_prim.specs.CellStates.{IsState};
+ghost use Rattle.cx_prim.specs.Rows.{HasSide, is_output_side};
 ghost use Rattle.cx_prim.specs.Table.{row_of};
-ghost use Rattle.cx_prim.specs.declared.ports.Side.TheVariants as sides;
+ghost use Rattle.cx_meaning.specs.declared.ports.PortRef.TheVariants.{Cell};
+ghost use Rattle.cx_meaning.specs.declared.sights.Seen as views;
+ghost use Rattle.cx_meaning.specs.Instances.{OfRow, cell_at, cells_of};
 ghost use Rattle.cx_meaning.specs.Rows.{side_of};
 ghost use Rattle.cx_meaning.specs.Sights as sights;
-ghost use Rattle.cx_eval_drives.specs.Gathers.{WantedAreWide, ports_seen};
+ghost use Rattle.cx_eval_network.specs.Askings.{IsAsking, IsFound, LookedOwn, OwnSeen, asked_of, decided_by};
+ghost use Rattle.cx_eval_network.specs.Evaluated.{FillsWith, InputsAgree, InputsFit, IsGathered, IsNoValue, IsOutput};
+ghost use Rattle.cx_eval_network.specs.Nodes.{part_at};
+ghost use Rattle.cx_eval_network.specs.declared.network.Found.TheVariants.{Worth};
+ghost use Rattle.cx_eval_network.specs.Plans.{Inputs, side_decides};
 
+use crate::asking::Asking;
+use crate::marked::found_at;
+use crate::places::cells_of;
+use crate::{Found, NodeMark, NodePort};
+use cx_bits::Bits;
 use cx_cells::{PrimState, Primitive};
-use cx_design::Seen;
+use cx_design::{PortRef, Seen};
 use cx_design_parts::output_laws::outputs_read_first;
-use cx_design_parts::read_count;
-use cx_eval_drives::{Look, output_seen, seen_of};
+use cx_design_parts::{At, stands_at};
+use cx_laws::width_laws::found_has_width;
 use cx_prim::Cycle;
+use cx_state::alike_laws::rows_stand;
+use cx_state::width_laws::states_hold_widths;
 
 /// Room for the ports of any primitive: the longest row is that of a sequential memory of four dimensions, with nine.
 const ROOM: usize = 9;
 
-/// What an output is seen as that reads the state alone. It takes no memory.
-pub fn registered_seen(primitive: &Primitive, state: &PrimState, port: usize) -> Seen
-    requires state { IsState (row_of primitive.now).shape state.now }
-    requires within { port < length (row_of primitive.now).ports }
-    requires side { side_of (row_of primitive.now) port ≡ sides.Registered }
-    ensures value { result ≡ sights.of_option ((row_of primitive.now).output state.now [] port) }
+/// What an output of a primitive is seen as that reads so many inputs, the first; or the number of one of these that is not known.
+pub fn output_found(asking: &Asking<'_>, own: &[NodeMark], found: NodePort, reads: usize) -> Found
+    requires can { IsAsking asking.now }
+    requires found { IsFound (asked_of asking.now) found }
+    requires seen { OwnSeen (asked_of asking.now) found own.now }
+    requires reads { decided_by (asked_of asking.now) found ≡ Inputs reads }
+    ensures found { LookedOwn (asked_of asking.now) found own.now result }
 {
-    let nothing = [None; ROOM];
-    let count = primitive.port_count();
-    seen_of(primitive.output(state, &nothing[..count], port))
+    match found.port {
+        PortRef::Cell(cell, port) => cell_output(asking, own, found, cell, port, reads),
+        PortRef::Input(_) | PortRef::Output(_) | PortRef::Done(_) | PortRef::Literal(_, _) => {
+            unreachable!()
+        }
+    }
 }
 
-/// What an output is seen as that reads inputs. It takes no memory.
-pub fn combinational_seen<L: Look>(
-    look: &L,
+/// The same of a port of a cell.
+fn cell_output(
+    asking: &Asking<'_>,
+    own: &[NodeMark],
+    found: NodePort,
     cell: u32,
+    port: u32,
+    reads: usize,
+) -> Found
+    requires can { IsAsking asking.now }
+    requires found { IsFound (asked_of asking.now) found }
+    requires seen { OwnSeen (asked_of asking.now) found own.now }
+    requires port { found.port ≡ Cell cell port }
+    requires reads { decided_by (asked_of asking.now) found ≡ Inputs reads }
+    ensures found { LookedOwn (asked_of asking.now) found own.now result }
+{
+    match stands_at(asking.design, found.component as usize, cell) {
+        At::Primitive(primitive) => {
+            primitive_output(asking, own, found, cell, port, primitive, reads)
+        }
+        At::Nothing | At::Part(_) => unreachable!(),
+    }
+}
+
+/// The same of a primitive, by what it holds.
+fn primitive_output(
+    asking: &Asking<'_>,
+    own: &[NodeMark],
+    found: NodePort,
+    cell: u32,
+    port: u32,
+    primitive: &Primitive,
+    reads: usize,
+) -> Found
+    requires can { IsAsking asking.now }
+    requires found { IsFound (asked_of asking.now) found }
+    requires seen { OwnSeen (asked_of asking.now) found own.now }
+    requires port { found.port ≡ Cell cell port }
+    requires row { cell_at (cells_of (part_at (asked_of asking.now).design (asked_of asking.now).rows found.instance)) cell ≡ OfRow (row_of primitive.now) }
+    requires reads { side_decides (part_at (asked_of asking.now).design (asked_of asking.now).rows found.instance) found.port (row_of primitive.now) (side_of (row_of primitive.now) port) ≡ Inputs reads }
+    ensures found { LookedOwn (asked_of asking.now) found own.now result }
+{
+    rows_stand();
+    found_has_width();
+    states_hold_widths();
+    outputs_read_first();
+    let cells = cells_of(asking, found.instance);
+    match cell_state(cells, cell) {
+        Some(state) => {
+            let first = found.number - port as usize;
+            output_by(own, first, primitive, state, port as usize, reads)
+        }
+        None => unreachable!(),
+    }
+}
+
+/// What a primitive cell holds.
+fn cell_state(cells: &[Option<PrimState>], cell: u32) -> Option<&PrimState>
+    ensures none { IfNone result (get_or cells.now cell None ≡ None) }
+    ensures some { IfSome result (λ state. get_or cells.now cell None ≡ Some state.now) }
+{
+    match cells.get(cell as usize) {
+        Some(Some(state)) => Some(state),
+        Some(None) | None => None,
+    }
+}
+
+/// What an output is seen as, by the number of the first port of its primitive.
+fn output_by(
+    own: &[NodeMark],
+    first: usize,
     primitive: &Primitive,
     state: &PrimState,
     port: usize,
-) -> Seen
+    reads: usize,
+) -> Found
     requires state { IsState (row_of primitive.now).shape state.now }
-    requires within { port < length (row_of primitive.now).ports }
-    requires side { side_of (row_of primitive.now) port ≡ sides.Output }
-    requires widths { WantedAreWide ((row_of primitive.now).reads port) (ports_seen (L.seen look.now) cell) (row_of primitive.now).ports }
-    ensures value { result ≡ sights.output_seen (λ given. (row_of primitive.now).output state.now given port) (sights.gather (ports_seen (L.seen look.now) cell) ((row_of primitive.now).reads port) 0 (row_of primitive.now).ports) }
+    requires output { HasSide (row_of primitive.now) port is_output_side }
+    requires reads { reads ≤ length (row_of primitive.now).ports }
+    requires fits { first + length (row_of primitive.now).ports < 2 ^ 64 }
+    requires widths { InputsFit own.now first reads (row_of primitive.now).ports }
+    ensures value { (look : ℕ → views.Seen) → InputsAgree own.now first reads look
+        → IsOutput own.now first reads (sights.output_seen (λ given. (row_of primitive.now).output state.now given port) (sights.gather look (λ q. nat_lt q reads) 0 (row_of primitive.now).ports)) result }
 {
-    outputs_read_first();
     let mut room = [None; ROOM];
-    let mut marks = [false; ROOM];
     let count = primitive.port_count();
     let inputs = &mut room[..count];
-    let wanted = &mut marks[..count];
-    mark_first(wanted, read_count(primitive));
-    output_seen(look, cell, primitive, state, port, wanted, inputs)
+    match gather_known(own, first, reads, inputs) {
+        Some(found) => found,
+        None => Found::Worth(seen_of(primitive.output(state, inputs, port))),
+    }
 }
 
-/// Marks the first so many ports, and no others.
-fn mark_first(wanted: &mut [bool], count: usize)
-    requires within { count ≤ length wanted.old }
-    ensures marked { (p : ℕ) → p < length wanted.new → get_or wanted.new p false ≡ nat_lt p count }
-    ensures sized { length wanted.new ≡ length wanted.old }
+/// Puts the values of the first so many inputs into their slots, where nothing stands; or tells the first that is no value, or the
+/// number of the first that is not known.
+fn gather_known(
+    own: &[NodeMark],
+    first: usize,
+    reads: usize,
+    inputs: &mut [Option<Bits>],
+) -> Option<Found>
+    requires bare { (n : ℕ) → get_or inputs.old n None ≡ None }
+    requires reads { reads ≤ length inputs.old }
+    requires fits { first + length inputs.old < 2 ^ 64 }
+    ensures value { (look : ℕ → views.Seen) → InputsAgree own.now first reads look → IsGathered own.now first reads look inputs.new result }
+    ensures sized { length inputs.new ≡ length inputs.old }
 {
-    for port in 0..wanted.len() {
-        wanted[port] = port < count;
+    for port in 0..reads {
+        if let Some(found) = fill(&mut inputs[port], found_at(own, first + port)) {
+            return Some(found);
+        }
+    }
+    None
+}
+
+/// Puts what is found at an input into its slot, where it is a value; or answers what is found.
+fn fill(slot: &mut Option<Bits>, found: Found) -> Option<Found>
+    ensures given { IfNone result (FillsWith slot.new found) }
+    ensures lacks { IfSome result (IsNoValue found) }
+{
+    match found {
+        Found::Worth(seen) => fill_seen(slot, seen),
+        Found::Waits(number) => Some(Found::Waits(number)),
+    }
+}
+
+/// The same of what an input is seen as.
+fn fill_seen(slot: &mut Option<Bits>, seen: Seen) -> Option<Found>
+    ensures given { IfNone result (FillsWith slot.new (Worth seen)) }
+    ensures lacks { IfSome result (IsNoValue (Worth seen)) }
+{
+    match seen {
+        Seen::Value(bits) => {
+            *slot = Some(bits);
+            None
+        }
+        Seen::Conflict => Some(Found::Worth(Seen::Conflict)),
+        Seen::Undefined => Some(Found::Worth(Seen::Undefined)),
+    }
+}
+
+/// What an output gives, as it is seen.
+fn seen_of(output: Option<Bits>) -> Seen
+    ensures value { result ≡ sights.of_option output }
+{
+    match output {
+        Some(bits) => Seen::Value(bits),
+        None => Seen::Undefined,
     }
 }

@@ -1,15 +1,16 @@
-//! The place of a port that is found.
+//! What is asked of a port that is found.
 
 ghost use Rattle.std.specs.Prelude.{◌≡◌, ◌<◌, Some, length};
 ghost use Rattle.cx_design.specs.declared.actives.Active.TheVariants as actives;
-ghost use Rattle.cx_state.specs.States.{plain_state};
+ghost use Rattle.cx_state.specs.States.{instance_state, plain_state};
 ghost use Rattle.cx_eval_network.specs.Nodes.{found_at};
 ghost use Rattle.cx_eval_network.specs.Networks as networks;
 ghost use Rattle.cx_eval_network.specs.Asked.{active_in, held_in};
-ghost use Rattle.cx_eval_network.specs.Askings.{IsPlaceOf, asked_of};
+ghost use Rattle.cx_eval_network.specs.Askings.{asked_of};
 
+use crate::NodePort;
 use crate::asking::Asking;
-use crate::{NodePort, PortContext};
+use cx_cells::PrimState;
 use cx_design::{Active, Seen};
 
 /// What stands at a node, where it is asked: a port of the asked instance or of a later one.
@@ -33,25 +34,6 @@ fn if_asked(found: NodePort, instance: usize) -> Option<NodePort>
     }
 }
 
-/// The place of a port.
-pub fn place_of<'b>(asking: &Asking<'b>, found: NodePort) -> PortContext<'b>
-    requires nothing { asking.now.nothing.now ≡ actives.Nothing }
-    requires within { found.instance < length (plain_state asking.now.state.now) }
-    ensures value { IsPlaceOf asking.now found result }
-{
-    let own = &asking.state.instances[found.instance];
-    PortContext {
-        design: asking.design,
-        drivers: asking.drivers,
-        active: active_of(asking, found.instance),
-        cells: own.cells.as_slice(),
-        held: held_of(asking, found.instance),
-        component: found.component as usize,
-        port: found.port,
-        number: found.number,
-    }
-}
-
 /// What is active in an instance.
 pub fn active_of<'b>(asking: &Asking<'b>, instance: usize) -> &'b Active
     requires nothing { asking.now.nothing.now ≡ actives.Nothing }
@@ -65,7 +47,7 @@ pub fn active_of<'b>(asking: &Asking<'b>, instance: usize) -> &'b Active
 }
 
 /// What the inputs of an instance are held as.
-fn held_of<'b>(asking: &Asking<'b>, instance: usize) -> &'b [Seen]
+pub fn held_of<'b>(asking: &Asking<'b>, instance: usize) -> &'b [Seen]
     requires within { instance < length (plain_state asking.now.state.now) }
     ensures value { result.now ≡ held_in asking.now.instance (plain_state asking.now.state.now) instance }
 {
@@ -74,4 +56,12 @@ fn held_of<'b>(asking: &Asking<'b>, instance: usize) -> &'b [Seen]
     } else {
         &[]
     }
+}
+
+/// What the cells of an instance hold.
+pub fn cells_of<'b>(asking: &Asking<'b>, instance: usize) -> &'b [Option<PrimState>]
+    requires within { instance < length (plain_state asking.now.state.now) }
+    ensures value { result.now ≡ (instance_state (plain_state asking.now.state.now) instance).cells }
+{
+    asking.state.instances[instance].cells.as_slice()
 }

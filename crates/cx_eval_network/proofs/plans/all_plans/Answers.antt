@@ -3,7 +3,7 @@ use Rattle.std.proofs.lemmas.List.{length-append}
 use Rattle.cx_graphs.proofs.Lists.{get_last}
 use Rattle.cx_rules.specs.Ports.{component_of}
 use Rattle.cx_design.specs.PlainDesigns.{plain_design}
-use Rattle.cx_eval_network.specs.declared.plans.PartPlans.{PartPlans}
+use Rattle.cx_eval_network.specs.declared.planned.PartPlans.{PartPlans}
 use Rattle.cx_eval_network.specs.Plans.{ArePlans}
 use Rattle.cx_eval_network.proofs.plans.all_plans.Goals as goal
 

@@ -1,7 +1,7 @@
 use Rattle.std.proofs.Common.{◌≡◌, ℕ, Some, length, slice_get}
 use Rattle.cx_rules.specs.Ports.{component_of}
 use Rattle.cx_design.specs.PlainDesigns.{plain_design}
-use Rattle.cx_eval_network.specs.declared.plans.PartPlans.{PartPlans}
+use Rattle.cx_eval_network.specs.declared.planned.PartPlans.{PartPlans}
 use Rattle.cx_eval_network.specs.Plans.{ArePlans}
 use Rattle.cx_eval_network.proofs.plans.all_plans.Given as goal
 

@@ -1,20 +1,13 @@
-use Rattle.std.proofs.Common.{◌≡◌, ◌<◌, Some, length, sym, ap, ◌∙◌, subst}
+use Rattle.std.proofs.Common.{◌<◌, length, sym, ap, ◌∙◌, subst}
 use Rattle.std.proofs.lemmas.List.{length-map}
-use Rattle.cx_meaning.specs.declared.sights.Seen.{Seen}
-use Rattle.cx_meaning.specs.Active.{drivers}
-use Rattle.cx_meaning.specs.Designs.{component_at}
-use Rattle.cx_meaning.specs.Instances.{part_of}
-use Rattle.cx_meaning.specs.Sights.{target_seen}
-use Rattle.cx_design.specs.PlainActives.{plain_active}
+use Rattle.std.specs.Prelude.{map}
+use Rattle.cx_meaning.specs.Active.{source_order}
 use Rattle.cx_design.specs.PlainDesigns.{plain_design}
-use Rattle.cx_eval_drives.specs.Drives.{acting_of, offset_by}
-use Rattle.cx_eval_network.specs.LeadPorts.{named_by}
-use Rattle.cx_eval_network.specs.Plans.{instance_of, numbers_of}
+use Rattle.cx_eval_drives.specs.Drives.{owned_for}
+use Rattle.cx_eval_network.specs.Planned.{assign_plan}
+use Rattle.cx_eval_network.specs.Plans.{Assigns, instance_of}
 use Rattle.cx_rules.proofs.PortsLemmas.{part_is}
 use Rattle.cx_eval_network.proofs.plans.driven_plan.Goals as goal
-
-same_seen : (x y : Seen) → Some x ≡ Some y → x ≡ y
-same_seen x y e = cc
 
 pub returns : goal.returns
 returns c =
@@ -24,12 +17,8 @@ returns c =
     let own = c.requires.part in
     let within : part.component < length d.components = subst (λ n. part.component < n) (sym (length-map part.design.now.components.items _)) own.within in
     record {
-      value = record {
-        leads_are = λ active.
-            c.in_ok-leads.ensures.value i own.numbered (offset_by active)
-            ∙ ap (λ xs. numbers_of i (named_by (acting_of (offset_by active) xs))) (c.assigns_of-assigns.ensures.value d c.args.port own.driven within c.requires.number)
-            ∙ ap (λ acts. numbers_of i (named_by acts)) (sym (c.own_assigns_drive.ensures i (component_at d part.component) active c.args.port))
-            ∙ ap (λ own. numbers_of i (named_by (drivers own (plain_active i active) c.args.port))) (sym (part_is d part.component));
-        undriven = λ x e held act s look below. ap (λ y. target_seen y look (drivers (part_of i) act c.args.port)) (same_seen c.args.undriven x e);
-      };
+      value =
+          ap (Assigns c.args.undriven)
+          (c.in_ok-assigns.ensures.value
+          ∙ ap (map (assign_plan i)) (c.assigns_of-assigns.ensures.value d c.args.port own.driven within c.requires.number ∙ ap (λ x. owned_for c.args.port (source_order x)) (sym (part_is d part.component))));
     }

@@ -1,7 +1,7 @@
 use Rattle.std.proofs.Common.{◌≡◌, ℕ, Some, length, slice_get}
 use Rattle.cx_meaning.specs.declared.ports.PortRef.{PortRef}
 use Rattle.cx_design_leads.specs.Nodes.{node_of}
-use Rattle.cx_eval_network.specs.declared.plans.PortPlan.{PortPlan}
+use Rattle.cx_eval_network.specs.declared.planned.PortPlan.{PortPlan}
 use Rattle.cx_eval_network.specs.Plans.{IsPlanOf, instance_of}
 use Rattle.cx_eval_network.proofs.plans.part_plans.Given as goal
 

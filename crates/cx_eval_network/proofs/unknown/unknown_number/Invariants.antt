@@ -1,7 +1,0 @@
-use Rattle.std.proofs.Common.{◌≡◌, ◌+◌, drop, map}
-use Rattle.cx_eval_network.specs.Lacking.{unknown_in}
-use Rattle.cx_eval_network.proofs.unknown.unknown_number.Given as goal
-
--- those that are left lack what all of them do
-abbrev pub invariant-loop-number : goal.invariant-loop-number
-invariant-loop-number l = unknown_in l.marks (map (λ m. l.first + m) l.numbers) ≡ unknown_in l.marks (map (λ m. l.first + m) (drop l.number-index l.numbers))
