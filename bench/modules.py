@@ -301,7 +301,7 @@ def module_of(program, folder, number, name, numbers):
     assert ran.returncode == 0, (name, numbers, ran.stderr)
     first = ran.stdout[ran.stdout.index('module '):]
     own = first.split('(')[0].split()[1]
-    assert own.startswith('cx_m0_'), (name, numbers, own)
+    assert own == '_'.join(['cx', name, *map(str, numbers)]), (name, numbers, own)
     return first[:first.index('endmodule\n') + len('endmodule\n')].replace(f'module {own}(', f'module m{number}(', 1)
 
 

@@ -25,7 +25,12 @@ def positions(statement):
     return [f'line {it.line}: {it.told()}' for it in found] + ['the end']
 
 
-def names(it, part, number, body):
+def module_of(body, at):
+    """The module of cell `at` of a component."""
+    return re.search(rf'(\w+) cx_i{at}\(', body).group(1)
+
+
+def names(it, part, body):
     """The names of the module of a component, and what each is; of a register with positions what each of them is."""
     for kind, listed in (('in', part.inputs), ('out', part.outputs)):
         for at, port in enumerate(listed):
@@ -33,7 +38,7 @@ def names(it, part, number, body):
     for at, cell in enumerate(numbering.all_cells(part)):
         is_component, is_output = cell.kind in it.by_name, cell.name.endswith('.')
         told = f'output {cell.name[:-1]}' if is_output else f'cell {cell.name}'
-        yield f'cx_i{at}', told + (f', component {cell.kind}' if is_component else f', {cell.kind} in module cx_m{number}_{at}'), []
+        yield f'cx_i{at}', told + (f', component {cell.kind}' if is_component else f', {cell.kind} in module {module_of(body, at)}'), []
         for port, name in enumerate(numbering.port_names(it, cell)):
             yield f'cx_c{at}_{port}', cell.name[:-1] if is_output and name == 'out' else f'{cell.name}.{name}', []
     regions = dict(numbering.regions(part))
@@ -57,23 +62,23 @@ def read(path):
 
 def parts_of(it, modules, design, text):
     """The components of a text with their modules, where it is of the design."""
-    for number, (module, part) in enumerate(numbering.module_names(it)):
+    for module, part in numbering.module_names(it):
         if module not in modules:
             sys.exit(f'{text} has no module {module}: it is not of {design}')
         there = set(re.findall(r'\w+', modules[module]))
         if any(f'cx_i{at}' not in there for at, _ in enumerate(numbering.all_cells(part))):
             sys.exit(f'{text} lacks a cell of {part.name} in module {module}: it is not of {design}')
-        yield number, module, part, there
+        yield module, part, there
 
 
 def tell(design, text, wanted):
     it, modules, known = read(design), numbering.modules_of(given.text_of(text, 'ascii')), False
-    for number, module, part, there in parts_of(it, modules, design, text):
+    for module, part, there in parts_of(it, modules, design, text):
         if wanted not in (None, module, part.name):
             continue
         known = True
         print(f'{module}: component {part.name}')
-        for name, told, positions_of in names(it, part, number, modules[module]):
+        for name, told, positions_of in names(it, part, modules[module]):
             if name in there:
                 print(f'{module} {name}: {told}')
                 for position, where in enumerate(positions_of):
@@ -87,8 +92,8 @@ class Renamed:
 
     def __init__(self, it, modules):
         self.by_module = {}
-        for number, (module, part) in enumerate(numbering.module_names(it)):
-            told = {name: word_of(re.sub(r'^group (.*) goes$', r'go \1', what)) for name, what, _ in names(it, part, number, modules[module])}
+        for module, part in numbering.module_names(it):
+            told = {name: word_of(re.sub(r'^group (.*) goes$', r'go \1', what)) for name, what, _ in names(it, part, modules[module])}
             inner = {f'cx_i{at}': cell for at, cell in enumerate(part.cells)}
             self.by_module[module] = told, inner
         self.modules_of_parts = {part.name: module for module, part in numbering.module_names(it)}

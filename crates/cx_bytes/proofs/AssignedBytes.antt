@@ -15,7 +15,7 @@ use Rattle.cx_bytes.proofs.TextBytes.{sum_over, Each}
 use Rattle.cx_bytes.proofs.ModuleBytes.{sum_over-append, assigned_bytes, reset_bytes, step_bytes, edge_bytes, module_bytes}
 use Rattle.cx_bytes.proofs.DrivenBytes.{value_bytes, option_bytes, cell_bytes, driven_bytes, before_bytes, driven_few}
 use Rattle.cx_bytes.proofs.SumBytes.{sum_same, from_zero, numbered_sum, lists_sum}
-use Rattle.cx_bytes.proofs.ComponentBytes.{wire_short, register_short, output_short, port_short, PortShort, CellShort, any_one, each_one, ports_count, ports_sum, decls_sum, instances_sum}
+use Rattle.cx_bytes.proofs.ComponentBytes.{wire_short, register_short, output_short, port_short, PortShort, CellShort, any_one, each_one, kind_bytes, ports_count, ports_sum, decls_sum, instances_sum}
 
 -- of an assign all but its value
 abbrev named_bytes : PlainAssign → ℕ
@@ -177,7 +177,7 @@ module _ (part : PlainNetComponent) (cells : List PlainCellPorts)
 
   -- THE MODULE of a component
   pub component_bytes : (name : List ℕ) → module_bytes (module_with name part cells)
-      ≤ length name + (272 + (35 * length part.inputs + (97 * length part.outputs + (134 * total + (57 * length cells + (90 * length part.wires + (122 * length part.registers + sum_over before_bytes ds)))))))
+      ≤ length name + (272 + (35 * length part.inputs + (97 * length part.outputs + (134 * total + (42 * length cells + (sum_over kind_bytes cells + (90 * length part.wires + (122 * length part.registers + sum_over before_bytes ds))))))))
   component_bytes name =
       let a = ports_sum part cells few_inputs few_outputs few_wires few_registers few_cells short_cells in
       let b = decls_sum part cells few_inputs few_outputs few_wires few_registers few_cells short_cells in

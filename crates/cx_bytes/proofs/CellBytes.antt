@@ -1,8 +1,11 @@
 -- What a primitive cell has of bytes, in its own module and in that of the component around it, and that its module is narrow.
-use Rattle.std.proofs.Common.{◌≡◌, ℕ, ◌+◌, ◌*◌, ◌^◌, ◌≤◌, ◌&&◌, Bool, true, false, List, [], ◌∷◌, length, Option, Some, None, refl, arith}
+use Rattle.std.proofs.Common.{◌≡◌, ℕ, ◌+◌, ◌*◌, ◌^◌, ◌≤◌, ◌&&◌, Bool, true, false, List, [], ◌∷◌, length, Option, Some, None, refl, ap, sym, subst, arith}
 use Rattle.std.specs.Prelude.{codes, nat_le, nat_lt, unwrap_or, if◌then◌else◌}
-use Rattle.cx_prim.specs.declared.names.PrimitiveName.TheVariants.{Timer}
-use Rattle.cx_prim.specs.PipeRows.{timer_row}
+use Rattle.cx_prim.specs.declared.names.PrimitiveName.{PrimitiveName}
+use Rattle.cx_prim.specs.declared.names.PrimitiveName.TheVariants.{DivPipe, Timer}
+use Rattle.cx_prim.specs.PrimitiveNames.{name_text}
+use Rattle.cx_prim.specs.Widths.{is_width}
+use Rattle.cx_prim.specs.PipeRows.{divider_row, timer_row}
 use Rattle.cx_prim.specs.Table.{PrimitiveRow, HasRow, row_of, no_row}
 use Rattle.cx_vtree.specs.Plain.{PlainPort, PlainDecl, WireOf, RegisterOf, ArrayOf, PlainAssign, PlainItem, SetTo, StoreTo, PlainEdge, PlainModule}
 use Rattle.cx_vtree.specs.Layout.{is_name}
@@ -11,9 +14,13 @@ use Rattle.cx_vmods.specs.Modules.{pieces_of, module_of}
 use Rattle.cx_emit.proofs.CleanModules as clean
 use Rattle.cx_emit.proofs.PrimitiveModules.{primitive_owes}
 use Rattle.cx_bytes.proofs.TextBytes.{AreNarrow, DeclNarrow, ItemNarrow, Each}
-use Rattle.cx_bytes.proofs.ModuleBytes.{module_bytes, EdgeNarrow, IsNarrow}
+use Rattle.cx_bytes.proofs.ModuleBytes.{EdgeNarrow, IsNarrow}
 use Rattle.cx_bytes.proofs.NarrowLemmas.{narrow_by, scope_wide}
-use Rattle.cx_bytes.proofs.PrimitiveBytes.{primitive_bytes, pieces_cost, pieces_few, timer_pieces_few}
+use Rattle.cx_bytes.proofs.PrimitiveBytes.{pieces_cost, pieces_few, others_few}
+use Rattle.cx_prim.proofs.NameLemmas.{one_name}
+use Rattle.cx_vtree.specs.InstanceTree.{same_name}
+use Rattle.cx_vtree.proofs.InstanceTreeLemmas.{same_is}
+use Rattle.std.proofs.lemmas.Bool.{both_ways}
 
 -- KEPT MODULES are narrow
 each_so : {A : Type 0} (P Q : A → Type 0) (xs : List A) → ((x : A) → P x → Q x) → clean.Each P xs → Each Q xs
@@ -60,16 +67,42 @@ module _ (before : List PlainModule) (m : PlainModule) (kept : clean.IsKept befo
     edge = edge_narrow m.edge kept.edge;
   }
 
--- PRIMITIVES: the module, and around it an instance of 57 bytes and 134 for each port
+-- PRIMITIVES
 pub primitive_narrow : (p : PrimitiveRow) (name : List ℕ) → is_name name ≡ true → HasRow p → IsNarrow (module_of p name)
 primitive_narrow p name named has = kept_narrow [] (module_of p name) (primitive_owes [] name named p has).kept
 
-pub primitive_total : (p : PrimitiveRow) (name : List ℕ) → HasRow p → length name ≤ 15 → 57 + 134 * length (row_of p).ports + module_bytes (module_of p name) ≤ 4096
-primitive_total p name has short =
-    let few : length (row_of p).ports ≤ 9 = (primitive_owes [] (codes "x") refl p has).few in
-    let own : module_bytes (module_of p name) ≤ length name + (163 + (40 * length (row_of p).ports + pieces_cost (pieces_of p.name p.numbers))) = primitive_bytes p name in
-    let pieces : pieces_cost (pieces_of p.name p.numbers) ≤ 2290 = pieces_few p.name p.numbers in
-    omega (arith, short, few, own, pieces)
+-- no more ports and pieces than these, since the divider has few ports
+is_divider : PrimitiveName → Bool
+is_divider name = same_name (name_text name) (name_text DivPipe)
+
+divider_ports : (numbers : List ℕ) → length (row_of (record { name = DivPipe; numbers = numbers })).ports ≤ 6
+divider_ports [] = omega arith
+divider_ports (w ∷ []) = by (is_width w)
+  where
+    by : (b : Bool) → length (unwrap_or (if b then Some (divider_row w) else None) no_row).ports ≤ 6
+    by true = omega arith
+    by false = omega arith
+divider_ports (w ∷ v ∷ rest) = omega arith
+
+pub parts_few : (p : PrimitiveRow) → HasRow p → 174 * length (row_of p).ports + pieces_cost (pieces_of p.name p.numbers) ≤ 3566
+unfolding is_divider
+parts_few p has = by (is_divider p.name) refl
+  where
+    few : length (row_of p).ports ≤ 9
+    few = (primitive_owes [] (codes "x") refl p has).few
+
+    divider : (name : PrimitiveName) → name ≡ DivPipe → 174 * length (row_of (record { name = name; numbers = p.numbers })).ports + pieces_cost (pieces_of name p.numbers) ≤ 3566
+    divider name is =
+        let ports = divider_ports p.numbers in
+        let pieces = pieces_few DivPipe p.numbers in
+        subst (λ (n : PrimitiveName). 174 * length (row_of (record { name = n; numbers = p.numbers })).ports + pieces_cost (pieces_of n p.numbers) ≤ 3566) (sym is) (omega (arith, ports, pieces))
+
+    by : (b : Bool) → is_divider p.name ≡ b → 174 * length (row_of p).ports + pieces_cost (pieces_of p.name p.numbers) ≤ 3566
+    by true is = divider p.name (one_name p.name DivPipe (same_is (name_text p.name) (name_text DivPipe) is))
+    by false is =
+        let pieces : pieces_cost (pieces_of p.name p.numbers) ≤ 2000 = others_few p.name p.numbers (λ e. both_ways (is_divider p.name) is (ap is_divider e)) in
+        let ports = few in
+        omega (arith, ports, pieces)
 
 -- a timer
 pub timer_ports : (numbers : List ℕ) → length (row_of (record { name = Timer; numbers = numbers })).ports ≤ 3
@@ -80,12 +113,3 @@ timer_ports (n ∷ []) = by (nat_le 1 n && nat_lt n (2 ^ 32))
     by true = omega arith
     by false = omega arith
 timer_ports (n ∷ m ∷ rest) = omega arith
-
-pub timer_total : (numbers : List ℕ) (name : List ℕ) → length name ≤ 15
-    → 57 + 134 * length (row_of (record { name = Timer; numbers = numbers })).ports + module_bytes (module_of (record { name = Timer; numbers = numbers }) name) ≤ 1348
-timer_total numbers name short =
-    let p : PrimitiveRow = record { name = Timer; numbers = numbers } in
-    let few : length (row_of p).ports ≤ 3 = timer_ports numbers in
-    let own : module_bytes (module_of p name) ≤ length name + (163 + (40 * length (row_of p).ports + pieces_cost (pieces_of p.name p.numbers))) = primitive_bytes p name in
-    let pieces : pieces_cost (pieces_of p.name p.numbers) ≤ 591 = timer_pieces_few numbers in
-    omega (arith, short, few, own, pieces)

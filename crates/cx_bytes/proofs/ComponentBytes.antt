@@ -32,7 +32,7 @@ five letters n small =
     let front : length (codes "cx_" ++ letters) ≡ 3 + length letters = length-append (codes "cx_") letters in
     omega (arith, few, all, front)
 
-pub twice_few : (letters : List ℕ) (n m : ℕ) → n < 10 ^ 5 → m < 10 ^ 5 → length (twice_numbered letters n m) ≤ length letters + 14
+twice_few : (letters : List ℕ) (n m : ℕ) → n < 10 ^ 5 → m < 10 ^ 5 → length (twice_numbered letters n m) ≤ length letters + 14
 twice_few letters n m first second =
     let wide : n < 10 ^ 7 = omega (arith, first) in
     let far : m < 10 ^ 7 = omega (arith, second) in
@@ -67,7 +67,6 @@ abbrev pub PortShort : PlainPort → Type 0
 PortShort p = length p.name ≤ 16
 
 pub record CellShort (cell : PlainCellPorts) : Type 0 where
-  pub kind : length cell.kind ≤ 15
   pub few : length cell.ports ≤ 10 ^ 5
   pub ports : Each PortShort cell.ports
 
@@ -77,6 +76,9 @@ any_one x = Unit {0}
 pub each_one : {A : Type 0} (xs : List A) → Each any_one xs
 each_one [] = tt
 each_one (x ∷ xs) = (tt, each_one xs)
+
+abbrev pub kind_bytes : PlainCellPorts → ℕ
+kind_bytes cell = length cell.kind
 
 abbrev pub ports_count : PlainCellPorts → ℕ
 ports_count cell = length cell.ports
@@ -97,9 +99,9 @@ module _ (part : PlainNetComponent) (cells : List PlainCellPorts)
   thirty_two [] = refl
   thirty_two (x ∷ xs) = let h : sum_over (λ (y : PlainCellPorts). length y.ports * 32) xs ≡ 32 * sum_over ports_count xs = thirty_two xs in omega (arith, h)
 
-  instances_total : (xs : List PlainCellPorts) → sum_over (λ (x : PlainCellPorts). 57 + length x.ports * 36) xs ≡ 57 * length xs + 36 * sum_over ports_count xs
+  instances_total : (xs : List PlainCellPorts) → sum_over (λ (x : PlainCellPorts). 42 + length x.kind + length x.ports * 36) xs ≡ 42 * length xs + sum_over kind_bytes xs + 36 * sum_over ports_count xs
   instances_total [] = refl
-  instances_total (x ∷ xs) = let h : sum_over (λ (y : PlainCellPorts). 57 + length y.ports * 36) xs ≡ 57 * length xs + 36 * sum_over ports_count xs = instances_total xs in omega (arith, h)
+  instances_total (x ∷ xs) = let h : sum_over (λ (y : PlainCellPorts). 42 + length y.kind + length y.ports * 36) xs ≡ 42 * length xs + sum_over kind_bytes xs + 36 * sum_over ports_count xs = instances_total xs in omega (arith, h)
 
   -- PORTS
   pub ports_sum : sum_over port_bytes (module_ports part) ≤ 110 + (35 * length part.inputs + 35 * length part.outputs)
@@ -147,19 +149,18 @@ module _ (part : PlainNetComponent) (cells : List PlainCellPorts)
   port_connected : (c p : ℕ) (x : PlainPort) → c < 10 ^ 5 → p < 10 ^ 5 → PortShort x → length (port_conn c p x).port + (length (port_conn c p x).net + 3) + 2 ≤ 36
   port_connected c p x less below own = let h : length (cell_port_name c p) ≤ 15 = port_short c p less below in omega (arith, h, own)
 
-  cell_connected : (c : ℕ) (cell : PlainCellPorts) → c < 10 ^ 5 → CellShort cell → instance_bytes (cell_instance c cell) ≤ 57 + length cell.ports * 36
+  cell_connected : (c : ℕ) (cell : PlainCellPorts) → c < 10 ^ 5 → CellShort cell → instance_bytes (cell_instance c cell) ≤ 42 + length cell.kind + length cell.ports * 36
   cell_connected c cell less short_cell =
       let a : sum_over (λ (x : PlainConn). length x.port + (length x.net + 3) + 2) (with_numbers (port_conn c) cell.ports) ≤ sum_over (λ (x : PlainPort). 36) cell.ports =
       numbered_sum (λ (x : PlainConn). length x.port + (length x.net + 3) + 2) (λ (x : PlainPort). 36) PortShort (10 ^ 5) (port_conn c) (λ p x below own. port_connected c p x less below own) 0 cell.ports (from_zero (length cell.ports) (10 ^ 5) short_cell.few) short_cell.ports in
       let b : sum_over (λ (x : PlainPort). 36) cell.ports ≡ length cell.ports * 36 = sum_same 36 cell.ports in
       let d : conns_bytes (with_numbers (port_conn c) cell.ports) ≡ sum_over (λ (x : PlainConn). length x.port + (length x.net + 3) + 2) (with_numbers (port_conn c) cell.ports) = conns_sum (with_numbers (port_conn c) cell.ports) in
       let e : length (instance_name c) ≤ 9 = instance_short c less in
-      let k : length cell.kind ≤ 15 = short_cell.kind in
-      omega (arith, a, b, d, e, k)
+      omega (arith, a, b, d, e)
 
-  pub instances_sum : sum_over instance_bytes (with_numbers cell_instance cells) ≤ 57 * length cells + 36 * ports_total
+  pub instances_sum : sum_over instance_bytes (with_numbers cell_instance cells) ≤ 42 * length cells + sum_over kind_bytes cells + 36 * ports_total
   instances_sum =
-      let a : sum_over instance_bytes (with_numbers cell_instance cells) ≤ sum_over (λ (x : PlainCellPorts). 57 + length x.ports * 36) cells =
-      numbered_sum instance_bytes (λ (x : PlainCellPorts). 57 + length x.ports * 36) CellShort (10 ^ 5) cell_instance cell_connected 0 cells (from_zero (length cells) (10 ^ 5) few_cells) short_cells in
-      let b : sum_over (λ (x : PlainCellPorts). 57 + length x.ports * 36) cells ≡ 57 * length cells + 36 * ports_total = instances_total cells in
+      let a : sum_over instance_bytes (with_numbers cell_instance cells) ≤ sum_over (λ (x : PlainCellPorts). 42 + length x.kind + length x.ports * 36) cells =
+      numbered_sum instance_bytes (λ (x : PlainCellPorts). 42 + length x.kind + length x.ports * 36) CellShort (10 ^ 5) cell_instance cell_connected 0 cells (from_zero (length cells) (10 ^ 5) few_cells) short_cells in
+      let b : sum_over (λ (x : PlainCellPorts). 42 + length x.kind + length x.ports * 36) cells ≡ 42 * length cells + sum_over kind_bytes cells + 36 * ports_total = instances_total cells in
       omega (arith, a, b)

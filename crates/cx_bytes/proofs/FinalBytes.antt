@@ -1,5 +1,5 @@
 -- THE TEXT OF A DESIGN has at most 4,096 bytes for each unit of its size and 256 for each unit of its weight, where its modules are narrow.
-use Rattle.std.proofs.Common.{◌≡◌, ℕ, ◌+◌, ◌*◌, ◌^◌, ◌<◌, ◌≤◌, true, List, [], ◌∷◌, length, refl, arith}
+use Rattle.std.proofs.Common.{◌≡◌, ℕ, ◌+◌, ◌*◌, ◌^◌, ◌<◌, ◌≤◌, true, List, [], ◌∷◌, length, map, refl, arith}
 use Rattle.cx_meaning.specs.Designs.{PlainComponent, PlainDesign, component_at}
 use Rattle.cx_rules.specs.Flat.{IsFlat}
 use Rattle.cx_rules.specs.Accepted.{IsAccepted}
@@ -16,16 +16,20 @@ use Rattle.cx_wiring.proofs.MainOrder.{distinct_order}
 use Rattle.cx_wiring.proofs.MainLaws.{number_from}
 use Rattle.cx_wiring.proofs.NumberLemmas.{few_apart, length-numbers_from}
 use Rattle.cx_wiring.proofs.WayLemmas.{there}
-use Rattle.cx_emit.specs.Sources.{source_of}
+use Rattle.cx_net.specs.Nets.{PlainNetComponent}
+use Rattle.cx_vtree.specs.Plain.{PlainModule}
+use Rattle.cx_emit.specs.Numbered.{with_numbers}
+use Rattle.cx_emit.specs.Signatures.{primitive_module}
+use Rattle.cx_emit.specs.Sources.{component_module, primitives_among, primitive_modules, source_of}
 use Rattle.cx_bytes.specs.Shallow.{Shallow}
 use Rattle.cx_bytes.proofs.TextBytes.{sum_over, Each}
-use Rattle.cx_bytes.proofs.ModuleBytes.{module_bytes, external_bytes, ExternalNarrow, text_fits}
+use Rattle.cx_bytes.proofs.ModuleBytes.{sum_over-append, module_bytes, external_bytes, ExternalNarrow, text_fits}
 use Rattle.cx_bytes.proofs.WeightBytes.{cells_weight, cells_weigh_little, sizes_few, sizes_sum}
 use Rattle.cx_bytes.proofs.JoinBytes.{outside_sum}
 use Rattle.cx_bytes.proofs.SignedBytes.{net}
 use Rattle.cx_bytes.proofs.LoweredCells.{lowered_cells}
 use Rattle.cx_bytes.proofs.SoundNarrow.{sound_narrow}
-use Rattle.cx_bytes.proofs.WholeBytes.{share, all_written}
+use Rattle.cx_bytes.proofs.WholeBytes.{share, all_written, firsts_less}
 use Rattle.cx_rules.proofs.SizesLemmas.{sizes_many}
 
 -- a sum of two sums
@@ -49,13 +53,19 @@ module _ (d : PlainDesign) (rules : IsDesign d) (flat : IsFlat d) (accepted : Is
   modules_written =
       let many = order_few in
       let few : 0 + length (order (lowered_of d)) ≤ 10 ^ 5 = omega (arith, many) in
-      let all : sum_over module_bytes (source_of (inlined (net_of (lowered_of d)))).modules + sum_over (λ k. outside_sum d rules (net d rules small) (order (lowered_of d)) (lowered_cells d rules k)) (order (lowered_of d)) ≤ sum_over (share d rules flat accepted small parts shallow many) (order (lowered_of d)) =
+      let cs : List PlainNetComponent = (inlined (net_of (lowered_of d))).components in
+      let components : List PlainModule = with_numbers (component_module (net d rules small)) cs in
+      let both : sum_over module_bytes (source_of (inlined (net_of (lowered_of d)))).modules ≡ sum_over module_bytes (primitive_modules (net d rules small)) + sum_over module_bytes components =
+      sum_over-append module_bytes (primitive_modules (net d rules small)) components in
+      let once : sum_over module_bytes (primitive_modules (net d rules small)) ≤ sum_over module_bytes (map primitive_module (primitives_among cs)) = firsts_less module_bytes [] (primitives_among cs) in
+      let all : sum_over module_bytes (map primitive_module (primitives_among cs)) + sum_over module_bytes components + sum_over (λ k. outside_sum d rules (net d rules small) (order (lowered_of d)) (lowered_cells d rules k)) (order (lowered_of d))
+      ≤ sum_over (share d rules flat accepted small parts shallow many) (order (lowered_of d)) =
       all_written d rules flat accepted small parts shallow many 0 (order (lowered_of d)) (λ k h. h) few in
       let split : sum_over (share d rules flat accepted small parts shallow many) (order (lowered_of d)) ≡ 4096 * sum_over (λ k. size_of (component_at d k) + 1) (order (lowered_of d)) + 134 * sum_over (cells_weight d rules) (order (lowered_of d)) =
       share_sum (λ k. size_of (component_at d k) + 1) (cells_weight d rules) (order (lowered_of d)) in
       let sizes : sum_over (λ k. size_of (component_at d k) + 1) (order (lowered_of d)) ≤ sum_over (λ (x : PlainComponent). size_of x + 1) d.components = sizes_few d rules (λ (x : PlainComponent). size_of x + 1) in
       let whole : sum_over (λ (x : PlainComponent). size_of x + 1) d.components ≡ sizes_of d.components = sizes_sum d.components in
-      omega (arith, all, split, sizes, whole)
+      omega (arith, both, once, all, split, sizes, whole)
 
   -- THE TEXT, beside the lines of its external memories
   pub text_few : is_sound (source_of (inlined (net_of (lowered_of d)))) ≡ true → Each ExternalNarrow (source_of (inlined (net_of (lowered_of d)))).externals

@@ -1,8 +1,8 @@
 -- What a component of the net of a design has of bytes, with the modules of its cells: 4,096 for each unit of its size and one more, and
 -- 134 for each unit of weight of its cells' components.
-use Rattle.std.proofs.Common.{◌≡◌, inl, inr, ℕ, suc, ◌+◌, ◌*◌, ◌^◌, ◌<◌, ◌≤◌, Bool, true, false, List, [], ◌∷◌, ◌++◌, length, map, slice_get, refl, arith}
+use Rattle.std.proofs.Common.{◌≡◌, inl, inr, ℕ, suc, ◌+◌, ◌*◌, ◌^◌, ◌<◌, ◌≤◌, Bool, true, false, List, [], ◌∷◌, ◌++◌, length, map, slice_get, refl, ap, arith}
 use Rattle.std.specs.Prelude.{codes}
-use Rattle.std.proofs.lemmas.List.{length-map}
+use Rattle.std.proofs.lemmas.List.{length-map, map-append}
 use Rattle.cx_text.specs.declared.places.Place.{Place}
 use Rattle.cx_prim.specs.declared.names.PrimitiveName.TheVariants.{Timer}
 use Rattle.cx_prim.specs.Table.{PrimitiveRow, HasRow, row_of}
@@ -15,20 +15,21 @@ use Rattle.cx_static.specs.Lowering.{timer_cell, unlowered, lowered_component}
 use Rattle.cx_wiring.specs.Reached.{place_in, component_of_kind, components_of}
 use Rattle.cx_wiring.specs.Wiring.{kind_in, cell_in}
 use Rattle.cx_wiring.proofs.LoweringCounts.{cells_cost, all_timers, statement_adds}
-use Rattle.cx_vmods.specs.Modules.{port_of, pieces_of, module_of}
-use Rattle.cx_emit.specs.Names.{cell_module_name}
-use Rattle.cx_emit.specs.Numbered.{numbered_from, lists_from}
-use Rattle.cx_emit.specs.Signatures.{signature_at, kind_ports, cell_ports, kind_modules, cell_modules}
+use Rattle.cx_vmods.specs.Modules.{port_of, pieces_of}
+use Rattle.cx_emit.specs.Names.{module_name, primitive_name}
+use Rattle.cx_emit.specs.Signatures.{signature_at, primitive_module, kind_ports, cell_ports}
+use Rattle.cx_emit.specs.Sources.{primitives_of, primitives_in}
 use Rattle.cx_emit.proofs.PrimitiveModules.{primitive_owes}
 use Rattle.cx_bytes.proofs.TextBytes.{sum_over}
 use Rattle.cx_bytes.proofs.ModuleBytes.{sum_over-append, module_bytes}
-use Rattle.cx_bytes.proofs.PrimitiveBytes.{primitive_bytes, pieces_cost, pieces_few, timer_pieces_few, memory_pieces_few}
-use Rattle.cx_bytes.proofs.ComponentBytes.{twice_few, ports_count}
-use Rattle.cx_bytes.proofs.CellBytes.{timer_ports}
+use Rattle.cx_bytes.proofs.PrimitiveBytes.{primitive_bytes, pieces_cost, timer_pieces_few, memory_pieces_few}
+use Rattle.cx_bytes.proofs.ComponentBytes.{kind_bytes, ports_count}
+use Rattle.cx_bytes.proofs.CellBytes.{parts_few, timer_ports}
+use Rattle.cx_bytes.proofs.NameBytes.{name_bytes, name_most, name_few}
 
--- CELLS: the module of a primitive, with an instance of 57 bytes and 134 for each port around it; and 112 for an external one
+-- CELLS: an instance of 42 bytes and its module's name, with 134 for each port around it; the module of a primitive; and 112 for an external one
 abbrev pub kind_cost : PlainDesign → PlainKind → ℕ
-kind_cost d (OfPrimitive p) = 57 + (134 * length (row_of p).ports + (178 + (40 * length (row_of p).ports + pieces_cost (pieces_of p.name p.numbers))))
+kind_cost d (OfPrimitive p) = 42 + (name_bytes p.name + (134 * length (row_of p).ports + (name_bytes p.name + (163 + (40 * length (row_of p).ports + pieces_cost (pieces_of p.name p.numbers))))))
 kind_cost d (OfComponent j) = 57 + 134 * (2 + length (component_at d j).inputs + length (component_at d j).outputs)
 
 abbrev pub outside_cost : Bool → ℕ
@@ -38,11 +39,12 @@ outside_cost false = 0
 abbrev pub cell_cost : PlainDesign → PlainCell → ℕ
 cell_cost d cell = kind_cost d cell.kind + outside_cost cell.external
 
-timer_cost : (d : PlainDesign) (place : Place) (n : ℕ) → cell_cost d (timer_cell place n) ≤ 1348
+timer_cost : (d : PlainDesign) (place : Place) (n : ℕ) → cell_cost d (timer_cell place n) ≤ 1362
 timer_cost d place n =
     let few : length (row_of (record { name = Timer; numbers = n ∷ [] })).ports ≤ 3 = timer_ports (n ∷ []) in
     let pieces : pieces_cost (pieces_of Timer (n ∷ [])) ≤ 591 = timer_pieces_few (n ∷ []) in
-    omega (arith, few, pieces)
+    let name : name_bytes Timer ≡ 22 = refl in
+    omega (arith, few, pieces, name)
 
 module _ (d : PlainDesign) (rules : IsDesign d) where
   abbrev own_weight : ℕ → ℕ
@@ -52,11 +54,12 @@ module _ (d : PlainDesign) (rules : IsDesign d) where
   primitive_cost p has true memory =
       let few : length (row_of p).ports ≤ 9 = (primitive_owes [] (codes "x") refl p has).few in
       let pieces : pieces_cost (pieces_of p.name p.numbers) ≤ 2000 = memory_pieces_few p (memory refl) in
-      omega (arith, few, pieces)
+      let name : name_bytes p.name ≤ 76 = name_most p.name in
+      omega (arith, few, pieces, name)
   primitive_cost p has false memory =
-      let few : length (row_of p).ports ≤ 9 = (primitive_owes [] (codes "x") refl p has).few in
-      let pieces : pieces_cost (pieces_of p.name p.numbers) ≤ 2290 = pieces_few p.name p.numbers in
-      omega (arith, few, pieces)
+      let parts : 174 * length (row_of p).ports + pieces_cost (pieces_of p.name p.numbers) ≤ 3566 = parts_few p has in
+      let name : name_bytes p.name ≤ 76 = name_most p.name in
+      omega (arith, parts, name)
 
   child_cost : (j : ℕ) → kind_cost d (OfComponent j) ≤ 4096 + 134 * own_weight j
   child_cost j = omega arith
@@ -79,10 +82,10 @@ module _ (d : PlainDesign) (rules : IsDesign d) where
 
   -- with the timers that lowering puts behind
   pub lowered_cheap : (k : ℕ) → k < length d.components → cells_cost (cell_cost d) (lowered_component (component_at d k)).part.cells
-      ≤ 4096 * length (component_at d k).cells + 134 * sum_over own_weight (components_of (component_at d k).cells) + 1348 * all_timers (lowered_component (component_at d k)).islands
+      ≤ 4096 * length (component_at d k).cells + 134 * sum_over own_weight (components_of (component_at d k).cells) + 1362 * all_timers (lowered_component (component_at d k)).islands
   lowered_cheap k within =
-      let adds = statement_adds (component_at d k) (cell_cost d) 1348 (timer_cost d) (component_at d k).control (unlowered (component_at d k)) in
-      let grown : cells_cost (cell_cost d) (lowered_component (component_at d k)).part.cells + 1348 * 0 ≤ cells_cost (cell_cost d) (component_at d k).cells + 1348 * all_timers (lowered_component (component_at d k)).islands = adds.cells in
+      let adds = statement_adds (component_at d k) (cell_cost d) 1362 (timer_cost d) (component_at d k).control (unlowered (component_at d k)) in
+      let grown : cells_cost (cell_cost d) (lowered_component (component_at d k)).part.cells + 1362 * 0 ≤ cells_cost (cell_cost d) (component_at d k).cells + 1362 * all_timers (lowered_component (component_at d k)).islands = adds.cells in
       let own : cells_cost (cell_cost d) (component_at d k).cells ≤ 4096 * length (component_at d k).cells + 134 * sum_over own_weight (components_of (component_at d k).cells) =
       cells_cheap k (component_at d k).cells (rules.components k within).cells in
       omega (arith, grown, own)
@@ -96,25 +99,31 @@ module _ (d : PlainDesign) (rules : IsDesign d) where
     outside_sum [] = 0
     outside_sum (c ∷ cells) = outside_cost c.external + outside_sum cells
 
-    kind_written : (k c : ℕ) (kind : PlainKind) → ((j : ℕ) → kind ≡ OfComponent j → IsSigned j) → k < 10 ^ 5 → c < 10 ^ 5 → 57 + 134 * length (kind_ports net k c (kind_in places kind)).ports + sum_over module_bytes (kind_modules k c (kind_in places kind)) ≤ kind_cost d kind
-    kind_written k c (OfPrimitive p) signed few less =
-        let short : length (cell_module_name k c) ≤ 15 = twice_few (codes "m") k c few less in
-        let own : module_bytes (module_of p (cell_module_name k c)) ≤ length (cell_module_name k c) + (163 + (40 * length (row_of p).ports + pieces_cost (pieces_of p.name p.numbers))) = primitive_bytes p (cell_module_name k c) in
+    -- those that stand there, with short names; and primitives that have rows
+    abbrev pub IsShown : PlainKind → Type 0
+    IsShown (OfPrimitive p) = HasRow p
+    IsShown (OfComponent j) = IsSigned j × (length (module_name net.main (place_in j places)) ≤ 15)
+
+    kind_written : (kind : PlainKind) → IsShown kind
+        → 42 + length (kind_ports net (kind_in places kind)).kind + 134 * length (kind_ports net (kind_in places kind)).ports + sum_over module_bytes (map primitive_module (primitives_of (kind_in places kind))) ≤ kind_cost d kind
+    kind_written (OfPrimitive p) has =
+        let short : length (primitive_name p) ≤ name_bytes p.name = name_few p has in
+        let own : module_bytes (primitive_module p) ≤ length (primitive_name p) + (163 + (40 * length (row_of p).ports + pieces_cost (pieces_of p.name p.numbers))) = primitive_bytes p (primitive_name p) in
         let ports : length (map port_of (row_of p).ports) ≡ length (row_of p).ports = length-map (row_of p).ports port_of in
         omega (arith, short, own, ports)
-    kind_written k c (OfComponent j) signed few less = let own = signed j refl in omega (arith, own)
+    kind_written (OfComponent j) shown = let own = shown.0 in let name = shown.1 in omega (arith, own, name)
 
-    pub cells_written : (k n : ℕ) (cells : List PlainCell) → ((cell : PlainCell) (j : ℕ) → In cells cell → cell.kind ≡ OfComponent j → IsSigned j) → k < 10 ^ 5 → n + length cells ≤ 10 ^ 5
-        → 57 * length cells + 134 * sum_over ports_count (numbered_from (cell_ports net k) n (map (cell_in places) cells)) + sum_over module_bytes (lists_from (cell_modules k) n (map (cell_in places) cells)) + outside_sum cells
+    pub cells_written : (cells : List PlainCell) → ((cell : PlainCell) → In cells cell → IsShown cell.kind)
+        → 42 * length cells + sum_over kind_bytes (map (cell_ports net) (map (cell_in places) cells)) + 134 * sum_over ports_count (map (cell_ports net) (map (cell_in places) cells))
+        + sum_over module_bytes (map primitive_module (primitives_in (map (cell_in places) cells))) + outside_sum cells
         ≤ cells_cost (cell_cost d) cells
-    cells_written k n [] signed few less = omega arith
-    cells_written k n (c ∷ cells) signed few less =
-        let within : n < 10 ^ 5 = omega (arith, less) in
-        let more : suc n + length cells ≤ 10 ^ 5 = omega (arith, less) in
-        let own : 57 + 134 * length (kind_ports net k n (kind_in places c.kind)).ports + sum_over module_bytes (kind_modules k n (kind_in places c.kind)) ≤ kind_cost d c.kind = kind_written k n c.kind (λ j is. signed c j (inl refl) is) few within in
-        let rest : 57 * length cells + 134 * sum_over ports_count (numbered_from (cell_ports net k) (suc n) (map (cell_in places) cells)) + sum_over module_bytes (lists_from (cell_modules k) (suc n) (map (cell_in places) cells)) + outside_sum cells ≤ cells_cost (cell_cost d) cells =
-        cells_written k (suc n) cells (λ cell j i is. signed cell j (inr i) is) few more in
-        let both : sum_over module_bytes (kind_modules k n (kind_in places c.kind) ++ lists_from (cell_modules k) (suc n) (map (cell_in places) cells))
-        ≡ sum_over module_bytes (kind_modules k n (kind_in places c.kind)) + sum_over module_bytes (lists_from (cell_modules k) (suc n) (map (cell_in places) cells)) =
-        sum_over-append module_bytes (kind_modules k n (kind_in places c.kind)) (lists_from (cell_modules k) (suc n) (map (cell_in places) cells)) in
-        omega (arith, own, rest, both)
+    cells_written [] shown = omega arith
+    cells_written (c ∷ cells) shown =
+        let own = kind_written c.kind (shown c (inl refl)) in
+        let rest = cells_written cells (λ cell i. shown cell (inr i)) in
+        let here : List PrimitiveRow = primitives_of (kind_in places c.kind) in
+        let later : List PrimitiveRow = primitives_in (map (cell_in places) cells) in
+        let split : sum_over module_bytes (map primitive_module (here ++ later)) ≡ sum_over module_bytes (map primitive_module here ++ map primitive_module later) = ap (sum_over module_bytes) (map-append primitive_module here later) in
+        let both : sum_over module_bytes (map primitive_module here ++ map primitive_module later) ≡ sum_over module_bytes (map primitive_module here) + sum_over module_bytes (map primitive_module later) =
+        sum_over-append module_bytes (map primitive_module here) (map primitive_module later) in
+        omega (arith, own, rest, split, both)

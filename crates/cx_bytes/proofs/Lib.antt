@@ -16,6 +16,7 @@ pub mod AssignedBytes
 pub mod PartBytes
 pub mod InlinedBytes
 pub mod CellBytes
+pub mod NameBytes
 pub mod SmallModules
 pub mod JoinBytes
 pub mod HoledBytes

@@ -31,10 +31,10 @@ occurrences_weigh-append (x ∷ xs) ys = let h : occurrences_weigh (xs ++ ys) �
 
 -- a timer costs 1,944 with its wire, its drivers, its cell and its module
 abbrev pub gathered_weighs : Gathered → ℕ
-gathered_weighs g = 1944 * length g.timers + (points_weigh g.points + occurrences_weigh g.occurrences)
+gathered_weighs g = 1958 * length g.timers + (points_weigh g.points + occurrences_weigh g.occurrences)
 
 abbrev pub island_weighs : PlainIsland → ℕ
-island_weighs i = (1944 * length i.timers + (points_weigh i.points + occurrences_weigh i.occurrences)) - 167
+island_weighs i = (1958 * length i.timers + (points_weigh i.points + occurrences_weigh i.occurrences)) - 167
 
 abbrev pub islands_weigh : List PlainIsland → ℕ
 islands_weigh [] = 0
@@ -46,7 +46,7 @@ islands_weigh-append (x ∷ xs) ys = let h : islands_weigh (xs ++ ys) ≡ island
 
 module _ (part : PlainComponent) where
   -- ONE MORE
-  timer_weighs : (place : Place) (n : ℕ) (outer : Option ℕ) (from to : ℕ) (g : Gathered) → gathered_weighs (with_timer place n outer from to g) ≡ gathered_weighs g + 1944
+  timer_weighs : (place : Place) (n : ℕ) (outer : Option ℕ) (from to : ℕ) (g : Gathered) → gathered_weighs (with_timer place n outer from to g) ≡ gathered_weighs g + 1958
   timer_weighs place n outer from to g =
       let timer : IslandTimer = record { cell = length g.cells; outer = outer; from = from; to = to } in
       let long : length (g.timers ++ timer ∷ []) ≡ length g.timers + 1 = length-append g.timers (timer ∷ []) in
@@ -101,7 +101,7 @@ module _ (part : PlainComponent) where
     form_adds (StaticRepeat written count y) context place n x g shallow few =
         let first = with_timer part.place (length_of part y) (Some x.timer) x.at (x.at + count * length_of part y) g in
         let h : gathered_weighs (gathered part y (begin_at (length g.timers) 0 x.samples) first) + 2070 ≤ gathered_weighs first + 4090 * length (visit InStatic y) = statement_adds y InStatic n (begin_at (length g.timers) 0 x.samples) first shallow few in
-        let k : gathered_weighs first ≡ gathered_weighs g + 1944 = timer_weighs part.place (length_of part y) (Some x.timer) x.at (x.at + count * length_of part y) g in
+        let k : gathered_weighs first ≡ gathered_weighs g + 1958 = timer_weighs part.place (length_of part y) (Some x.timer) x.at (x.at + count * length_of part y) g in
         omega arith
     form_adds (Timed k) context place n x g shallow few = omega arith
 
@@ -177,7 +177,7 @@ module _ (part : PlainComponent) where
       let own = bare cells (StaticRepeat written count y) in
       let first = with_timer part.place (length_of part y) (Some 0) 0 (0 + count * length_of part y) own in
       let h : gathered_weighs (gathered part y (begin_at 1 0 []) first) + 2070 ≤ gathered_weighs first + 4090 * length (visit InStatic y) = statement_adds y InStatic 64 (begin_at 1 0 []) first shallow few in
-      let k : gathered_weighs first ≡ gathered_weighs own + 1944 = timer_weighs part.place (length_of part y) (Some 0) 0 (0 + count * length_of part y) own in
+      let k : gathered_weighs first ≡ gathered_weighs own + 1958 = timer_weighs part.place (length_of part y) (Some 0) 0 (0 + count * length_of part y) own in
       omega arith
   island_adds (Timed k) place cells shallow = omega arith
 

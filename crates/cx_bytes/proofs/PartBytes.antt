@@ -51,17 +51,17 @@ occurrences_many (o ∷ os) = let h : 703 * length os ≤ occurrences_cost os = 
 
 -- an island that costs nothing has no wire
 one_paid : (timers points occurrences p o : ℕ) → 1156 * points ≤ p → 703 * occurrences ≤ o
-    → ((506 * timers + (p + o)) - 167) + (90 * (timers + points + occurrences) + 122 * points + 1348 * timers) ≤ (1944 * timers + (p + 212 * points + (o + 90 * occurrences))) - 167
+    → ((506 * timers + (p + o)) - 167) + (90 * (timers + points + occurrences) + 122 * points + 1362 * timers) ≤ (1958 * timers + (p + 212 * points + (o + 90 * occurrences))) - 167
 one_paid timers points occurrences p o h k = omega (arith, h, k)
 
-islands_paid : (islands : List PlainIsland) → total island_cost islands + 90 * island_wires islands + 122 * all_points islands + 1348 * all_timers islands ≤ islands_weigh islands
+islands_paid : (islands : List PlainIsland) → total island_cost islands + 90 * island_wires islands + 122 * all_points islands + 1362 * all_timers islands ≤ islands_weigh islands
 islands_paid [] = omega arith
 islands_paid (i ∷ islands) =
-    let h : total island_cost islands + 90 * island_wires islands + 122 * all_points islands + 1348 * all_timers islands ≤ islands_weigh islands = islands_paid islands in
+    let h : total island_cost islands + 90 * island_wires islands + 122 * all_points islands + 1362 * all_timers islands ≤ islands_weigh islands = islands_paid islands in
     let p : points_weigh i.points ≡ points_cost i.points + 212 * length i.points = points_paid i.points in
     let o : occurrences_weigh i.occurrences ≡ occurrences_cost i.occurrences + 90 * length i.occurrences = occurrences_paid i.occurrences in
-    let own : ((506 * length i.timers + (points_cost i.points + occurrences_cost i.occurrences)) - 167) + (90 * (length i.timers + length i.points + length i.occurrences) + 122 * length i.points + 1348 * length i.timers)
-    ≤ (1944 * length i.timers + (points_cost i.points + 212 * length i.points + (occurrences_cost i.occurrences + 90 * length i.occurrences))) - 167 =
+    let own : ((506 * length i.timers + (points_cost i.points + occurrences_cost i.occurrences)) - 167) + (90 * (length i.timers + length i.points + length i.occurrences) + 122 * length i.points + 1362 * length i.timers)
+    ≤ (1958 * length i.timers + (points_cost i.points + 212 * length i.points + (occurrences_cost i.occurrences + 90 * length i.occurrences))) - 167 =
     one_paid (length i.timers) (length i.points) (length i.occurrences) (points_cost i.points) (occurrences_cost i.occurrences) (points_many i.points) (occurrences_many i.occurrences) in
     omega (arith, h, p, o, own)
 
@@ -79,7 +79,7 @@ module _ (d : PlainDesign) (rules : IsDesign d) (k : ℕ) (within : k < length d
   all_parts [] each = tt
   all_parts (o ∷ list) each = (each o (inl refl), all_parts list (λ x i. each x (inr i)))
 
-  pub part_cost : bare_costs (wired_in d part).drivers + 90 * (length (wired_in d part).wires + (wired_in d part).holes) + 122 * length (wired_in d part).registers + 1348 * all_timers low.islands
+  pub part_cost : bare_costs (wired_in d part).drivers + 90 * (length (wired_in d part).wires + (wired_in d part).holes) + 122 * length (wired_in d part).registers + 1362 * all_timers low.islands
       ≤ 4096 * length (statements_in part) + 460 * (assigns_size part.always + groups_size part.groups) + 240
   part_cost =
       let before : Before low.islands low.islands = λ n x e. e in
@@ -107,6 +107,6 @@ module _ (d : PlainDesign) (rules : IsDesign d) (k : ℕ) (within : k < length d
       let registered : length (wired_in d part).registers ≡ suc (length (registers_of low.islands low.part.control)) = refl in
       let held : (wired_in d part).holes ≡ length part.groups + length part.groups = refl in
       let grouped : groups low ≡ length part.groups = refl in
-      let paid : total island_cost low.islands + 90 * island_wires low.islands + 122 * all_points low.islands + 1348 * all_timers low.islands ≤ islands_weigh low.islands = islands_paid low.islands in
+      let paid : total island_cost low.islands + 90 * island_wires low.islands + 122 * all_points low.islands + 1362 * all_timers low.islands ≤ islands_weigh low.islands = islands_paid low.islands in
       let lowered : 1448 * length (visit Dynamic low.part.control) + islands_weigh low.islands ≤ 0 + 4096 * length (visit Dynamic part.control) = statement_lowers part part.control (unlowered part) shallow in
       omega (arith, some, sized, assigned, assigning, stated, plain, narrow, timed, controlled, driving, bundled, wired, kept, sampled, pointed, registered, held, grouped, paid, lowered)

@@ -322,7 +322,7 @@ not_divider (w ∷ v ∷ rest) e = cc
 less_still : (n m : ℕ) → n ≤ m → m ≤ 2000 → n ≤ 2000
 less_still n m h k = omega arith
 
-others_few : (name : PrimitiveName) (numbers : List ℕ) → (name ≡ DivPipe → ⊥) → pieces_cost (pieces_of name numbers) ≤ 2000
+pub others_few : (name : PrimitiveName) (numbers : List ℕ) → (name ≡ DivPipe → ⊥) → pieces_cost (pieces_of name numbers) ≤ 2000
 others_few Const numbers other = less_still _ 100 (constant_few (slice_index numbers 0) (slice_index numbers 1)) (omega arith)
 others_few Wire numbers other = less_still _ 100 simple_few.0 (omega arith)
 others_few Not numbers other = less_still _ 100 simple_few.1 (omega arith)

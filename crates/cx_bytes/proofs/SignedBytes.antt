@@ -1,10 +1,11 @@
 -- In the net of a design that is not too large numbers are short, and so are the names of ports around its cells.
-use Rattle.std.proofs.Common.{◌≡◌, ◌⊎◌, inl, inr, ⊎_elim, ℕ, suc, ◌+◌, ◌^◌, ◌<◌, ◌≤◌, ◌==◌, Bool, true, false, List, [], ◌∷◌, ◌++◌, length, map, Option, Some, None, slice_get, nat_eq, refl, subst, sym, ap, ◌∙◌, arith, if◌then◌else◌}
+use Rattle.std.proofs.Common.{◌≡◌, ◌⊎◌, inl, inr, ⊎_elim, ℕ, suc, ◌+◌, ◌^◌, ◌<◌, ◌≤◌, ◌==◌, ◌||◌, Bool, true, false, List, [], ◌∷◌, ◌++◌, length, map, Option, Some, None, slice_get, nat_eq, refl, subst, sym, ap, ◌∙◌, arith, if◌then◌else◌}
 use Rattle.std.specs.Prelude.{codes, option_map}
+use Rattle.std.proofs.lemmas.Bool.Decides.{eqb_tells}
 use Rattle.std.proofs.lemmas.List.{length-map}
 use Rattle.std.proofs.lemmas.Option.{slice_get-map, slice_get-get_or, slice_get_within}
 use Rattle.cx_prim.specs.declared.ports.PortRow.{PortRow}
-use Rattle.cx_prim.specs.Table.{row_of}
+use Rattle.cx_prim.specs.Table.{PrimitiveRow, HasRow, row_of}
 use Rattle.cx_meaning.specs.Designs.{PlainKind, OfPrimitive, OfComponent, PlainCell, PlainDesign, no_component, component_at}
 use Rattle.cx_meaning.specs.Sights.{In}
 use Rattle.cx_rules.specs.Sizes.{size_of, design_size}
@@ -18,6 +19,7 @@ use Rattle.cx_wiring.specs.Reached.{has_number, place_in, order}
 use Rattle.cx_wiring.specs.Wiring.{net_of, kind_in, cell_in}
 use Rattle.cx_wiring.specs.PartNets.{wired_in}
 use Rattle.cx_wiring.proofs.FitNets.{size_among}
+use Rattle.cx_wiring.proofs.MainLaws.{Tells}
 use Rattle.cx_wiring.proofs.RowCounts.{primitive_nets}
 use Rattle.cx_wiring.proofs.WayLemmas.{there, placed}
 use Rattle.cx_vmods.specs.Modules.{port_of}
@@ -28,8 +30,8 @@ use Rattle.cx_emit.proofs.CellPorts.{length-signature}
 use Rattle.cx_bytes.proofs.TextBytes.{Each}
 use Rattle.cx_bytes.proofs.ModuleBytes.{each-append}
 use Rattle.cx_bytes.proofs.PrimitiveBytes.{port_name_few}
-use Rattle.cx_bytes.proofs.ComponentBytes.{five, twice_few, input_short, output_short, PortShort, CellShort}
-use Rattle.cx_bytes.proofs.JoinBytes.{IsSigned}
+use Rattle.cx_bytes.proofs.ComponentBytes.{five, input_short, output_short, PortShort, CellShort}
+use Rattle.cx_bytes.proofs.JoinBytes.{IsSigned, IsShown}
 
 place_few : (k : ℕ) (ns : List ℕ) → place_in k ns ≤ length ns
 place_few k [] = omega arith
@@ -39,6 +41,18 @@ place_few k (n ∷ rest) = by (nat_eq k n) (has_number k rest) (place_few k rest
     by true here h = omega arith
     by false true h = omega arith
     by false false h = omega arith
+
+-- what stands at the place of a number
+pub place_at : (k : ℕ) (ns : List ℕ) → has_number k ns ≡ true → slice_get ns (place_in k ns) ≡ Some k
+place_at k [] h = absurd (cc)
+place_at k (n ∷ ns) h = by (eqb_tells k n) (place_at k ns) where
+  by : Tells k n → (has_number k ns ≡ true → slice_get ns (place_in k ns) ≡ Some k) → slice_get (n ∷ ns) (place_in k (n ∷ ns)) ≡ Some k
+  by (inl e) later = ap (λ b. slice_get (n ∷ ns) (if b then 0 else (if has_number k ns then suc (place_in k ns) else 0))) e.0 ∙ ap Some (sym e.1)
+  by (inr e) later =
+      let rest : has_number k ns ≡ true = ap (λ b. b || has_number k ns) (sym e.0) ∙ h in
+      ap (λ b. slice_get (n ∷ ns) (if b then 0 else (if has_number k ns then suc (place_in k ns) else 0))) e.0
+      ∙ ap (λ b. slice_get (n ∷ ns) (if b then suc (place_in k ns) else 0)) rest
+      ∙ later rest
 
 -- a signature of few ports has short names
 each_numbered : {A : Type 0} (g : ℕ → A → PlainPort) (bound : ℕ) → ((m : ℕ) (x : A) → m < bound → PortShort (g m x)) → (n : ℕ) (xs : List A) → n + length xs ≤ bound → Each PortShort (numbered_from g n xs)
@@ -122,23 +136,27 @@ module _ (d : PlainDesign) (rules : IsDesign d) (small : design_size d ≤ 16384
       by false = let h : length (numbered (codes "m") k) ≤ 1 + 8 = five (codes "m") k few in omega (arith, h)
 
   -- CELLS
-  module _ (k : ℕ) (few : k < 10 ^ 5) (many : length places < 10 ^ 5) where
-    kind_short : (c : ℕ) (kind : PlainKind) → ((j : ℕ) → kind ≡ OfComponent j → has_number j places ≡ true) → c < 10 ^ 5 → CellShort (kind_ports net k c (kind_in places kind))
-    kind_short c (OfPrimitive p) here less =
-        let nets = primitive_nets p in
-        let long : length (map port_of (row_of p).ports) ≡ length (row_of p).ports = length-map (row_of p).ports port_of in
-        record { kind = twice_few (codes "m") k c few less; few = omega (arith, nets, long); ports = rows_short (row_of p).ports }
-    kind_short c (OfComponent j) here less =
-        let sign = signed j (here j refl) in
-        let place : place_in j places ≤ length places = place_few j places in
-        let lower : place_in j places < 10 ^ 5 = omega (arith, place, many) in
-        let size : size_of (component_at d j) < 16384 = sized j (there d rules j (here j refl)) in
-        record { kind = module_short (place_in j places) lower; few = omega (arith, sign, size); ports = ports_short j (here j refl) }
+  kind_short : (kind : PlainKind) → ((j : ℕ) → kind ≡ OfComponent j → has_number j places ≡ true) → CellShort (kind_ports net (kind_in places kind))
+  kind_short (OfPrimitive p) here =
+      let nets = primitive_nets p in
+      let long : length (map port_of (row_of p).ports) ≡ length (row_of p).ports = length-map (row_of p).ports port_of in
+      record { few = omega (arith, nets, long); ports = rows_short (row_of p).ports }
+  kind_short (OfComponent j) here =
+      let sign = signed j (here j refl) in
+      let size : size_of (component_at d j) < 16384 = sized j (there d rules j (here j refl)) in
+      record { few = omega (arith, sign, size); ports = ports_short j (here j refl) }
 
-    pub cells_short : (n : ℕ) (cells : List PlainCell) → ((cell : PlainCell) (j : ℕ) → In cells cell → cell.kind ≡ OfComponent j → has_number j places ≡ true) → n + length cells ≤ 10 ^ 5
-        → Each CellShort (numbered_from (cell_ports net k) n (map (cell_in places) cells))
-    cells_short n [] here less = tt
-    cells_short n (c ∷ cells) here less =
-        let within : n < 10 ^ 5 = omega (arith, less) in
-        let more : suc n + length cells ≤ 10 ^ 5 = omega (arith, less) in
-        (kind_short n c.kind (λ j is. here c j (inl refl) is) within, cells_short (suc n) cells (λ cell j i is. here cell j (inr i) is) more)
+  pub cells_short : (cells : List PlainCell) → ((cell : PlainCell) (j : ℕ) → In cells cell → cell.kind ≡ OfComponent j → has_number j places ≡ true) → Each CellShort (map (cell_ports net) (map (cell_in places) cells))
+  cells_short [] here = tt
+  cells_short (c ∷ cells) here = (kind_short c.kind (λ j is. here c j (inl refl) is), cells_short cells (λ cell j i is. here cell j (inr i) is))
+
+  -- cells that stand there
+  pub cells_shown : length places < 10 ^ 5 → (cells : List PlainCell) → ((cell : PlainCell) (j : ℕ) → In cells cell → cell.kind ≡ OfComponent j → has_number j places ≡ true)
+      → ((cell : PlainCell) (p : PrimitiveRow) → In cells cell → cell.kind ≡ OfPrimitive p → HasRow p) → (cell : PlainCell) → In cells cell → IsShown d rules net places cell.kind
+  cells_shown many cells here rows cell i = by cell.kind refl
+    where
+      by : (kind : PlainKind) → cell.kind ≡ kind → IsShown d rules net places kind
+      by (OfPrimitive p) is = rows cell p i is
+      by (OfComponent j) is =
+          let place : place_in j places ≤ length places = place_few j places in
+          (signed j (here cell j i is), module_short (place_in j places) (omega (arith, place, many)))

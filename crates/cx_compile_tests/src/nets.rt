@@ -161,7 +161,7 @@ fn as_its_text(rt: HostRuntime) -> Result<(), Fail> {
     let source = emit(alloc, &net(alloc)?)?;
     let bytes = write(alloc, &source).ok().ok_or("too long")?;
     let text = String::from_utf8(bytes).ok().ok_or("no text")?;
-    assert!(rt; text.starts_with("module cx_m0_0("), "{text}");
+    assert!(rt; text.starts_with("module cx_std_reg_8("), "{text}");
     assert!(rt; text.contains(MAIN), "{text}");
     assert!(rt; text.ends_with(EDGE), "{text}");
     Ok(())

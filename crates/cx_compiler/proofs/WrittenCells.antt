@@ -1,5 +1,5 @@
 -- In the source that is written of a design each cell of each component that main reaches has its instance, and behind the cells' stand timers alone.
-use Rattle.std.proofs.Common.{◌≡◌, ◌⊎◌, inl, inr, ℕ, zero, ◌+◌, ◌<◌, true, List, [], ◌∷◌, ◌++◌, length, Some, option_map, slice_get, refl, sym, ap, ◌∙◌, subst, if◌then◌else◌}
+use Rattle.std.proofs.Common.{◌≡◌, ◌⊎◌, inl, inr, ℕ, zero, ◌+◌, ◌<◌, true, List, [], ◌∷◌, ◌++◌, length, map, Some, option_map, slice_get, refl, sym, ap, ◌∙◌, subst, if◌then◌else◌}
 use Rattle.std.specs.Prelude.{codes}
 use Rattle.std.proofs.lemmas.Bool.{eq-eqb}
 use Rattle.std.proofs.lemmas.Option.{slice_get-map, slice_get-get_or, slice_get_within}
@@ -7,33 +7,47 @@ use Rattle.std.proofs.lemmas.List.{length-map}
 use Rattle.cx_prim.specs.Table.{PrimitiveRow}
 use Rattle.cx_prim.specs.declared.names.PrimitiveName.TheVariants as primitives
 use Rattle.cx_meaning.specs.Designs.{PlainKind, OfPrimitive, OfComponent, PlainCell, PlainComponent, PlainDesign, component_at}
+use Rattle.cx_rules.specs.Accepted.{IsAccepted}
+use Rattle.cx_rules.specs.Flat.{IsFlat}
 use Rattle.cx_rules.specs.Wellformed.{LeadsTo, by_cell, by_way_of, IsDesign}
 use Rattle.cx_vtree.specs.Plain.{PlainInstance, PlainModule}
 use Rattle.cx_vmods.specs.Modules.{module_of}
 use Rattle.cx_net.specs.Nets.{PlainNetComponent, PlainNet}
+use Rattle.cx_net.specs.NetFits.{IsFit}
 use Rattle.cx_net.specs.NetTree.{no_net_component, net_component_at}
 use Rattle.cx_static.specs.Lowering.{lowered_component, lowered_of}
 use Rattle.cx_wiring.specs.PartNets.{timer_cells, wired_in}
 use Rattle.cx_wiring.specs.Reached.{has_number, place_in, order}
 use Rattle.cx_wiring.specs.Wiring.{kind_in, cell_in, net_of}
 use Rattle.cx_wiring.proofs.FitLemmas.{slice_right}
+use Rattle.cx_wiring.proofs.FitNets.{net_fits}
+use Rattle.cx_wiring.proofs.FitTargets.{targets_there}
 use Rattle.cx_wiring.proofs.MainLaws.{order_main}
 use Rattle.cx_wiring.proofs.OrderHeights.{closed}
 use Rattle.cx_wiring.proofs.TimerCells.{cells-lowered_component}
 use Rattle.cx_wiring.proofs.WayLemmas.{count_is, placed, net_long}
 use Rattle.cx_holes.specs.Inlining.{inlined_component, inlined}
 use Rattle.cx_holes.proofs.RenamedRuns.{part_same}
-use Rattle.cx_emit.specs.Names.{numbered, cell_module_name}
-use Rattle.cx_emit.specs.Numbered.{with_numbers, lists_from}
-use Rattle.cx_emit.specs.Signatures.{PlainCellPorts, kind_modules, cell_modules, kind_ports, cell_ports}
-use Rattle.cx_emit.specs.Sources.{cell_instance, component_module, component_modules, source_of}
-use Rattle.cx_emit.proofs.NumberedLemmas.{In, in_left, in_right, in_lists, in_numbered, numbered_in}
+use Rattle.cx_holes.proofs.FitNames.{fit_names}
+use Rattle.cx_holes.proofs.RenamedFits.{inlined_fits}
+use Rattle.cx_emit.specs.Names.{numbered, primitive_name}
+use Rattle.cx_emit.specs.Numbered.{with_numbers}
+use Rattle.cx_emit.specs.Signatures.{PlainCellPorts, primitive_module, kind_ports, cell_ports}
+use Rattle.cx_emit.specs.Sources.{cell_instance, component_module, primitive_modules, source_of}
+use Rattle.cx_emit.proofs.NetPrimitives.{its_primitives, its_primitive}
+use Rattle.cx_emit.proofs.NumberedLemmas.{in_left, in_right, in_numbered, numbered_in, in_mapped, mapped_in}
 use Rattle.cx_text.proofs.ListLaws.{front}
 use Rattle.cx_text.proofs.OptionLaws.{map_some}
 use Rattle.cx_compiler.specs.Cells.{IsModule, IsNameOf, HasEachCell, HasCells}
 use Rattle.cx_compiler.specs.Compiled.{written_source}
 use Rattle.cx_compiler.proofs.TimerUses.{is_timer}
-use Rattle.cx_compiler.proofs.WrittenShape.{place_at}
+use Rattle.cx_bytes.proofs.SignedBytes.{place_at}
+
+-- THE NET that is written is fit
+pub net_is_fit : (d : PlainDesign) → IsDesign d → IsFlat d → IsAccepted d → IsFit (inlined (net_of (lowered_of d)))
+net_is_fit d rules flat accepted =
+    let fits = net_fits d rules flat accepted in
+    inlined_fits (net_of (lowered_of d)) (fit_names (net_of (lowered_of d)) fits (targets_there d rules flat accepted)) fits
 
 module _ (d : PlainDesign) (rules : IsDesign d) where
   abbrev places : List ℕ
@@ -82,56 +96,53 @@ module _ (d : PlainDesign) (rules : IsDesign d) where
         ap (λ (x : PlainNetComponent). slice_get x.cells c) own_is ∙ slice_get-map (cell_in places) (lowered_component part).part.cells c
         ∙ ap (λ cells. option_map (cell_in places) (slice_get cells c)) (cells-lowered_component part)
 
-    in_own : (m : PlainModule) → In m (component_modules net (spot k) (own k)) → IsModule (written_source d) m
-    in_own m h = in_lists (component_modules net) net.components (spot k) (own k) m there h
+    module _ (fits : IsFit net) where
+      primitive_there : (c : ℕ) (cell : PlainCell) (p : PrimitiveRow) → slice_get (own k).cells c ≡ Some cell → cell.kind ≡ OfPrimitive p → IsModule (written_source d) (primitive_module p)
+      primitive_there c cell p at is =
+          let (n, found) = its_primitive net fits (spot k) c cell p (slice_get_within net.components (spot k) (own k) there) at is in
+          in_left (primitive_module p) (primitive_modules net) (with_numbers (component_module net) net.components) (n, in_mapped primitive_module (its_primitives net) n p found)
 
-    primitive_there : (c : ℕ) (cell : PlainCell) (p : PrimitiveRow) → slice_get (own k).cells c ≡ Some cell → cell.kind ≡ OfPrimitive p → IsModule (written_source d) (module_of p (cell_module_name (spot k) c))
-    primitive_there c cell p at is =
-        let m : PlainModule = module_of p (cell_module_name (spot k) c) in
-        let of_kind : In m (cell_modules (spot k) c cell) = subst (λ kind. In m (kind_modules (spot k) c kind)) (sym is) (zero, refl) in
-        in_own m (in_left m (lists_from (cell_modules (spot k)) 0 (own k).cells) (component_module net (spot k) (own k) ∷ []) (in_lists (cell_modules (spot k)) (own k).cells c cell m at of_kind))
+      -- THE INSTANCE of a cell
+      abbrev instance : ℕ → PlainCell → PlainInstance
+      instance c cell = cell_instance c (cell_ports net cell)
 
-    -- THE INSTANCE of a cell
-    abbrev instance : ℕ → PlainCell → PlainInstance
-    instance c cell = cell_instance c (cell_ports net (spot k) c cell)
+      instance_at : (c : ℕ) (cell : PlainCell) → slice_get (own k).cells c ≡ Some cell → slice_get (module_for k).instances c ≡ Some (instance c cell)
+      instance_at c cell at = in_numbered cell_instance (map (cell_ports net) (own k).cells) c (cell_ports net cell) (in_mapped (cell_ports net) (own k).cells c cell at)
 
-    instance_at : (c : ℕ) (cell : PlainCell) → slice_get (own k).cells c ≡ Some cell → slice_get (module_for k).instances c ≡ Some (instance c cell)
-    instance_at c cell at = in_numbered cell_instance (with_numbers (cell_ports net (spot k)) (own k).cells) c (cell_ports net (spot k) c cell) (in_numbered (cell_ports net (spot k)) (own k).cells c cell at)
+      name_is : (c : ℕ) (cell : PlainCell) → slice_get (own k).cells c ≡ Some (cell_in places cell) → (kind : PlainKind) → cell.kind ≡ kind → IsNameOf (written_source d) module_for kind (kind_ports net (kind_in places kind)).kind
+      name_is c cell at (OfPrimitive p) is = primitive_there c (cell_in places cell) p at (ap (kind_in places) is)
+      name_is c cell at (OfComponent j) is = refl
 
-    name_is : (c : ℕ) (cell : PlainCell) → slice_get (own k).cells c ≡ Some (cell_in places cell) → (kind : PlainKind) → cell.kind ≡ kind → IsNameOf (written_source d) module_for kind (kind_ports net (spot k) c (kind_in places kind)).kind
-    name_is c cell at (OfPrimitive p) is = primitive_there c (cell_in places cell) p at (ap (kind_in places) is)
-    name_is c cell at (OfComponent j) is = refl
+      own_cell : (c : ℕ) (cell : PlainCell) → slice_get part.cells c ≡ Some cell → (x : PlainInstance) × (slice_get (module_for k).instances c ≡ Some x) × IsNameOf (written_source d) module_for cell.kind x.kind
+      own_cell c cell e =
+          let at : slice_get (own k).cells c ≡ Some (cell_in places cell) = cell_at c ∙ ap (option_map (cell_in places)) (front part.cells (timer_cells part) c cell e) in
+          (instance c (cell_in places cell), instance_at c (cell_in places cell) at, name_is c cell at cell.kind refl)
 
-    own_cell : (c : ℕ) (cell : PlainCell) → slice_get part.cells c ≡ Some cell → (x : PlainInstance) × (slice_get (module_for k).instances c ≡ Some x) × IsNameOf (written_source d) module_for cell.kind x.kind
-    own_cell c cell e =
-        let at : slice_get (own k).cells c ≡ Some (cell_in places cell) = cell_at c ∙ ap (option_map (cell_in places)) (front part.cells (timer_cells part) c cell e) in
-        (instance c (cell_in places cell), instance_at c (cell_in places cell) at, name_is c cell at cell.kind refl)
+      timer : (t : ℕ) (x : PlainInstance) → slice_get (module_for k).instances (length part.cells + t) ≡ Some x
+          → (n : ℕ) × IsModule (written_source d) (module_of (record { name = primitives.Timer; numbers = n ∷ [] }) x.kind)
+      timer t x e =
+          let c : ℕ = length part.cells + t in
+          let (y, at_ports, is) = numbered_in cell_instance (map (cell_ports net) (own k).cells) c x e in
+          let (cell, at, same) = mapped_in (cell_ports net) (own k).cells c y at_ports in
+          let (low, at_low, cell_is) = map_some (cell_in places) (slice_get (part.cells ++ timer_cells part) c) cell (sym (cell_at c) ∙ at) in
+          let its = is_timer part t low (sym (slice_right part.cells (timer_cells part) t) ∙ at_low) in
+          let row : PrimitiveRow = record { name = primitives.Timer; numbers = its.0 ∷ [] } in
+          let kind_is : cell.kind ≡ OfPrimitive row = ap (λ (z : PlainCell). z.kind) (sym cell_is) ∙ ap (kind_in places) its.1 in
+          let named : primitive_name row ≡ x.kind =
+          sym (ap (λ kind. (kind_ports net kind).kind) kind_is) ∙ ap (λ (z : PlainCellPorts). z.kind) same ∙ ap (λ (z : PlainInstance). z.kind) is in
+          (its.0, subst (λ name. IsModule (written_source d) (module_of row name)) named (primitive_there c cell row at kind_is))
 
-    timer : (t : ℕ) (x : PlainInstance) → slice_get (module_for k).instances (length part.cells + t) ≡ Some x
-        → (n : ℕ) × IsModule (written_source d) (module_of (record { name = primitives.Timer; numbers = n ∷ [] }) x.kind)
-    timer t x e =
-        let c : ℕ = length part.cells + t in
-        let (y, at_ports, is) = numbered_in cell_instance (with_numbers (cell_ports net (spot k)) (own k).cells) c x e in
-        let (cell, at, same) = numbered_in (cell_ports net (spot k)) (own k).cells c y at_ports in
-        let (low, at_low, cell_is) = map_some (cell_in places) (slice_get (part.cells ++ timer_cells part) c) cell (sym (cell_at c) ∙ at) in
-        let its = is_timer part t low (sym (slice_right part.cells (timer_cells part) t) ∙ at_low) in
-        let row : PrimitiveRow = record { name = primitives.Timer; numbers = its.0 ∷ [] } in
-        let kind_is : cell.kind ≡ OfPrimitive row = ap (λ (z : PlainCell). z.kind) (sym cell_is) ∙ ap (kind_in places) its.1 in
-        let named : cell_module_name (spot k) c ≡ x.kind =
-        sym (ap (λ kind. (kind_ports net (spot k) c kind).kind) kind_is) ∙ ap (λ (z : PlainCellPorts). z.kind) same ∙ ap (λ (z : PlainInstance). z.kind) is in
-        (its.0, subst (λ name. IsModule (written_source d) (module_of row name)) named (primitive_there c cell row at kind_is))
-
-    has_part : HasEachCell d (written_source d) module_for k
-    has_part = record {
-      stands = in_own (module_for k) (in_right (module_for k) (lists_from (cell_modules (spot k)) 0 (own k).cells) (module_for k ∷ []) (zero, refl));
-      cells = own_cell;
-      timers = timer;
-    }
+      has_part : HasEachCell d (written_source d) module_for k
+      has_part = record {
+        stands = in_right (module_for k) (primitive_modules net) (with_numbers (component_module net) net.components) (spot k, in_numbered (component_module net) net.components (spot k) (own k) there);
+        cells = own_cell;
+        timers = timer;
+      }
 
   -- EACH CELL HAS ITS INSTANCE in what is written
-  pub written_cells : HasCells d (written_source d)
-  written_cells = record {
+  pub written_cells : IsFlat d → IsAccepted d → HasCells d (written_source d)
+  written_cells flat accepted = record {
     module_for = module_for;
     main = ap (λ b. if b then codes "main" else numbered (codes "m") (spot d.main)) (eq-eqb (spot d.main) (spot d.main) refl);
-    parts = λ k reached. has_part k (reached_here k reached);
+    parts = λ k reached. has_part k (reached_here k reached) (net_is_fit d rules flat accepted);
   }

@@ -2,7 +2,6 @@
 use Rattle.std.proofs.Common.{◌≡◌, ◌⊎◌, inl, inr, ⊎_elim, ℕ, zero, suc, ◌+◌, ◌-◌, ◌<◌, ◌≤◌, true, List, [], ◌∷◌, ◌++◌, length, get_or, Some, slice_get, refl, sym, ap, ◌∙◌, subst, if◌then◌else◌, arith, length-append}
 use Rattle.std.specs.Prelude.{◌||◌}
 use Rattle.std.proofs.lemmas.Bool.{cases_lt}
-use Rattle.std.proofs.lemmas.Bool.Decides.{eqb_tells}
 use Rattle.std.proofs.lemmas.List.{length-map}
 use Rattle.std.proofs.lemmas.Option.{slice_get-map, slice_get-get_or, slice_get_within}
 use Rattle.cx_meaning.specs.Designs.{PlainKind, OfPrimitive, OfComponent, PlainCell, PlainComponent, PlainDesign, component_at}
@@ -22,20 +21,18 @@ use Rattle.cx_wiring.specs.Wiring.{kind_in, cell_in, net_of}
 use Rattle.cx_wiring.proofs.ComponentCounts.{no_timed}
 use Rattle.cx_wiring.proofs.ControlCounts.{Untimed}
 use Rattle.cx_wiring.proofs.FitLemmas.{slice_right}
-use Rattle.cx_wiring.proofs.FitNets.{net_fits}
-use Rattle.cx_wiring.proofs.MainLaws.{Tells, get_or_map, order_main}
+use Rattle.cx_wiring.proofs.MainLaws.{get_or_map, order_main}
 use Rattle.cx_wiring.proofs.NumberLemmas.{number_in, in_number}
 use Rattle.cx_wiring.proofs.OrderHeights.{in_flat_map, cell_below, from_main, closed, stands_at}
 use Rattle.cx_wiring.proofs.TimerCells.{cells-lowered_component}
 use Rattle.cx_wiring.proofs.WayLemmas.{count_is, there, net_long, child_there}
 use Rattle.cx_holes.specs.Inlining.{inlined_component, inlined}
-use Rattle.cx_holes.proofs.FitNames.{fit_names}
-use Rattle.cx_holes.proofs.RenamedFits.{inlined_fits}
+use Rattle.cx_bytes.proofs.SignedBytes.{place_at}
+use Rattle.cx_compiler.proofs.WrittenCells.{net_is_fit}
 use Rattle.cx_emit.specs.Shapes.{Use, ForCell, ForIsland, ForRepeat, IsTimerOf, IsUse, IsShaped, HasOwnNames}
 use Rattle.cx_emit.proofs.OwnNames.{source_own_names}
 use Rattle.cx_emit.proofs.ShapedSources.{kind_for, IsPartFor, IsNetFor, source_shaped}
 use Rattle.cx_compiler.specs.Compiled.{written_source}
-use Rattle.cx_wiring.proofs.FitTargets.{targets_there}
 use Rattle.cx_compiler.proofs.LoweredShape.{component_registers_few}
 use Rattle.cx_compiler.proofs.TimerUses.{use_at, use_of_cell, use_of_timer, use_once}
 use Rattle.cx_text.proofs.OptionLaws.{map_some}
@@ -48,17 +45,6 @@ get_or_at : (ns : List ℕ) (n k : ℕ) → slice_get ns n ≡ Some k → get_or
 get_or_at [] n k e = absurd (cc)
 get_or_at (m ∷ ns) zero k e = let same : m ≡ k = cc in same
 get_or_at (m ∷ ns) (suc n) k e = get_or_at ns n k e
-
-pub place_at : (k : ℕ) (ns : List ℕ) → has_number k ns ≡ true → slice_get ns (place_in k ns) ≡ Some k
-place_at k [] h = absurd (cc)
-place_at k (n ∷ ns) h = by (eqb_tells k n) (place_at k ns) where
-  by : Tells k n → (has_number k ns ≡ true → slice_get ns (place_in k ns) ≡ Some k) → slice_get (n ∷ ns) (place_in k (n ∷ ns)) ≡ Some k
-  by (inl e) later = ap (λ b. slice_get (n ∷ ns) (if b then 0 else (if has_number k ns then suc (place_in k ns) else 0))) e.0 ∙ ap Some (sym e.1)
-  by (inr e) later =
-      let rest : has_number k ns ≡ true = ap (λ b. b || has_number k ns) (sym e.0) ∙ h in
-      ap (λ b. slice_get (n ∷ ns) (if b then 0 else (if has_number k ns then suc (place_in k ns) else 0))) e.0
-      ∙ ap (λ b. slice_get (n ∷ ns) (if b then suc (place_in k ns) else 0)) rest
-      ∙ later rest
 
 place_there : (k : ℕ) (ns : List ℕ) → has_number k ns ≡ true → get_or ns (place_in k ns) 0 ≡ k
 place_there k ns h = get_or_at ns (place_in k ns) k (place_at k ns h)
@@ -168,9 +154,7 @@ module _ (d : PlainDesign) (rules : IsDesign d) (flat : IsFlat d) where
 
   -- THE SHAPE of what is written
   pub written_shape : IsAccepted d → is_sound (written_source d) ≡ true → IsShaped d (written_source d)
-  written_shape accepted sound =
-      let fits = net_fits d rules flat accepted in
-      source_shaped d net (inlined_fits (net_of low) (fit_names (net_of low) fits (targets_there d rules flat accepted)) fits) sound net_for
+  written_shape accepted sound = source_shaped d net (net_is_fit d rules flat accepted) sound net_for
 
 -- ITS NAMES
 pub written_names : (d : PlainDesign) → HasOwnNames (written_source d)

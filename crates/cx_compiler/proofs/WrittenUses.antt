@@ -3,7 +3,8 @@ use Rattle.std.proofs.Common.{◌≡◌, ◌⊎◌, inl, inr, ℕ, zero, suc, �
 use Rattle.std.proofs.lemmas.Bool.Decides.{eqb_tells}
 use Rattle.std.proofs.lemmas.List.{length-map}
 use Rattle.std.proofs.lemmas.Option.{slice_get_within}
-use Rattle.cx_meaning.specs.Designs.{PlainKind, OfPrimitive, OfComponent, PlainCell, PlainDesign, component_at}
+use Rattle.cx_prim.specs.Table.{PrimitiveRow}
+use Rattle.cx_meaning.specs.Designs.{OfComponent, PlainCell, PlainDesign, component_at}
 use Rattle.cx_meaning.specs.Sights.{In as Among}
 use Rattle.cx_meaning.proofs.SightsLaws.{number_in, in_at}
 use Rattle.cx_rules.specs.Accepted.{IsAccepted}
@@ -13,35 +14,31 @@ use Rattle.cx_rules.proofs.Finite.{Distinct}
 use Rattle.cx_vtree.specs.InstanceTree.{Placed, instances_of}
 use Rattle.cx_vtree.specs.Plain.{PlainModule}
 use Rattle.cx_vtree.specs.Sound.{is_sound}
-use Rattle.cx_vmods.specs.Modules.{module_of}
 use Rattle.cx_net.specs.Nets.{PlainNetComponent, PlainNet}
 use Rattle.cx_static.specs.Lowering.{lowered_of}
 use Rattle.cx_wiring.specs.PartNets.{timer_cells}
 use Rattle.cx_wiring.specs.Reached.{has_number, place_in, order}
 use Rattle.cx_wiring.specs.Wiring.{kind_in, cell_in, net_of}
-use Rattle.cx_wiring.proofs.FitNets.{net_fits}
-use Rattle.cx_wiring.proofs.FitTargets.{targets_there}
 use Rattle.cx_wiring.proofs.MainLaws.{Tells}
 use Rattle.cx_wiring.proofs.MainOrder.{distinct_order}
 use Rattle.cx_wiring.proofs.NumberLemmas.{in_number}
 use Rattle.cx_wiring.proofs.OrderHeights.{closed}
 use Rattle.cx_wiring.proofs.WayLemmas.{net_long}
 use Rattle.cx_holes.specs.Inlining.{inlined_component, inlined}
-use Rattle.cx_holes.proofs.FitNames.{fit_names}
-use Rattle.cx_holes.proofs.RenamedFits.{inlined_fits, inlined_no_holes}
+use Rattle.cx_holes.proofs.RenamedFits.{inlined_no_holes}
 use Rattle.cx_emit.specs.Fits.{IsFlat as IsFlatNet}
-use Rattle.cx_emit.specs.Names.{cell_module_name}
-use Rattle.cx_emit.specs.Numbered.{lists_from}
+use Rattle.cx_emit.specs.Numbered.{with_numbers}
 use Rattle.cx_emit.specs.Places.{cell_number}
-use Rattle.cx_emit.specs.Signatures.{kind_modules, cell_modules}
-use Rattle.cx_emit.specs.Sources.{component_modules}
-use Rattle.cx_emit.proofs.NumberedLemmas.{In, in_either, lists_in}
+use Rattle.cx_emit.specs.Signatures.{primitive_module}
+use Rattle.cx_emit.specs.Sources.{component_module, primitives_among, primitive_modules}
+use Rattle.cx_emit.proofs.NetPrimitives.{firsts_in, its_primitives, net_in}
+use Rattle.cx_emit.proofs.NumberedLemmas.{In, in_either, mapped_in, numbered_in}
 use Rattle.cx_emit.proofs.Standing.{comp, own, comp_there, IsPlaced, main_placed, cell_placed, primitive_placed, child_placed}
 use Rattle.cx_text.proofs.ListLaws.{there_at, front}
 use Rattle.cx_text.proofs.OptionLaws.{one_value}
 use Rattle.cx_compiler.specs.Cells.{EachStands}
 use Rattle.cx_compiler.specs.Compiled.{written_source}
-use Rattle.cx_compiler.proofs.WrittenCells.{cell_at, main_here}
+use Rattle.cx_compiler.proofs.WrittenCells.{net_is_fit, cell_at, main_here}
 use Rattle.cx_compiler.proofs.WrittenShape.{reached}
 
 -- a number that stands once is found where it stands
@@ -69,9 +66,7 @@ module _ (d : PlainDesign) (rules : IsDesign d) (flat : IsFlat d) (accepted : Is
   net = inlined (net_of (lowered_of d))
 
   fit : IsFlatNet net
-  fit =
-      let fits = net_fits d rules flat accepted in
-      record { fits = inlined_fits (net_of (lowered_of d)) (fit_names (net_of (lowered_of d)) fits (targets_there d rules flat accepted)) fits; no_holes = inlined_no_holes (net_of (lowered_of d)) }
+  fit = record { fits = net_is_fit d rules flat accepted; no_holes = inlined_no_holes (net_of (lowered_of d)) }
 
   -- some instance is of this component of the net
   abbrev Stands : ℕ → Type 0
@@ -115,28 +110,28 @@ module _ (d : PlainDesign) (rules : IsDesign d) (flat : IsFlat d) (accepted : Is
   abbrev part_of : ℕ → PlainNetComponent
   part_of n = comp net sound fit n
 
-  own_used : (n : ℕ) (m : PlainModule) → Stands n → In m (own net sound fit n ∷ []) → IsUsed m
-  own_used n m (i, p) (zero, e) = let same : own net sound fit n ≡ m = cc in (i, p.place, p.at, p.is ∙ same)
-  own_used n m (i, p) (suc k, e) = absurd (cc)
+  -- that of a primitive stands where a cell has it
+  primitive_used : (p : PrimitiveRow) → In p (its_primitives net) → IsUsed (primitive_module p)
+  primitive_used p h =
+      let (n, part, there, (c, cell, at, is)) = net_in net p (firsts_in [] (primitives_among net.components) p h) in
+      let less = slice_get_within net.components n part there in
+      let same : part ≡ part_of n = one_value (slice_get net.components n) part (part_of n) there (comp_there net sound fit n less) in
+      let here : slice_get (part_of n).cells c ≡ Some cell = subst (λ (x : PlainNetComponent). slice_get x.cells c ≡ Some cell) same at in
+      let (i, placed) = all_stand n less in
+      let its = cell_placed net sound fit n i c cell placed here in
+      (cell_number (written_source d) i c, its.place, its.at, primitive_placed net sound fit n i c cell p placed here is its)
 
-  cell_used : (n c : ℕ) (cell : PlainCell) (m : PlainModule) → Stands n → slice_get (part_of n).cells c ≡ Some cell → (kind : PlainKind) → cell.kind ≡ kind → In m (kind_modules n c kind) → IsUsed m
-  cell_used n c cell m (i, p) at (OfPrimitive row) is (zero, e) =
-      let h = cell_placed net sound fit n i c cell p at in
-      let same : module_of row (cell_module_name n c) ≡ m = cc in
-      (cell_number (written_source d) i c, h.place, h.at, primitive_placed net sound fit n i c cell row p at is h ∙ same)
-  cell_used n c cell m (i, p) at (OfPrimitive row) is (suc k, e) = absurd (cc)
-  cell_used n c cell m (i, p) at (OfComponent j) is (k, e) = absurd (cc)
-
-  part_used : (n : ℕ) (m : PlainModule) → Stands n → In m (component_modules net n (part_of n)) → IsUsed m
-  part_used n m stands h = by (in_either m (lists_from (cell_modules n) 0 (part_of n).cells) (own net sound fit n ∷ []) h) where
-    by : In m (lists_from (cell_modules n) 0 (part_of n).cells) ⊎ In m (own net sound fit n ∷ []) → IsUsed m
-    by (inl i) = let (c, cell, at, j) = lists_in (cell_modules n) (part_of n).cells m i in cell_used n c cell m stands at cell.kind refl j
-    by (inr i) = own_used n m stands i
+  component_used : (n : ℕ) → n < length net.components → IsUsed (own net sound fit n)
+  component_used n less = let (i, p) = all_stand n less in (i, p.place, p.at, p.is)
 
   -- EACH MODULE STANDS SOMEWHERE in what is written
   pub written_used : EachStands (written_source d)
-  written_used m h =
-      let (n, part, there, i) = lists_in (component_modules net) net.components m h in
-      let less = slice_get_within net.components n part there in
-      let same : part ≡ part_of n = one_value (slice_get net.components n) part (part_of n) there (comp_there net sound fit n less) in
-      part_used n m (all_stand n less) (subst (λ (x : PlainNetComponent). In m (component_modules net n x)) same i)
+  written_used m h = by (in_either m (primitive_modules net) (with_numbers (component_module net) net.components) h)
+    where
+      by : In m (primitive_modules net) ⊎ In m (with_numbers (component_module net) net.components) → IsUsed m
+      by (inl (n, e)) = let (p, at, same) = mapped_in primitive_module (its_primitives net) n m e in subst IsUsed same (primitive_used p (n, at))
+      by (inr (n, e)) =
+          let (part, there, same) = numbered_in (component_module net) net.components n m e in
+          let less = slice_get_within net.components n part there in
+          let is : part ≡ part_of n = one_value (slice_get net.components n) part (part_of n) there (comp_there net sound fit n less) in
+          subst IsUsed (ap (component_module net n) (sym is) ∙ same) (component_used n less)

@@ -18,15 +18,15 @@ use Rattle.cx_vtree.specs.Sound.{decl_name, has_name, is_sound}
 use Rattle.cx_vlaws.proofs.Fresh.{has_at, at_has}
 use Rattle.cx_vlaws.proofs.Given.{nets-at}
 use Rattle.cx_vlaws.proofs.Ties.{input_tied, input_outside}
-use Rattle.cx_vmods.specs.Modules.{port_of, module_of}
+use Rattle.cx_vmods.specs.Modules.{port_of}
 use Rattle.cx_net.specs.Nets.{PlainNetComponent, PlainNet}
 use Rattle.cx_net.specs.NetTree.{net_component_at, net_tree}
 use Rattle.cx_net.specs.NetMeaning.{NetState, below_cell, around_child, Node, APort, AWire, TheDone, NetLook, NetAround, outside}
 use Rattle.cx_net.specs.NetEdges.{inputs_from}
 use Rattle.cx_net.specs.NetRuns.{IsWholeLook}
-use Rattle.cx_emit.specs.Names.{cell_module_name, register_name}
+use Rattle.cx_emit.specs.Names.{register_name}
 use Rattle.cx_emit.specs.Numbered.{with_numbers, lists_from}
-use Rattle.cx_emit.specs.Signatures.{PlainCellPorts, one_bit, input_port, output_port, signature_of, signature_at, kind_ports, cell_ports}
+use Rattle.cx_emit.specs.Signatures.{primitive_module, PlainCellPorts, one_bit, input_port, output_port, signature_of, signature_at, kind_ports, cell_ports}
 use Rattle.cx_emit.specs.Sources.{conn, port_decl, cell_decls, wire_decl, register_decl, source_of}
 use Rattle.cx_net.specs.NetPaths.{LeadsTo}
 use Rattle.cx_emit.specs.Places.{cell_number, number_at, node_name}
@@ -34,7 +34,7 @@ use Rattle.cx_vmods.specs.Laws.{EachIsBuilt}
 use Rattle.cx_net.specs.NetFits.{signature_widths, port_width}
 use Rattle.cx_emit.specs.Fits.{IsFlat, node_width}
 use Rattle.cx_emit.specs.States.{StatesStand}
-use Rattle.cx_emit.proofs.NumberedLemmas.{In, in_either, numbered_in, lists_in}
+use Rattle.cx_emit.proofs.NumberedLemmas.{mapped_in, In, in_either, numbered_in, lists_in}
 use Rattle.cx_emit.proofs.Evals.{value_tied, value_held, value_outside}
 use Rattle.cx_emit.proofs.Standing.{tree, comp_there, own, IsPlaced, main_placed, IsCell, cell_placed, child_placed, cell_module_ports, primitive_placed}
 use Rattle.cx_emit.proofs.Origins.{register_is_held}
@@ -108,7 +108,7 @@ module _ (net : PlainNet) (sound : is_sound (source_of net) ≡ true) (fit : IsF
     node_valued : (node : Node) (w : ℕ) → node_width net part node ≡ Some w → Valued i (node_name node)
     node_valued node w wide = let (v, e) = x.all [] k node w refl wide in (v, (x.looked [] k node w v refl wide e).0)
 
-    text_width : (c p : ℕ) (cell : PlainCell) (port : PlainPort) → slice_get part.cells c ≡ Some cell → (kind : PlainKind) → cell.kind ≡ kind → slice_get (kind_ports net k c kind).ports p ≡ Some port
+    text_width : (c p : ℕ) (cell : PlainCell) (port : PlainPort) → slice_get part.cells c ≡ Some cell → (kind : PlainKind) → cell.kind ≡ kind → slice_get (kind_ports net kind).ports p ≡ Some port
         → (w : ℕ) × (port_width net part (ports.Cell c p) ≡ Some w)
     text_width c p cell port there (OfPrimitive primitive) is at =
         let (row, at_row, same) = map_some port_of (slice_get (row_of primitive).ports p) port (sym (slice_get-map port_of (row_of primitive).ports p) ∙ at) in
@@ -132,14 +132,14 @@ module _ (net : PlainNet) (sound : is_sound (source_of net) ≡ true) (fit : IsF
 
     -- a wire at a port of a cell, another wire, a register
     abbrev cells : List PlainCellPorts
-    cells = with_numbers (cell_ports net k) part.cells
+    cells = map (cell_ports net) part.cells
 
     decl_valued : (d : PlainDecl) → In d (own net sound fit k).decls → Valued i (decl_name d)
     decl_valued d h = go (in_either d (lists_from cell_decls 0 cells ++ with_numbers wire_decl part.wires) (with_numbers register_decl part.registers) h) where
       at_cell : In d (lists_from cell_decls 0 cells) → Valued i (decl_name d)
       at_cell h =
           let (c, wired, at, inner) = lists_in cell_decls cells d h in
-          let (cell, there, is) = numbered_in (cell_ports net k) part.cells c wired at in
+          let (cell, there, is) = mapped_in (cell_ports net) part.cells c wired at in
           let (port, at_port, named) = numbered_in (port_decl c) wired.ports inner.0 d inner.1 in
           let wide = text_width c inner.0 cell port there cell.kind refl (subst (λ (y : PlainCellPorts). slice_get y.ports inner.0 ≡ Some port) (sym is) at_port) in
           subst (λ e. Valued i (decl_name e)) named (node_valued (APort (ports.Cell c inner.0)) wide.0 wide.1)
@@ -207,8 +207,8 @@ module _ (net : PlainNet) (sound : is_sound (source_of net) ≡ true) (fit : IsF
       h : IsCell net sound fit k i c cell
       h = cell_placed net sound fit k i c cell x.here there
 
-      same : nets_at the_tree (cell_number the_source i c) ≡ map (λ (y : PlainPort). y.name) (module_of p (cell_module_name k c)).ports ++ declared_nets (module_of p (cell_module_name k c)).decls
-      same = nets_of the_tree (cell_number the_source i c) h.place h.at (module_of p (cell_module_name k c)) (primitive_placed net sound fit k i c cell p x.here there is h)
+      same : nets_at the_tree (cell_number the_source i c) ≡ map (λ (y : PlainPort). y.name) (primitive_module p).ports ++ declared_nets (primitive_module p).decls
+      same = nets_of the_tree (cell_number the_source i c) h.place h.at (primitive_module p) (primitive_placed net sound fit k i c cell p x.here there is h)
 
       go : (q : ℕ) → slice_get (nets_at the_tree (cell_number the_source i c)) q ≡ Some n → Valued (cell_number the_source i c) n
       go zero f =

@@ -17,13 +17,14 @@ use Rattle.cx_net.specs.Nets.{PlainNetComponent, PlainNet}
 use Rattle.cx_net.specs.NetTree.{net_component_at, no_net_component}
 use Rattle.cx_net.specs.NetFits.{signature_widths, kind_width, IsFitKind, IsFit}
 use Rattle.cx_net.specs.NetLimits.{IsWritableComponent, IsWritable}
-use Rattle.cx_emit.specs.Names.{numbered, module_name, cell_module_name}
+use Rattle.cx_emit.specs.Names.{numbered, module_name}
 use Rattle.cx_emit.specs.Numbered.{numbered_from, with_numbers}
 use Rattle.cx_emit.specs.Numbers.{HaveFewPorts, HasFewParts}
 use Rattle.cx_emit.specs.Sources.{module_with}
 use Rattle.cx_emit.specs.Signatures.{one_bit, input_port, output_port, signature_of, signature_at, module_ports, kind_ports, cell_ports}
 use Rattle.cx_emit.proofs.NumberedLemmas.{In, in_either, numbered_in}
-use Rattle.cx_emit.proofs.NameLaws.{is_name-numbered, is_name-twice_numbered}
+use Rattle.cx_emit.proofs.NameLaws.{is_name-numbered}
+use Rattle.cx_emit.proofs.PrimitiveNames.{is_name-primitive_name}
 use Rattle.cx_emit.proofs.ModuleNames.{names_in, names_in-apart}
 use Rattle.cx_emit.proofs.PortPlaces.{PortIs, is_go, is_input, is_output, is_done, done_port, port_is, length-numbered}
 use Rattle.cx_emit.proofs.CleanModules.{Each, each_more}
@@ -91,50 +92,47 @@ module _ (net : PlainNet) (fit : IsFit net) (writable : IsWritable net) where
     go true = refl
     go false = is_name-numbered (codes "m") refl (omega arith) k (few_numbers k lt)
 
-  pub cell_module_named_well : (k c : ℕ) → k < length net.components → c < length (comp k).cells → is_name (cell_module_name k c) ≡ true
-  cell_module_named_well k c lt within = let few = (writable.components k lt).few_cells in is_name-twice_numbered (codes "m") refl (omega arith) k c (few_numbers k lt) (omega (arith, within, few))
-
   -- the module of a cell has a name
-  pub kind_named : (k c : ℕ) (cell : PlainCell) → k < length net.components → slice_get (comp k).cells c ≡ Some cell → is_name (cell_ports net k c cell).kind ≡ true
+  pub kind_named : (k c : ℕ) (cell : PlainCell) → k < length net.components → slice_get (comp k).cells c ≡ Some cell → is_name (cell_ports net cell).kind ≡ true
   kind_named k c cell lt there = by_kind cell.kind ((fit.components k lt).cells c cell there) where
-    by_kind : (kind : PlainKind) → IsFitKind k kind → is_name (kind_ports net k c kind).kind ≡ true
-    by_kind (OfPrimitive p) has = cell_module_named_well k c lt (slice_get_within (comp k).cells c cell there)
+    by_kind : (kind : PlainKind) → IsFitKind k kind → is_name (kind_ports net kind).kind ≡ true
+    by_kind (OfPrimitive p) has = is_name-primitive_name p has
     by_kind (OfComponent j) lower = module_named_well j (omega (arith, lt, lower))
 
   -- FEW PARTS
-  few_kind_ports : (k c : ℕ) (kind : PlainKind) → k < length net.components → IsFitKind k kind → length (kind_ports net k c kind).ports < 2 ^ 64
-  few_kind_ports k c (OfPrimitive p) lt has =
+  few_kind_ports : (k : ℕ) (kind : PlainKind) → k < length net.components → IsFitKind k kind → length (kind_ports net kind).ports < 2 ^ 64
+  few_kind_ports k (OfPrimitive p) lt has =
       let few = (primitive_owes [] (codes "cx_m") refl p has).few in
       let long : length (map port_of (row_of p).ports) ≡ length (row_of p).ports = length-map (row_of p).ports port_of in
       omega (arith, few, long)
-  few_kind_ports k c (OfComponent j) lt lower =
+  few_kind_ports k (OfComponent j) lt lower =
       let within : j < length net.components = omega (arith, lt, lower) in
       let few = (writable.components j within).few_ports in
       let long = length-signature (comp j) in
       subst (λ o. length (signature_at o) < 2 ^ 64) (sym (comp_there j within)) (omega (arith, few, long))
 
-  few_ports_from : (k b : ℕ) → k < length net.components → (cells : List PlainCell) → Each (λ cell. IsFitKind k cell.kind) cells → HaveFewPorts (numbered_from (cell_ports net k) b cells)
-  few_ports_from k b lt [] each = tt
-  few_ports_from k b lt (cell ∷ cells) each = (few_kind_ports k b cell.kind lt each.0, few_ports_from k (suc b) lt cells each.1)
+  few_ports_of : (k : ℕ) → k < length net.components → (cells : List PlainCell) → Each (λ cell. IsFitKind k cell.kind) cells → HaveFewPorts (map (cell_ports net) cells)
+  few_ports_of k lt [] each = tt
+  few_ports_of k lt (cell ∷ cells) each = (few_kind_ports k cell.kind lt each.0, few_ports_of k lt cells each.1)
 
-  pub has_few : (k : ℕ) → k < length net.components → HasFewParts (comp k) (with_numbers (cell_ports net k) (comp k).cells)
+  pub has_few : (k : ℕ) → k < length net.components → HasFewParts (comp k) (map (cell_ports net) (comp k).cells)
   has_few k lt =
       let ok = writable.components k lt in
       let ports = ok.few_ports in
       let cells = ok.few_cells in
-      let same : length (with_numbers (cell_ports net k) (comp k).cells) ≡ length (comp k).cells = length-numbered (cell_ports net k) 0 (comp k).cells in
+      let same : length (map (cell_ports net) (comp k).cells) ≡ length (comp k).cells = length-map (comp k).cells (cell_ports net) in
       record {
         inputs = omega (arith, ports);
         outputs = omega (arith, ports);
         wires = ok.few_wires;
         registers = ok.few_registers;
         cells = omega (arith, cells, same);
-        ports = few_ports_from k 0 lt (comp k).cells (each_in (comp k).cells (λ cell i. (fit.components k lt).cells i.0 cell i.1));
+        ports = few_ports_of k lt (comp k).cells (each_in (comp k).cells (λ cell i. (fit.components k lt).cells i.0 cell i.1));
       }
 
   -- no two parts of a component's module have one name
-  pub part_names : (k : ℕ) (name : List ℕ) (lt : k < length net.components) → Fresh [] (names_in (module_with name (comp k) (with_numbers (cell_ports net k) (comp k).cells)))
-  part_names k name lt = names_in-apart (comp k) (with_numbers (cell_ports net k) (comp k).cells) (has_few k lt) name
+  pub part_names : (k : ℕ) (name : List ℕ) (lt : k < length net.components) → Fresh [] (names_in (module_with name (comp k) (map (cell_ports net) (comp k).cells)))
+  part_names k name lt = names_in-apart (comp k) (map (cell_ports net) (comp k).cells) (has_few k lt) name
 
   -- THE PORTS of a component's module, and of that of a primitive
   signature_fine : (k : ℕ) → k < length net.components → Each IsFinePort (signature_of (comp k))
@@ -178,24 +176,24 @@ module _ (net : PlainNet) (fit : IsFit net) (writable : IsWritable net) where
     apart = fresh_left [] (map (λ p. p.name) (module_ports (comp k))) _ (part_names k (codes "main") lt);
   }
 
-  pub kind_ports_are : (k c : ℕ) (kind : PlainKind) → k < length net.components → IsFitKind k kind → ArePorts (kind_ports net k c kind).ports
-  kind_ports_are k c (OfPrimitive p) lt has =
+  pub kind_ports_are : (k : ℕ) (kind : PlainKind) → k < length net.components → IsFitKind k kind → ArePorts (kind_ports net kind).ports
+  kind_ports_are k (OfPrimitive p) lt has =
       let owed = (primitive_owes [] (codes "cx_m") refl p has).kept in
       record {
         fine = each_more (map port_of (row_of p).ports) (λ q h. record { named = h.named; wide = h.wide }) owed.ports.1.1;
         apart = fresh_left [] (map (λ q. q.name) (module_of p (codes "cx_m")).ports) _ owed.names;
       }
-  kind_ports_are k c (OfComponent j) lt lower =
+  kind_ports_are k (OfComponent j) lt lower =
       let within : j < length net.components = omega (arith, lt, lower) in
       subst (λ o. ArePorts (signature_at o)) (sym (comp_there j within)) (signature_ports j within)
 
   -- a port that has a width is there with it
-  pub port_there : (k c : ℕ) (kind : PlainKind) (p w : ℕ) → k < length net.components → IsFitKind k kind → kind_width net kind p ≡ Some w
-      → (port : PlainPort) × (slice_get (kind_ports net k c kind).ports p ≡ Some port) × (port.width ≡ w)
-  port_there k c (OfPrimitive primitive) p w lt has e =
+  pub port_there : (k : ℕ) (kind : PlainKind) (p w : ℕ) → k < length net.components → IsFitKind k kind → kind_width net kind p ≡ Some w
+      → (port : PlainPort) × (slice_get (kind_ports net kind).ports p ≡ Some port) × (port.width ≡ w)
+  port_there k (OfPrimitive primitive) p w lt has e =
       let (row, at, same) = map_some (λ (x : PortRow). x.width) (slice_get (row_of primitive).ports p) w e in
       (port_of row, slice_get-map port_of (row_of primitive).ports p ∙ ap (option_map port_of) at, same)
-  port_there k c (OfComponent j) p w lt lower e =
+  port_there k (OfComponent j) p w lt lower e =
       let within : j < length net.components = omega (arith, lt, lower) in
       let (port, at, same) = by_place (port_is (comp j) p w e) in
       (port, ap (λ o. slice_get (signature_at o) p) (comp_there j within) ∙ at, same)
@@ -207,11 +205,11 @@ module _ (net : PlainNet) (fit : IsFit net) (writable : IsWritable net) where
       by_place (is_done kind at wide) = (done_port, at, sym wide)
 
   -- and one that is there has its width
-  pub port_wide : (k c : ℕ) (kind : PlainKind) (p : ℕ) (port : PlainPort) → k < length net.components → IsFitKind k kind → slice_get (kind_ports net k c kind).ports p ≡ Some port → kind_width net kind p ≡ Some port.width
-  port_wide k c (OfPrimitive primitive) p port lt has e =
+  pub port_wide : (k : ℕ) (kind : PlainKind) (p : ℕ) (port : PlainPort) → k < length net.components → IsFitKind k kind → slice_get (kind_ports net kind).ports p ≡ Some port → kind_width net kind p ≡ Some port.width
+  port_wide k (OfPrimitive primitive) p port lt has e =
       let (row, at, same) = map_some port_of (slice_get (row_of primitive).ports p) port (sym (slice_get-map port_of (row_of primitive).ports p) ∙ e) in
       ap (option_map (λ (x : PortRow). x.width)) at ∙ ap (λ (x : PlainPort). Some x.width) same
-  port_wide k c (OfComponent j) p port lt lower e =
+  port_wide k (OfComponent j) p port lt lower e =
       let within : j < length net.components = omega (arith, lt, lower) in
       let here : slice_get (signature_of (comp j)) p ≡ Some port = ap (λ o. slice_get (signature_at o) p) (sym (comp_there j within)) ∙ e in
       ap (λ l. slice_get l p) (sym (widths-signature (comp j))) ∙ slice_get-map (λ (x : PlainPort). x.width) (signature_of (comp j)) p ∙ ap (option_map (λ (x : PlainPort). x.width)) here

@@ -14,12 +14,12 @@ use Rattle.cx_vtree.specs.Plain.{PlainPort, PlainModule}
 use Rattle.cx_vtree.specs.InstanceTree.{Placed}
 use Rattle.cx_vtree.specs.Meaning.{Moment, HasValue}
 use Rattle.cx_vtree.specs.Sound.{is_sound}
-use Rattle.cx_vmods.specs.Modules.{port_of, module_of}
+use Rattle.cx_vmods.specs.Modules.{port_of}
 use Rattle.cx_vmods.specs.Built.{kept_at, port_net, Stands, IsAt, zero_at, IsBuilt}
 use Rattle.cx_net.specs.Nets.{PlainNet}
 use Rattle.cx_net.specs.NetMeaning.{zero_wide}
-use Rattle.cx_emit.specs.Names.{cell_port_name, cell_module_name}
-use Rattle.cx_emit.specs.Signatures.{kind_ports}
+use Rattle.cx_emit.specs.Names.{cell_port_name, primitive_name}
+use Rattle.cx_emit.specs.Signatures.{primitive_module, kind_ports}
 use Rattle.cx_emit.specs.Sources.{source_of}
 use Rattle.cx_emit.specs.Places.{cell_number}
 use Rattle.cx_vmods.specs.Laws.{EachIsBuilt}
@@ -49,7 +49,7 @@ module _ (net : PlainNet) (sound : is_sound (source_of net) ≡ true) (fit : IsF
   row = row_of p
 
   abbrev pub its_module : PlainModule
-  its_module = module_of p (cell_module_name k c)
+  its_module = primitive_module p
 
   abbrev j : ℕ
   j = cell_number (source_of net) i c
@@ -58,14 +58,14 @@ module _ (net : PlainNet) (sound : is_sound (source_of net) ≡ true) (fit : IsF
   lawful = row_of_lawful p
 
   pub is_built : IsBuilt its_module row (stand_for p)
-  is_built = built p (cell_module_name k c) (primitive_fits net sound fit k i c cell p here there is)
+  is_built = built p (primitive_name p) (primitive_fits net sound fit k i c cell p here there is)
 
   pub cell_stands : Stands its_module the_tree j
   cell_stands = record { inner = h.inner; placed = h.place; there = h.at; is = primitive_placed net sound fit k i c cell p here there is h }
 
   -- the ports of the text
-  pub text_port : (n : ℕ) (port : PortRow) → slice_get row.ports n ≡ Some port → slice_get (ports_of_cell net sound fit k c cell) n ≡ Some (port_of port)
-  text_port n port at = subst (λ kind. slice_get (kind_ports net k c kind).ports n ≡ Some (port_of port)) (sym is) (slice_get-map port_of row.ports n ∙ ap (option_map port_of) at)
+  pub text_port : (n : ℕ) (port : PortRow) → slice_get row.ports n ≡ Some port → slice_get (ports_of_cell net sound fit cell) n ≡ Some (port_of port)
+  text_port n port at = subst (λ kind. slice_get (kind_ports net kind).ports n ≡ Some (port_of port)) (sym is) (slice_get-map port_of row.ports n ∙ ap (option_map port_of) at)
 
   net_of_port : (n : ℕ) (port : PortRow) → slice_get row.ports n ≡ Some port → port_net its_module n ≡ (port_of port).name
   net_of_port n port at =

@@ -30,7 +30,7 @@ use Rattle.cx_emit.specs.Exprs.{literal, port_expr}
 use Rattle.cx_emit.specs.Chains.{chain_to}
 use Rattle.cx_emit.specs.Signatures.{PlainCellPorts, one_bit, input_port, output_port, signature_of, module_ports, cell_ports}
 use Rattle.cx_emit.specs.Sources.{assign, port_decl, cell_decls, port_assigns, cell_assigns, port_conn, cell_instance, wire_decl, wire_assign, output_assign, done_assign, register_decl, register_reset, register_step, component_module}
-use Rattle.cx_emit.proofs.NumberedLemmas.{In, in_left, in_right, in_either, in_numbered, numbered_in, in_lists, lists_in}
+use Rattle.cx_emit.proofs.NumberedLemmas.{in_mapped, mapped_in, In, in_left, in_right, in_either, in_numbered, numbered_in, in_lists, lists_in}
 use Rattle.cx_emit.proofs.NameLaws.{is_name-numbered, is_name-twice_numbered}
 use Rattle.cx_emit.proofs.ApartLaws.{lack_other, lacks_name, have_numbered, fresh_numbered, fresh_kins, names_of, Kin, port_names, have_twice, fresh_twice}
 use Rattle.cx_emit.proofs.ModuleNames.{map-numbered, one_kin, numbered_kin, names_in}
@@ -78,7 +78,7 @@ module _ (net : PlainNet) (fit : IsFit net) (no_holes : HasNoHoles net) (writabl
   part = net_component_at net k
 
   abbrev cells : List PlainCellPorts
-  cells = with_numbers (cell_ports net k) part.cells
+  cells = map (cell_ports net) part.cells
 
   abbrev its_module : PlainModule
   its_module = component_module net k part
@@ -166,16 +166,16 @@ module _ (net : PlainNet) (fit : IsFit net) (no_holes : HasNoHoles net) (writabl
   output_named n d there = let within = slice_get_within part.outputs n d there in let all = few.outputs in is_name-numbered (codes "out") refl (omega arith) n (omega (arith, within, all))
 
   -- the ports of a cell that is there
-  cell_at : (c : ℕ) (cell : PlainCell) → slice_get part.cells c ≡ Some cell → slice_get cells c ≡ Some (cell_ports net k c cell)
-  cell_at c cell there = in_numbered (cell_ports net k) part.cells c cell there
+  cell_at : (c : ℕ) (cell : PlainCell) → slice_get part.cells c ≡ Some cell → slice_get cells c ≡ Some (cell_ports net cell)
+  cell_at c cell there = in_mapped (cell_ports net) part.cells c cell there
 
   -- EXPRESSIONS
   ports_keep : (p : PortRef) (w : ℕ) → HasPortWidth net part p w → IsRead p → Keeps scope 0 (port_expr p) w
   ports_keep (ports.Cell c p) w h r =
       let (cell, there, wide) = bind_some (λ (x : PlainCell). kind_width net x.kind p) (slice_get part.cells c) w h in
-      let (port, at, same) = port_there net fit writable k c cell.kind p w lt ((fit.components k lt).cells c cell there) wide in
-      let is = cell_scope c p (cell_ports net k c cell) port (cell_at c cell there) at in
-      keeps_named scope 0 (cell_port_name c p) w (cell_port_named c p (cell_ports net k c cell) port (cell_at c cell there) at) (readable scope (cell_port_name c p) (meant.Wire port.width) is refl refl) (ap width_of is ∙ same)
+      let (port, at, same) = port_there net fit writable k cell.kind p w lt ((fit.components k lt).cells c cell there) wide in
+      let is = cell_scope c p (cell_ports net cell) port (cell_at c cell there) at in
+      keeps_named scope 0 (cell_port_name c p) w (cell_port_named c p (cell_ports net cell) port (cell_at c cell there) at) (readable scope (cell_port_name c p) (meant.Wire port.width) is refl refl) (ap width_of is ∙ same)
   ports_keep (ports.Input n) w h r =
       let (d, there, same) = map_some (λ (x : PortDecl). x.width) (slice_get part.inputs n) w h in
       let is = input_scope n d there in
@@ -220,14 +220,14 @@ module _ (net : PlainNet) (fit : IsFit net) (no_holes : HasNoHoles net) (writabl
   -- the width of a port of a cell, from its place
   port_target : (c p : ℕ) (cell : PlainCellPorts) (port : PlainPort) → slice_get cells c ≡ Some cell → slice_get cell.ports p ≡ Some port → port_width net part (ports.Cell c p) ≡ Some port.width
   port_target c p cell port at there =
-      let (plain, known, is) = numbered_in (cell_ports net k) part.cells c cell at in
-      let here : slice_get (cell_ports net k c plain).ports p ≡ Some port = ap (λ (x : PlainCellPorts). slice_get x.ports p) is ∙ there in
-      ap (option_and_then (λ (x : PlainCell). kind_width net x.kind p)) known ∙ port_wide net fit writable k c plain.kind p port lt ((fit.components k lt).cells c plain known) here
+      let (plain, known, is) = mapped_in (cell_ports net) part.cells c cell at in
+      let here : slice_get (cell_ports net plain).ports p ≡ Some port = ap (λ (x : PlainCellPorts). slice_get x.ports p) is ∙ there in
+      ap (option_and_then (λ (x : PlainCell). kind_width net x.kind p)) known ∙ port_wide net fit writable k plain.kind p port lt ((fit.components k lt).cells c plain known) here
 
   fine_port : (c p : ℕ) (cell : PlainCellPorts) (port : PlainPort) → slice_get cells c ≡ Some cell → slice_get cell.ports p ≡ Some port → IsFinePort port
   fine_port c p cell port at there =
-      let (plain, known, is) = numbered_in (cell_ports net k) part.cells c cell at in
-      in_each IsFinePort cell.ports port (subst (λ (x : PlainCellPorts). Each IsFinePort x.ports) is (kind_ports_are net fit writable k c plain.kind lt ((fit.components k lt).cells c plain known)).fine) (p, there)
+      let (plain, known, is) = mapped_in (cell_ports net) part.cells c cell at in
+      in_each IsFinePort cell.ports port (subst (λ (x : PlainCellPorts). Each IsFinePort x.ports) is (kind_ports_are net fit writable k plain.kind lt ((fit.components k lt).cells c plain known)).fine) (p, there)
 
   wire_wide : (n w : ℕ) → slice_get part.wires n ≡ Some w → IsWidth w
   wire_wide n w there = in_each IsWidth part.wires w (all_each IsWidth part.wires ok.wire_widths) (n, there)
@@ -419,7 +419,7 @@ module _ (net : PlainNet) (fit : IsFit net) (no_holes : HasNoHoles net) (writabl
         of_cell : (c : ℕ) (cell : PlainCellPorts) → slice_get cells c ≡ Some cell → KeepsInstance before scope (cell_instance c cell)
         of_cell c cell at =
             let knows = in_each (IsKnown before) cells cell known (c, at) in
-            let (plain, there, is) = numbered_in (cell_ports net k) part.cells c cell at in
+            let (plain, there, is) = mapped_in (cell_ports net) part.cells c cell at in
             let wires : (j : ℕ) (p : PlainPort) → slice_get cell.ports j ≡ Some p → scope (cell_port_name c j) ≡ meant.Wire p.width = λ j p e. cell_scope c j cell p at e in
             let clocked : scope (codes "clk") ≡ meant.Input 1 = port_scope (one_bit (codes "clk")) (0, refl) in
             let is_reset : scope (codes "reset") ≡ meant.Input 1 = port_scope (one_bit (codes "reset")) (1, refl) in

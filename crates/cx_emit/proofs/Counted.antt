@@ -1,5 +1,5 @@
 -- The counts of modules are at most those of the net's tree.
-use Rattle.std.proofs.Common.{◌≡◌, ℕ, zero, suc, ◌+◌, ◌-◌, ◌^◌, ◌<◌, ◌≤◌, List, [], ◌∷◌, ◌++◌, length, Some, slice_get, refl, ap, sym, ◌∙◌, subst, arith}
+use Rattle.std.proofs.Common.{◌≡◌, ℕ, suc, ◌+◌, ◌-◌, ◌^◌, ◌<◌, ◌≤◌, List, [], ◌∷◌, ◌++◌, length, map, Some, slice_get, refl, ap, sym, ◌∙◌, subst, arith}
 use Rattle.std.specs.Prelude.{min}
 use Rattle.std.proofs.lemmas.List.{length-map}
 use Rattle.cx_vmods.specs.Modules.{port_of}
@@ -155,31 +155,31 @@ module _ (net : PlainNet) where
   registers_declared b (w ∷ ws) = let rest = registers_declared (suc b) ws in (ap suc rest.0, rest.1)
 
   module _ (there : (j : ℕ) → j < length net.components → slice_get net.components j ≡ Some (net_component_at net j)) where
-    kind_ports_many : (levels k c : ℕ) (kind : PlainKind) → IsThereKind net kind → length (kind_ports net k c kind).ports ≡ child_ports levels kind
-    kind_ports_many levels k c (OfPrimitive p) h = length-map (row_of p).ports port_of
-    kind_ports_many levels k c (OfComponent j) lt =
+    kind_ports_many : (levels : ℕ) (kind : PlainKind) → IsThereKind net kind → length (kind_ports net kind).ports ≡ child_ports levels kind
+    kind_ports_many levels (OfPrimitive p) h = length-map (row_of p).ports port_of
+    kind_ports_many levels (OfComponent j) lt =
         ap (λ o. length (signature_at o)) (there j lt) ∙ length-signature (net_component_at net j) ∙ ap signature_size (sym (part-within net levels j))
 
-    cells_declared : (levels k b : ℕ) (cells : List PlainCell) → Each (λ cell. IsThereKind net cell.kind) cells
-        → (length (declared_nets (lists_from cell_decls b (numbered_from (cell_ports net k) b cells))) ≡ all_ports levels cells) × (declared_words (lists_from cell_decls b (numbered_from (cell_ports net k) b cells)) ≡ 0)
-    cells_declared levels k b [] each = (refl, refl)
-    cells_declared levels k b (cell ∷ cells) each =
-        let own : List PlainDecl = cell_decls b (cell_ports net k b cell) in
-        let others : List PlainDecl = lists_from cell_decls (suc b) (numbered_from (cell_ports net k) (suc b) cells) in
-        let first = wires_declared (port_decl b) (λ n (x : PlainPort). cell_port_name b n) (λ (x : PlainPort). x.width) (λ n x. refl) 0 (cell_ports net k b cell).ports in
-        let rest = cells_declared levels k (suc b) cells each.1 in (
-          nets_declared own others ∙ ap (λ n. n + length (declared_nets others)) (first.0 ∙ kind_ports_many levels k b cell.kind each.0) ∙ ap (λ n. child_ports levels cell.kind + n) rest.0,
+    cells_declared : (levels b : ℕ) (cells : List PlainCell) → Each (λ cell. IsThereKind net cell.kind) cells
+        → (length (declared_nets (lists_from cell_decls b (map (cell_ports net) cells))) ≡ all_ports levels cells) × (declared_words (lists_from cell_decls b (map (cell_ports net) cells)) ≡ 0)
+    cells_declared levels b [] each = (refl, refl)
+    cells_declared levels b (cell ∷ cells) each =
+        let own : List PlainDecl = cell_decls b (cell_ports net cell) in
+        let others : List PlainDecl = lists_from cell_decls (suc b) (map (cell_ports net) cells) in
+        let first = wires_declared (port_decl b) (λ n (x : PlainPort). cell_port_name b n) (λ (x : PlainPort). x.width) (λ n x. refl) 0 (cell_ports net cell).ports in
+        let rest = cells_declared levels (suc b) cells each.1 in (
+          nets_declared own others ∙ ap (λ n. n + length (declared_nets others)) (first.0 ∙ kind_ports_many levels cell.kind each.0) ∙ ap (λ n. child_ports levels cell.kind + n) rest.0,
           words_declared own others ∙ ap (λ n. n + declared_words others) first.1 ∙ ap (λ n. 0 + n) rest.1,
         )
 
     pub component_declared : (levels k : ℕ) → Each (λ cell. IsThereKind net cell.kind) (net_component_at net k).cells
-        → (length (declared_nets (decls_with (net_component_at net k) (with_numbers (cell_ports net k) (net_component_at net k).cells)))
+        → (length (declared_nets (decls_with (net_component_at net k) (map (cell_ports net) (net_component_at net k).cells)))
         ≡ all_ports levels (net_component_at net k).cells + length (net_component_at net k).wires + length (net_component_at net k).registers)
-        × (declared_words (decls_with (net_component_at net k) (with_numbers (cell_ports net k) (net_component_at net k).cells)) ≡ 0)
+        × (declared_words (decls_with (net_component_at net k) (map (cell_ports net) (net_component_at net k).cells)) ≡ 0)
     component_declared levels k each =
         let part : PlainNetComponent = net_component_at net k in
-        let at_cells : List PlainDecl = lists_from cell_decls 0 (with_numbers (cell_ports net k) part.cells) in
-        let cells = cells_declared levels k 0 part.cells each in
+        let at_cells : List PlainDecl = lists_from cell_decls 0 (map (cell_ports net) part.cells) in
+        let cells = cells_declared levels 0 part.cells each in
         let wires = wires_declared wire_decl (λ n w. wire_name n) (λ w. w) (λ n w. refl) 0 part.wires in
         let registers = registers_declared 0 part.registers in
         let front = nets_declared at_cells (with_numbers wire_decl part.wires) in
@@ -190,33 +190,31 @@ module _ (net : PlainNet) where
         (omega (arith, c0, w0, r0, front, whole), omega (arith, c1, w1, r1, front_words, whole_words))
 
     -- INSTANCES of a component
-    module _ (before : List PlainModule) (counts : List Counts) (levels k : ℕ) where
-      abbrev pub IsCounted : ℕ → PlainCell → Type 0
-      IsCounted c cell = AtMost (counts_named before counts (cell_ports net k c cell).kind) (child_nets levels cell.kind) (child_instances levels cell.kind) (child_words levels cell.kind)
+    module _ (before : List PlainModule) (counts : List Counts) (levels : ℕ) where
+      abbrev pub IsCounted : PlainCell → Type 0
+      IsCounted cell = AtMost (counts_named before counts (cell_ports net cell).kind) (child_nets levels cell.kind) (child_instances levels cell.kind) (child_words levels cell.kind)
 
-      instances_most : (b : ℕ) (cells : List PlainCell) (sum : Counts) (n i w : ℕ) → ((j : ℕ) (cell : PlainCell) → slice_get cells j ≡ Some cell → IsCounted (b + j) cell) → AtMost sum n i w
-          → AtMost (instances_counts before counts sum (numbered_from cell_instance b (numbered_from (cell_ports net k) b cells))) (n + all_nets levels cells) (i + all_instances levels cells) (w + all_words levels cells)
+      instances_most : (b : ℕ) (cells : List PlainCell) (sum : Counts) (n i w : ℕ) → Each IsCounted cells → AtMost sum n i w
+          → AtMost (instances_counts before counts sum (numbered_from cell_instance b (map (cell_ports net) cells))) (n + all_nets levels cells) (i + all_instances levels cells) (w + all_words levels cells)
       instances_most b [] sum n i w each h = most_more sum n i w (n + 0) (i + 0) (w + 0) (omega arith) (omega arith) (omega arith) h
       instances_most b (cell ∷ cells) sum n i w each h =
-          let place : b + 0 ≡ b = omega arith in
-          let own : IsCounted b cell = subst (λ c. IsCounted c cell) place (each zero cell refl) in
-          let one = sum_most sum (counts_named before counts (cell_ports net k b cell).kind) n i w (child_nets levels cell.kind) (child_instances levels cell.kind) (child_words levels cell.kind) h own in
-          let rest = instances_most (suc b) cells (sum_counts sum (counts_named before counts (cell_ports net k b cell).kind)) (n + child_nets levels cell.kind) (i + child_instances levels cell.kind) (w + child_words levels cell.kind)
-          (λ j x e. let next : b + suc j ≡ suc b + j = omega arith in subst (λ c. IsCounted c x) next (each (suc j) x e)) one in
+          let one = sum_most sum (counts_named before counts (cell_ports net cell).kind) n i w (child_nets levels cell.kind) (child_instances levels cell.kind) (child_words levels cell.kind) h each.0 in
+          let rest = instances_most (suc b) cells (sum_counts sum (counts_named before counts (cell_ports net cell).kind)) (n + child_nets levels cell.kind) (i + child_instances levels cell.kind) (w + child_words levels cell.kind)
+          each.1 one in
           most_more _ (n + child_nets levels cell.kind + all_nets levels cells) (i + child_instances levels cell.kind + all_instances levels cells) (w + child_words levels cell.kind + all_words levels cells) _ _ _
           (omega arith) (omega arith) (omega arith) rest
 
       -- THE COUNTS of a component's module
-      pub component_most : Each (λ cell. IsThereKind net cell.kind) (net_component_at net k).cells → ((j : ℕ) (cell : PlainCell) → slice_get (net_component_at net k).cells j ≡ Some cell → IsCounted j cell)
+      pub component_most : (k : ℕ) → Each (λ cell. IsThereKind net cell.kind) (net_component_at net k).cells → Each IsCounted (net_component_at net k).cells
           → AtMost (module_counts before counts (component_module net k (net_component_at net k))) (nets_below (net_within net (suc levels) k)) (instances_below (net_within net (suc levels) k)) (words_below (net_within net (suc levels) k))
-      component_most are_there each =
+      component_most k are_there each =
           let part : PlainNetComponent = net_component_at net k in
           let m : PlainModule = component_module net k part in
           let start : Counts = record { nets = length m.ports; instances = 1; words = 0 } in
           let declared = component_declared levels k are_there in
           let d0 = declared.0 in let d1 = declared.1 in
           let sum = decls_most start m.decls (length m.ports) 1 0 (record { few_nets = omega arith; few_instances = omega arith; few_words = omega arith }) in
-          let all = instances_most 0 part.cells (decls_counts start m.decls) (length m.ports + length (declared_nets m.decls)) 1 (0 + declared_words m.decls) (λ j x e. let place : j ≡ 0 + j = omega arith in subst (λ c. IsCounted c x) place (each j x e)) sum in
+          let all = instances_most 0 part.cells (decls_counts start m.decls) (length m.ports + length (declared_nets m.decls)) 1 (0 + declared_words m.decls) each sum in
           let long = length-signature part in
           let nets = nets-in levels part.cells in
           let instances = instances-in levels part.cells in

@@ -1,5 +1,5 @@
 -- What holds of the parts of a net that is emitted: all that has a width has 1 to 128 bits, and the numbers in expressions fit.
-use Rattle.std.proofs.Common.{◌≡◌, ℕ, suc, ◌<◌, ◌≤◌, true, List, [], ◌∷◌, length, All, Some, slice_get, refl, sym, ap, ◌∙◌, subst, arith}
+use Rattle.std.proofs.Common.{map, ◌≡◌, ℕ, ◌<◌, ◌≤◌, List, [], ◌∷◌, length, All, Some, slice_get, refl, sym, ◌∙◌, subst, arith}
 use Rattle.std.proofs.lemmas.List.Elements.{All-nil, All-cons}
 use Rattle.std.proofs.lemmas.Option.{get_or_from_slice_get, slice_get_within}
 use Rattle.std.specs.Prelude.{codes}
@@ -12,7 +12,6 @@ use Rattle.cx_net.specs.Nets.{PlainNetExpr, OfPort, OfRegister, OfWire, OfHole, 
 use Rattle.cx_net.specs.NetFits.{HasPortWidth, HasWidth, AreBits, target_width, IsFitKind, IsExternalKind}
 use Rattle.cx_net.specs.NetTree.{no_net_component, net_component_at}
 use Rattle.cx_emit.specs.Emitted.{CanBeEmitted, PortFits, LiteralsFit, AllLiteralsFit, DriverFits, PortsAreWide, PartFits, ExternalsHaveWords}
-use Rattle.cx_emit.specs.Numbered.{numbered_from, with_numbers}
 use Rattle.cx_emit.specs.Signatures.{cell_ports}
 use Rattle.cx_emit.proofs.CleanModules.{Each, each_more}
 use Rattle.cx_emit.proofs.CellPorts.{each_in, comp_there, kind_ports_are}
@@ -62,20 +61,20 @@ module _ (net : PlainNet) (can : CanBeEmitted net) where
         let w = some_value (target_width net part d.target) (can.targets k lt n d e) in
         record { guard = literals_fit net part d.guard 1 fit.guard; source = literals_fit net part d.source w.0 (fit.source w.0 w.1) }
 
-    kind_wide : (c : ℕ) (cell : PlainCell) → IsFitKind k cell.kind → PortsAreWide (cell_ports net k c cell)
-    kind_wide c cell fit =
-        let ports = kind_ports_are net can.fits can.writable k c cell.kind lt fit in
-        each_all (λ port. IsWidth port.width) (cell_ports net k c cell).ports (each_more (cell_ports net k c cell).ports (λ port h. h.wide) ports.fine)
+    kind_wide : (cell : PlainCell) → IsFitKind k cell.kind → PortsAreWide (cell_ports net cell)
+    kind_wide cell fit =
+        let ports = kind_ports_are net can.fits can.writable k cell.kind lt fit in
+        each_all (λ port. IsWidth port.width) (cell_ports net cell).ports (each_more (cell_ports net cell).ports (λ port h. h.wide) ports.fine)
 
-    cells_wide : (b : ℕ) (cells : List PlainCell) → Each (λ cell. IsFitKind k cell.kind) cells → Each PortsAreWide (numbered_from (cell_ports net k) b cells)
-    cells_wide b [] each = tt
-    cells_wide b (cell ∷ cells) each = (kind_wide b cell each.0, cells_wide (suc b) cells each.1)
+    cells_wide : (cells : List PlainCell) → Each (λ cell. IsFitKind k cell.kind) cells → Each PortsAreWide (map (cell_ports net) cells)
+    cells_wide [] each = tt
+    cells_wide (cell ∷ cells) each = (kind_wide cell each.0, cells_wide cells each.1)
 
-    own_fits : PartFits part (with_numbers (cell_ports net k) part.cells)
+    own_fits : PartFits part (map (cell_ports net) part.cells)
     own_fits =
         let own = can.writable.components k lt in
         record {
-          ports = each_all PortsAreWide (with_numbers (cell_ports net k) part.cells) (cells_wide 0 part.cells (each_in part.cells (λ cell i. (can.fits.components k lt).cells i.0 cell i.1)));
+          ports = each_all PortsAreWide (map (cell_ports net) part.cells) (cells_wide part.cells (each_in part.cells (λ cell i. (can.fits.components k lt).cells i.0 cell i.1)));
           outputs = own.output_widths;
           wires = own.wire_widths;
           registers = own.register_widths;
@@ -83,12 +82,12 @@ module _ (net : PlainNet) (can : CanBeEmitted net) where
         }
 
   -- A COMPONENT, by its number
-  pub part_fits : (k : ℕ) (part : PlainNetComponent) → slice_get net.components k ≡ Some part → PartFits part (with_numbers (cell_ports net k) part.cells)
+  pub part_fits : (k : ℕ) (part : PlainNetComponent) → slice_get net.components k ≡ Some part → PartFits part (map (cell_ports net) part.cells)
   part_fits k part e =
       let lt = slice_get_within net.components k part e in
       let both : Some (net_component_at net k) ≡ Some part = sym (comp_there net can.fits can.writable k lt) ∙ e in
       let same : net_component_at net k ≡ part = cc in
-      subst (λ (c : PlainNetComponent). PartFits c (with_numbers (cell_ports net k) c.cells)) same (own_fits k lt)
+      subst (λ (c : PlainNetComponent). PartFits c (map (cell_ports net) c.cells)) same (own_fits k lt)
 
   -- THE EXTERNAL CELLS of main
   some_numbers : (kind : PlainKind) → IsFitKind net.main kind → IsExternalKind kind → 1 ≤ length (numbers_of kind)

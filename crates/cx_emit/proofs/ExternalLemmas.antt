@@ -23,12 +23,12 @@ use Rattle.cx_vlaws.proofs.MemoryLemmas.{memory_there}
 use Rattle.cx_net.specs.Nets.{PlainNet}
 use Rattle.cx_net.specs.NetTree.{net_component_at}
 use Rattle.cx_emit.specs.Names.{instance_name}
-use Rattle.cx_emit.specs.Numbered.{with_numbers, lists_from}
+use Rattle.cx_emit.specs.Numbered.{lists_from}
 use Rattle.cx_emit.specs.Signatures.{cell_ports}
 use Rattle.cx_emit.specs.Sources.{cell_instance, external_of, cell_externals, externals_at, source_of}
 use Rattle.cx_emit.specs.Places.{part_number, cell_number}
 use Rattle.cx_emit.specs.Fits.{IsFlat}
-use Rattle.cx_emit.proofs.NumberedLemmas.{In, in_lists, in_numbered, numbered_in}
+use Rattle.cx_emit.proofs.NumberedLemmas.{in_mapped, mapped_in, In, in_lists, in_numbered, numbered_in}
 use Rattle.cx_emit.proofs.Standing.{number-same, tree, comp_there, own, main_placed}
 use Rattle.cx_prim.proofs.CellStatesLemmas.{memory_with, sequential_with, words_fit, sequential_words_fit}
 use Rattle.cx_vlaws.proofs.Parts.{instances_fresh}
@@ -71,11 +71,11 @@ module _ (net : PlainNet) (sound : is_sound (source_of net) ≡ true) (fit : IsF
   pub externals_are : the_source.externals ≡ lists_from cell_externals 0 cells
   externals_are = ap externals_at (comp_there net sound fit net.main fit.fits.has_main)
 
-  instance_at : (c : ℕ) (cell : PlainCell) → slice_get cells c ≡ Some cell → slice_get (own net sound fit net.main).instances c ≡ Some (cell_instance c (cell_ports net net.main c cell))
-  instance_at c cell there = in_numbered cell_instance (with_numbers (cell_ports net net.main) cells) c (cell_ports net net.main c cell) (in_numbered (cell_ports net net.main) cells c cell there)
+  instance_at : (c : ℕ) (cell : PlainCell) → slice_get cells c ≡ Some cell → slice_get (own net sound fit net.main).instances c ≡ Some (cell_instance c (cell_ports net cell))
+  instance_at c cell there = in_numbered cell_instance (map (cell_ports net) cells) c (cell_ports net cell) (in_mapped (cell_ports net) cells c cell there)
 
   name_of_part : (s : ℕ) (x : PlainInstance) → slice_get (own net sound fit net.main).instances s ≡ Some x → x.name ≡ instance_name s
-  name_of_part s x e = let (wired, at, is) = numbered_in cell_instance (with_numbers (cell_ports net net.main) cells) s x e in ap (λ (y : PlainInstance). y.name) (sym is)
+  name_of_part s x e = let (wired, at, is) = numbered_in cell_instance (map (cell_ports net) cells) s x e in ap (λ (y : PlainInstance). y.name) (sym is)
 
   -- cells of main have different names
   parts_apart : AreApart (map (λ x. x.name) (own net sound fit net.main).instances)
@@ -105,8 +105,8 @@ module _ (net : PlainNet) (sound : is_sound (source_of net) ≡ true) (fit : IsF
         let main = main_placed net sound fit in
         let r = part_in the_source sound 0 main.place main.at memory.number memory.place memory.at inner memory.holder in
         let stands : slice_get (own net sound fit net.main).instances r.s ≡ Some r.x = subst (λ (m : PlainModule). slice_get m.instances r.s ≡ Some r.x) main.is r.there in
-        let (wired, at, is) = numbered_in cell_instance (with_numbers (cell_ports net net.main) cells) r.s r.x stands in
-        let (other, at_other, is') = numbered_in (cell_ports net net.main) cells r.s wired at in
+        let (wired, at, is) = numbered_in cell_instance (map (cell_ports net) cells) r.s r.x stands in
+        let (other, at_other, is') = mapped_in (cell_ports net) cells r.s wired at in
         let same : c ≡ r.s = same_cell c r.s cell other there at_other (sym memory.name ∙ r.name ∙ name_of_part r.s r.x stands) in
         r.number ∙ sym (number-same the_source 0 1 main.place.part.instances r.s)
         ∙ ap (λ (o : Option Placed). part_number the_source 0 1 (option_map_or (λ p. p.part.instances) o []) r.s) (sym main.at) ∙ ap (cell_number the_source 0) (sym same)

@@ -1,5 +1,5 @@
 -- The external lines of a net's source keep the rules.
-use Rattle.std.proofs.Common.{◌≡◌, inl, inr, ℕ, zero, suc, ◌+◌, ◌^◌, ◌<◌, ◌≤◌, ◌&&◌, ◌||◌, not, Bool, true, false, List, [], ◌∷◌, ◌++◌, length, map, Some, None, option_and_then, slice_get, refl, ap, sym, ◌∙◌, subst, if◌then◌else◌, arith, append_assoc, append-nil, eq-eqb, le-ltb, le-leb, lt-ltb}
+use Rattle.std.proofs.Common.{◌≡◌, inl, inr, ℕ, zero, suc, ◌+◌, ◌^◌, ◌<◌, ◌≤◌, ◌&&◌, ◌||◌, not, Bool, true, false, List, [], ◌∷◌, ◌++◌, length, map, Some, None, option_and_then, slice_get, refl, ap, sym, ◌∙◌, subst, if◌then◌else◌, arith, append_assoc, eq-eqb, le-ltb, le-leb, lt-ltb}
 use Rattle.std.specs.Prelude.{codes, nat_lt, nat_le}
 use Rattle.std.specs.Option.{option_map_or}
 use Rattle.std.proofs.lemmas.Bool.{or_from, and_from, cond-true, cond-false, false_from_ne_true}
@@ -17,16 +17,16 @@ use Rattle.cx_vtree.specs.Layout.{is_word, is_name, external_fits}
 use Rattle.cx_vtree.specs.Sound.{has_name, module_named, decl_name, last_named, instance_kind, memory_module, arrays_in, not_this_memory, not_this_width, memory_arrays, external_faults, externals_faults}
 use Rattle.cx_vlaws.proofs.Fresh.{has_each, has-append, Fresh, fresh_right}
 use Rattle.cx_vlaws.proofs.Scopes.{other_than}
-use Rattle.cx_vmods.specs.Modules.{module_of}
 use Rattle.cx_net.specs.Nets.{PlainNetComponent, PlainNet}
 use Rattle.cx_net.specs.NetTree.{net_component_at}
 use Rattle.cx_net.specs.NetFits.{IsFitKind, IsExternalKind, IsFit, HasNoHoles}
 use Rattle.cx_net.specs.NetLimits.{IsWritableExternal, IsWritable}
-use Rattle.cx_emit.specs.Names.{numbered, instance_name, module_name, cell_module_name}
-use Rattle.cx_emit.specs.Numbered.{with_numbers, lists_from}
-use Rattle.cx_emit.specs.Signatures.{kind_ports, cell_ports, kind_modules, cell_modules}
-use Rattle.cx_emit.specs.Sources.{cell_instance, component_module, component_modules, external_of, cell_externals, externals_at, source_of}
-use Rattle.cx_emit.proofs.NumberedLemmas.{In, in_left, in_numbered, in_lists, lists_in}
+use Rattle.cx_emit.specs.Names.{numbered, instance_name, module_name, primitive_name}
+use Rattle.cx_emit.specs.Numbered.{numbered_from, with_numbers, lists_from}
+use Rattle.cx_emit.specs.Signatures.{primitive_module, kind_ports, cell_ports}
+use Rattle.cx_emit.specs.Sources.{cell_instance, component_module, primitive_modules, external_of, cell_externals, externals_at, source_of}
+use Rattle.cx_emit.proofs.NetPrimitives.{its_primitives, its_primitive}
+use Rattle.cx_emit.proofs.NumberedLemmas.{in_mapped, In, in_left, in_numbered, lists_in}
 use Rattle.cx_emit.proofs.NameLaws.{is_name-numbered, numbered-injective}
 use Rattle.cx_emit.proofs.FaultLaws.{IsClean, AreClean, no_lines, a_line}
 use Rattle.cx_emit.proofs.CleanModules.{Each}
@@ -62,17 +62,17 @@ last_found (x ∷ ms) m = ap (λ o. option_map_or Some o (if same_name x.name m.
 module _ (net : PlainNet) where
   -- that of the last component
   last_module : (k : ℕ) (parts : List PlainNetComponent) (j : ℕ) (part : PlainNetComponent) → slice_get parts j ≡ Some part → length parts ≡ suc j
-      → (ms : List PlainModule) × (lists_from (component_modules net) k parts ≡ ms ++ component_module net (k + j) part ∷ [])
+      → (ms : List PlainModule) × (numbered_from (component_module net) k parts ≡ ms ++ component_module net (k + j) part ∷ [])
   last_module k [] j part e long = absurd (cc)
   last_module k (x ∷ []) zero part e long =
       let same : x ≡ part = cc in
       let place : k ≡ k + 0 = omega arith in
-      (lists_from (cell_modules k) 0 x.cells, append-nil (component_modules net k x) ∙ ap (λ m. lists_from (cell_modules k) 0 x.cells ++ m ∷ []) (ap (component_module net k) same ∙ ap (λ n. component_module net n part) place))
+      ([], ap (λ m. m ∷ []) (ap (component_module net k) same ∙ ap (λ n. component_module net n part) place))
   last_module k (x ∷ y ∷ parts) zero part e long = absurd (omega (arith, long))
   last_module k (x ∷ parts) (suc j) part e long =
       let (ms, is) = last_module (suc k) parts j part e (omega (arith, long)) in
       let place : suc k + j ≡ k + suc j = omega arith in
-      (component_modules net k x ++ ms, ap (λ l. component_modules net k x ++ l) (is ∙ ap (λ n. ms ++ component_module net n part ∷ []) place) ∙ sym (append_assoc (component_modules net k x) ms (component_module net (k + suc j) part ∷ [])))
+      (component_module net k x ∷ ms, ap (λ l. component_module net k x ∷ l) (is ∙ ap (λ n. ms ++ component_module net n part ∷ []) place))
 
 module _ (net : PlainNet) (fit : IsFit net) (no_holes : HasNoHoles net) (writable : IsWritable net) where
   abbrev main : PlainNetComponent
@@ -90,24 +90,26 @@ module _ (net : PlainNet) (fit : IsFit net) (no_holes : HasNoHoles net) (writabl
       let (ms, is) = last_module net 0 net.components net.main main there (sym writable.main_last) in
       let place : 0 + net.main ≡ net.main = omega arith in
       let named : own.name ≡ codes "main" = ap (λ b. if b then codes "main" else numbered (codes "m") net.main) (eq-eqb net.main net.main refl) in
-      ap (λ l. last_named l (codes "main")) (is ∙ ap (λ n. ms ++ component_module net n main ∷ []) place) ∙ ap (last_named (ms ++ own ∷ [])) (sym named) ∙ last_found ms own
+      let all : modules ≡ (primitive_modules net ++ ms) ++ own ∷ [] =
+      ap (λ l. primitive_modules net ++ l) (is ∙ ap (λ n. ms ++ component_module net n main ∷ []) place) ∙ sym (append_assoc (primitive_modules net) ms (own ∷ [])) in
+      ap (λ l. last_named l (codes "main")) all ∙ ap (last_named ((primitive_modules net ++ ms) ++ own ∷ [])) (sym named) ∙ last_found (primitive_modules net ++ ms) own
 
   -- AN EXTERNAL CELL
   module _ (c : ℕ) (cell : PlainCell) (there : slice_get main.cells c ≡ Some cell) (external : cell.external ≡ true) where
-    its_kind : (p : PrimitiveRow) → cell.kind ≡ OfPrimitive p → instance_kind own.instances (instance_name c) ≡ Some (cell_module_name net.main c)
+    its_kind : (p : PrimitiveRow) → cell.kind ≡ OfPrimitive p → instance_kind own.instances (instance_name c) ≡ Some (primitive_name p)
     its_kind p is =
-        let wired : slice_get own.instances c ≡ Some (cell_instance c (cell_ports net net.main c cell)) =
-        in_numbered cell_instance (with_numbers (cell_ports net net.main) main.cells) c (cell_ports net net.main c cell) (in_numbered (cell_ports net net.main) main.cells c cell there) in
+        let wired : slice_get own.instances c ≡ Some (cell_instance c (cell_ports net cell)) =
+        in_numbered cell_instance (map (cell_ports net) main.cells) c (cell_ports net cell) (in_mapped (cell_ports net) main.cells c cell there) in
         let names = part_names net fit writable net.main (module_name net.main net.main) fit.has_main in
         let behind = fresh_right [] (map (λ p. p.name) own.ports) (map decl_name own.decls ++ map (λ i. i.name) own.instances) names in
         let parts = fresh_right (map (λ p. p.name) own.ports) (map decl_name own.decls) (map (λ i. i.name) own.instances) behind in
-        instance_found (map (λ p. p.name) own.ports ++ map decl_name own.decls) own.instances c (cell_instance c (cell_ports net net.main c cell)) parts wired ∙ ap (λ kind. Some (kind_ports net net.main c kind).kind) is
+        instance_found (map (λ p. p.name) own.ports ++ map decl_name own.decls) own.instances c (cell_instance c (cell_ports net cell)) parts wired ∙ ap (λ kind. Some (kind_ports net kind).kind) is
 
-    its_module : (p : PrimitiveRow) → cell.kind ≡ OfPrimitive p → module_named modules (cell_module_name net.main c) ≡ Some (module_of p (cell_module_name net.main c))
+    its_module : (p : PrimitiveRow) → cell.kind ≡ OfPrimitive p → module_named modules (primitive_name p) ≡ Some (primitive_module p)
     its_module p is =
-        let m : PlainModule = module_of p (cell_module_name net.main c) in
-        let here : In m (cell_modules net.main c cell) = subst (λ kind. In m (kind_modules net.main c kind)) (sym is) (zero, refl) in
-        let among = in_lists (component_modules net) net.components net.main main m (comp_there net fit writable net.main fit.has_main) (in_left m (lists_from (cell_modules net.main) 0 main.cells) (own ∷ []) (in_lists (cell_modules net.main) main.cells c cell m there here)) in
+        let m : PlainModule = primitive_module p in
+        let (n, at) = its_primitive net fit net.main c cell p fit.has_main there is in
+        let among = in_left m (primitive_modules net) (with_numbers (component_module net) net.components) (n, in_mapped primitive_module (its_primitives net) n p at) in
         module_found [] modules among.0 m (modules_differ net fit no_holes writable) among.1
 
     -- its memory
@@ -115,7 +117,7 @@ module _ (net : PlainNet) (fit : IsFit net) (no_holes : HasNoHoles net) (writabl
     arrays_here p is =
         let has = subst (IsFitKind net.main) is ((fit.components net.main fit.has_main).cells c cell there) in
         let kind = subst IsExternalKind is (fit.externals c cell there external) in
-        let found : memory_module modules (external_of c cell) ≡ Some (module_of p (cell_module_name net.main c)) =
+        let found : memory_module modules (external_of c cell) ≡ Some (primitive_module p) =
         ap (option_and_then (λ (m : PlainModule). option_and_then (module_named modules) (instance_kind m.instances (instance_name c)))) main_last
         ∙ ap (option_and_then (module_named modules)) (its_kind p is) ∙ its_module p is in
         ap (λ o. option_map_or (λ (m : PlainModule). arrays_in m.decls) o []) found ∙ (primitive_owes [] (codes "cx_m") refl p has).arrays

@@ -33,6 +33,10 @@ pub mod StatelessModules
 pub mod ClockedModules
 pub mod MemoryModules
 pub mod PrimitiveModules
+pub mod ShortNumbers
+pub mod PrimitiveNames
+pub mod NetPrimitives
+pub mod FoundLemmas
 pub mod ExprKeeps
 pub mod CellPorts
 pub mod PickedNames

@@ -1,10 +1,9 @@
 -- No line of any module of a net's source breaks a rule: the modules one after another, with those before them.
-use Rattle.std.proofs.Common.{◌≡◌, ◌⊎◌, inl, inr, ℕ, zero, suc, ◌+◌, ◌^◌, ◌<◌, ◌≤◌, ◌==◌, ◌||◌, Bool, true, false, List, [], ◌∷◌, ◌++◌, length, length-append, map, Some, None, slice_get, refl, ap, sym, ◌∙◌, subst, if◌then◌else◌, arith, append_assoc, eq-eqb, ne_eqb, le-ltb}
+use Rattle.std.proofs.Common.{◌≡◌, ◌⊎◌, inl, inr, ℕ, zero, suc, ◌+◌, ◌<◌, ◌≤◌, ◌==◌, ◌||◌, Bool, true, false, List, [], ◌∷◌, ◌++◌, length, length-append, map, Some, None, slice_get, refl, ap, sym, ◌∙◌, subst, if◌then◌else◌, arith, append_assoc, append-nil, eq-eqb, ne_eqb, le-ltb}
 use Rattle.std.specs.Prelude.{codes, nat_lt}
-use Rattle.std.proofs.lemmas.Bool.{or_from, or_parts, cond-true, cond-false, cases_eq, cases_order}
+use Rattle.std.proofs.lemmas.Bool.{or_from, or_parts, cond-true, cond-false, cases_order}
 use Rattle.std.proofs.lemmas.List.{map-append, length-map}
-use Rattle.std.proofs.lemmas.Option.{slice_get_within}
-use Rattle.cx_prim.specs.Table.{PrimitiveRow, row_of}
+use Rattle.cx_prim.specs.Table.{PrimitiveRow, HasRow, row_of}
 use Rattle.cx_meaning.specs.Designs.{PlainKind, OfPrimitive, OfComponent, PlainCell}
 use Rattle.cx_vtree.specs.Plain.{PlainModule}
 use Rattle.cx_vtree.specs.InstanceTree.{same_name, declared_nets}
@@ -12,23 +11,26 @@ use Rattle.cx_vtree.specs.Layout.{module_fits}
 use Rattle.cx_vtree.specs.Sound.{Counts, has_name, module_named, counts_named, module_counts, too_large, lines_faults, modules_faults}
 use Rattle.cx_vlaws.proofs.Fresh.{Fresh}
 use Rattle.cx_vlaws.specs.Counts.{declared_words}
-use Rattle.cx_vmods.specs.Modules.{port_of, pieces_of, module_of}
+use Rattle.cx_vmods.specs.Modules.{port_of}
 use Rattle.cx_rules.specs.Sizes.{shape_words}
 use Rattle.cx_net.specs.Nets.{PlainNetComponent, PlainNet}
 use Rattle.cx_net.specs.NetTree.{net_component_at, net_within}
 use Rattle.cx_net.specs.NetFits.{IsFitKind, IsFit, HasNoHoles}
 use Rattle.cx_net.specs.NetLimits.{nets_inside, nets_below, instances_below, words_below, IsWritable}
-use Rattle.cx_emit.specs.Names.{numbered, module_name, cell_module_name}
-use Rattle.cx_emit.specs.Numbered.{with_numbers, lists_from}
+use Rattle.cx_emit.specs.Names.{numbered, module_name, primitive_name}
+use Rattle.cx_emit.specs.Numbered.{numbered_from, with_numbers}
 use Rattle.cx_meaning.specs.declared.kinds.PortDecl.{PortDecl}
-use Rattle.cx_emit.specs.Signatures.{one_bit, input_port, output_port, signature_at, kind_ports, cell_ports, kind_modules, cell_modules}
-use Rattle.cx_emit.specs.Sources.{component_module, component_modules, source_of}
-use Rattle.cx_emit.proofs.NumberedLemmas.{numbered_in}
+use Rattle.cx_emit.specs.Signatures.{one_bit, input_port, output_port, signature_at, primitive_module, kind_ports, cell_ports}
+use Rattle.cx_emit.specs.Sources.{component_module, source_of}
+use Rattle.cx_emit.proofs.NumberedLemmas.{In, in_either, mapped_in}
 use Rattle.cx_emit.proofs.FaultLaws.{AreClean, no_lines, clean-append}
-use Rattle.cx_emit.proofs.ModulesApart.{HaveFewCells, modules-apart}
+use Rattle.cx_emit.proofs.ModulesApart.{modules-apart}
+use Rattle.cx_emit.proofs.PortPlaces.{length-numbered}
+use Rattle.cx_emit.proofs.PrimitiveNames.{is_name-primitive_name}
+use Rattle.cx_emit.proofs.NetPrimitives.{its_primitives, its_primitive, its_rows}
 use Rattle.cx_emit.proofs.CleanModules.{Each, IsKept, module_clean, main_clean, module_laid}
-use Rattle.cx_emit.proofs.PrimitiveModules.{Owes, primitive_owes}
-use Rattle.cx_emit.proofs.CellPorts.{each_in, comp_there, cell_module_named_well, kind_ports_are}
+use Rattle.cx_emit.proofs.PrimitiveModules.{primitive_owes}
+use Rattle.cx_emit.proofs.CellPorts.{each_in, comp_there, kind_ports_are}
 use Rattle.cx_emit.proofs.Connections.{IsKnown}
 use Rattle.cx_emit.proofs.ComponentModules.{component_kept}
 use Rattle.cx_emit.proofs.Counted.{AtMost, most_more, alone_most, IsThereKind, child_nets, child_instances, child_words, IsCounted, component_most}
@@ -110,23 +112,20 @@ module _ (net : PlainNet) (fit : IsFit net) (no_holes : HasNoHoles net) (writabl
   abbrev own : ℕ → PlainModule
   own k = component_module net k (comp k)
 
-  -- before cell c of component k
-  record IsAt (k c : ℕ) (before : List PlainModule) (counts : List Counts) : Type 0 where
+  -- before component k, behind the modules of these primitives
+  record IsAt (k : ℕ) (ps : List PrimitiveRow) (before : List PlainModule) (counts : List Counts) : Type 0 where
     same : length counts ≡ length before
     comps : (j levels : ℕ) → j < k → j < levels
         → IsEntry before counts (module_name net.main j) (own j) (nets_below (net_within net levels j)) (instances_below (net_within net levels j)) (words_below (net_within net levels j))
-    prims : (d : ℕ) (cell : PlainCell) (p : PrimitiveRow) → d < c → slice_get (comp k).cells d ≡ Some cell → cell.kind ≡ OfPrimitive p
-        → IsEntry before counts (cell_module_name k d) (module_of p (cell_module_name k d)) (2 + length (row_of p).ports + nets_inside (row_of p).shape) 1 (shape_words (row_of p).shape)
+    prims : (p : PrimitiveRow) → In p ps → IsEntry before counts (primitive_name p) (primitive_module p) (2 + length (row_of p).ports + nets_inside (row_of p).shape) 1 (shape_words (row_of p).shape)
 
-  -- past the module of a primitive cell
-  past_primitive : (k c : ℕ) (cell : PlainCell) (p : PrimitiveRow) (before : List PlainModule) (counts : List Counts) → k < length net.components → slice_get (comp k).cells c ≡ Some cell → cell.kind ≡ OfPrimitive p
-      → IsAt k c before counts → has_name (map (λ x. x.name) before) (cell_module_name k c) ≡ false
-      → IsAt k (suc c) (before ++ module_of p (cell_module_name k c) ∷ []) (counts ++ module_counts before counts (module_of p (cell_module_name k c)) ∷ [])
-  past_primitive k c cell p before counts lt there is at none =
-      let m : PlainModule = module_of p (cell_module_name k c) in
+  -- past the module of a primitive
+  past_primitive : (ps : List PrimitiveRow) (p : PrimitiveRow) (before : List PlainModule) (counts : List Counts) → HasRow p → IsAt 0 ps before counts → has_name (map (λ x. x.name) before) (primitive_name p) ≡ false
+      → IsAt 0 (ps ++ p ∷ []) (before ++ primitive_module p ∷ []) (counts ++ module_counts before counts (primitive_module p) ∷ [])
+  past_primitive ps p before counts has at none =
+      let m : PlainModule = primitive_module p in
       let count : Counts = module_counts before counts m in
-      let has = subst (IsFitKind k) is ((fit.components k lt).cells c cell there) in
-      let owed = primitive_owes before (cell_module_name k c) (cell_module_named_well net fit writable k c lt (slice_get_within (comp k).cells c cell there)) p has in
+      let owed = primitive_owes before (primitive_name p) (is_name-primitive_name p has) p has in
       let long : length (map port_of (row_of p).ports) ≡ length (row_of p).ports = length-map (row_of p).ports port_of in
       let nets = owed.nets in
       let words = owed.words in
@@ -134,86 +133,42 @@ module _ (net : PlainNet) (fit : IsFit net) (no_holes : HasNoHoles net) (writabl
       most_more count (length m.ports + length (declared_nets m.decls)) 1 (declared_words m.decls) _ _ _ (omega (arith, long, nets)) (omega arith) (omega (arith, words)) (alone_most before counts m refl) in
       record {
         same = one_longer before counts m count at.same;
-        comps = λ j levels less lower. entry_kept before counts m count (module_name net.main j) (own j) _ _ _ at.same (at.comps j levels less lower);
-        prims = λ d other q less here kind. go owed most d other q less here kind (cases_eq d c);
+        comps = λ j levels less lower. absurd (omega (arith, less));
+        prims = λ q h. go most q (in_either q ps (p ∷ []) h);
       }
     where
-      go : Owes before (cell_module_name k c) p.numbers (pieces_of p.name p.numbers) (row_of p) → AtMost (module_counts before counts (module_of p (cell_module_name k c))) (2 + length (row_of p).ports + nets_inside (row_of p).shape) 1 (shape_words (row_of p).shape)
-          → (d : ℕ) (other : PlainCell) (q : PrimitiveRow) → d < suc c → slice_get (comp k).cells d ≡ Some other → other.kind ≡ OfPrimitive q → (d ≡ c) ⊎ (d ≡ c → ⊥)
-          → IsEntry (before ++ module_of p (cell_module_name k c) ∷ []) (counts ++ module_counts before counts (module_of p (cell_module_name k c)) ∷ []) (cell_module_name k d) (module_of q (cell_module_name k d))
-          (2 + length (row_of q).ports + nets_inside (row_of q).shape) 1 (shape_words (row_of q).shape)
-      go owed most d other q less here kind (inl e) =
-          let cells_same : Some other ≡ Some cell = sym here ∙ ap (slice_get (comp k).cells) e ∙ there in
-          let cell_same : other ≡ cell = cc in
-          let kinds : OfPrimitive q ≡ OfPrimitive p = sym kind ∙ ap (λ (x : PlainCell). x.kind) cell_same ∙ is in
-          let rows : q ≡ p = cc in
-          subst (λ x. IsEntry (before ++ module_of p (cell_module_name k c) ∷ []) (counts ++ module_counts before counts (module_of p (cell_module_name k c)) ∷ []) (cell_module_name k x) (module_of q (cell_module_name k x))
-          (2 + length (row_of q).ports + nets_inside (row_of q).shape) 1 (shape_words (row_of q).shape)) (sym e)
-          (subst (λ x. IsEntry (before ++ module_of p (cell_module_name k c) ∷ []) (counts ++ module_counts before counts (module_of p (cell_module_name k c)) ∷ []) (cell_module_name k c) (module_of x (cell_module_name k c))
-          (2 + length (row_of x).ports + nets_inside (row_of x).shape) 1 (shape_words (row_of x).shape)) (sym rows)
-          (entry_new before counts (module_of p (cell_module_name k c)) (module_counts before counts (module_of p (cell_module_name k c))) _ _ _ at.same none most))
-      go owed most d other q less here kind (inr away) =
-          entry_kept before counts (module_of p (cell_module_name k c)) (module_counts before counts (module_of p (cell_module_name k c))) (cell_module_name k d) (module_of q (cell_module_name k d)) _ _ _ at.same
-          (at.prims d other q (below d c less away) here kind)
-        where
-          below : (a b : ℕ) → a < suc b → (a ≡ b → ⊥) → a < b
-          below a b l h = by (cases_order a b) where
-            by : (a ≡ b) ⊎ ((a < b) ⊎ (b < a)) → a < b
-            by (inl e) = absurd (h e)
-            by (inr (inl f)) = f
-            by (inr (inr f)) = absurd (omega (arith, l, f))
+      go : AtMost (module_counts before counts (primitive_module p)) (2 + length (row_of p).ports + nets_inside (row_of p).shape) 1 (shape_words (row_of p).shape) → (q : PrimitiveRow) → In q ps ⊎ In q (p ∷ [])
+          → IsEntry (before ++ primitive_module p ∷ []) (counts ++ module_counts before counts (primitive_module p) ∷ []) (primitive_name q) (primitive_module q) (2 + length (row_of q).ports + nets_inside (row_of q).shape) 1 (shape_words (row_of q).shape)
+      go most q (inl h) = entry_kept before counts (primitive_module p) (module_counts before counts (primitive_module p)) (primitive_name q) (primitive_module q) _ _ _ at.same (at.prims q h)
+      go most q (inr (zero, e)) =
+          let one : p ≡ q = cc in
+          subst (λ (x : PrimitiveRow). IsEntry (before ++ primitive_module p ∷ []) (counts ++ module_counts before counts (primitive_module p) ∷ []) (primitive_name x) (primitive_module x) (2 + length (row_of x).ports + nets_inside (row_of x).shape) 1 (shape_words (row_of x).shape)) one
+          (entry_new before counts (primitive_module p) (module_counts before counts (primitive_module p)) _ _ _ at.same none most)
+      go most q (inr (suc n, e)) = absurd (cc)
 
-  -- past a cell of a component
-  past_child : (k c : ℕ) (cell : PlainCell) (j : ℕ) (before : List PlainModule) (counts : List Counts) → slice_get (comp k).cells c ≡ Some cell → cell.kind ≡ OfComponent j → IsAt k c before counts → IsAt k (suc c) before counts
-  past_child k c cell j before counts there is at = record {
-    same = at.same;
-    comps = at.comps;
-    prims = λ d other q less here kind. at.prims d other q (other_place d other q less here kind (cases_order d c)) here kind;
-  }
-    where
-      other_place : (d : ℕ) (other : PlainCell) (q : PrimitiveRow) → d < suc c → slice_get (comp k).cells d ≡ Some other → other.kind ≡ OfPrimitive q → (d ≡ c) ⊎ ((d < c) ⊎ (c < d)) → d < c
-      other_place d other q less here kind (inl e) =
-          let cells_same : Some other ≡ Some cell = sym here ∙ ap (slice_get (comp k).cells) e ∙ there in
-          let cell_same : other ≡ cell = cc in
-          let kinds : OfPrimitive q ≡ OfComponent j = sym kind ∙ ap (λ (x : PlainCell). x.kind) cell_same ∙ is in
-          absurd (cc)
-      other_place d other q less here kind (inr (inl f)) = f
-      other_place d other q less here kind (inr (inr f)) = absurd (omega (arith, less, f))
-
-  -- THE MODULES of primitive cells, and what comes behind them
-  cells_good : (k b : ℕ) (cells : List PlainCell) (rest : List PlainModule) → k < length net.components → 0 < length rest → ((j : ℕ) → slice_get cells j ≡ slice_get (comp k).cells (b + j))
-      → (before : List PlainModule) (counts : List Counts) → IsAt k b before counts → Fresh (map (λ x. x.name) before) (map (λ x. x.name) (lists_from (cell_modules k) b cells ++ rest))
-      → ((earlier : List PlainModule) (so_far : List Counts) → IsAt k (b + length cells) earlier so_far → Fresh (map (λ x. x.name) earlier) (map (λ x. x.name) rest) → Good earlier so_far rest)
-      → Good before counts (lists_from (cell_modules k) b cells ++ rest)
-  cells_good k b [] rest lt some places before counts at fresh next = let end : b ≡ b + 0 = omega arith in next before counts (subst (λ n. IsAt k n before counts) end at) fresh
-  cells_good k b (cell ∷ cells) rest lt some places before counts at fresh next =
-      by_kind cell.kind refl fresh (λ before counts at fresh. cells_good k (suc b) cells rest lt some
-      (λ j. let step : b + suc j ≡ suc b + j = omega arith in places (suc j) ∙ ap (slice_get (comp k).cells) step) before counts at fresh
-      (λ earlier so_far at fresh. let end : suc b + length cells ≡ b + suc (length cells) = omega arith in next earlier so_far (subst (λ n. IsAt k n earlier so_far) end at) fresh))
-    where
-      there : slice_get (comp k).cells b ≡ Some cell
-      there = let first : b + 0 ≡ b = omega arith in sym (ap (slice_get (comp k).cells) first) ∙ sym (places zero)
-
-      by_kind : (kind : PlainKind) → cell.kind ≡ kind → Fresh (map (λ x. x.name) before) (map (λ x. x.name) ((kind_modules k b kind ++ lists_from (cell_modules k) (suc b) cells) ++ rest))
-          → ((before : List PlainModule) (counts : List Counts) → IsAt k (suc b) before counts → Fresh (map (λ x. x.name) before) (map (λ x. x.name) (lists_from (cell_modules k) (suc b) cells ++ rest))
-          → Good before counts (lists_from (cell_modules k) (suc b) cells ++ rest)) → Good before counts ((kind_modules k b kind ++ lists_from (cell_modules k) (suc b) cells) ++ rest)
-      by_kind (OfComponent j) is fresh walk = walk before counts (past_child k b cell j before counts there is at) fresh
-      by_kind (OfPrimitive p) is fresh walk =
-          let m : PlainModule = module_of p (cell_module_name k b) in
-          let kept = (primitive_owes before (cell_module_name k b) (cell_module_named_well net fit writable k b lt (slice_get_within (comp k).cells b cell there)) p (subst (IsFitKind k) is ((fit.components k lt).cells b cell there))).kept in
-          let long = length-append (lists_from (cell_modules k) (suc b) cells) rest in
-          good_more before counts m (lists_from (cell_modules k) (suc b) cells ++ rest) (omega (arith, long, some)) kept fresh.0
-          (walk (before ++ m ∷ []) (counts ++ module_counts before counts m ∷ []) (past_primitive k b cell p before counts lt there is at fresh.0)
-          (subst (λ ns. Fresh ns (map (λ x. x.name) (lists_from (cell_modules k) (suc b) cells ++ rest))) (sym (map-append (λ x. x.name) before (m ∷ []))) fresh.1))
+  -- THE MODULES of primitives, and what comes behind them
+  primitives_good : (ps qs : List PrimitiveRow) (rest : List PlainModule) → 0 < length rest → Each HasRow qs → (before : List PlainModule) (counts : List Counts) → IsAt 0 ps before counts
+      → Fresh (map (λ x. x.name) before) (map (λ x. x.name) (map primitive_module qs ++ rest))
+      → ((earlier : List PlainModule) (so_far : List Counts) → IsAt 0 (ps ++ qs) earlier so_far → Fresh (map (λ x. x.name) earlier) (map (λ x. x.name) rest) → Good earlier so_far rest)
+      → Good before counts (map primitive_module qs ++ rest)
+  primitives_good ps [] rest some rows before counts at fresh next = next before counts (subst (λ xs. IsAt 0 xs before counts) (sym (append-nil ps)) at) fresh
+  primitives_good ps (p ∷ qs) rest some rows before counts at fresh next =
+      let m : PlainModule = primitive_module p in
+      let kept = (primitive_owes before (primitive_name p) (is_name-primitive_name p rows.0) p rows.0).kept in
+      let long = length-append (map primitive_module qs) rest in
+      good_more before counts m (map primitive_module qs ++ rest) (omega (arith, long, some)) kept fresh.0
+      (primitives_good (ps ++ p ∷ []) qs rest some rows.1 (before ++ m ∷ []) (counts ++ module_counts before counts m ∷ []) (past_primitive ps p before counts rows.0 at fresh.0)
+      (subst (λ ns. Fresh ns (map (λ x. x.name) (map primitive_module qs ++ rest))) (sym (map-append (λ x. x.name) before (m ∷ []))) fresh.1)
+      (λ earlier so_far here fresh_here. next earlier so_far (subst (λ xs. IsAt 0 xs earlier so_far) (append_assoc ps (p ∷ []) qs) here) fresh_here))
 
   -- the modules of its cells are known, and counted, before a component's own
-  module _ (k : ℕ) (lt : k < length net.components) (before : List PlainModule) (counts : List Counts) (at : IsAt k (length (comp k).cells) before counts) where
-    cell_known : (c : ℕ) (cell : PlainCell) → slice_get (comp k).cells c ≡ Some cell → (kind : PlainKind) → cell.kind ≡ kind → IsKnown before (kind_ports net k c kind)
+  module _ (k : ℕ) (lt : k < length net.components) (before : List PlainModule) (counts : List Counts) (at : IsAt k (its_primitives net) before counts) where
+    cell_known : (c : ℕ) (cell : PlainCell) → slice_get (comp k).cells c ≡ Some cell → (kind : PlainKind) → cell.kind ≡ kind → IsKnown before (kind_ports net kind)
     cell_known c cell there (OfPrimitive p) is = record {
-      part = module_of p (cell_module_name k c);
-      found = (at.prims c cell p (slice_get_within (comp k).cells c cell there) there is).found;
+      part = primitive_module p;
+      found = (at.prims p (its_primitive net fit k c cell p lt there is)).found;
       ported = refl;
-      apart = (kind_ports_are net fit writable k c (OfPrimitive p) lt (subst (IsFitKind k) is ((fit.components k lt).cells c cell there))).apart;
+      apart = (kind_ports_are net fit writable k (OfPrimitive p) lt (subst (IsFitKind k) is ((fit.components k lt).cells c cell there))).apart;
     }
     cell_known c cell there (OfComponent j) is =
         let lower : j < k = subst (IsFitKind k) is ((fit.components k lt).cells c cell there) in
@@ -221,22 +176,22 @@ module _ (net : PlainNet) (fit : IsFit net) (no_holes : HasNoHoles net) (writabl
           part = own j;
           found = (at.comps j (suc j) lower (omega arith)).found;
           ported = ap (λ o. one_bit (codes "clk") ∷ one_bit (codes "reset") ∷ signature_at o) (sym (comp_there net fit writable j (omega (arith, lt, lower))));
-          apart = (kind_ports_are net fit writable k c (OfComponent j) lt lower).apart;
+          apart = (kind_ports_are net fit writable k (OfComponent j) lt lower).apart;
         }
 
-    cells_known : Each (IsKnown before) (with_numbers (cell_ports net k) (comp k).cells)
+    cells_known : Each (IsKnown before) (map (cell_ports net) (comp k).cells)
     cells_known =
-        each_in (with_numbers (cell_ports net k) (comp k).cells) (λ x h.
-        let (cell, there, is) = numbered_in (cell_ports net k) (comp k).cells h.0 x h.1 in
+        each_in (map (cell_ports net) (comp k).cells) (λ x h.
+        let (cell, there, is) = mapped_in (cell_ports net) (comp k).cells h.0 x h.1 in
         subst (IsKnown before) is (cell_known h.0 cell there cell.kind refl))
 
     own_kept : IsKept before (own k)
     own_kept = component_kept net fit no_holes writable k lt before cells_known
 
-    cell_counted : (levels c : ℕ) (cell : PlainCell) → k ≤ levels → slice_get (comp k).cells c ≡ Some cell → IsCounted net (comp_there net fit writable) before counts levels k c cell
+    cell_counted : (levels c : ℕ) (cell : PlainCell) → k ≤ levels → slice_get (comp k).cells c ≡ Some cell → IsCounted net (comp_there net fit writable) before counts levels cell
     cell_counted levels c cell enough there = go cell.kind refl where
-      go : (kind : PlainKind) → cell.kind ≡ kind → AtMost (counts_named before counts (kind_ports net k c kind).kind) (child_nets net levels kind) (child_instances net levels kind) (child_words net levels kind)
-      go (OfPrimitive p) is = (at.prims c cell p (slice_get_within (comp k).cells c cell there) there is).most
+      go : (kind : PlainKind) → cell.kind ≡ kind → AtMost (counts_named before counts (kind_ports net kind).kind) (child_nets net levels kind) (child_instances net levels kind) (child_words net levels kind)
+      go (OfPrimitive p) is = (at.prims p (its_primitive net fit k c cell p lt there is)).most
       go (OfComponent j) is = let lower : j < k = subst (IsFitKind k) is ((fit.components k lt).cells c cell there) in (at.comps j levels lower (omega (arith, lower, enough))).most
 
     kinds_there : Each (λ (cell : PlainCell). IsThereKind net cell.kind) (comp k).cells
@@ -248,14 +203,14 @@ module _ (net : PlainNet) (fit : IsFit net) (no_holes : HasNoHoles net) (writabl
     own_counted : (levels : ℕ) → k < levels → AtMost (module_counts before counts (own k)) (nets_below (net_within net levels k)) (instances_below (net_within net levels k)) (words_below (net_within net levels k))
     own_counted zero enough = absurd (omega (arith, enough))
     own_counted (suc levels) enough =
-        component_most net (comp_there net fit writable) before counts levels k kinds_there (λ c cell there. cell_counted levels c cell (omega (arith, enough)) there)
+        component_most net (comp_there net fit writable) before counts levels k kinds_there (each_in (comp k).cells (λ cell h. cell_counted levels h.0 cell (omega (arith, enough)) h.1))
 
     -- past its own module
-    past_own : has_name (map (λ x. x.name) before) (module_name net.main k) ≡ false → IsAt (suc k) 0 (before ++ own k ∷ []) (counts ++ module_counts before counts (own k) ∷ [])
+    past_own : has_name (map (λ x. x.name) before) (module_name net.main k) ≡ false → IsAt (suc k) (its_primitives net) (before ++ own k ∷ []) (counts ++ module_counts before counts (own k) ∷ [])
     past_own none = record {
       same = one_longer before counts (own k) (module_counts before counts (own k)) at.same;
       comps = λ j levels less lower. go j levels lower less (cases_order j k);
-      prims = λ d cell p less here kind. absurd (omega (arith, less));
+      prims = λ p h. entry_kept before counts (own k) (module_counts before counts (own k)) (primitive_name p) (primitive_module p) _ _ _ at.same (at.prims p h);
     }
       where
         go : (j levels : ℕ) → j < levels → j < suc k → (j ≡ k) ⊎ ((j < k) ⊎ (k < j))
@@ -266,15 +221,8 @@ module _ (net : PlainNet) (fit : IsFit net) (no_holes : HasNoHoles net) (writabl
         go j levels lower less (inr (inl f)) = entry_kept before counts (own k) (module_counts before counts (own k)) (module_name net.main j) (own j) _ _ _ at.same (at.comps j levels f lower)
         go j levels lower less (inr (inr f)) = absurd (omega (arith, less, f))
 
-  -- THE MODULES of components from k on
-  own_most : (k : ℕ) (part : PlainNetComponent) (parts : List PlainNetComponent) → 0 < length (lists_from (component_modules net) k (part ∷ parts))
-  own_most k part parts =
-      let own_long = length-append (lists_from (cell_modules k) 0 part.cells) (component_module net k part ∷ []) in
-      let long = length-append (component_modules net k part) (lists_from (component_modules net) (suc k) parts) in
-      omega (arith, own_long, long)
-
   -- main is the last
-  main_good : (k : ℕ) (lt : k < length net.components) (before : List PlainModule) (counts : List Counts) (at : IsAt k (length (comp k).cells) before counts) → k ≡ net.main
+  main_good : (k : ℕ) (lt : k < length net.components) (before : List PlainModule) (counts : List Counts) (at : IsAt k (its_primitives net) before counts) → k ≡ net.main
       → has_name (map (λ x. x.name) before) (module_name net.main k) ≡ false → Good before counts (own k ∷ [])
   main_good k lt before counts at is none =
       let kept = own_kept k lt before counts at in
@@ -300,71 +248,52 @@ module _ (net : PlainNet) (fit : IsFit net) (no_holes : HasNoHoles net) (writabl
           ∙ ap (λ (outs : List PortDecl). one_bit (codes "clk") ∷ one_bit (codes "reset") ∷ one_bit (codes "go") ∷ with_numbers output_port outs ++ record { output = true; name = codes "done"; width = 1 } ∷ [])
           (ap (λ j. (comp j).outputs) is ∙ writable.no_outputs)
 
-  comps_good : (k : ℕ) (parts : List PlainNetComponent) → 0 < length parts → k + length parts ≡ length net.components → ((j : ℕ) → slice_get parts j ≡ slice_get net.components (k + j))
-      → (before : List PlainModule) (counts : List Counts) → IsAt k 0 before counts → Fresh (map (λ x. x.name) before) (map (λ x. x.name) (lists_from (component_modules net) k parts))
-      → Good before counts (lists_from (component_modules net) k parts)
-  comps_good k [] some whole places before counts at fresh = absurd (omega (arith, some))
-  comps_good k (part ∷ parts) some whole places before counts at fresh =
-      subst (λ (x : PlainNetComponent). Good before counts ((lists_from (cell_modules k) 0 x.cells ++ component_module net k x ∷ []) ++ rest)) (sym part_is)
-      (subst (Good before counts) (sym (grouped (comp k)))
-      (cells_good k 0 (comp k).cells (own k ∷ rest) lt (omega arith) (λ j. let place : j ≡ 0 + j = omega arith in ap (slice_get (comp k).cells) place) before counts at
-      (subst (λ ms. Fresh (map (λ x. x.name) before) (map (λ x. x.name) ms)) (grouped (comp k))
-      (subst (λ (x : PlainNetComponent). Fresh (map (λ x. x.name) before) (map (λ x. x.name) ((lists_from (cell_modules k) 0 x.cells ++ component_module net k x ∷ []) ++ rest))) part_is fresh))
-      (λ earlier so_far here fresh_here.
-      let end : 0 + length (comp k).cells ≡ length (comp k).cells = omega arith in
-      by_rest parts refl (comps_good (suc k) parts) earlier so_far (subst (λ n. IsAt k n earlier so_far) end here) fresh_here)))
+  -- THE MODULES of components from k on
+  components_good : (k : ℕ) (parts : List PlainNetComponent) → 0 < length parts → k + length parts ≡ length net.components → ((j : ℕ) → slice_get parts j ≡ slice_get net.components (k + j))
+      → (before : List PlainModule) (counts : List Counts) → IsAt k (its_primitives net) before counts → Fresh (map (λ x. x.name) before) (map (λ x. x.name) (numbered_from (component_module net) k parts))
+      → Good before counts (numbered_from (component_module net) k parts)
+  components_good k [] some whole places before counts at fresh = absurd (omega (arith, some))
+  components_good k (part ∷ parts) some whole places before counts at fresh =
+      subst (λ (x : PlainNetComponent). Good before counts (component_module net k x ∷ numbered_from (component_module net) (suc k) parts)) (sym part_is)
+      (by_rest parts refl (components_good (suc k) parts))
     where
-      rest : List PlainModule
-      rest = lists_from (component_modules net) (suc k) parts
-
       lt : k < length net.components
       lt = omega (arith, whole)
 
       part_is : part ≡ comp k
       part_is = let place : k + 0 ≡ k = omega arith in let same : Some part ≡ Some (comp k) = places 0 ∙ ap (slice_get net.components) place ∙ comp_there net fit writable k lt in cc
 
-      grouped : (x : PlainNetComponent) → (lists_from (cell_modules k) 0 x.cells ++ component_module net k x ∷ []) ++ rest ≡ lists_from (cell_modules k) 0 x.cells ++ (component_module net k x ∷ rest)
-      grouped x = append_assoc (lists_from (cell_modules k) 0 x.cells) (component_module net k x ∷ []) rest
-
       by_rest : (more : List PlainNetComponent) → parts ≡ more
-          → (0 < length parts → suc k + length parts ≡ length net.components → ((j : ℕ) → slice_get parts j ≡ slice_get net.components (suc k + j)) → (before : List PlainModule) (counts : List Counts) → IsAt (suc k) 0 before counts
-          → Fresh (map (λ x. x.name) before) (map (λ x. x.name) (lists_from (component_modules net) (suc k) parts)) → Good before counts (lists_from (component_modules net) (suc k) parts))
-          → (earlier : List PlainModule) (so_far : List Counts) → IsAt k (length (comp k).cells) earlier so_far → Fresh (map (λ x. x.name) earlier) (map (λ x. x.name) (own k ∷ lists_from (component_modules net) (suc k) parts))
-          → Good earlier so_far (own k ∷ lists_from (component_modules net) (suc k) parts)
-      by_rest [] none walk earlier so_far here fresh_here =
+          → (0 < length parts → suc k + length parts ≡ length net.components → ((j : ℕ) → slice_get parts j ≡ slice_get net.components (suc k + j)) → (before : List PlainModule) (counts : List Counts) → IsAt (suc k) (its_primitives net) before counts
+          → Fresh (map (λ x. x.name) before) (map (λ x. x.name) (numbered_from (component_module net) (suc k) parts)) → Good before counts (numbered_from (component_module net) (suc k) parts))
+          → Good before counts (own k ∷ numbered_from (component_module net) (suc k) parts)
+      by_rest [] none walk =
           let last = writable.main_last in
           let is : k ≡ net.main = (let empty : length parts ≡ 0 = ap (λ (xs : List PlainNetComponent). length xs) none in omega (arith, whole, last, empty)) in
-          subst (λ ps. Good earlier so_far (own k ∷ lists_from (component_modules net) (suc k) ps)) (sym none) (main_good k lt earlier so_far here is fresh_here.0)
-      by_rest (x ∷ more) several walk earlier so_far here fresh_here =
-          let some_rest : 0 < length (lists_from (component_modules net) (suc k) parts) = subst (λ ps. 0 < length (lists_from (component_modules net) (suc k) ps)) (sym several) (own_most (suc k) x more) in
+          subst (λ ps. Good before counts (own k ∷ numbered_from (component_module net) (suc k) ps)) (sym none) (main_good k lt before counts at is fresh.0)
+      by_rest (x ∷ more) several walk =
           let long : length parts ≡ suc (length more) = ap (λ (xs : List PlainNetComponent). length xs) several in
-          good_more earlier so_far (own k) (lists_from (component_modules net) (suc k) parts) some_rest (own_kept k lt earlier so_far here) fresh_here.0
+          let some_rest : 0 < length (numbered_from (component_module net) (suc k) parts) = subst (λ ps. 0 < length (numbered_from (component_module net) (suc k) ps)) (sym several) (omega arith) in
+          good_more before counts (own k) (numbered_from (component_module net) (suc k) parts) some_rest (own_kept k lt before counts at) fresh.0
           (walk (omega (arith, long)) (omega (arith, whole)) (λ j. let step : k + suc j ≡ suc k + j = omega arith in places (suc j) ∙ ap (slice_get net.components) step)
-          (earlier ++ own k ∷ []) (so_far ++ module_counts earlier so_far (own k) ∷ []) (past_own k lt earlier so_far here fresh_here.0)
-          (subst (λ ns. Fresh ns (map (λ x. x.name) (lists_from (component_modules net) (suc k) parts))) (sym (map-append (λ x. x.name) earlier (own k ∷ []))) fresh_here.1))
+          (before ++ own k ∷ []) (counts ++ module_counts before counts (own k) ∷ []) (past_own k lt before counts at fresh.0)
+          (subst (λ ns. Fresh ns (map (λ x. x.name) (numbered_from (component_module net) (suc k) parts))) (sym (map-append (λ x. x.name) before (own k ∷ []))) fresh.1))
 
-  few_cells : (parts : List PlainNetComponent) → Each (λ (x : PlainNetComponent). length x.cells < 2 ^ 64) parts → HaveFewCells parts
-  few_cells [] each = tt
-  few_cells (x ∷ parts) each = (each.0, few_cells parts each.1)
+  some_components : 0 < length (with_numbers (component_module net) net.components)
+  some_components = let main = fit.has_main in let long = length-numbered (component_module net) 0 net.components in omega (arith, main, long)
 
   -- no two modules have one name
   pub modules_differ : Fresh [] (map (λ x. x.name) (source_of net).modules)
-  modules_differ =
-      modules-apart net writable.few
-      (few_cells net.components (each_in net.components (λ x h.
-      let lt = slice_get_within net.components h.0 x h.1 in
-      let same : x ≡ comp h.0 = (let both : Some x ≡ Some (comp h.0) = sym h.1 ∙ comp_there net fit writable h.0 lt in cc) in
-      subst (λ (y : PlainNetComponent). length y.cells < 2 ^ 64) (sym same) (writable.components h.0 lt).few_cells)))
+  modules_differ = modules-apart net writable.few
 
   -- ALL MODULES
   pub modules_good : Good [] [] (source_of net).modules
   modules_good =
       let main = fit.has_main in
-      comps_good 0 net.components (omega (arith, main)) (omega arith) (λ j. let place : j ≡ 0 + j = omega arith in ap (slice_get net.components) place) [] []
-      (record { same = refl; comps = λ j levels less lower. absurd (omega (arith, less)); prims = λ d cell p less here kind. absurd (omega (arith, less)) }) modules_differ
+      primitives_good [] (its_primitives net) (with_numbers (component_module net) net.components) some_components (each_in (its_primitives net) (its_rows net fit)) [] []
+      (record { same = refl; comps = λ j levels less lower. absurd (omega (arith, less)); prims = λ p h. absurd (let e = h.1 in cc) }) modules_differ
+      (λ before counts at fresh.
+      components_good 0 net.components (omega (arith, main)) (omega arith) (λ j. let place : j ≡ 0 + j = omega arith in ap (slice_get net.components) place) before counts at fresh)
 
   pub some_modules : 0 < length (source_of net).modules
-  some_modules = go net.components (let main = fit.has_main in omega (arith, main)) where
-    go : (parts : List PlainNetComponent) → 0 < length parts → 0 < length (lists_from (component_modules net) 0 parts)
-    go [] some = absurd (omega (arith, some))
-    go (part ∷ parts) some = own_most 0 part parts
+  some_modules = let some = some_components in let long = length-append (map primitive_module (its_primitives net)) (with_numbers (component_module net) net.components) in omega (arith, some, long)

@@ -21,10 +21,10 @@ list_all-more p q (x ∷ xs) each h = and_from (q x) (list_all q xs) (each x (an
 digit_of : (d : ℕ) → d < 10 → is_digit (48 + d) ≡ true
 digit_of d few = and_from (nat_le 48 (48 + d)) (nat_le (48 + d) 57) (le-leb 48 (48 + d) (omega arith)) (le-leb (48 + d) 57 (omega arith))
 
-one_digit : (n : ℕ) → n < 10 → list_all is_digit ((48 + n) ∷ []) ≡ true
+pub one_digit : (n : ℕ) → n < 10 → list_all is_digit ((48 + n) ∷ []) ≡ true
 one_digit n few = and_from (is_digit (48 + n)) true (digit_of n few) refl
 
-last_digit : (n : ℕ) (ds : List ℕ) → list_all is_digit ds ≡ true → list_all is_digit (ds ++ (48 + n % 10) ∷ []) ≡ true
+pub last_digit : (n : ℕ) (ds : List ℕ) → list_all is_digit ds ≡ true → list_all is_digit (ds ++ (48 + n % 10) ∷ []) ≡ true
 last_digit n ds h = list_all-append is_digit ds ((48 + n % 10) ∷ []) ∙ and_from (list_all is_digit ds) (list_all is_digit ((48 + n % 10) ∷ [])) h (one_digit (n % 10) (omega arith))
 
 -- a number in the text has digits alone, and at least one
@@ -37,11 +37,14 @@ few_digits n small = length-decimal-le 20 n (omega arith) (omega (arith, small))
 named_digit : (c : ℕ) → is_digit c ≡ true → is_name_byte c ≡ true
 named_digit c h = or_right (is_letter c) (is_digit c) h
 
+pub digits_named : (ds : List ℕ) → list_all is_digit ds ≡ true → list_all is_name_byte ds ≡ true
+digits_named ds each = list_all-more is_digit is_name_byte ds named_digit each
+
 decimal_named : (n : ℕ) → n < 2 ^ 64 → list_all is_name_byte (decimal n) ≡ true
-decimal_named n small = list_all-more is_digit is_name_byte (decimal n) named_digit (digits-decimal n small)
+decimal_named n small = digits_named (decimal n) (digits-decimal n small)
 
 -- `cx_` and few more bytes of words are a name
-name_of : (more : List ℕ) → list_all is_name_byte more ≡ true → length more ≤ 200 → is_name (codes "cx_" ++ more) ≡ true
+pub name_of : (more : List ℕ) → list_all is_name_byte more ≡ true → length more ≤ 200 → is_name (codes "cx_" ++ more) ≡ true
 name_of more named few = and_from (is_word (codes "cx_" ++ more)) true (and_from (list_all is_name_byte (codes "cx_" ++ more)) (nat_le (length (codes "cx_" ++ more)) 255) named (le-leb _ 255 (omega (arith, few)))) refl
 
 module _ (letters : List ℕ) (named : list_all is_name_byte letters ≡ true) (few : length letters ≤ 3) where

@@ -22,15 +22,15 @@ use Rattle.cx_vtree.specs.InstanceTree.{Placed, ports_at, Given, origin_of}
 use Rattle.cx_vtree.specs.Meaning.{Moment, HasValue, Eval}
 use Rattle.cx_vtree.specs.Sound.{is_sound}
 use Rattle.cx_vlaws.proofs.Ties.{input_outside}
-use Rattle.cx_vmods.specs.Modules.{port_of, module_of}
+use Rattle.cx_vmods.specs.Modules.{port_of}
 use Rattle.cx_vmods.specs.Built.{IsAt}
 use Rattle.cx_net.specs.Nets.{OfPort, OfWire, PlainNetTarget, ToPort, ToRegister, ToWire, ToDone, PlainNetComponent, PlainNet}
 use Rattle.cx_net.specs.NetTree.{NetInstance, NetCells, no_net_cells, ARow, AChild, net_part, net_component_at, net_cells_for, net_within, net_tree}
 use Rattle.cx_net.specs.NetMeaning.{NetState, below_cell, Node, APort, AWire, AHole, TheDone, NetLook, NetAround, net_part_port, around_child, outside, truth_bit, net_expr, child_port_width, net_at_width, gather_known, zero_wide, decl_width, drivers_to, chain, registers_of, driven_node, row_node, child_node, cell_node, own_step, net_step, NetHas, by_rule}
-use Rattle.cx_emit.specs.Names.{input_name, output_name, cell_port_name, wire_name, register_name, cell_module_name}
+use Rattle.cx_emit.specs.Names.{input_name, output_name, cell_port_name, wire_name, register_name}
 use Rattle.cx_emit.specs.Exprs.{literal, port_expr}
 use Rattle.cx_emit.specs.Chains.{chain_to}
-use Rattle.cx_emit.specs.Signatures.{one_bit, input_port, output_port, signature_of, signature_at, kind_ports}
+use Rattle.cx_emit.specs.Signatures.{primitive_module, one_bit, input_port, output_port, signature_of, signature_at, kind_ports}
 use Rattle.cx_emit.specs.Sources.{source_of}
 use Rattle.cx_net.specs.NetPaths.{LeadsTo}
 use Rattle.cx_emit.specs.Places.{cell_number, number_at, node_name}
@@ -146,7 +146,7 @@ module _ (net : PlainNet) (sound : is_sound (source_of net) ≡ true) (fit : IsF
         h = cell_placed net sound fit k i c cell here there
 
         stands : (inputs : Inputs) → length inputs ≡ length row.ports → ((n : ℕ) (port : PortRow) (x : BitVector) → slice_get row.ports n ≡ Some port → input inputs n ≡ Some x → Carries i (cell_port_name c n) port.width x)
-            → IsAt (module_of p (cell_module_name k c)) row (stand_for p) the_tree now (cell_number the_source i c) (s.cell (c ∷ [])) inputs
+            → IsAt (primitive_module p) row (stand_for p) the_tree now (cell_number the_source i c) (s.cell (c ∷ [])) inputs
         stands inputs count carried =
             let state = stand.cells [] k c cell p refl there is in
             inputs_stand net sound fit built now k i c cell p here there is h (s.cell (c ∷ [])) inputs state.0 state.1 count carried
@@ -157,7 +157,7 @@ module _ (net : PlainNet) (sound : is_sound (source_of net) ≡ true) (fit : IsF
           width_is : net_at_width (ARow row) n ≡ port.width
           width_is = ap (λ (o : Option PortRow). unwrap_or (option_map (λ x. x.width) o) 1) at
 
-          text : slice_get (ports_of_cell net sound fit k c cell) n ≡ Some (port_of port)
+          text : slice_get (ports_of_cell net sound fit cell) n ≡ Some (port_of port)
           text = text_port net sound fit built now k i c cell p here there is h n port at
 
           from_drivers : is_output_side port.side ≡ false → driven_node part cells around s (look []) (λ c. look (c ∷ [])) (net_at_width (ARow row) n) (ToPort (ports.Cell c n)) ≡ Some v
@@ -198,9 +198,9 @@ module _ (net : PlainNet) (sound : is_sound (source_of net) ≡ true) (fit : IsF
         below_there : IsPlaced net sound fit child (cell_number the_source i c)
         below_there = child_placed net sound fit k i c cell child here there is
 
-        child_text : (p : ℕ) (port : PlainPort) → slice_get (signature_of (net_component_at net child)) p ≡ Some port → slice_get (ports_of_cell net sound fit k c cell) p ≡ Some port
+        child_text : (p : ℕ) (port : PlainPort) → slice_get (signature_of (net_component_at net child)) p ≡ Some port → slice_get (ports_of_cell net sound fit cell) p ≡ Some port
         child_text p port at =
-            subst (λ kind. slice_get (kind_ports net k c kind).ports p ≡ Some port) (sym is)
+            subst (λ kind. slice_get (kind_ports net kind).ports p ≡ Some port) (sym is)
             (subst (λ o. slice_get (signature_at o) p ≡ Some port) (sym (comp_there net sound fit child below_there.within)) at)
 
         -- its outputs and its done

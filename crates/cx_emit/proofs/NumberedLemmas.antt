@@ -1,5 +1,7 @@
 -- What stands in lists that are made element by element.
-use Rattle.std.proofs.Common.{◌≡◌, ◌⊎◌, inl, inr, ℕ, zero, suc, ◌+◌, List, [], ◌∷◌, ◌++◌, Some, option_map, slice_get, refl, ap, sym, ◌∙◌, subst, arith}
+use Rattle.std.proofs.Common.{◌≡◌, ◌⊎◌, inl, inr, ℕ, zero, suc, ◌+◌, List, [], ◌∷◌, ◌++◌, map, Some, option_map, slice_get, refl, ap, sym, ◌∙◌, subst, arith}
+use Rattle.std.specs.List.{flat_map}
+use Rattle.std.proofs.lemmas.Option.{slice_get-map}
 use Rattle.cx_emit.specs.Numbered.{numbered_from, with_numbers, lists_from}
 use Rattle.cx_text.proofs.OptionLaws.{map_some}
 
@@ -70,3 +72,22 @@ lists_in f xs y h =
     let (k, x, e, i) = lists_from_in f 0 xs y h in
     let same : 0 + k ≡ k = omega arith in
     (k, x, e, subst (λ n. In y (f n x)) same i)
+
+-- and where the number says nothing
+pub in_mapped : {A B : Type 0} (f : A → B) (xs : List A) (k : ℕ) (x : A) → slice_get xs k ≡ Some x → slice_get (map f xs) k ≡ Some (f x)
+in_mapped f xs k x e = slice_get-map f xs k ∙ ap (option_map f) e
+
+pub mapped_in : {A B : Type 0} (f : A → B) (xs : List A) (k : ℕ) (y : B) → slice_get (map f xs) k ≡ Some y → (x : A) × (slice_get xs k ≡ Some x) × (f x ≡ y)
+mapped_in f xs k y e = map_some f (slice_get xs k) y (sym (slice_get-map f xs k) ∙ e)
+
+pub in_flat : {A B : Type 0} (f : A → List B) (xs : List A) (k : ℕ) (x : A) (y : B) → slice_get xs k ≡ Some x → In y (f x) → In y (flat_map f xs)
+in_flat f [] k x y e h = absurd (cc)
+in_flat f (z ∷ xs) zero x y e h = let is : x ≡ z = cc in in_left y (f z) (flat_map f xs) (subst (λ a. In y (f a)) is h)
+in_flat f (z ∷ xs) (suc k) x y e h = in_right y (f z) (flat_map f xs) (in_flat f xs k x y e h)
+
+pub flat_in : {A B : Type 0} (f : A → List B) (xs : List A) (y : B) → In y (flat_map f xs) → (k : ℕ) × (x : A) × (slice_get xs k ≡ Some x) × In y (f x)
+flat_in f [] y h = absurd (let e = h.1 in cc)
+flat_in f (z ∷ xs) y h = go (in_either y (f z) (flat_map f xs) h) (flat_in f xs y) where
+  go : In y (f z) ⊎ In y (flat_map f xs) → (In y (flat_map f xs) → (k : ℕ) × (x : _) × (slice_get xs k ≡ Some x) × In y (f x)) → (k : ℕ) × (x : _) × (slice_get (z ∷ xs) k ≡ Some x) × In y (f x)
+  go (inl here) later = (zero, z, refl, here)
+  go (inr there) later = let (k, x, e, i) = later there in (suc k, x, e, i)

@@ -1,5 +1,5 @@
 -- What gives each net of a component's module its value.
-use Rattle.std.proofs.Common.{◌≡◌, ℕ, zero, suc, ◌<◌, ◌≤◌, List, [], ◌∷◌, ◌++◌, true, false, Option, Some, slice_get, refl, ap, sym, ◌∙◌, subst, if◌then◌else◌}
+use Rattle.std.proofs.Common.{map, ◌≡◌, ℕ, zero, suc, ◌<◌, ◌≤◌, List, [], ◌∷◌, ◌++◌, true, false, Option, Some, slice_get, refl, ap, sym, ◌∙◌, subst, if◌then◌else◌}
 use Rattle.std.specs.Prelude.{codes}
 use Rattle.std.specs.Option.{option_map_or}
 use Rattle.cx_meaning.specs.declared.ports.PortRef.TheVariants as ports
@@ -19,7 +19,7 @@ use Rattle.cx_emit.specs.Chains.{chain_to}
 use Rattle.cx_emit.specs.Signatures.{PlainCellPorts, one_bit, input_port, output_port, cell_ports}
 use Rattle.cx_emit.specs.Sources.{assign, port_decl, cell_decls, port_assigns, cell_assigns, port_conn, wire_decl, wire_assign, output_assign, done_assign, register_decl, source_of}
 use Rattle.cx_emit.specs.Places.{cell_number}
-use Rattle.cx_emit.proofs.NumberedLemmas.{In, in_left, in_right, in_numbered, in_lists}
+use Rattle.cx_emit.proofs.NumberedLemmas.{in_mapped, In, in_left, in_right, in_numbered, in_lists}
 use Rattle.cx_emit.proofs.Standing.{tree, comp, own, IsPlaced, ports_of_cell, IsCell, cell_module_ports}
 use Rattle.cx_text.proofs.OptionLaws.{one_value}
 
@@ -35,7 +35,7 @@ module _ (net : PlainNet) (sound : is_sound (source_of net) ≡ true) (fit : IsF
   part = comp net sound fit k
 
   abbrev cells : List PlainCellPorts
-  cells = with_numbers (cell_ports net k) part.cells
+  cells = map (cell_ports net) part.cells
 
   -- the assigned nets of its module
   abbrev cell_part : List PlainAssign
@@ -60,16 +60,16 @@ module _ (net : PlainNet) (sound : is_sound (source_of net) ≡ true) (fit : IsF
   wide : (d : PlainDecl) → In d (own net sound fit k).decls → IsWide (width_of (decl_meaning d))
   wide d h = let r = declared d h in decl_wide (source_of net) sound i r.0 d r.1
 
-  cells_get : (c : ℕ) (cell : PlainCell) → slice_get part.cells c ≡ Some cell → slice_get cells c ≡ Some (cell_ports net k c cell)
-  cells_get c cell there = in_numbered (cell_ports net k) part.cells c cell there
+  cells_get : (c : ℕ) (cell : PlainCell) → slice_get part.cells c ≡ Some cell → slice_get cells c ≡ Some (cell_ports net cell)
+  cells_get c cell there = in_mapped (cell_ports net) part.cells c cell there
 
   -- a port of a cell
-  module _ (c : ℕ) (cell : PlainCell) (there : slice_get part.cells c ≡ Some cell) (p : ℕ) (port : PlainPort) (has : slice_get (ports_of_cell net sound fit k c cell) p ≡ Some port) where
+  module _ (c : ℕ) (cell : PlainCell) (there : slice_get part.cells c ≡ Some cell) (p : ℕ) (port : PlainPort) (has : slice_get (ports_of_cell net sound fit cell) p ≡ Some port) where
     port_decl_in : In (WireOf (cell_port_name c p) port.width) (own net sound fit k).decls
     port_decl_in =
         in_left _ (lists_from cell_decls 0 cells ++ with_numbers wire_decl part.wires) (with_numbers register_decl part.registers)
         (in_left _ (lists_from cell_decls 0 cells) (with_numbers wire_decl part.wires)
-        (in_lists cell_decls cells c (cell_ports net k c cell) _ (cells_get c cell there) (p, in_numbered (port_decl c) (ports_of_cell net sound fit k c cell) p port has)))
+        (in_lists cell_decls cells c (cell_ports net cell) _ (cells_get c cell there) (p, in_numbered (port_decl c) (ports_of_cell net sound fit cell) p port has)))
 
     pub port_is_wide : IsWide port.width
     port_is_wide = wide (WireOf (cell_port_name c p) port.width) port_decl_in
@@ -80,15 +80,15 @@ module _ (net : PlainNet) (sound : is_sound (source_of net) ≡ true) (fit : IsF
         let a : PlainAssign = assign (cell_port_name c p) (chain_to (ToPort (ports.Cell c p)) (literal port.width 0) part.drivers) in
         let one : In a (port_assigns part.drivers c p port) = subst (λ b. In a (if b then [] else a ∷ [])) (sym input) (zero, refl) in
         given a (in_left a (cell_part ++ wire_part ++ output_part) last_part (in_left a (cell_part ++ wire_part) output_part (in_left a cell_part wire_part
-        (in_lists (cell_assigns part.drivers) cells c (cell_ports net k c cell) a (cells_get c cell there)
-        (in_lists (port_assigns part.drivers c) (ports_of_cell net sound fit k c cell) p port a has one)))))
+        (in_lists (cell_assigns part.drivers) cells c (cell_ports net cell) a (cells_get c cell there)
+        (in_lists (port_assigns part.drivers c) (ports_of_cell net sound fit cell) p port a has one)))))
 
     module _ (h : IsCell net sound fit k i c cell) where
       inner_port : slice_get h.place.part.ports (suc (suc p)) ≡ Some port
       inner_port = ap (λ ps. slice_get ps (suc (suc p))) (cell_module_ports net sound fit k i c cell here there h) ∙ has
 
       inner_conn : slice_get h.place.conns (suc (suc p)) ≡ Some (port_conn c p port)
-      inner_conn = ap (λ cs. slice_get cs (suc (suc p))) h.conns ∙ in_numbered (port_conn c) (ports_of_cell net sound fit k c cell) p port has
+      inner_conn = ap (λ cs. slice_get cs (suc (suc p))) h.conns ∙ in_numbered (port_conn c) (ports_of_cell net sound fit cell) p port has
 
       -- behind it an input of the cell is tied to it, and it is tied to an output of the cell
       pub cell_input_tied : port.output ≡ false → origin_of the_tree (cell_number (source_of net) i c) port.name ≡ Some (Tied i (cell_port_name c p))

@@ -5,7 +5,6 @@ use Rattle.std.proofs.lemmas.List.Elements.{All-nil, All-cons}
 use Rattle.cx_prim.specs.PortNames.{text_of}
 use Rattle.cx_prim.specs.declared.ports.PortRow.{PortRow}
 use Rattle.cx_prim.specs.Table.{PrimitiveRow, row_of}
-use Rattle.cx_meaning.specs.Designs.{PlainKind, OfPrimitive, OfComponent, PlainCell}
 use Rattle.cx_vtree.specs.InstanceTree.{same_name}
 use Rattle.cx_vtree.specs.Plain.{PlainPort, PlainInstance, PlainModule}
 use Rattle.cx_vtree.specs.Sound.{decl_name}
@@ -13,12 +12,13 @@ use Rattle.cx_vmods.specs.Spelling.{spelled}
 use Rattle.cx_vmods.specs.Parts.{Piece, Wire, Output, Register, Array, Store, Interior, nothing, with_piece, with_pieces}
 use Rattle.cx_vmods.specs.Modules.{port_of, pieces_of, module_of}
 use Rattle.cx_net.specs.Nets.{PlainNetComponent, PlainNet}
-use Rattle.cx_emit.specs.Names.{numbered, module_name, cell_module_name}
+use Rattle.cx_emit.specs.Names.{numbered, module_name, primitive_name}
 use Rattle.cx_emit.specs.Numbered.{numbered_from, with_numbers, lists_from}
-use Rattle.cx_emit.specs.Signatures.{PlainCellPorts, input_port, output_port, module_ports, cell_ports, kind_modules, cell_modules}
-use Rattle.cx_emit.specs.Sources.{port_decl, cell_decls, wire_decl, register_decl, decls_with, cell_instance, component_module, component_modules, source_of}
+use Rattle.cx_emit.specs.Signatures.{PlainCellPorts, input_port, output_port, module_ports, primitive_module, cell_ports}
+use Rattle.cx_emit.specs.Sources.{port_decl, cell_decls, wire_decl, register_decl, decls_with, cell_instance, component_module, primitive_modules, source_of}
 use Rattle.cx_emit.specs.Shapes.{is_own_name, named_in, HasOwnNames}
 use Rattle.cx_emit.proofs.CleanModules.{Each}
+use Rattle.cx_emit.proofs.NetPrimitives.{its_primitives}
 use Rattle.cx_emit.proofs.PortPlaces.{done_port}
 use Rattle.cx_emit.proofs.EmittedParts.{each_all}
 use Rattle.cx_vtree.proofs.InstanceTreeLemmas.{same_is}
@@ -109,27 +109,24 @@ component_own net k part =
     let m : PlainModule = component_module net k part in (
       module_own net.main k,
       each_append _ (map (λ p. p.name) m.ports) _ (own_map (λ (p : PlainPort). p.name) m.ports (ports_own part))
-          (each_append _ (map decl_name m.decls) _ (own_map decl_name m.decls (decls_own part (with_numbers (cell_ports net k) part.cells)))
-          (own_map (λ (i : PlainInstance). i.name) m.instances (own_numbered (λ (i : PlainInstance). i.name) cell_instance (λ n x. refl) 0 (with_numbers (cell_ports net k) part.cells)))),
+          (each_append _ (map decl_name m.decls) _ (own_map decl_name m.decls (decls_own part (map (cell_ports net) part.cells)))
+          (own_map (λ (i : PlainInstance). i.name) m.instances (own_numbered (λ (i : PlainInstance). i.name) cell_instance (λ n x. refl) 0 (map (cell_ports net) part.cells)))),
     )
 
 -- THE MODULES of a net
 abbrev AreOwn : List PlainModule → Type 0
 AreOwn ms = Each (λ m. Each IsOwn (named_in m)) ms
 
-cell_modules_own : (k b : ℕ) (cells : List PlainCell) → AreOwn (lists_from (cell_modules k) b cells)
-cell_modules_own k b [] = tt
-cell_modules_own k b (cell ∷ cells) = each_append _ (cell_modules k b cell) (lists_from (cell_modules k) (suc b) cells) (by_kind cell.kind) (cell_modules_own k (suc b) cells) where
-  by_kind : (kind : PlainKind) → AreOwn (kind_modules k b kind)
-  by_kind (OfPrimitive p) = (primitive_own p (cell_module_name k b) refl, tt)
-  by_kind (OfComponent j) = tt
+primitives_own : (ps : List PrimitiveRow) → AreOwn (map primitive_module ps)
+primitives_own [] = tt
+primitives_own (p ∷ ps) = (primitive_own p (primitive_name p) refl, primitives_own ps)
 
-modules_own : (net : PlainNet) (b : ℕ) (parts : List PlainNetComponent) → AreOwn (lists_from (component_modules net) b parts)
-modules_own net b [] = tt
-modules_own net b (part ∷ parts) =
-    each_append _ (component_modules net b part) (lists_from (component_modules net) (suc b) parts)
-    (each_append _ (lists_from (cell_modules b) 0 part.cells) (component_module net b part ∷ []) (cell_modules_own b 0 part.cells) (component_own net b part, tt))
-    (modules_own net (suc b) parts)
+components_own : (net : PlainNet) (b : ℕ) (parts : List PlainNetComponent) → AreOwn (numbered_from (component_module net) b parts)
+components_own net b [] = tt
+components_own net b (part ∷ parts) = (component_own net b part, components_own net (suc b) parts)
+
+modules_own : (net : PlainNet) → AreOwn (source_of net).modules
+modules_own net = each_append _ (primitive_modules net) (with_numbers (component_module net) net.components) (primitives_own (its_primitives net)) (components_own net 0 net.components)
 
 all_own : (ms : List PlainModule) → AreOwn ms → All (λ m. All IsOwn (named_in m)) ms
 all_own [] h = All-nil (λ m. All IsOwn (named_in m))
@@ -137,4 +134,4 @@ all_own (m ∷ ms) h = All-cons (λ x. All IsOwn (named_in x)) m ms (each_all Is
 
 -- all names in the source of a net are its own
 pub source_own_names : (net : PlainNet) → HasOwnNames (source_of net)
-source_own_names net = all_own (source_of net).modules (modules_own net 0 net.components)
+source_own_names net = all_own (source_of net).modules (modules_own net)

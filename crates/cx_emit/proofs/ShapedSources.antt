@@ -1,8 +1,8 @@
 -- The source of a net is shaped as a design asks, where each component of the net has the cells and the registers of one of the design.
-use Rattle.std.proofs.Common.{◌≡◌, ◌⊎◌, inl, inr, ℕ, zero, suc, ◌+◌, ◌-◌, ◌<◌, ◌≤◌, true, false, List, [], ◌∷◌, ◌++◌, length, map, Some, option_map, slice_get, refl, sym, ap, ◌∙◌, subst, if◌then◌else◌, arith}
+use Rattle.std.proofs.Common.{◌≡◌, ◌⊎◌, inl, inr, ℕ, zero, suc, ◌+◌, ◌<◌, ◌≤◌, true, false, List, [], ◌∷◌, ◌++◌, length, map, Some, option_map, slice_get, refl, sym, ap, ◌∙◌, subst, if◌then◌else◌, arith}
 use Rattle.std.specs.Prelude.{codes, ◌==◌}
 use Rattle.std.proofs.lemmas.Bool.{eq-eqb, cond-true, cond-false, false_from_ne_true, or_parts}
-use Rattle.std.proofs.lemmas.List.{map-append}
+use Rattle.std.proofs.lemmas.List.{length-map, map-append}
 use Rattle.std.proofs.lemmas.Option.{slice_get-map, slice_get-get_or, slice_get_within}
 use Rattle.cx_prim.specs.Table.{PrimitiveRow}
 use Rattle.cx_meaning.specs.Designs.{PlainKind, OfPrimitive, OfComponent, PlainCell, PlainDesign, component_at}
@@ -14,18 +14,18 @@ use Rattle.cx_vlaws.specs.Names.{AreApart}
 use Rattle.cx_vlaws.proofs.Cleans.{Clean, clean_left, clean_right}
 use Rattle.cx_vlaws.proofs.Fresh.{Fresh, fresh_apart}
 use Rattle.cx_vlaws.proofs.Modules.{sound-faults}
-use Rattle.cx_vmods.specs.Modules.{module_of}
 use Rattle.cx_net.specs.Nets.{PlainNetComponent, PlainNet}
 use Rattle.cx_net.specs.NetTree.{no_net_component, net_component_at}
 use Rattle.cx_net.specs.NetFits.{IsFitKind, IsFit}
-use Rattle.cx_emit.specs.Names.{numbered, cell_port_name, wire_name, module_name, cell_module_name}
+use Rattle.cx_emit.specs.Names.{numbered, cell_port_name, wire_name, module_name, primitive_name}
 use Rattle.cx_emit.specs.Numbered.{numbered_from, with_numbers, lists_from}
-use Rattle.cx_emit.specs.Signatures.{PlainCellPorts, kind_ports, cell_ports, kind_modules, cell_modules}
-use Rattle.cx_emit.specs.Sources.{port_decl, cell_decls, wire_decl, register_decl, decls_with, cell_instance, component_module, component_modules, source_of}
+use Rattle.cx_emit.specs.Signatures.{PlainCellPorts, primitive_module, kind_ports, cell_ports}
+use Rattle.cx_emit.specs.Sources.{port_decl, cell_decls, wire_decl, register_decl, decls_with, cell_instance, component_module, primitive_modules, source_of}
 use Rattle.cx_emit.specs.Shapes.{most_registers, registers_in, Use, IsUse, IsPartModule, IsOfKind, IsShaped}
 use Rattle.cx_emit.proofs.CellPorts.{each_in}
-use Rattle.cx_emit.proofs.NumberedLemmas.{In, in_left, in_right, in_either, numbered_in, in_lists, lists_in}
-use Rattle.cx_text.proofs.OptionLaws.{map_some}
+use Rattle.cx_emit.proofs.NumberedLemmas.{In, in_left, in_right, in_either, in_numbered, numbered_in, in_mapped, mapped_in}
+use Rattle.cx_emit.proofs.NetPrimitives.{its_primitives, its_primitive}
+use Rattle.cx_emit.proofs.ModuleNames.{map-numbered}
 use Rattle.cx_vtree.proofs.InstanceTreeLemmas.{same_is, is_same}
 use Rattle.cx_emit.proofs.EmittedParts.{each_all}
 use Rattle.cx_emit.proofs.PortPlaces.{length-numbered}
@@ -141,40 +141,33 @@ modules_fresh before counts (m ∷ ms) clean =
     )
 
 module _ (net : PlainNet) (stands : ℕ → ℕ) where
-  abbrev kind_labels : ℕ → ℕ → PlainKind → List Labelled
-  kind_labels k c (OfPrimitive p) = labelled (module_of p (cell_module_name k c)) (OfPrimitive p) ∷ []
-  kind_labels k c (OfComponent j) = []
-
-  abbrev cell_labels : ℕ → ℕ → PlainCell → List Labelled
-  cell_labels k c cell = kind_labels k c cell.kind
+  abbrev primitive_label : PrimitiveRow → Labelled
+  primitive_label p = labelled (primitive_module p) (OfPrimitive p)
 
   abbrev own_label : ℕ → PlainNetComponent → Labelled
   own_label k part = labelled (component_module net k part) (OfComponent (stands k))
 
-  abbrev part_labels : ℕ → PlainNetComponent → List Labelled
-  part_labels k part = lists_from (cell_labels k) 0 part.cells ++ own_label k part ∷ []
+  abbrev primitive_labels : List Labelled
+  primitive_labels = map primitive_label (its_primitives net)
+
+  abbrev own_labels : List Labelled
+  own_labels = with_numbers own_label net.components
 
   abbrev labels : List Labelled
-  labels = lists_from part_labels 0 net.components
+  labels = primitive_labels ++ own_labels
 
-  cells_same : (k b : ℕ) (cells : List PlainCell) → map (λ (x : Labelled). x.part) (lists_from (cell_labels k) b cells) ≡ lists_from (cell_modules k) b cells
-  cells_same k b [] = refl
-  cells_same k b (cell ∷ cells) = by_kind cell.kind (cells_same k (suc b) cells) where
-    by_kind : (kind : PlainKind) → map (λ (x : Labelled). x.part) (lists_from (cell_labels k) (suc b) cells) ≡ lists_from (cell_modules k) (suc b) cells
-        → map (λ (x : Labelled). x.part) (kind_labels k b kind ++ lists_from (cell_labels k) (suc b) cells) ≡ kind_modules k b kind ++ lists_from (cell_modules k) (suc b) cells
-    by_kind (OfPrimitive p) rest = ap (λ ms. module_of p (cell_module_name k b) ∷ ms) rest
-    by_kind (OfComponent j) rest = rest
-
-  parts_same : (b : ℕ) (parts : List PlainNetComponent) → map (λ (x : Labelled). x.part) (lists_from part_labels b parts) ≡ lists_from (component_modules net) b parts
-  parts_same b [] = refl
-  parts_same b (part ∷ parts) =
-      map-append (λ (x : Labelled). x.part) (part_labels b part) (lists_from part_labels (suc b) parts)
-      ∙ ap (λ ms. ms ++ map (λ (x : Labelled). x.part) (lists_from part_labels (suc b) parts))
-      (map-append (λ (x : Labelled). x.part) (lists_from (cell_labels b) 0 part.cells) (own_label b part ∷ []) ∙ ap (λ ms. ms ++ component_module net b part ∷ []) (cells_same b 0 part.cells))
-      ∙ ap (λ ms. component_modules net b part ++ ms) (parts_same (suc b) parts)
+  primitives_same : (ps : List PrimitiveRow) → map (λ (x : Labelled). x.part) (map primitive_label ps) ≡ map primitive_module ps
+  primitives_same [] = refl
+  primitives_same (p ∷ ps) = ap (λ ms. primitive_module p ∷ ms) (primitives_same ps)
 
   labels_same : map (λ (x : Labelled). x.part) labels ≡ (source_of net).modules
-  labels_same = parts_same 0 net.components
+  labels_same =
+      map-append (λ (x : Labelled). x.part) primitive_labels own_labels
+      ∙ ap (λ ms. ms ++ map (λ (x : Labelled). x.part) own_labels) (primitives_same (its_primitives net))
+      ∙ ap (λ ms. primitive_modules net ++ ms) (map-numbered (λ (x : Labelled). x.part) own_label 0 net.components)
+
+  label_at : (k : ℕ) (m : PlainModule) → slice_get (source_of net).modules k ≡ Some m → (x : Labelled) × (slice_get labels k ≡ Some x) × (x.part ≡ m)
+  label_at k m e = mapped_in (λ (x : Labelled). x.part) labels k m (ap (λ ms. slice_get ms k) labels_same ∙ e)
 
   module _ (sound : is_sound (source_of net) ≡ true) where
     names_apart : AreApart (map (λ (m : PlainModule). m.name) (map (λ (x : Labelled). x.part) labels))
@@ -195,73 +188,76 @@ module _ (net : PlainNet) (stands : ℕ → ℕ) where
     comp_there k lt = slice_get-get_or net.components k no_net_component lt
 
     own_kind : (k : ℕ) → k < length net.components → kind_named labels (module_name net.main k) ≡ OfComponent (stands k)
-    own_kind k lt =
-        label_found (own_label k (comp k))
-        (in_lists part_labels net.components k (comp k) (own_label k (comp k)) (comp_there k lt) (in_right (own_label k (comp k)) (lists_from (cell_labels k) 0 (comp k).cells) (own_label k (comp k) ∷ []) (zero, refl)))
+    own_kind k lt = label_found (own_label k (comp k)) (in_right (own_label k (comp k)) primitive_labels own_labels (k, in_numbered own_label net.components k (comp k) (comp_there k lt)))
 
-    primitive_kind : (k c : ℕ) (cell : PlainCell) (p : PrimitiveRow) → k < length net.components → slice_get (comp k).cells c ≡ Some cell → cell.kind ≡ OfPrimitive p → kind_named labels (cell_module_name k c) ≡ OfPrimitive p
-    primitive_kind k c cell p lt there is =
-        let x : Labelled = labelled (module_of p (cell_module_name k c)) (OfPrimitive p) in
-        let here : In x (cell_labels k c cell) = subst (λ kind. In x (kind_labels k c kind)) (sym is) (zero, refl) in
-        label_found x
-        (in_lists part_labels net.components k (comp k) x (comp_there k lt) (in_left x (lists_from (cell_labels k) 0 (comp k).cells) (own_label k (comp k) ∷ []) (in_lists (cell_labels k) (comp k).cells c cell x there here)))
+    primitive_kind : (p : PrimitiveRow) → In p (its_primitives net) → kind_named labels (primitive_name p) ≡ OfPrimitive p
+    primitive_kind p (n, at) = label_found (primitive_label p) (in_left (primitive_label p) primitive_labels own_labels (n, in_mapped primitive_label (its_primitives net) n p at))
+
+    -- a module of a primitive has the primitive's name, so no two are of one
+    label_named : (p : PrimitiveRow) (x : Labelled) → x.kind ≡ OfPrimitive p → In x primitive_labels ⊎ In x own_labels → x.part.name ≡ primitive_name p
+    label_named p x is (inl (n, e)) =
+        let (q, at, same) = mapped_in primitive_label (its_primitives net) n x e in
+        let kinds : OfPrimitive q ≡ OfPrimitive p = ap (λ (y : Labelled). y.kind) same ∙ is in
+        let one : q ≡ p = cc in
+        ap (λ (y : Labelled). y.part.name) (sym same) ∙ ap primitive_name one
+    label_named p x is (inr (k, e)) =
+        let (part, there, same) = numbered_in own_label net.components k x e in
+        let kinds : OfComponent (stands k) ≡ OfPrimitive p = ap (λ (y : Labelled). y.kind) same ∙ is in
+        absurd (cc)
+
+    module_named_for : (p : PrimitiveRow) (k : ℕ) (m : PlainModule) → slice_get (source_of net).modules k ≡ Some m → kind_named labels m.name ≡ OfPrimitive p → slice_get (map (λ (n : PlainModule). n.name) (map (λ (y : Labelled). y.part) labels)) k ≡ Some (primitive_name p)
+    module_named_for p k m e is =
+        let (x, at, same) = label_at k m e in
+        let kind : x.kind ≡ OfPrimitive p = sym (label_found x (k, at)) ∙ ap (λ (n : PlainModule). kind_named labels n.name) same ∙ is in
+        name_at k x at ∙ ap Some (label_named p x kind (in_either x primitive_labels own_labels (k, at)))
+
+    one_each : (p : PrimitiveRow) (i j : ℕ) (m n : PlainModule) → slice_get (source_of net).modules i ≡ Some m → slice_get (source_of net).modules j ≡ Some n → kind_named labels m.name ≡ OfPrimitive p → kind_named labels n.name ≡ OfPrimitive p → i ≡ j
+    one_each p i j m n e g is other = names_apart i j (primitive_name p) (module_named_for p i m e is) (module_named_for p j n g other)
 
     module _ (fit : IsFit net) where
       -- the module of a cell is of the cell's kind
-      cell_kind : (k c : ℕ) (cell : PlainCell) → k < length net.components → slice_get (comp k).cells c ≡ Some cell → kind_named labels (cell_ports net k c cell).kind ≡ kind_for stands cell.kind
+      cell_kind : (k c : ℕ) (cell : PlainCell) → k < length net.components → slice_get (comp k).cells c ≡ Some cell → kind_named labels (cell_ports net cell).kind ≡ kind_for stands cell.kind
       cell_kind k c cell lt there = by_kind cell.kind refl where
-        by_kind : (kind : PlainKind) → cell.kind ≡ kind → kind_named labels (kind_ports net k c kind).kind ≡ kind_for stands kind
-        by_kind (OfPrimitive p) is = primitive_kind k c cell p lt there is
+        by_kind : (kind : PlainKind) → cell.kind ≡ kind → kind_named labels (kind_ports net kind).kind ≡ kind_for stands kind
+        by_kind (OfPrimitive p) is = primitive_kind p (its_primitive net fit k c cell p lt there is)
         by_kind (OfComponent j) is = let lower : j < k = subst (IsFitKind k) is ((fit.components k lt).cells c cell there) in own_kind j (omega (arith, lower, lt))
 
       module _ (d : PlainDesign) where
         part_shaped : (k : ℕ) → k < length net.components → IsPartFor d stands (stands k) (comp k) → IsPartModule d (kind_named labels) (stands k) (component_module net k (comp k))
         part_shaped k lt for = record {
           reached = for.reached;
-          no_array = declares_no_array (comp k) (with_numbers (cell_ports net k) (comp k).cells);
-          registers = (let few = for.registers in let same = declares_registers (comp k) (with_numbers (cell_ports net k) (comp k).cells) in omega (arith, few, same));
+          no_array = declares_no_array (comp k) (map (cell_ports net) (comp k).cells);
+          registers = (let few = for.registers in let same = declares_registers (comp k) (map (cell_ports net) (comp k).cells) in omega (arith, few, same));
           use_of = for.use_of;
           each = λ i x e.
-              let (y, at, is) = numbered_in cell_instance (with_numbers (cell_ports net k) (comp k).cells) i x e in
-              let (cell, there, same) = numbered_in (cell_ports net k) (comp k).cells i y at in
-              let named : (cell_ports net k i cell).kind ≡ x.kind = ap (λ (z : PlainCellPorts). z.kind) same ∙ ap (λ (z : PlainInstance). z.kind) is in
+              let (y, at, is) = numbered_in cell_instance (map (cell_ports net) (comp k).cells) i x e in
+              let (cell, there, same) = mapped_in (cell_ports net) (comp k).cells i y at in
+              let named : (cell_ports net cell).kind ≡ x.kind = ap (λ (z : PlainCellPorts). z.kind) same ∙ ap (λ (z : PlainInstance). z.kind) is in
               let kinds : kind_for stands cell.kind ≡ kind_named labels x.kind = sym (cell_kind k i cell lt there) ∙ ap (kind_named labels) named in
               subst (λ kind. IsUse d (stands k) kind (for.use_of i)) kinds (for.cells i cell there);
           once = λ i j less fewer.
-              let ports = length-numbered (cell_ports net k) 0 (comp k).cells in
-              let made = length-numbered cell_instance 0 (with_numbers (cell_ports net k) (comp k).cells) in
+              let ports = length-map (comp k).cells (cell_ports net) in
+              let made = length-numbered cell_instance 0 (map (cell_ports net) (comp k).cells) in
               for.once i j (omega (arith, less, ports, made)) (omega (arith, fewer, ports, made));
         }
 
         module _ (parts : (k : ℕ) → k < length net.components → IsPartFor d stands (stands k) (comp k)) where
           label_shaped : (x : Labelled) → In x labels → IsOfKind d (kind_named labels) x.kind x.part
-          label_shaped x h = by_part (lists_in part_labels net.components x h) where
-            by_cell : (k : ℕ) (part : PlainNetComponent) → ((c : ℕ) × (cell : PlainCell) × (slice_get part.cells c ≡ Some cell) × In x (cell_labels k c cell)) → IsOfKind d (kind_named labels) x.kind x.part
-            by_cell k part (c, cell, there, i) = by_kind cell.kind i where
-              by_kind : (kind : PlainKind) → In x (kind_labels k c kind) → IsOfKind d (kind_named labels) x.kind x.part
-              by_kind (OfPrimitive p) (zero, e) = let same : labelled (module_of p (cell_module_name k c)) (OfPrimitive p) ≡ x = cc in subst (λ (y : Labelled). IsOfKind d (kind_named labels) y.kind y.part) same refl
-              by_kind (OfPrimitive p) (suc n, e) = absurd (cc)
-              by_kind (OfComponent j) (n, e) = absurd (cc)
-
-            by_own : (k : ℕ) (part : PlainNetComponent) → slice_get net.components k ≡ Some part → In x (own_label k part ∷ []) → IsOfKind d (kind_named labels) x.kind x.part
-            by_own k part there (zero, e) =
+          label_shaped x h = by_place (in_either x primitive_labels own_labels h) where
+            by_place : In x primitive_labels ⊎ In x own_labels → IsOfKind d (kind_named labels) x.kind x.part
+            by_place (inl (n, e)) =
+                let (p, at, same) = mapped_in primitive_label (its_primitives net) n x e in
+                subst (λ (y : Labelled). IsOfKind d (kind_named labels) y.kind y.part) same refl
+            by_place (inr (k, e)) =
+                let (part, there, same) = numbered_in own_label net.components k x e in
                 let lt = slice_get_within net.components k part there in
                 let sames : Some (comp k) ≡ Some part = sym (comp_there k lt) ∙ there in
                 let part_is : comp k ≡ part = cc in
-                let same : own_label k part ≡ x = cc in
                 subst (λ (y : Labelled). IsOfKind d (kind_named labels) y.kind y.part) same (subst (λ (y : PlainNetComponent). IsPartModule d (kind_named labels) (stands k) (component_module net k y)) part_is (part_shaped k lt (parts k lt)))
-            by_own k part there (suc n, e) = absurd (cc)
-
-            by_part : ((k : ℕ) × (part : PlainNetComponent) × (slice_get net.components k ≡ Some part) × In x (part_labels k part)) → IsOfKind d (kind_named labels) x.kind x.part
-            by_part (k, part, there, i) = by_place (in_either x (lists_from (cell_labels k) 0 part.cells) (own_label k part ∷ []) i) where
-              by_place : In x (lists_from (cell_labels k) 0 part.cells) ⊎ In x (own_label k part ∷ []) → IsOfKind d (kind_named labels) x.kind x.part
-              by_place (inl j) = by_cell k part (lists_in (cell_labels k) part.cells x j)
-              by_place (inr j) = by_own k part there j
 
           module_shaped : (m : PlainModule) → In m (source_of net).modules → IsOfKind d (kind_named labels) (kind_named labels m.name) m
           module_shaped m h =
-              let e : option_map (λ (x : Labelled). x.part) (slice_get labels h.0) ≡ Some m = sym (slice_get-map (λ (x : Labelled). x.part) labels h.0) ∙ ap (λ ms. slice_get ms h.0) labels_same ∙ h.1 in
-              let (x, at, is) = map_some (λ (x : Labelled). x.part) (slice_get labels h.0) m e in
+              let (x, at, is) = label_at h.0 m h.1 in
               subst (λ (n : PlainModule). IsOfKind d (kind_named labels) (kind_named labels n.name) n) is
               (subst (λ kind. IsOfKind d (kind_named labels) kind x.part) (sym (label_found x (h.0, at))) (label_shaped x (h.0, at)))
 
@@ -271,6 +267,7 @@ source_shaped d net fit sound for = record {
   kind = kind_named (labels net for.stands);
   modules = each_all (λ (m : PlainModule). IsOfKind d (kind_named (labels net for.stands)) (kind_named (labels net for.stands) m.name) m) (source_of net).modules
       (each_in (source_of net).modules (module_shaped net for.stands sound fit d for.parts));
+  one_each = one_each net for.stands sound;
   main =
       let name : module_name net.main net.main ≡ codes "main" = ap (λ b. if b then codes "main" else numbered (codes "m") net.main) (eq-eqb net.main net.main refl) in
       ap (kind_named (labels net for.stands)) (sym name) ∙ own_kind net for.stands sound net.main fit.has_main ∙ ap OfComponent for.main;

@@ -9,14 +9,13 @@ use Rattle.cx_meaning.specs.Designs.{OfPrimitive, OfComponent, PlainCell}
 use Rattle.cx_meaning.specs.Instances.{Path}
 use Rattle.cx_vtree.specs.Meaning.{Moment}
 use Rattle.cx_vtree.specs.Sound.{is_sound}
-use Rattle.cx_vmods.specs.Modules.{module_of}
 use Rattle.cx_vmods.specs.Built.{IsAt}
 use Rattle.cx_net.specs.Nets.{PlainNet}
 use Rattle.cx_net.specs.NetTree.{net_component_at, net_tree}
 use Rattle.cx_net.specs.NetMeaning.{NetState, below_cell, Node, APort, NetLook, NetAround, around_child, outside, truth_bit, zero_wide}
 use Rattle.cx_net.specs.NetEdges.{inputs_from}
 use Rattle.cx_net.specs.NetRuns.{IsWholeLook}
-use Rattle.cx_emit.specs.Names.{cell_module_name}
+use Rattle.cx_emit.specs.Signatures.{primitive_module}
 use Rattle.cx_emit.specs.Sources.{source_of}
 use Rattle.cx_net.specs.NetPaths.{LeadsTo}
 use Rattle.cx_emit.specs.Places.{cell_number}
@@ -75,7 +74,7 @@ module _ (net : PlainNet) (sound : is_sound (source_of net) ≡ true) (fit : IsF
   -- the instance of a primitive cell, with what stands at its ports
   pub primitive_at : (k i : ℕ) (around : NetAround) (s : NetState) (look : NetLook) (x : Situation k i around s look) (c : ℕ) (cell : PlainCell) (p : PrimitiveRow) → slice_get (net_component_at net k).cells c ≡ Some cell
       → cell.kind ≡ OfPrimitive p
-      → IsAt (module_of p (cell_module_name k c)) (row_of p) (stand_for p) (tree net sound fit) now (cell_number (source_of net) i c) (s.cell (c ∷ [])) (inputs_from look c 0 (row_of p).ports)
+      → IsAt (primitive_module p) (row_of p) (stand_for p) (tree net sound fit) now (cell_number (source_of net) i c) (s.cell (c ∷ [])) (inputs_from look c 0 (row_of p).ports)
   primitive_at k i around s look x c cell p there is =
       let state = x.stand.cells [] k c cell p refl there is in
       inputs_stand net sound fit built now k i c cell p x.here there is (cell_placed net sound fit k i c cell x.here there) (s.cell (c ∷ [])) (inputs_from look c 0 (row_of p).ports) state.0 state.1

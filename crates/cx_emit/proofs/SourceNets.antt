@@ -1,5 +1,5 @@
 -- The source of a net has no more nets than are counted over the tree of the net.
-use Rattle.std.proofs.Common.{◌≡◌, ℕ, zero, suc, ◌+◌, ◌<◌, ◌≤◌, true, List, [], ◌∷◌, ◌++◌, length, reverse, Some, slice_get, refl, sym, ap, ◌∙◌, subst, if◌then◌else◌, arith}
+use Rattle.std.proofs.Common.{map, ◌≡◌, ℕ, zero, suc, ◌+◌, ◌<◌, ◌≤◌, true, List, [], ◌∷◌, ◌++◌, length, reverse, Some, slice_get, refl, sym, ap, ◌∙◌, subst, if◌then◌else◌, arith}
 use Rattle.std.specs.Prelude.{codes}
 use Rattle.std.proofs.lemmas.Bool.{eq-eqb}
 use Rattle.std.proofs.lemmas.List.{length-map}
@@ -11,15 +11,15 @@ use Rattle.cx_vtree.specs.Sound.{module_named, is_sound}
 use Rattle.cx_vlaws.specs.Counts.{nets_count}
 use Rattle.cx_vlaws.proofs.Forest.{unfolds}
 use Rattle.cx_vlaws.proofs.Modules.{sound_keeps}
-use Rattle.cx_vmods.specs.Modules.{port_of, module_of}
+use Rattle.cx_vmods.specs.Modules.{port_of}
 use Rattle.cx_net.specs.Nets.{PlainNetComponent, PlainNet}
 use Rattle.cx_net.specs.NetFits.{IsFitKind}
 use Rattle.cx_net.specs.NetLimits.{nets_inside, nets_below}
 use Rattle.cx_net.specs.NetTree.{net_component_at, net_within, net_tree}
 use Rattle.cx_emit.specs.Fits.{IsFlat}
-use Rattle.cx_emit.specs.Names.{numbered, module_name, cell_module_name}
+use Rattle.cx_emit.specs.Names.{numbered, module_name, primitive_name}
 use Rattle.cx_emit.specs.Numbered.{numbered_from}
-use Rattle.cx_emit.specs.Signatures.{kind_ports, cell_ports}
+use Rattle.cx_emit.specs.Signatures.{primitive_module, kind_ports, cell_ports}
 use Rattle.cx_emit.specs.Sources.{cell_instance, component_module, source_of}
 use Rattle.cx_emit.proofs.CellPorts.{each_in, length-signature}
 use Rattle.cx_emit.proofs.CleanModules.{Each}
@@ -48,9 +48,9 @@ module _ (net : PlainNet) (sound : is_sound (source_of net) ≡ true) (fit : IsF
 
   -- the instance of a primitive cell
   primitive_nets : (k c : ℕ) (cell : PlainCell) (p : PrimitiveRow) → k < length net.components → slice_get (comp k).cells c ≡ Some cell → cell.kind ≡ OfPrimitive p
-      → (x : PlainInstance) (holder n : ℕ) → x.kind ≡ cell_module_name k c → nets_count (tree x holder n) ≤ 2 + length (row_of p).ports + nets_inside (row_of p).shape
+      → (x : PlainInstance) (holder n : ℕ) → x.kind ≡ primitive_name p → nets_count (tree x holder n) ≤ 2 + length (row_of p).ports + nets_inside (row_of p).shape
   primitive_nets k c cell p lt there is x holder n named =
-      let m : PlainModule = module_of p (cell_module_name k c) in
+      let m : PlainModule = primitive_module p in
       let found : module_named modules x.kind ≡ Some m = ap (module_named modules) named ∙ primitive_known net sound fit k c cell p lt there is in
       let all : nets_count (tree x holder n) ≡ length m.ports + length (declared_nets m.decls) + 0 = tree_nets x holder n m found in
       let few = (primitive_owes [] (codes "cx_m") refl p (subst (IsFitKind k) is ((fit.fits.components k lt).cells c cell there))).nets in
@@ -58,18 +58,16 @@ module _ (net : PlainNet) (sound : is_sound (source_of net) ≡ true) (fit : IsF
       omega (arith, all, few, long)
 
   -- over the cells of a component, where each has as many
-  cells_nets : (levels k b : ℕ) (cells : List PlainCell)
-      → ((c : ℕ) (cell : PlainCell) → slice_get cells c ≡ Some cell → (x : PlainInstance) (holder n : ℕ) → x.kind ≡ (cell_ports net k (b + c) cell).kind → nets_count (tree x holder n) ≤ child_nets net levels cell.kind)
-      → (holder next : ℕ) → nets_count (below tree holder next (numbered_from cell_instance b (numbered_from (cell_ports net k) b cells))) ≤ all_nets net levels cells
-  cells_nets levels k b [] each holder next = omega arith
-  cells_nets levels k b (cell ∷ cells) each holder next =
-      let x : PlainInstance = cell_instance b (cell_ports net k b cell) in
+  cells_nets : (levels b : ℕ) (cells : List PlainCell)
+      → ((c : ℕ) (cell : PlainCell) → slice_get cells c ≡ Some cell → (x : PlainInstance) (holder n : ℕ) → x.kind ≡ (cell_ports net cell).kind → nets_count (tree x holder n) ≤ child_nets net levels cell.kind)
+      → (holder next : ℕ) → nets_count (below tree holder next (numbered_from cell_instance b (map (cell_ports net) cells))) ≤ all_nets net levels cells
+  cells_nets levels b [] each holder next = omega arith
+  cells_nets levels b (cell ∷ cells) each holder next =
+      let x : PlainInstance = cell_instance b (cell_ports net cell) in
       let t : List Placed = tree x holder next in
-      let first : b ≡ b + 0 = omega arith in
-      nets_both t (below tree holder (next + length t) (numbered_from cell_instance (suc b) (numbered_from (cell_ports net k) (suc b) cells))) (child_nets net levels cell.kind) (all_nets net levels cells)
-      (each zero cell refl x holder next (ap (λ c. (cell_ports net k c cell).kind) first))
-      (cells_nets levels k (suc b) cells (λ c other there y h n named. let on : suc b + c ≡ b + suc c = omega arith in each (suc c) other there y h n (named ∙ ap (λ j. (cell_ports net k j other).kind) on))
-      holder (next + length t))
+      nets_both t (below tree holder (next + length t) (numbered_from cell_instance (suc b) (map (cell_ports net) cells))) (child_nets net levels cell.kind) (all_nets net levels cells)
+      (each zero cell refl x holder next refl)
+      (cells_nets levels (suc b) cells (λ c other there y h n named. each (suc c) other there y h n named) holder (next + length t))
 
   kinds_there : (k : ℕ) → k < length net.components → Each (λ (cell : PlainCell). IsThereKind net cell.kind) (comp k).cells
   kinds_there k lt = each_in (comp k).cells (λ cell h. by_kind cell.kind ((fit.fits.components k lt).cells h.0 cell h.1)) where
@@ -86,21 +84,18 @@ module _ (net : PlainNet) (sound : is_sound (source_of net) ≡ true) (fit : IsF
       let declared : length (declared_nets m.decls) ≡ all_ports net levels (comp k).cells + length (comp k).wires + length (comp k).registers = (component_declared net (comp_there net sound fit) levels k (kinds_there k lt)).0 in
       let long = length-signature (comp k) in
       let inner = nets-in net levels (comp k).cells in
-      let rest : nets_count (below tree n (n + 1) m.instances) ≤ all_nets net levels (comp k).cells = cells_nets levels k 0 (comp k).cells (λ c cell there y h i is. by_kind (component_nets levels) c cell there cell.kind refl y h i (is ∙ ap (λ j. (cell_ports net k j cell).kind) (place c))) n (n + 1) in
+      let rest : nets_count (below tree n (n + 1) m.instances) ≤ all_nets net levels (comp k).cells = cells_nets levels 0 (comp k).cells (λ c cell there y h i is. by_kind (component_nets levels) c cell there cell.kind refl y h i is) n (n + 1) in
       omega (arith, all, declared, long, inner, rest)
     where
-      place : (c : ℕ) → 0 + c ≡ c
-      place c = omega arith
-
       by_kind : ((j : ℕ) → j < levels → j < length net.components → (y : PlainInstance) (h i : ℕ) → y.kind ≡ module_name net.main j → nets_count (tree y h i) ≤ nets_below (net_within net levels j))
-          → (c : ℕ) (cell : PlainCell) → slice_get (comp k).cells c ≡ Some cell → (kind : PlainKind) → cell.kind ≡ kind → (y : PlainInstance) (h i : ℕ) → y.kind ≡ (kind_ports net k c cell.kind).kind
+          → (c : ℕ) (cell : PlainCell) → slice_get (comp k).cells c ≡ Some cell → (kind : PlainKind) → cell.kind ≡ kind → (y : PlainInstance) (h i : ℕ) → y.kind ≡ (kind_ports net cell.kind).kind
           → nets_count (tree y h i) ≤ child_nets net levels cell.kind
       by_kind inner c cell there (OfPrimitive p) is y h i at =
-          subst (λ kind. nets_count (tree y h i) ≤ child_nets net levels kind) (sym is) (primitive_nets k c cell p lt there is y h i (at ∙ ap (λ kind. (kind_ports net k c kind).kind) is))
+          subst (λ kind. nets_count (tree y h i) ≤ child_nets net levels kind) (sym is) (primitive_nets k c cell p lt there is y h i (at ∙ ap (λ kind. (kind_ports net kind).kind) is))
       by_kind inner c cell there (OfComponent j) is y h i at =
           let lower : j < k = subst (IsFitKind k) is ((fit.fits.components k lt).cells c cell there) in
           subst (λ kind. nets_count (tree y h i) ≤ child_nets net levels kind) (sym is)
-          (inner j (omega (arith, lower, enough)) (omega (arith, lower, lt)) y h i (at ∙ ap (λ kind. (kind_ports net k c kind).kind) is))
+          (inner j (omega (arith, lower, enough)) (omega (arith, lower, lt)) y h i (at ∙ ap (λ kind. (kind_ports net kind).kind) is))
 
   -- THE NETS of the whole
   pub source_nets : nets_count (instances_of (source_of net)) ≤ nets_below (net_tree net)

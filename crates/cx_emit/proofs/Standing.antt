@@ -16,18 +16,18 @@ use Rattle.cx_vlaws.proofs.Modules.{AllKeep, sound_keeps, new_name, reverse-cons
 use Rattle.cx_vlaws.proofs.Trees.{number_of, placed}
 use Rattle.cx_vlaws.proofs.Forest.{part_at, main_named}
 use Rattle.cx_vlaws.proofs.Mains.{main_at, main-ports}
-use Rattle.cx_vmods.specs.Modules.{module_of}
 use Rattle.cx_net.specs.Nets.{PlainNetComponent, PlainNet}
 use Rattle.cx_net.specs.NetTree.{no_net_component, net_component_at}
 use Rattle.cx_emit.specs.Fits.{IsFlat}
-use Rattle.cx_emit.specs.Names.{numbered, instance_name, module_name, cell_module_name}
-use Rattle.cx_emit.specs.Numbered.{with_numbers, lists_from}
-use Rattle.cx_emit.specs.Signatures.{one_bit, input_port, output_port, signature_at, kind_ports, cell_ports, kind_modules, cell_modules}
-use Rattle.cx_emit.specs.Sources.{conn, port_conn, cell_instance, component_module, component_modules, source_of}
+use Rattle.cx_emit.specs.Names.{numbered, instance_name, module_name, primitive_name}
+use Rattle.cx_emit.specs.Numbered.{with_numbers}
+use Rattle.cx_emit.specs.Signatures.{one_bit, input_port, output_port, signature_at, primitive_module, kind_ports, cell_ports}
+use Rattle.cx_emit.specs.Sources.{conn, port_conn, cell_instance, component_module, primitive_modules, source_of}
 use Rattle.cx_net.specs.NetPaths.{LeadsTo}
 use Rattle.cx_emit.specs.Places.{part_number, cell_number, number_at}
 use Rattle.cx_net.specs.NetFits.{IsFitKind}
-use Rattle.cx_emit.proofs.NumberedLemmas.{In, in_left, in_right, in_numbered, in_lists}
+use Rattle.cx_emit.proofs.NumberedLemmas.{In, in_left, in_right, in_numbered, in_mapped}
+use Rattle.cx_emit.proofs.NetPrimitives.{its_primitives, its_primitive}
 use Rattle.cx_vtree.proofs.InstanceTreeLemmas.{same_is, is_same}
 use Rattle.cx_text.proofs.OptionLaws.{one_value}
 
@@ -78,19 +78,15 @@ module _ (net : PlainNet) (sound : is_sound (source_of net) ≡ true) (fit : IsF
   known : (m : PlainModule) → In m source.modules → module_named modules m.name ≡ Some m
   known m h = named_at true modules (sound_keeps source sound) m (in_reverse m source.modules h)
 
-  among_own : (k : ℕ) → k < length net.components → (m : PlainModule) → In m (component_modules net k (comp k)) → In m source.modules
-  among_own k lt m h = in_lists (component_modules net) net.components k (comp k) m (comp_there k lt) h
-
-  -- the module of a component, and that of a primitive cell, are found by their names
+  -- the module of a component, and that of a primitive, are found by their names
   pub own_known : (k : ℕ) → k < length net.components → module_named modules (module_name net.main k) ≡ Some (own k)
-  own_known k lt = known (own k) (among_own k lt (own k) (in_right (own k) (lists_from (cell_modules k) 0 (comp k).cells) (own k ∷ []) (zero, refl)))
+  own_known k lt = known (own k) (in_right (own k) (primitive_modules net) (with_numbers (component_module net) net.components) (k, in_numbered (component_module net) net.components k (comp k) (comp_there k lt)))
 
   pub primitive_known : (k c : ℕ) (cell : PlainCell) (p : PrimitiveRow) → k < length net.components → slice_get (comp k).cells c ≡ Some cell → cell.kind ≡ OfPrimitive p
-      → module_named modules (cell_module_name k c) ≡ Some (module_of p (cell_module_name k c))
+      → module_named modules (primitive_name p) ≡ Some (primitive_module p)
   primitive_known k c cell p lt there is =
-      let m : PlainModule = module_of p (cell_module_name k c) in
-      let here : In m (cell_modules k c cell) = subst (λ kind. In m (kind_modules k c kind)) (sym is) (zero, refl) in
-      known m (among_own k lt m (in_left m (lists_from (cell_modules k) 0 (comp k).cells) (own k ∷ []) (in_lists (cell_modules k) (comp k).cells c cell m there here)))
+      let (n, at) = its_primitive net fit.fits k c cell p lt there is in
+      known (primitive_module p) (in_left (primitive_module p) (primitive_modules net) (with_numbers (component_module net) net.components) (n, in_mapped primitive_module (its_primitives net) n p at))
 
   -- instance i is of component k
   pub record IsPlaced (k i : ℕ) : Type 0 where
@@ -131,8 +127,8 @@ module _ (net : PlainNet) (sound : is_sound (source_of net) ≡ true) (fit : IsF
         let wrong : false ≡ true = ap (λ o. option_map_or (λ (p : PlainPort). p.output) o false) same in absurd (cc)
 
   -- the ports of cell c of component k, behind the clock and the reset
-  abbrev pub ports_of_cell : ℕ → ℕ → PlainCell → List PlainPort
-  ports_of_cell k c cell = (cell_ports net k c cell).ports
+  abbrev pub ports_of_cell : PlainCell → List PlainPort
+  ports_of_cell cell = (cell_ports net cell).ports
 
   -- the instance of cell c in instance i
   pub record IsCell (k i c : ℕ) (cell : PlainCell) : Type 0 where
@@ -141,14 +137,14 @@ module _ (net : PlainNet) (sound : is_sound (source_of net) ≡ true) (fit : IsF
     pub inner : cell_number source i c ≡ 0 → ⊥
     pub holder : place.holder ≡ i
     pub name : place.name ≡ instance_name c
-    pub kind : module_named modules (cell_ports net k c cell).kind ≡ Some place.part
-    pub conns : place.conns ≡ conn (codes "clk") (codes "clk") ∷ conn (codes "reset") (codes "reset") ∷ with_numbers (port_conn c) (ports_of_cell k c cell)
+    pub kind : module_named modules (cell_ports net cell).kind ≡ Some place.part
+    pub conns : place.conns ≡ conn (codes "clk") (codes "clk") ∷ conn (codes "reset") (codes "reset") ∷ with_numbers (port_conn c) (ports_of_cell cell)
 
   pub cell_placed : (k i c : ℕ) (cell : PlainCell) → IsPlaced k i → slice_get (comp k).cells c ≡ Some cell → IsCell k i c cell
   cell_placed k i c cell p there =
-      let y : PlainInstance = cell_instance c (cell_ports net k c cell) in
+      let y : PlainInstance = cell_instance c (cell_ports net cell) in
       let stands : slice_get (own k).instances c ≡ Some y =
-      in_numbered cell_instance (with_numbers (cell_ports net k) (comp k).cells) c (cell_ports net k c cell) (in_numbered (cell_ports net k) (comp k).cells c cell there) in
+      in_numbered cell_instance (map (cell_ports net) (comp k).cells) c (cell_ports net cell) (in_mapped (cell_ports net) (comp k).cells c cell there) in
       let stands_here : slice_get p.place.part.instances c ≡ Some y = subst (λ (m : PlainModule). slice_get m.instances c ≡ Some y) (sym p.is) stands in
       let (part, kind, at) = part_at source sound i p.place p.at c y stands_here in
       let number : cell_number source i c ≡ number_of (tree_from modules) i (i + 1) p.place.part.instances c =
@@ -172,10 +168,10 @@ module _ (net : PlainNet) (sound : is_sound (source_of net) ≡ true) (fit : IsF
 
   -- the instance of a primitive cell is of its module
   pub primitive_placed : (k i c : ℕ) (cell : PlainCell) (p : PrimitiveRow) → IsPlaced k i → slice_get (comp k).cells c ≡ Some cell → cell.kind ≡ OfPrimitive p
-      → (h : IsCell k i c cell) → h.place.part ≡ module_of p (cell_module_name k c)
+      → (h : IsCell k i c cell) → h.place.part ≡ primitive_module p
   primitive_placed k i c cell p placing there is h =
-      one_value (module_named modules (cell_module_name k c)) h.place.part (module_of p (cell_module_name k c))
-      (subst (λ kind. module_named modules (kind_ports net k c kind).kind ≡ Some h.place.part) is h.kind) (primitive_known k c cell p placing.within there is)
+      one_value (module_named modules (primitive_name p)) h.place.part (primitive_module p)
+      (subst (λ kind. module_named modules (kind_ports net kind).kind ≡ Some h.place.part) is h.kind) (primitive_known k c cell p placing.within there is)
 
   pub primitive_fits : (k i c : ℕ) (cell : PlainCell) (p : PrimitiveRow) → IsPlaced k i → slice_get (comp k).cells c ≡ Some cell → cell.kind ≡ OfPrimitive p → HasRow p
   primitive_fits k i c cell p placing there is = fit_kind k c cell (OfPrimitive p) placing.within there is
@@ -196,23 +192,23 @@ module _ (net : PlainNet) (sound : is_sound (source_of net) ≡ true) (fit : IsF
         place = h.place;
         at = h.at;
         is = one_value (module_named modules (module_name net.main child)) h.place.part (own child)
-            (subst (λ kind. module_named modules (kind_ports net k c kind).kind ≡ Some h.place.part) is h.kind) (own_known child lt);
+            (subst (λ kind. module_named modules (kind_ports net kind).kind ≡ Some h.place.part) is h.kind) (own_known child lt);
       }
 
   -- the ports of a cell's instance
   pub cell_module_ports : (k i c : ℕ) (cell : PlainCell) → IsPlaced k i → slice_get (comp k).cells c ≡ Some cell → (h : IsCell k i c cell)
-      → h.place.part.ports ≡ one_bit (codes "clk") ∷ one_bit (codes "reset") ∷ ports_of_cell k c cell
+      → h.place.part.ports ≡ one_bit (codes "clk") ∷ one_bit (codes "reset") ∷ ports_of_cell cell
   cell_module_ports k i c cell placing there h = go cell.kind refl where
-    go : (kind : PlainKind) → cell.kind ≡ kind → h.place.part.ports ≡ one_bit (codes "clk") ∷ one_bit (codes "reset") ∷ ports_of_cell k c cell
+    go : (kind : PlainKind) → cell.kind ≡ kind → h.place.part.ports ≡ one_bit (codes "clk") ∷ one_bit (codes "reset") ∷ ports_of_cell cell
     go (OfPrimitive p) is =
         ap (λ (m : PlainModule). m.ports) (primitive_placed k i c cell p placing there is h)
-        ∙ ap (λ kind. one_bit (codes "clk") ∷ one_bit (codes "reset") ∷ (kind_ports net k c kind).ports) (sym is)
+        ∙ ap (λ kind. one_bit (codes "clk") ∷ one_bit (codes "reset") ∷ (kind_ports net kind).ports) (sym is)
     go (OfComponent child) is =
         let q = child_placed k i c cell child placing there is in
         let same : h.place ≡ q.place = one_value (slice_get tree (cell_number source i c)) h.place q.place h.at q.at in
         ap (λ (r : Placed). r.part.ports) same ∙ ap (λ (m : PlainModule). m.ports) q.is
         ∙ ap (λ o. one_bit (codes "clk") ∷ one_bit (codes "reset") ∷ signature_at o) (sym (comp_there child q.within))
-        ∙ ap (λ kind. one_bit (codes "clk") ∷ one_bit (codes "reset") ∷ (kind_ports net k c kind).ports) (sym is)
+        ∙ ap (λ kind. one_bit (codes "clk") ∷ one_bit (codes "reset") ∷ (kind_ports net kind).ports) (sym is)
 
   -- INSTANCES STAND: what a path leads to stands at its number
   pub placed_at : (k i : ℕ) (path : Path) (h : ℕ) → IsPlaced k i → LeadsTo net k path h → IsPlaced h (number_at source i path)

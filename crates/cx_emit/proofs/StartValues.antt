@@ -25,7 +25,8 @@ use Rattle.cx_vmods.specs.Built.{kept_at, IsBuilt}
 use Rattle.cx_net.specs.Nets.{PlainNetComponent, PlainNet}
 use Rattle.cx_net.specs.NetTree.{NetInstance, net_part, net_component_at, net_within, net_tree}
 use Rattle.cx_net.specs.NetRuns.{net_start_at, net_externals, started, net_start}
-use Rattle.cx_emit.specs.Names.{cell_module_name}
+use Rattle.cx_emit.specs.Signatures.{primitive_module}
+use Rattle.cx_emit.specs.Names.{primitive_name}
 use Rattle.cx_emit.specs.Numbered.{lists_from}
 use Rattle.cx_emit.specs.Sources.{external_of, cell_externals, source_of}
 use Rattle.cx_net.specs.NetPaths.{LeadsTo}
@@ -83,7 +84,7 @@ module _ (net : PlainNet) (sound : is_sound (source_of net) ≡ true) (fit : IsF
       let one = one_value (slice_get the_tree (cell_number the_source 0 d)) a.place b.place (subst (λ j. slice_get the_tree j ≡ Some a.place) same a.at) b.at in
       same_cell net sound fit c d cell other there at (sym a.name ∙ ap (λ (x : Placed). x.name) one ∙ b.name)
 
-  pub decls_here : (c : ℕ) (cell : PlainCell) (p : PrimitiveRow) → slice_get cells c ≡ Some cell → cell.kind ≡ OfPrimitive p → decls_at the_tree (cell_number the_source 0 c) ≡ (module_of p (cell_module_name net.main c)).decls
+  pub decls_here : (c : ℕ) (cell : PlainCell) (p : PrimitiveRow) → slice_get cells c ≡ Some cell → cell.kind ≡ OfPrimitive p → decls_at the_tree (cell_number the_source 0 c) ≡ (primitive_module p).decls
   decls_here c cell p there is =
       let main = main_placed net sound fit in
       let a = cell_placed net sound fit net.main 0 c cell main there in
@@ -136,7 +137,7 @@ module _ (net : PlainNet) (sound : is_sound (source_of net) ≡ true) (fit : IsF
         let place : t ≡ 0 + t = omega arith in
         subst (λ n. is_memory the_tree (external_of n other) (number_at the_source 0 (e ∷ path ++ c ∷ [])) name ≡ false) place
         (memory_other (number_at the_source 0 (e ∷ path ++ c ∷ [])) t other at_t external (apart t other at_t) name)) in
-        unloaded p (cell_module_name h c) (number_at the_source 0 (e ∷ path ++ c ∷ [])) (is_built net sound fit built (resetting start) h i c cell p here there is at) none.1
+        unloaded p (primitive_name p) (number_at the_source 0 (e ∷ path ++ c ∷ [])) (is_built net sound fit built (resetting start) h i c cell p here there is at) none.1
 
     -- a cell of main
     module _ (c : ℕ) (cell : PlainCell) (p : PrimitiveRow) (there : slice_get cells c ≡ Some cell) (is : cell.kind ≡ OfPrimitive p) where
@@ -146,7 +147,7 @@ module _ (net : PlainNet) (sound : is_sound (source_of net) ≡ true) (fit : IsF
       abbrev array : List ℕ
       array = first_array (decls_at the_tree j)
 
-      module_is_built : IsBuilt (module_of p (cell_module_name net.main c)) (row_of p) (stand_for p)
+      module_is_built : IsBuilt (primitive_module p) (row_of p) (stand_for p)
       module_is_built = is_built net sound fit built (resetting start) net.main 0 c cell p (main_placed net sound fit) there is (cell_placed net sound fit net.main 0 c cell (main_placed net sound fit) there)
 
       others : (t : ℕ) (other : PlainCell) → slice_get cells t ≡ Some other → other.external ≡ true → (0 + t ≡ c → ⊥) → (name : List ℕ) → is_memory the_tree (external_of (0 + t) other) j name ≡ false
@@ -164,7 +165,7 @@ module _ (net : PlainNet) (sound : is_sound (source_of net) ≡ true) (fit : IsF
           let one : other ≡ cell = one_value (slice_get cells c) other cell (subst (λ n. slice_get cells n ≡ Some other) same at) there in
           let wrong : false ≡ true = sym external ∙ ap (λ (x : PlainCell). x.external) (sym one) ∙ is_external in cc)
           others in
-          subst (λ d. stand_for p (kept_at start j) d × IsState (row_of p).shape d) (sym none.0) (unloaded p (cell_module_name net.main c) j module_is_built none.1, (row_of_lawful p).states.start)
+          subst (λ d. stand_for p (kept_at start j) d × IsState (row_of p).shape d) (sym none.0) (unloaded p (primitive_name p) j module_is_built none.1, (row_of_lawful p).states.start)
       cell_start true external =
           let rows : map (λ (m : PlainMemory). m.shape) memories ≡ parts.rows_of (lists_from cell_externals 0 cells) = fits.same_rows ∙ ap parts.rows_of (externals_are net sound fit) in
           let place : 0 + c ≡ c = omega arith in
@@ -180,7 +181,7 @@ module _ (net : PlainNet) (sound : is_sound (source_of net) ≡ true) (fit : IsF
           } in
           let small : first_number p.numbers ≤ 64 = subst (λ n. first_number n ≤ 64) numbers (memory net sound fit c cell there external).width in
           let takes = takes_words p (first_number p.numbers) (word_count (sizes_in p.numbers)) r.memory.words shape fit_words small in
-          let words : (k : ℕ) → loaded_word the_tree the_source.externals loaded j (first_array (module_of p (cell_module_name net.main c)).decls) k ≡ slice_index r.memory.words k = λ k.
+          let words : (k : ℕ) → loaded_word the_tree the_source.externals loaded j (first_array (primitive_module p).decls) k ≡ slice_index r.memory.words k = λ k.
           ap (λ ds. loaded_word the_tree the_source.externals loaded j (first_array ds) k) (sym (decls_here c cell p there is))
           ∙ ap (λ es. loaded_word the_tree es loaded j array k) (externals_are net sound fit) ∙ r.words k in
           subst (λ d. stand_for p (kept_at start j) d × IsState (row_of p).shape d) (sym r.state) (

@@ -13,3 +13,4 @@ pub mod Driven
 pub mod PlainForms
 pub mod Numbers
 pub mod Shapes
+pub mod Found

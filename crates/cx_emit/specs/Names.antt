@@ -1,5 +1,7 @@
 -- Names in the text: `cx_`, letters and numbers.
-use Rattle.std.specs.Prelude.{ℕ, ◌==◌, List, ◌++◌, if◌then◌else◌, codes, decimal}
+use Rattle.std.specs.Prelude.{ℕ, ◌==◌, List, [], ◌∷◌, ◌++◌, if◌then◌else◌, codes, decimal}
+use Rattle.cx_prim.specs.PrimitiveNames.{name_text}
+use Rattle.cx_prim.specs.Table.{PrimitiveRow}
 
 abbrev pub numbered : List ℕ → ℕ → List ℕ
 numbered letters n = codes "cx_" ++ letters ++ decimal n
@@ -36,6 +38,11 @@ instance_name c = numbered (codes "i") c
 abbrev pub module_name : ℕ → ℕ → List ℕ
 module_name main k = if k == main then codes "main" else numbered (codes "m") k
 
--- the module of a primitive cell of a component
-abbrev pub cell_module_name : ℕ → ℕ → List ℕ
-cell_module_name k c = twice_numbered (codes "m") k c
+-- numbers, each behind `_`
+abbrev pub joined_numbers : List ℕ → List ℕ
+joined_numbers [] = []
+joined_numbers (n ∷ ns) = codes "_" ++ decimal n ++ joined_numbers ns
+
+-- the module of a primitive: its name as designs write it, and its numbers
+abbrev pub primitive_name : PrimitiveRow → List ℕ
+primitive_name p = codes "cx_" ++ name_text p.name ++ joined_numbers p.numbers

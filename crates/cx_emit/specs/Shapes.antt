@@ -2,6 +2,7 @@
 -- instance for each cell and each timer, few registers and no array beside them; names of its own; few nets.
 use Rattle.std.specs.Prelude.{◌≡◌, ◌⊎◌, ℕ, ◌+◌, ◌*◌, ◌<◌, ◌≤◌, ◌||◌, Bool, true, List, [], ◌∷◌, ◌++◌, length, map, take, All, Option, Some, None, slice_get, codes}
 use Rattle.cx_prim.specs.declared.names.PrimitiveName.TheVariants as primitives
+use Rattle.cx_prim.specs.Table.{PrimitiveRow}
 use Rattle.cx_meaning.specs.Designs.{PlainKind, OfPrimitive, OfComponent, PlainCell, PlainComponent, PlainDesign, component_at, PlainForm, Par, Repeat, StaticIf, StaticRepeat, list_of}
 use Rattle.cx_meaning.specs.Islands.{form_length, length_of}
 use Rattle.cx_rules.specs.Items.{Visited, statements_in}
@@ -87,10 +88,12 @@ abbrev pub IsOfKind : PlainDesign → (List ℕ → PlainKind) → PlainKind →
 IsOfKind d kind (OfPrimitive p) m = m ≡ module_of p m.name
 IsOfKind d kind (OfComponent k) m = IsPartModule d kind k m
 
--- NOTHING HIDES: each module is of a primitive or of a component, and `main` of main
+-- NOTHING HIDES: each module is of a primitive or of a component, and `main` of main; one alone is of a primitive and its numbers
 pub record IsShaped (d : PlainDesign) (source : PlainSource) : Type 0 where
   pub kind : List ℕ → PlainKind
   pub modules : All (λ m. IsOfKind d kind (kind m.name) m) source.modules
+  pub one_each : (p : PrimitiveRow) (i j : ℕ) (m n : PlainModule) → slice_get source.modules i ≡ Some m → slice_get source.modules j ≡ Some n
+      → kind m.name ≡ OfPrimitive p → kind n.name ≡ OfPrimitive p → i ≡ j
   pub main : kind (codes "main") ≡ OfComponent d.main
 
 -- `main`, and the ports that each component has

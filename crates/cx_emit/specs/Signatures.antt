@@ -1,11 +1,12 @@
 -- The ports of modules.
 use Rattle.std.specs.Prelude.{ℕ, true, false, List, [], ◌∷◌, ◌++◌, Option, Some, None, drop, slice_get, codes}
+use Rattle.cx_prim.specs.Table.{PrimitiveRow}
 use Rattle.cx_meaning.specs.declared.kinds.PortDecl.{PortDecl}
 use Rattle.cx_meaning.specs.Designs.{PlainKind, OfPrimitive, OfComponent, PlainCell}
 use Rattle.cx_vtree.specs.Plain.{PlainPort, PlainModule}
 use Rattle.cx_vmods.specs.Modules.{module_of}
 use Rattle.cx_net.specs.Nets.{PlainNetComponent, PlainNet}
-use Rattle.cx_emit.specs.Names.{input_name, output_name, module_name, cell_module_name}
+use Rattle.cx_emit.specs.Names.{input_name, output_name, module_name, primitive_name}
 use Rattle.cx_emit.specs.Numbered.{with_numbers}
 
 abbrev pub one_bit : List ℕ → PlainPort
@@ -36,24 +37,14 @@ abbrev pub signature_at : Option PlainNetComponent → List PlainPort
 signature_at None = []
 signature_at (Some part) = signature_of part
 
-abbrev pub kind_ports : PlainNet → ℕ → ℕ → PlainKind → PlainCellPorts
-kind_ports net k c (OfPrimitive p) = record {
-  kind = cell_module_name k c;
-  ports = drop 2 (module_of p (cell_module_name k c)).ports;
-}
-kind_ports net k c (OfComponent j) = record {
-  kind = module_name net.main j;
-  ports = signature_at (slice_get net.components j);
-}
+-- the module of a primitive
+abbrev pub primitive_module : PrimitiveRow → PlainModule
+primitive_module p = module_of p (primitive_name p)
 
--- of cell c of component k
-abbrev pub cell_ports : PlainNet → ℕ → ℕ → PlainCell → PlainCellPorts
-cell_ports net k c cell = kind_ports net k c cell.kind
+abbrev pub kind_ports : PlainNet → PlainKind → PlainCellPorts
+kind_ports net (OfPrimitive p) = record { kind = primitive_name p; ports = drop 2 (primitive_module p).ports }
+kind_ports net (OfComponent j) = record { kind = module_name net.main j; ports = signature_at (slice_get net.components j) }
 
--- the modules of primitive cells
-abbrev pub kind_modules : ℕ → ℕ → PlainKind → List PlainModule
-kind_modules k c (OfPrimitive p) = module_of p (cell_module_name k c) ∷ []
-kind_modules k c (OfComponent j) = []
-
-abbrev pub cell_modules : ℕ → ℕ → PlainCell → List PlainModule
-cell_modules k c cell = kind_modules k c cell.kind
+-- of a cell
+abbrev pub cell_ports : PlainNet → PlainCell → PlainCellPorts
+cell_ports net cell = kind_ports net cell.kind

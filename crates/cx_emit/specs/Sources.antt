@@ -1,17 +1,20 @@
 -- The source of a net.
-use Rattle.std.specs.Prelude.{ℕ, ◌==◌, List, [], ◌∷◌, ◌++◌, Option, Some, None, length, if◌then◌else◌, slice_get, codes}
+use Rattle.std.specs.Prelude.{ℕ, ◌==◌, List, [], ◌∷◌, ◌++◌, Option, Some, None, length, map, if◌then◌else◌, slice_get, codes}
+use Rattle.std.specs.List.{flat_map}
+use Rattle.cx_prim.specs.Table.{PrimitiveRow}
 use Rattle.cx_meaning.specs.declared.ports.PortRef.TheVariants as ports
 use Rattle.cx_meaning.specs.declared.kinds.PortDecl.{PortDecl}
-use Rattle.cx_meaning.specs.Designs.{PlainCell}
+use Rattle.cx_meaning.specs.Designs.{PlainKind, OfPrimitive, OfComponent, PlainCell}
 use Rattle.cx_rules.specs.Wellformed.{first_number}
 use Rattle.cx_rules.specs.Externals.{numbers_of, sizes_in}
 use Rattle.cx_vtree.specs.Plain.{PlainExpr, Named, PlainPort, PlainDecl, WireOf, RegisterOf, PlainAssign, PlainConn, PlainInstance, SetTo, PlainItem, PlainEdge, PlainModule, PlainExternal, PlainSource}
+use Rattle.cx_vtree.specs.Sound.{has_name}
 use Rattle.cx_net.specs.Nets.{ToPort, ToRegister, ToWire, ToDone, PlainNetDriver, PlainNetComponent, PlainNet}
-use Rattle.cx_emit.specs.Names.{output_name, cell_port_name, wire_name, register_name, instance_name, module_name}
+use Rattle.cx_emit.specs.Names.{output_name, cell_port_name, wire_name, register_name, instance_name, module_name, primitive_name}
 use Rattle.cx_emit.specs.Numbered.{with_numbers, lists_from}
 use Rattle.cx_emit.specs.Exprs.{literal}
 use Rattle.cx_emit.specs.Chains.{chain_to}
-use Rattle.cx_emit.specs.Signatures.{PlainCellPorts, module_ports, cell_ports, cell_modules}
+use Rattle.cx_emit.specs.Signatures.{PlainCellPorts, module_ports, primitive_module, cell_ports}
 
 abbrev pub assign : List ℕ → PlainExpr → PlainAssign
 assign name value = record { name = name; value = value }
@@ -95,11 +98,31 @@ module_with name part cells = record {
 }
 
 abbrev pub component_module : PlainNet → ℕ → PlainNetComponent → PlainModule
-component_module net k part = module_with (module_name net.main k) part (with_numbers (cell_ports net k) part.cells)
+component_module net k part = module_with (module_name net.main k) part (map (cell_ports net) part.cells)
 
--- the modules of the primitive cells of component k, and its own
-abbrev pub component_modules : PlainNet → ℕ → PlainNetComponent → List PlainModule
-component_modules net k part = lists_from (cell_modules k) 0 part.cells ++ component_module net k part ∷ []
+-- the primitives of cells, in their order
+abbrev pub primitives_of : PlainKind → List PrimitiveRow
+primitives_of (OfPrimitive p) = p ∷ []
+primitives_of (OfComponent j) = []
+
+abbrev pub primitives_in : List PlainCell → List PrimitiveRow
+primitives_in cells = flat_map (λ cell. primitives_of cell.kind) cells
+
+abbrev pub primitives_among : List PlainNetComponent → List PrimitiveRow
+primitives_among parts = flat_map (λ part. primitives_in part.cells) parts
+
+-- each primitive once, where it comes first; none whose name is among those given
+abbrev pub firsts : List (List ℕ) → List PrimitiveRow → List PrimitiveRow
+firsts names [] = []
+firsts names (p ∷ ps) = if has_name names (primitive_name p) then firsts names ps else p ∷ firsts (names ++ primitive_name p ∷ []) ps
+
+-- modules, and behind them those of the primitives of which none is there
+abbrev pub with_primitives : List PlainModule → List PrimitiveRow → List PlainModule
+with_primitives modules ps = modules ++ map primitive_module (firsts (map (λ m. m.name) modules) ps)
+
+-- ONE MODULE for each primitive and its numbers, whatever cells there are of it
+abbrev pub primitive_modules : PlainNet → List PlainModule
+primitive_modules net = with_primitives [] (primitives_among net.components)
 
 -- an external cell
 abbrev pub external_of : ℕ → PlainCell → PlainExternal
@@ -117,9 +140,9 @@ abbrev pub externals_at : Option PlainNetComponent → List PlainExternal
 externals_at None = []
 externals_at (Some main) = lists_from cell_externals 0 main.cells
 
--- THE SOURCE of a net: the external cells of main, and the modules of each component in order
+-- THE SOURCE of a net: the external cells of main, the modules of primitives, and those of the components in order
 abbrev pub source_of : PlainNet → PlainSource
 source_of net = record {
   externals = externals_at (slice_get net.components net.main);
-  modules = lists_from (component_modules net) 0 net.components;
+  modules = primitive_modules net ++ with_numbers (component_module net) net.components;
 }

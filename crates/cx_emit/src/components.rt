@@ -3,7 +3,7 @@
 ghost use Rattle.std.specs.Prelude.{◌≡◌, ◌++◌, ◌∷◌, [], IfOk, OnOk, Some, map, slice_get};
 ghost use Rattle.cx_net.specs.NetsAsData.{plain_net};
 ghost use Rattle.cx_net.specs.PlainNets.{plain_net_component};
-ghost use Rattle.cx_vtree.specs.PlainParts.{plain_assign, plain_decl, plain_module, plain_modules};
+ghost use Rattle.cx_vtree.specs.PlainParts.{plain_assign, plain_decl, plain_module};
 ghost use Rattle.cx_emit.specs.Emitted.{CanBeEmitted, PartFits};
 ghost use Rattle.cx_emit.specs.Numbered.{lists_from, with_numbers};
 ghost use Rattle.cx_emit.specs.PlainForms.{plain_cell_ports};
@@ -79,20 +79,18 @@ fn module(
     })
 }
 
-/// Adds the modules of a component's primitive cells, and its own.
-pub fn add_component(
+/// The module of a component of a net.
+pub fn component_module(
     alloc: Global,
     net: &Net,
     number: usize,
     part: &NetComponent,
-    modules: &mut Vec<Module>,
-) -> Result<(), Memory>
+) -> Result<Module, Memory>
     requires net { CanBeEmitted (plain_net net.now) }
     requires part { slice_get (plain_net net.now).components number ≡ Some (plain_net_component part.now) }
-    ensures value { OnOk result (plain_modules modules.new.items ≡ plain_modules modules.old.items ++ plain.component_modules (plain_net net.now) number (plain_net_component part.now)) }
+    ensures value { IfOk result (λ made. plain_module made ≡ plain.component_module (plain_net net.now) number (plain_net_component part.now)) }
 {
-    let cells = all_cell_ports(alloc, net, number, &part.cells, modules)?;
+    let cells = all_cell_ports(alloc, net, &part.cells)?;
     let name = module_name(alloc, net.main(), number)?;
-    modules.push(module(alloc, name, part, &cells)?)?;
-    Ok(())
+    module(alloc, name, part, &cells)
 }

@@ -1,12 +1,21 @@
 //! The source of a net does as the net: each function does nothing, and its clause is the law.
 
-ghost use Rattle.std.specs.Prelude.{◌≡◌, true};
+ghost use Rattle.std.specs.Prelude.{◌≡◌, ◌≢◌, ℕ, true};
+ghost use Rattle.cx_prim.specs.Table.{HasRow, PrimitiveRow};
 ghost use Rattle.cx_vtree.specs.Sound.{is_sound};
 ghost use Rattle.cx_net.specs.Nets.{PlainNet};
+ghost use Rattle.cx_emit.specs.Names.{module_name, primitive_name};
 ghost use Rattle.cx_emit.specs.Sources.{source_of};
 ghost use Rattle.cx_net.specs.NetFits.{HasNoHoles, IsFit};
 ghost use Rattle.cx_net.specs.NetLimits.{IsWritable};
 ghost use Rattle.cx_emit.specs.RunsAs.{EdgesCarry, RunsAs, ValuesCarry};
+
+/// The name of a primitive's module tells the primitive and its numbers, and is none of a component's module.
+#[tactic(auto, using(crate::proofs::PrimitiveNames::primitive_other))]
+pub fn names_tell_primitives()
+    ensures apart { (p q : PrimitiveRow) → HasRow p → HasRow q → primitive_name p ≡ primitive_name q → p ≡ q }
+    ensures other { (p : PrimitiveRow) (main k : ℕ) → primitive_name p ≢ module_name main k }
+{}
 
 /// What has a value in a net has it in its source, if the net is fit, no hole is left in it, and its source is sound.
 #[tactic(auto, using(crate::proofs::NodeValues::values_carry))]

@@ -11,7 +11,8 @@ mod folding;
 mod kept;
 mod laws;
 mod names;
+mod primitives;
 mod signatures;
 
 pub use emitting::emit;
-pub use laws::{edges_carry, source_is_sound, source_runs_as, values_carry};
+pub use laws::{edges_carry, names_tell_primitives, source_is_sound, source_runs_as, values_carry};

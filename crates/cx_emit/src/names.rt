@@ -3,12 +3,13 @@
 ghost use Rattle.std.specs.Prelude.{◌≡◌, ◌++◌, IfOk, OnOk, codes, decimal};
 ghost use Rattle.cx_emit.specs.Names as plain;
 
+use cx_cells::Primitive;
 use cx_text::{Memory, Name};
 use itoa::Buffer;
 use std::alloc::Global;
 
 /// Adds a number in decimal.
-fn add_number(bytes: &mut Vec<u8>, number: usize) -> Result<(), Memory>
+fn add_number(bytes: &mut Vec<u8>, number: u64) -> Result<(), Memory>
     ensures value { OnOk result (bytes.new.items ≡ bytes.old.items ++ decimal number) }
 {
     let mut buffer = Buffer::new();
@@ -22,7 +23,7 @@ fn numbered(alloc: Global, letters: &str, number: usize) -> Result<Name, Memory>
 {
     let mut bytes = Vec::from_slice(alloc, b"cx_")?;
     bytes.extend_from_slice(letters.as_bytes())?;
-    add_number(&mut bytes, number)?;
+    add_number(&mut bytes, number as u64)?;
     Name::from_bytes(alloc, &bytes)
 }
 
@@ -32,9 +33,9 @@ fn twice_numbered(alloc: Global, letters: &str, first: usize, second: usize) -> 
 {
     let mut bytes = Vec::from_slice(alloc, b"cx_")?;
     bytes.extend_from_slice(letters.as_bytes())?;
-    add_number(&mut bytes, first)?;
+    add_number(&mut bytes, first as u64)?;
     bytes.extend_from_slice(b"_")?;
-    add_number(&mut bytes, second)?;
+    add_number(&mut bytes, second as u64)?;
     Name::from_bytes(alloc, &bytes)
 }
 
@@ -97,9 +98,23 @@ pub fn module_name(alloc: Global, main: u32, number: usize) -> Result<Name, Memo
     numbered(alloc, "m", number)
 }
 
-/// The module of a primitive cell of a component.
-pub fn cell_module_name(alloc: Global, component: usize, cell: usize) -> Result<Name, Memory>
-    ensures value { IfOk result (λ name. name ≡ plain.cell_module_name component cell) }
+/// Adds numbers, each behind `_`.
+fn add_numbers(bytes: &mut Vec<u8>, numbers: &[u64]) -> Result<(), Memory>
+    ensures value { OnOk result (bytes.new.items ≡ bytes.old.items ++ plain.joined_numbers numbers.now) }
 {
-    twice_numbered(alloc, "m", component, cell)
+    for number in numbers {
+        bytes.push(b'_')?;
+        add_number(bytes, *number)?;
+    }
+    Ok(())
+}
+
+/// The module of a primitive: its name as designs write it, and its numbers.
+pub fn primitive_name(alloc: Global, primitive: &Primitive) -> Result<Name, Memory>
+    ensures value { IfOk result (λ name. name ≡ plain.primitive_name primitive.now) }
+{
+    let mut bytes = Vec::from_slice(alloc, b"cx_")?;
+    bytes.extend_from_slice(primitive.name().as_bytes())?;
+    add_numbers(&mut bytes, primitive.numbers())?;
+    Name::from_bytes(alloc, &bytes)
 }

@@ -4,19 +4,19 @@ ghost use Rattle.std.specs.Prelude.{◌≡◌, ◌++◌, ◌∷◌, [], IfOk, On
 ghost use Rattle.cx_design.specs.PlainForms.{plain_cell};
 ghost use Rattle.cx_net.specs.NetsAsData.{plain_net};
 ghost use Rattle.cx_net.specs.PlainNets.{plain_net_component};
-ghost use Rattle.cx_vmods.specs.Modules.{module_of};
-ghost use Rattle.cx_vtree.specs.PlainParts.{plain_modules, plain_port};
-ghost use Rattle.cx_emit.specs.Numbered.{lists_from, with_numbers};
+ghost use Rattle.cx_vtree.specs.PlainParts.{plain_port};
+ghost use Rattle.cx_emit.specs.Names.{primitive_name};
+ghost use Rattle.cx_emit.specs.Numbered.{with_numbers};
 ghost use Rattle.cx_emit.specs.PlainForms.{plain_cell_ports};
 ghost use Rattle.cx_emit.specs.Signatures as plain;
 
-use crate::names::{cell_module_name, input_name, module_name, output_name};
+use crate::names::{input_name, module_name, output_name, primitive_name};
 use cx_cells::Primitive;
 use cx_design::{Cell, CellKind, PortDecl};
 use cx_net::{Net, NetComponent};
 use cx_text::{Memory, Name};
 use cx_vmods::Built;
-use cx_vtree::{Module, ModulePort};
+use cx_vtree::ModulePort;
 use std::alloc::Global;
 
 /// The module of a cell and its ports behind the clock and the reset, in the order in which drivers number them.
@@ -135,42 +135,25 @@ fn part_ports(alloc: Global, net: &Net, number: u32) -> Result<Vec<ModulePort>, 
     Ok(ports)
 }
 
-/// The module of a primitive under a name, and its ports behind the clock and the reset.
-fn primitive_ports(
-    alloc: Global,
-    primitive: &Primitive,
-    name: Name,
-    modules: &mut Vec<Module>,
-) -> Result<CellPorts, Memory>
-    ensures value { IfOk result (λ own. plain_cell_ports own ≡ record { kind = name; ports = drop 2 (module_of primitive.now name).ports }) }
-    ensures modules { OnOk result (plain_modules modules.new.items ≡ plain_modules modules.old.items ++ module_of primitive.now name ∷ []) }
+/// The name of a primitive's module, and its ports behind the clock and the reset.
+fn primitive_ports(alloc: Global, primitive: &Primitive) -> Result<CellPorts, Memory>
+    ensures value { IfOk result (λ own. plain_cell_ports own ≡ record { kind = primitive_name primitive.now; ports = drop 2 (plain.primitive_module primitive.now).ports }) }
 {
+    let name = primitive_name(alloc, primitive)?;
     let module = primitive.module(alloc, &name)?;
     let ports = copied(alloc, behind_two(&module.ports))?;
-    modules.push(module)?;
     Ok(CellPorts {
         module: name,
         ports,
     })
 }
 
-/// The ports of a cell. The module of a primitive is added to the modules.
-fn cell_ports(
-    alloc: Global,
-    net: &Net,
-    component: usize,
-    number: usize,
-    cell: &Cell,
-    modules: &mut Vec<Module>,
-) -> Result<CellPorts, Memory>
-    ensures value { IfOk result (λ own. plain_cell_ports own ≡ plain.cell_ports (plain_net net.now) component number (plain_cell cell.now)) }
-    ensures modules { OnOk result (plain_modules modules.new.items ≡ plain_modules modules.old.items ++ plain.cell_modules component number (plain_cell cell.now)) }
+/// The ports of a cell.
+fn cell_ports(alloc: Global, net: &Net, cell: &Cell) -> Result<CellPorts, Memory>
+    ensures value { IfOk result (λ own. plain_cell_ports own ≡ plain.cell_ports (plain_net net.now) (plain_cell cell.now)) }
 {
     match &cell.kind {
-        CellKind::Prim(primitive) => {
-            let name = cell_module_name(alloc, component, number)?;
-            primitive_ports(alloc, primitive, name, modules)
-        }
+        CellKind::Prim(primitive) => primitive_ports(alloc, primitive),
         CellKind::Part(part) => Ok(CellPorts {
             module: module_name(alloc, net.main(), *part as usize)?,
             ports: part_ports(alloc, net, *part)?,
@@ -178,20 +161,13 @@ fn cell_ports(
     }
 }
 
-/// The ports of the cells of a component. The modules of primitives are added to the modules.
-pub fn all_cell_ports(
-    alloc: Global,
-    net: &Net,
-    component: usize,
-    cells: &[Cell],
-    modules: &mut Vec<Module>,
-) -> Result<Vec<CellPorts>, Memory>
-    ensures value { IfOk result (λ all. map plain_cell_ports all.items ≡ with_numbers (plain.cell_ports (plain_net net.now) component) (map plain_cell cells.now)) }
-    ensures modules { OnOk result (plain_modules modules.new.items ≡ plain_modules modules.old.items ++ lists_from (plain.cell_modules component) 0 (map plain_cell cells.now)) }
+/// The ports of cells.
+pub fn all_cell_ports(alloc: Global, net: &Net, cells: &[Cell]) -> Result<Vec<CellPorts>, Memory>
+    ensures value { IfOk result (λ all. map plain_cell_ports all.items ≡ map (plain.cell_ports (plain_net net.now)) (map plain_cell cells.now)) }
 {
     let mut all = Vec::with_capacity(alloc, cells.len())?;
-    for (number, cell) in cells.iter().enumerate() {
-        all.push(cell_ports(alloc, net, component, number, cell, modules)?)?;
+    for cell in cells {
+        all.push(cell_ports(alloc, net, cell)?)?;
     }
     Ok(all)
 }

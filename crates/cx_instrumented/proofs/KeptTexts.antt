@@ -64,7 +64,7 @@ module _ (d : PlainDesign) (can : CanBeFlattened d) (few : design_size (instrume
             always = always e own.design own.flat own.accepted h.1.sound;
             reset = source_reset (written_net e);
             shape = written_shape e own.design own.flat own.accepted h.1.sound;
-            cells = written_cells e own.design;
+            cells = written_cells e own.design own.flat own.accepted;
             used = written_used e own.design own.flat own.accepted h.1.sound;
             names = written_names e;
             nets = can_nets e own;

@@ -1,16 +1,17 @@
 -- The reset of each module of the source of a net.
-use Rattle.std.proofs.Common.{◌≡◌, ℕ, suc, ◌==◌, List, [], ◌∷◌, ◌++◌, Some, None, length, if◌then◌else◌, refl, sym, ap, subst, arith}
+use Rattle.std.proofs.Common.{◌≡◌, ℕ, suc, ◌==◌, List, [], ◌∷◌, ◌++◌, Some, None, length, map, if◌then◌else◌, refl, sym, ap, subst, arith}
 use Rattle.std.specs.Prelude.{All}
 use Rattle.std.proofs.lemmas.Bool.{ne_eqb}
 use Rattle.std.proofs.lemmas.List.Elements.{All-nil, All-cons, All-append}
-use Rattle.cx_meaning.specs.Designs.{PlainKind, OfPrimitive, OfComponent, PlainCell}
+use Rattle.cx_prim.specs.Table.{PrimitiveRow}
 use Rattle.cx_vtree.specs.Edges.{acting_sets}
 use Rattle.cx_vtree.specs.Plain.{PlainDecl, PlainAssign, PlainItem}
 use Rattle.cx_net.specs.Nets.{PlainNetComponent, PlainNet}
-use Rattle.cx_emit.specs.Names.{cell_module_name}
+use Rattle.cx_emit.specs.Names.{primitive_name}
 use Rattle.cx_emit.specs.Numbered.{numbered_from, with_numbers, lists_from}
-use Rattle.cx_emit.specs.Signatures.{PlainCellPorts, cell_ports, kind_modules, cell_modules}
-use Rattle.cx_emit.specs.Sources.{port_decl, cell_decls, wire_decl, register_decl, register_reset, register_step, edge_of, decls_with, component_module, component_modules, source_of}
+use Rattle.cx_emit.specs.Signatures.{PlainCellPorts, primitive_module, cell_ports}
+use Rattle.cx_emit.specs.Sources.{port_decl, cell_decls, wire_decl, register_decl, register_reset, register_step, edge_of, decls_with, component_module, primitive_modules, source_of}
+use Rattle.cx_emit.proofs.NetPrimitives.{its_primitives}
 use Rattle.cx_power.specs.Resets.{IsZero, IsSetAmong, HasReset, IsReset}
 use Rattle.cx_power.proofs.SetLemmas.{set_left, set_right, set_alone}
 use Rattle.cx_power.proofs.PieceLemmas.{primitive_reset}
@@ -47,7 +48,7 @@ acts (w ∷ ws) step =
 component_reset : (net : PlainNet) (k : ℕ) (part : PlainNetComponent) → HasReset (component_module net k part)
 component_reset net k part =
     let sets : List PlainAssign = with_numbers register_reset part.registers in
-    let cells : List PlainCellPorts = with_numbers (cell_ports net k) part.cells in
+    let cells : List PlainCellPorts = map (cell_ports net) part.cells in
     let P : PlainDecl → Type 0 = IsSetAmong sets in
     let same : sets ≡ acting_sets 1 (edge_of part) = sym (acts part.registers (with_numbers (register_step part.drivers) part.registers)) in
     let declared : All P (decls_with part cells) =
@@ -61,17 +62,13 @@ component_reset net k part =
       registers = subst (λ s. All (IsSetAmong s) (decls_with part cells)) same declared;
     }
 
-cell_resets : (k c : ℕ) (cell : PlainCell) → All HasReset (cell_modules k c cell)
-cell_resets k c cell = by_kind cell.kind where
-  by_kind : (kind : PlainKind) → All HasReset (kind_modules k c kind)
-  by_kind (OfPrimitive p) = All-cons HasReset _ [] (primitive_reset p (cell_module_name k c)) (All-nil HasReset)
-  by_kind (OfComponent j) = All-nil HasReset
+primitives_reset : (ps : List PrimitiveRow) → All HasReset (map primitive_module ps)
+primitives_reset [] = All-nil HasReset
+primitives_reset (p ∷ ps) = All-cons HasReset (primitive_module p) (map primitive_module ps) (primitive_reset p (primitive_name p)) (primitives_reset ps)
 
 -- THE SOURCE OF EVERY NET has its reset
 pub source_reset : (net : PlainNet) → IsReset (source_of net)
 source_reset net =
-    all_lists HasReset (component_modules net)
-    (λ k part. All-append HasReset (lists_from (cell_modules k) 0 part.cells) (component_module net k part ∷ [])
-    (all_lists HasReset (cell_modules k) (cell_resets k) 0 part.cells)
-    (All-cons HasReset (component_module net k part) [] (component_reset net k part) (All-nil HasReset)))
-    0 net.components
+    All-append HasReset (primitive_modules net) (with_numbers (component_module net) net.components)
+    (primitives_reset (its_primitives net))
+    (all_numbered HasReset (component_module net) (component_reset net) 0 net.components)
