@@ -24,7 +24,7 @@ use Rattle.cx_compiler.specs.Texts.{IsDesignOf}
 use Rattle.cx_compiler.proofs.TextLayers.{few_parts, text_flattens}
 use Rattle.cx_compiler.proofs.TextLemmas.{accepted_once, break_once, one_design, same_diagnostic, text_of_design}
 use Rattle.cx_compiler.proofs.WrittenNets.{design_parts, design_words}
-use Rattle.cx_driver.specs.Counted.{IsProfiled}
+use Rattle.cx_driver.specs.Counted.{AreEntries, IsProfiled}
 use Rattle.cx_driver.specs.Counting.{CanCount, CountBreak}
 use Rattle.cx_driver.specs.Profiling.{group_paths}
 use Rattle.cx_profile.proofs.LimitLemmas.{none_exceeded}
@@ -77,12 +77,13 @@ each_group d groups same =
     sym (length-map groups (λ (g : ProfiledGroup). g.path)) ∙ ap length same ∙ length-map (entries_of (tree_of d)) (group_path (tree_of d)) ∙ length-map (shown_in (tree_of d)) (λ x. x.entry)
 
 pub run_profiled : (d e : PlainDesign) (p : Profiled) → ((x : PlainDesign) → CanBeFlattened x → RunsAsMeant x) → ((x : PlainDesign) → IsFlat (runnable x)) → CanBeFlattened (instrumented d) → e ≡ instrumented d → plain_design p.design ≡ runnable e → p.memory ≡ memory_place d
-    → map (λ (g : ProfiledGroup). g.path) p.groups.items ≡ group_paths d → IsProfiled d p
-run_profiled d e p law flat can same run memory paths = record {
+    → map (λ (g : ProfiledGroup). g.path) p.groups.items ≡ group_paths d → AreEntries d p.groups.items → IsProfiled d p
+run_profiled d e p law flat can same run memory paths entries = record {
   design = run ∙ ap (λ (x : PlainDesign). runnable x) same;
   flat = subst IsFlat (sym run) (flat e);
   runs = law (instrumented d) can;
   accepted = can.accepted;
   memory = memory;
   each = each_group d p.groups.items paths;
+  entries = entries;
 }

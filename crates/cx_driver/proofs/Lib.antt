@@ -7,6 +7,7 @@ pub mod CountLemmas
 pub mod ReadOffLemmas
 pub mod RoomLemmas
 pub mod CountedLemmas
+pub mod TalliedLemmas
 pub mod FaultOfLemmas
 pub mod LoadedCounts
 pub mod InstrumentLemmas

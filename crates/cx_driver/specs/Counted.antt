@@ -1,15 +1,17 @@
 -- The run of what is run of an instrumented design, and what is read off it.
-use Rattle.std.specs.Prelude.{◌≡◌, ◌⊎◌, ◌<◌, ◌≤◌, ◌++◌, ◌∷◌, [], ℕ, List, Result, Ok, Err, length}
+use Rattle.std.specs.Prelude.{◌≡◌, ◌⊎◌, ◌<◌, ◌≤◌, ◌++◌, ◌∷◌, [], ℕ, List, Result, Ok, Err, Some, length, map, slice_get}
 use Rattle.cx_text.specs.Loading.{PlainMemory, PlainRow, FitsRows}
 use Rattle.cx_prim.specs.CellStates.{AreWords}
 use Rattle.cx_meaning.specs.Designs.{PlainDesign}
+use Rattle.cx_meaning.specs.Instances.{paths_of, tree_of}
 use Rattle.cx_rules.specs.Accepted.{IsAccepted}
 use Rattle.cx_rules.specs.Externals.{external_rows}
 use Rattle.cx_rules.specs.Flat.{IsFlat}
 use Rattle.cx_design.specs.PlainDesigns.{plain_design}
-use Rattle.cx_profiling.specs.Counters.{entry_count}
+use Rattle.cx_profiling.specs.Counters.{entries_of, entry_count}
 use Rattle.cx_profiling.specs.Instrumented.{instrumented}
 use Rattle.cx_profile.specs.Profiles.{memory_place}
+use Rattle.cx_profile.specs.declared.entries.ProfiledGroup.{ProfiledGroup}
 use Rattle.cx_profile.specs.declared.instrumenting.Profiled.{Profiled}
 use Rattle.cx_flat_texts.specs.Runnable.{RunsAsMeant, runnable}
 use Rattle.cx_commands.specs.declared.stops.Stop.{Stop}
@@ -22,6 +24,11 @@ use Rattle.cx_driver.specs.declared.counted.Counted.{Counted}
 abbrev pub plain_counted : Counted → PlainCounted
 plain_counted counted = record { left = plain_left counted.left; counts = counted.counts.items }
 
+-- these groups are the entries of a profile, each by its number and that of its instance
+pub record AreEntries (d : PlainDesign) (groups : List ProfiledGroup) : Type 0 where
+  pub numbers : map (λ g. g.group) groups ≡ map (λ e. e.group) (entries_of (tree_of d))
+  pub instances : map (λ g. slice_get (paths_of (tree_of d)) g.instance) groups ≡ map (λ e. Some e.path) (entries_of (tree_of d))
+
 -- this is what is run of the instrumented design of a design, which is accepted, with the place of its memory of the counts, and a group for each count
 pub record IsProfiled (d : PlainDesign) (p : Profiled) : Type 0 where
   pub design : plain_design p.design ≡ runnable (instrumented d)
@@ -30,6 +37,7 @@ pub record IsProfiled (d : PlainDesign) (p : Profiled) : Type 0 where
   pub accepted : IsAccepted (instrumented d)
   pub memory : p.memory ≡ memory_place d
   pub each : length p.groups.items ≡ entry_count d
+  pub entries : AreEntries d p.groups.items
 
 -- what a design leaves on a data file, with its counts, or why it does not
 abbrev pub CountsLoaded : PlainDesign → List ℕ → ℕ → PlainCounted → Type 0

@@ -1,4 +1,4 @@
-//! The run of a design with the active cycles of its groups, read off the run of its instrumented design.
+//! The run of a design with the active cycles of its groups: counted beside it, or read off the run of its instrumented design.
 
 ghost use Rattle.std.specs.Prelude.{◌≡◌, ◌++◌, ◌∷◌, ◌<◌, ◌≤◌, ◌*◌, ◌-◌, IfOk, IfErr, Ok, Err, [], length};
 ghost use Rattle.cx_text.specs.declared.limits.TheConstants.{BUDGET};
@@ -15,9 +15,10 @@ ghost use Rattle.cx_driver.specs.Leaving.{CanDump};
 
 use crate::interpreting::{Left, run_design, run_loaded};
 use crate::memories::load;
+use crate::tallied::run_tallied;
 use cx_commands::Stop;
 use cx_design::Checked;
-use cx_flat::flattened;
+use cx_flat::{flattened, has_static};
 use cx_flat_texts::laws::{what_is_run_is_flat, what_is_run_runs_as_meant};
 use cx_profile::Profiled;
 use cx_text::{Loaded, LoadedMemory, Memory};
@@ -52,8 +53,34 @@ pub(crate) fn run_counted(
     }
 }
 
-/// Runs a design with the words of a data file loaded, and counts.
+/// Runs a design with the words of a data file loaded, and counts: beside its run, where no component is static, and else by the run of
+/// its instrumented design.
 fn count_loaded(
+    alloc: Global,
+    design: Checked,
+    profiled: &Profiled,
+    loaded: Loaded,
+    json: &[u8],
+    turns: u64,
+) -> Result<Counted, Stop>
+    requires rules { CanCount (plain_design design) }
+    requires profiled { IsProfiled (plain_design design) profiled.now }
+    requires budget { turns ≤ BUDGET }
+    requires fits { FitsRows (external_rows (plain_design design)) (plain_loaded loaded) }
+    requires loads { load_of json.now (external_rows (plain_design design)) ≡ Ok (plain_loaded loaded) }
+    ensures answer { IfOk result (λ counted. CountsLoaded (plain_design design) json.now turns (plain_counted counted)) }
+    ensures ready { IfOk result (λ counted. CanDump counted.left) }
+    ensures cause { IfErr result (StopsLoaded (plain_design design) json.now turns) }
+{
+    if has_static(design.design()) {
+        count_static(alloc, design, profiled, loaded, json, turns)
+    } else {
+        run_tallied(alloc, &design, profiled, loaded, json, turns)
+    }
+}
+
+/// Runs what is run of the instrumented design of a design, and reads its counts.
+fn count_static(
     alloc: Global,
     design: Checked,
     profiled: &Profiled,

@@ -6,7 +6,7 @@ ghost use Rattle.cx_design.specs.PlainDesigns.{plain_design};
 ghost use Rattle.cx_profiling.specs.Instrumented.{instrumented};
 ghost use Rattle.cx_profile.specs.Profiles.{memory_place};
 ghost use Rattle.cx_compiler.specs.Texts.{tree_stop};
-ghost use Rattle.cx_driver.specs.Counted.{IsProfiled};
+ghost use Rattle.cx_driver.specs.Counted.{AreEntries, IsProfiled};
 ghost use Rattle.cx_driver.specs.Counting.{CanCount, IsLimitStop};
 ghost use Rattle.cx_driver.specs.Profiling.{group_paths};
 
@@ -23,6 +23,7 @@ pub(crate) fn counting(alloc: Global, design: &Checked) -> Result<Profiled, Stop
     ensures accepted { IfOk result (λ _. IsAccepted (instrumented (plain_design design.now))) }
     ensures memory { IfOk result (λ p. p.memory ≡ memory_place (plain_design design.now)) }
     ensures paths { IfOk result (λ p. map (λ g. g.path) p.groups.items ≡ group_paths (plain_design design.now)) }
+    ensures entries { IfOk result (λ p. AreEntries (plain_design design.now) p.groups.items) }
     ensures limit { IfErr result (IsLimitStop (plain_design design.now)) }
 {
     match instrument(alloc, design) {

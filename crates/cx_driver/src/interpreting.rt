@@ -19,7 +19,7 @@ use crate::memories::{dump_of, load};
 use cx_commands::Stop;
 use cx_compiler::design_to_run;
 use cx_design::Checked;
-use cx_interp::{Answer, Ran, run};
+use cx_interp::{Answer, Counts, Ran, run};
 use cx_text::Loaded;
 use cx_turns::Begun;
 use std::alloc::Global;
@@ -101,12 +101,13 @@ pub(crate) fn run_loaded(
     ensures cause { IfErr result (StopsRun (plain_design design.now) (plain_loaded loaded) turns) }
 {
     let begun = Begun::new(alloc, design, &loaded)?;
-    let ran = run(begun, turns);
+    let mut none = Counts::none(alloc);
+    let ran = run(begun, &mut none, turns);
     end(alloc, design, &ran, loaded, turns)
 }
 
 /// What a run came to.
-fn end(
+pub(crate) fn end(
     alloc: Global,
     design: &Checked,
     ran: &Ran<'_>,

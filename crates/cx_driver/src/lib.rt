@@ -12,6 +12,7 @@ mod promoting;
 mod running;
 mod sharing;
 mod simulating;
+mod tallied;
 mod trying;
 mod weaving;
 

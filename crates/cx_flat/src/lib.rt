@@ -16,4 +16,4 @@ mod running;
 mod stands;
 
 pub use flattening::flatten;
-pub use running::flattened;
+pub use running::{flattened, has_static};

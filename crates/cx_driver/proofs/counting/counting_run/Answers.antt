@@ -15,7 +15,7 @@ returns-in_ok-run-in-Ok c =
     let can = new_flattens d e c.requires.counted own.design c.in-Ok.profiled.design.keeps own.accepted in
     let law = c.what_is_run_runs_as_meant.ensures in
     record {
-      profiled = run_profiled d e _ (λ x h. law x h.design h.accepted h.undone h.plain) c.what_is_run_is_flat.ensures.flat can own.design c.in_ok-run-in-Ok.ensures.value own.memory own.paths;
+      profiled = run_profiled d e _ (λ x h. law x h.design h.accepted h.undone h.plain) c.what_is_run_is_flat.ensures.flat can own.design c.in_ok-run-in-Ok.ensures.value own.memory own.paths own.entries;
       paths = own.paths;
       limit = tt;
     }
