@@ -18,7 +18,7 @@ use Rattle.cx_flat.specs.Tables.{kid_by, kids_of}
 abbrev pub Has : List PlainCell → ℕ → Type 0
 Has cells j = (cell : PlainCell) × In cells cell × (cell.kind ≡ OfComponent j)
 
-has_more : (c : PlainCell) (cs : List PlainCell) (j : ℕ) → Has cs j → Has (c ∷ cs) j
+pub has_more : (c : PlainCell) (cs : List PlainCell) (j : ℕ) → Has cs j → Has (c ∷ cs) j
 has_more c cs j (cell, i, e) = (cell, inr i, e)
 
 has_front : (xs ys : List PlainCell) (j : ℕ) → Has xs j → Has (xs ++ ys) j

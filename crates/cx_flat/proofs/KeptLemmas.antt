@@ -10,7 +10,7 @@ use Rattle.cx_rules.specs.Externals.{external_rows}
 use Rattle.cx_rules.specs.Flat.{IsFlat}
 use Rattle.cx_rules.specs.Wellformed.{IsDesign}
 use Rattle.cx_flattening.specs.FlatDesign.{flat_design}
-use Rattle.cx_flattening.specs.Runnable.{has_static, runnable}
+use Rattle.cx_flattening.specs.Runnable.{has_static}
 use Rattle.cx_flattening.specs.Told.{Told, KeepsRuns, told}
 use Rattle.cx_flattening.specs.Whole.{whole_main}
 use Rattle.cx_flattening.proofs.RunnableLemmas.{runnable_flat}

@@ -14,3 +14,5 @@ pub mod AlwaysLemmas
 pub mod MarkLemmas
 pub mod TableLemmas
 pub mod KeptLemmas
+pub mod PlacingLemmas
+pub mod PlaceLemmas

@@ -2,7 +2,7 @@
 use Rattle.std.proofs.Common.{◌≡◌, ℕ, zero, suc, ◌<◌, Bool, true, false, inl, inr, ◌⊎◌, List, [], ◌∷◌, Some, length, take, slice_get, refl, sym, ap, ◌∙◌, subst, arith}
 use Rattle.std.specs.Prelude.{is_some}
 use Rattle.cx_meaning.specs.Designs.{PlainComponent, PlainDesign, component_at}
-use Rattle.cx_meaning.specs.Instances.{Node, tree_within}
+use Rattle.cx_meaning.specs.Instances.{Node, cells_for, tree_within}
 use Rattle.cx_meaning.specs.Sights.{In}
 use Rattle.cx_meaning.proofs.DesignsLemmas.{same_part}
 use Rattle.cx_rules.specs.Ports.{component_of}
@@ -26,7 +26,7 @@ in_slice [] n i = absurd i
 in_slice (x ∷ xs) n (inl e) = (0, ap (λ y. Some y) e)
 in_slice (x ∷ xs) n (inr i) = let r = in_slice xs n i in (suc r.0, r.1)
 
-in_take : (k : ℕ) (xs : List ℕ) (n : ℕ) → In (take k xs) n → In xs n
+pub in_take : (k : ℕ) (xs : List ℕ) (n : ℕ) → In (take k xs) n → In xs n
 in_take zero xs n i = absurd i
 in_take (suc k) [] n i = absurd i
 in_take (suc k) (x ∷ xs) n (inl e) = inl e
@@ -90,12 +90,14 @@ module _ (d : PlainDesign) (order : List ℕ) (first : IsChildrenFirst d order) 
       ap (Node (component_at d k)) (cells_same (tree_within d n) (tree_within d m) (component_at d k).cells
       (λ cell j here e. let r = taken_at order i j (first.behind i k j cell at here e) in tree_same n m r.0 j r.2 (let before = r.1 in omega (arith, before, less)) (let before = r.1 in omega (arith, before, fewer))))
 
-  flat_at : (i k : ℕ) → slice_get order i ≡ Some k → flat_of d k ≡ flat_component (kids_for d (component_at d k).cells) (component_at d k)
-  flat_at i k at =
+  pub tree_at : (i k : ℕ) → slice_get order i ≡ Some k → component_of d k ≡ Node (component_at d k) (cells_for (component_of d) (component_at d k).cells)
+  tree_at i k at =
       let within : i < length order = slice_get_within order i k at in
       let few = first.few in
-      ap flat_part (tree_same (length d.components) (suc (length d.components)) i k at (omega (arith, within, few)) (omega (arith, within, few)))
-      ∙ ap (λ ks. flat_component ks (component_at d k)) (kids_below d (component_at d k).cells)
+      tree_same (length d.components) (suc (length d.components)) i k at (omega (arith, within, few)) (omega (arith, within, few))
+
+  flat_at : (i k : ℕ) → slice_get order i ≡ Some k → flat_of d k ≡ flat_component (kids_for d (component_at d k).cells) (component_at d k)
+  flat_at i k at = ap flat_part (tree_at i k at) ∙ ap (λ ks. flat_component ks (component_at d k)) (kids_below d (component_at d k).cells)
 
   -- THE NEXT of the order, by those before it
   pub next_kid : (table : Kids) (i k : ℕ) (part : PlainComponent) → slice_get order i ≡ Some k → part ≡ component_at d k → ((j : ℕ) → In (take i order) j → kid_of d j table)

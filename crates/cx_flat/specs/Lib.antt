@@ -6,4 +6,6 @@ pub mod Callers
 pub mod Controls
 pub mod Levels
 pub mod Flats
+pub mod Placing
+pub mod Places
 pub mod Keeping

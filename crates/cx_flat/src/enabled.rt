@@ -51,7 +51,7 @@ pub(crate) fn is_enabled(groups: &[u32], group: u32) -> bool
 }
 
 /// The number of the copy of a group, where that of the first is given.
-fn copy_number(first: u32, enabled: &Enabled, group: u32) -> Result<u32, Memory>
+pub(crate) fn copy_number(first: u32, enabled: &Enabled, group: u32) -> Result<u32, Memory>
     ensures value { IfOk result (λ n. n ≡ copy_by first enabled.now group) }
 {
     match enabled.below.get(group as usize) {

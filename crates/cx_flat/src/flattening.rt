@@ -85,7 +85,7 @@ fn static_kids(alloc: Global, design: &Design) -> Result<Vec<Option<Component>>,
 }
 
 /// The flat components of the static components of an order in which those of a component's cells come before it.
-fn kids_in_order(
+pub(crate) fn kids_in_order(
     alloc: Global,
     design: &Design,
     order: &[u32],

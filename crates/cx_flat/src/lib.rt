@@ -11,9 +11,13 @@ mod groups;
 mod invokes;
 mod kids;
 mod levels;
+mod places;
+mod placing;
 mod ports;
 mod running;
 mod stands;
 
 pub use flattening::flatten;
-pub use running::{flattened, has_static};
+pub use places::{InstancePlaces, flat_places};
+pub use placing::FlatPlace;
+pub use running::flattened;

@@ -6,12 +6,11 @@ ghost use Rattle.cx_rules.specs.Flat.{ArePlainNames, IsFlat};
 ghost use Rattle.cx_design.specs.PlainDesigns.{plain_design};
 ghost use Rattle.cx_design.specs.PlainForms.{plain_component};
 ghost use Rattle.cx_flattening.specs.Ends.{NoneNamesDone};
-ghost use Rattle.cx_flattening.specs.Runnable as definitions;
 ghost use Rattle.cx_flattening.specs.Runnable.{any_static, is_static_part, runnable};
 ghost use Rattle.cx_flat.specs.Keeping.{TellsAs};
 
 use crate::flattening::flatten;
-use cx_design::{Checked, Component, Design};
+use cx_design::{Checked, Component};
 use cx_flattening::laws::{flat_designs_are_flat, means_the_same_without};
 use cx_text::Memory;
 use std::alloc::Global;
@@ -30,18 +29,11 @@ pub fn flattened(alloc: Global, design: Checked) -> Result<Checked, Memory>
 {
     flat_designs_are_flat();
     means_the_same_without();
-    if has_static(design.design()) {
+    if some_static(&design.design().components) {
         flatten(alloc, &design)
     } else {
         Ok(design)
     }
-}
-
-/// Whether a component of a design is static, or has a static invoke. Where none is, what is run of the design is the design itself.
-pub fn has_static(design: &Design) -> bool
-    ensures value { result ≡ definitions.has_static (plain_design design.now) }
-{
-    some_static(&design.components)
 }
 
 /// Whether a component is static, or has a static invoke.
