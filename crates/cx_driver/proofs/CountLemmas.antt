@@ -1,32 +1,22 @@
 -- A text whose instrumented design keeps the limits is not refused, and what is told of one that is refused is one rule.
-use Rattle.std.proofs.Common.{◌≡◌, inl, inr, ℕ, ◌^◌, ◌<◌, List, length, map, sym, ap, ◌∙◌, subst, arith}
-use Rattle.std.proofs.lemmas.List.{length-map}
+use Rattle.std.proofs.Common.{◌≡◌, inl, inr, ℕ, ◌^◌, ◌<◌, List, sym, subst, arith}
 use Rattle.cx_text.specs.declared.diagnostics.Diagnostic.{Diagnostic}
 use Rattle.cx_text.specs.declared.rules.Rule.{Rule}
 use Rattle.cx_text.specs.declared.rules.Rule.TheVariants.{NotASource}
 use Rattle.cx_meaning.specs.Designs.{PlainDesign}
-use Rattle.cx_meaning.specs.Instances.{tree_of}
 use Rattle.cx_rules.specs.Accepted.{IsAccepted, KeepsStage, IsFirstOf, stage_of}
-use Rattle.cx_rules.specs.Flat.{IsFlat}
 use Rattle.cx_rules.specs.OneBreak.{IsPlaced}
 use Rattle.cx_rules.specs.Sizes.{design_size}
 use Rattle.cx_rules.specs.Wellformed.{IsDesign}
 use Rattle.cx_rules.proofs.OneBreak.{one_rule, one_place, one_name}
-use Rattle.cx_design.specs.PlainDesigns.{plain_design}
-use Rattle.cx_profiling.specs.Counters.{entries_of, entry_count, shown_in}
 use Rattle.cx_profiling.specs.Instrumented.{instrumented}
-use Rattle.cx_profile.specs.Profiles.{group_path, memory_place}
-use Rattle.cx_profile.specs.declared.entries.ProfiledGroup.{ProfiledGroup}
-use Rattle.cx_profile.specs.declared.instrumenting.Profiled.{Profiled}
-use Rattle.cx_flat_texts.specs.Runnable.{CanBeFlattened, RunsAsMeant, runnable}
+use Rattle.cx_flat_texts.specs.Runnable.{CanBeFlattened}
 use Rattle.cx_instrumented.proofs.KeptTexts.{flattens}
 use Rattle.cx_compiler.specs.Texts.{IsDesignOf}
 use Rattle.cx_compiler.proofs.TextLayers.{few_parts, text_flattens}
 use Rattle.cx_compiler.proofs.TextLemmas.{accepted_once, break_once, one_design, same_diagnostic, text_of_design}
 use Rattle.cx_compiler.proofs.WrittenNets.{design_parts, design_words}
-use Rattle.cx_driver.specs.Counted.{AreEntries, IsProfiled}
 use Rattle.cx_driver.specs.Counting.{CanCount, CountBreak}
-use Rattle.cx_driver.specs.Profiling.{group_paths}
 use Rattle.cx_profile.proofs.LimitLemmas.{none_exceeded}
 
 -- the first limit that a design exceeds is one
@@ -70,20 +60,3 @@ module _ (d e : PlainDesign) (can : CanCount d) (same : e ≡ instrumented d) (k
 
   pub made_flattens : CanBeFlattened e
   made_flattens = subst CanBeFlattened (sym same) new_flattens
-
--- as many groups as entries
-pub each_group : (d : PlainDesign) (groups : List ProfiledGroup) → map (λ (g : ProfiledGroup). g.path) groups ≡ group_paths d → length groups ≡ entry_count d
-each_group d groups same =
-    sym (length-map groups (λ (g : ProfiledGroup). g.path)) ∙ ap length same ∙ length-map (entries_of (tree_of d)) (group_path (tree_of d)) ∙ length-map (shown_in (tree_of d)) (λ x. x.entry)
-
-pub run_profiled : (d e : PlainDesign) (p : Profiled) → ((x : PlainDesign) → CanBeFlattened x → RunsAsMeant x) → ((x : PlainDesign) → IsFlat (runnable x)) → CanBeFlattened (instrumented d) → e ≡ instrumented d → plain_design p.design ≡ runnable e → p.memory ≡ memory_place d
-    → map (λ (g : ProfiledGroup). g.path) p.groups.items ≡ group_paths d → AreEntries d p.groups.items → IsProfiled d p
-run_profiled d e p law flat can same run memory paths entries = record {
-  design = run ∙ ap (λ (x : PlainDesign). runnable x) same;
-  flat = subst IsFlat (sym run) (flat e);
-  runs = law (instrumented d) can;
-  accepted = can.accepted;
-  memory = memory;
-  each = each_group d p.groups.items paths;
-  entries = entries;
-}

@@ -4,11 +4,7 @@ pub mod FaultLemmas
 pub mod RanLemmas
 pub mod SimLemmas
 pub mod CountLemmas
-pub mod ReadOffLemmas
-pub mod RoomLemmas
 pub mod CountedLemmas
-pub mod TalliedLemmas
-pub mod FaultOfLemmas
 pub mod LoadedCounts
 pub mod InstrumentLemmas
 pub mod ProfileLemmas
@@ -28,3 +24,4 @@ pub mod FilePromise
 pub mod AlikeLemmas
 pub mod NoLaterLemmas
 pub mod LineLemmas
+pub mod PlacedLemmas

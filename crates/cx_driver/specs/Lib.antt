@@ -13,3 +13,4 @@ pub mod Profiling
 pub mod Counted
 pub mod Outcomes
 pub mod Causes
+pub mod Placing

@@ -1,4 +1,4 @@
-//! The instrumented design of an accepted one, and what is run of it.
+//! The instrumented design of an accepted one.
 
 ghost use Rattle.std.specs.Prelude.{◌≡◌, IfOk, IfErr, map};
 ghost use Rattle.cx_rules.specs.Accepted.{IsAccepted};
@@ -6,14 +6,12 @@ ghost use Rattle.cx_design.specs.PlainDesigns.{plain_design};
 ghost use Rattle.cx_profiling.specs.Instrumented.{instrumented};
 ghost use Rattle.cx_profile.specs.Profiles.{memory_place};
 ghost use Rattle.cx_compiler.specs.Texts.{tree_stop};
-ghost use Rattle.cx_driver.specs.Counted.{AreEntries, IsProfiled};
-ghost use Rattle.cx_driver.specs.Counting.{CanCount, IsLimitStop};
+ghost use Rattle.cx_driver.specs.Counted.{AreEntries};
+ghost use Rattle.cx_driver.specs.Counting.{IsLimitStop};
 ghost use Rattle.cx_driver.specs.Profiling.{group_paths};
 
 use cx_commands::Stop;
 use cx_design::{Checked, Refusal};
-use cx_flat::flattened;
-use cx_flat_texts::laws::{what_is_run_is_flat, what_is_run_runs_as_meant};
 use cx_profile::{Profiled, instrument};
 use std::alloc::Global;
 
@@ -32,28 +30,6 @@ pub(crate) fn counting(alloc: Global, design: &Checked) -> Result<Profiled, Stop
             Ok(profiled)
         }
         Err(refusal) => Err(of_refusal(refusal)),
-    }
-}
-
-/// The same, with what is run of the instrumented design in its place.
-pub(crate) fn counting_run(alloc: Global, design: &Checked) -> Result<Profiled, Stop>
-    requires counted { CanCount (plain_design design.now) }
-    ensures profiled { IfOk result (IsProfiled (plain_design design.now)) }
-    ensures paths { IfOk result (λ p. map (λ g. g.path) p.groups.items ≡ group_paths (plain_design design.now)) }
-    ensures limit { IfErr result (IsLimitStop (plain_design design.now)) }
-{
-    what_is_run_runs_as_meant();
-    what_is_run_is_flat();
-    match counting(alloc, design) {
-        Ok(profiled) => {
-            let run = flattened(alloc, profiled.design)?;
-            Ok(Profiled {
-                design: run,
-                memory: profiled.memory,
-                groups: profiled.groups,
-            })
-        }
-        Err(stop) => Err(stop),
     }
 }
 

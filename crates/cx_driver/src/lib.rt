@@ -7,12 +7,13 @@ mod faults;
 mod instrumenting;
 mod interpreting;
 mod memories;
+mod placing;
 mod profiling;
 mod promoting;
 mod running;
 mod sharing;
 mod simulating;
-mod tallied;
+mod totals;
 mod trying;
 mod weaving;
 

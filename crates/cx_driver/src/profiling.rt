@@ -8,13 +8,13 @@ ghost use Rattle.cx_design.specs.PlainDesigns.{plain_design};
 ghost use Rattle.cx_profiling.specs.Instrumented.{instrumented};
 ghost use Rattle.cx_commands.specs.declared.stops.Stop.{Stop as StopValue};
 ghost use Rattle.cx_commands.specs.declared.stops.Stop.TheVariants as stops;
-ghost use Rattle.cx_driver.specs.Counted.{IsProfiled, plain_counted};
+ghost use Rattle.cx_driver.specs.Counted.{plain_counted};
 ghost use Rattle.cx_driver.specs.Counting.{CanCount};
 ghost use Rattle.cx_driver.specs.Leaving.{CanDump};
 ghost use Rattle.cx_driver.specs.Profiling.{IsDesignProfile, IsDesignProfileStop, IsProfileAnswer, IsProfileStop, StopsProfile, active_line, active_lines, design_counted};
 
 use crate::counted::{Counted, run_counted};
-use crate::counting::counting_run;
+use crate::counting::counting;
 use crate::memories::dump_of;
 use cx_commands::Stop;
 use cx_compiler::accepted_design;
@@ -54,10 +54,11 @@ fn profile_design(alloc: Global, design: Checked, json: &[u8], turns: u64) -> Re
     ensures answer { IfOk result (λ text. IsDesignProfile (plain_design design) json.now turns text.items) }
     ensures cause { IfErr result (IsDesignProfileStop (plain_design design) json.now turns) }
 {
-    match counting_run(alloc, &design) {
+    match counting(alloc, &design) {
         Ok(profiled) => {
-            let counted = run_counted(alloc, design, &profiled, json, turns)?;
-            let text = profile_text(alloc, profiled.groups.as_slice(), &counted)?;
+            let groups = profiled.groups.as_slice();
+            let counted = run_counted(alloc, design, groups, json, turns)?;
+            let text = profile_text(alloc, groups, &counted)?;
             Ok(text)
         }
         Err(stop) => Err(stop),

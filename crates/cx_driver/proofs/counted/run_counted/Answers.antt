@@ -17,4 +17,4 @@ count_loaded-requires c =
     let Fit : List PlainRow → Type 0 = λ rows. FitsRows rows memories in
     let Loads : List PlainRow → Type 0 = λ rows. load_of c.args.json.now rows ≡ Ok memories in
     let same = ap (λ rows. plain_rows rows) c.deref.ensures.value ∙ c.in_ok-rows.ensures.value in
-    record { rules = c.requires.rules; profiled = c.requires.profiled; budget = c.requires.budget; fits = subst Fit same c.in-Ok.ensures.fits; loads = subst Loads same c.in-Ok.ensures.loaded }
+    record { rules = c.requires.rules; groups = c.requires.groups; budget = c.requires.budget; fits = subst Fit same c.in-Ok.ensures.fits; loads = subst Loads same c.in-Ok.ensures.loaded }
