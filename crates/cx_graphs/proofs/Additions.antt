@@ -2,11 +2,13 @@
 use Rattle.std.proofs.Common.{◌≡◌, ℕ, zero, suc, ◌+◌, ◌<◌, List, [], ◌∷◌, ◌++◌, length, slice_set, ◌⊎◌, inl, inr, ⊎_elim, refl, sym, ap, ◌∙◌, subst, arith}
 use Rattle.std.proofs.lemmas.List.{length-append, length-map, length-set}
 use Rattle.std.specs.declared.vec.Vec.{Vec}
-use Rattle.cx_graphs.specs.Graphs.{In, Edges, edges_of, targets_of}
+use Rattle.cx_text.proofs.MemberLaws.{in_left}
+use Rattle.cx_text.specs.Members.{In}
+use Rattle.cx_graphs.specs.Graphs.{Edges, edges_of, targets_of}
 use Rattle.cx_graphs.specs.Additions.{Link, IsEdge, Adds, IsBare, IntoNode, IsBackOfFirst}
 use Rattle.cx_graphs.specs.Ways.{IsTurned}
 use Rattle.cx_graphs.proofs.WalkLemmas.{targets_within}
-use Rattle.cx_graphs.proofs.Lists.{in_before, in_last, the_last}
+use Rattle.cx_graphs.proofs.Lists.{in_last, the_last}
 use Rattle.cx_text.proofs.NumberLaws.{same_or_not}
 
 pub adds_none : (g : Edges) (more : Link) → ((m n : ℕ) → more m n → ⊥) → Adds g more g
@@ -51,7 +53,7 @@ edge_added lists after from to before list h was is e = subst (λ l. Adds (edges
   same_length = length-map (slice_set lists from list) _ ∙ length-set lists from list ∙ sym (length-map lists _);
   kept = λ m n i. ⊎_elim
       (λ same. subst (λ k. In (targets_of (edges_of (slice_set lists from list)) k) n) same
-      (subst (λ l. In l n) (sym now) (in_before (targets_of (edges_of lists) from) (to ∷ []) n (subst (λ k. In (targets_of (edges_of lists) k) n) (sym same) i))))
+      (subst (λ l. In l n) (sym now) (in_left (targets_of (edges_of lists) from) (to ∷ []) n (subst (λ k. In (targets_of (edges_of lists) k) n) (sym same) i))))
       (λ d. subst (λ l. In l n) (sym (set_apart lists from m list d)) i)
       (same_or_not from m);
   all = λ m n p. subst (λ k. In (targets_of (edges_of (slice_set lists from list)) k) n) (sym p.0)
@@ -90,7 +92,7 @@ no_nodes g to = adds_none g (IntoNode [] to) (λ m n h. h.0)
 
 pub more_nodes : (g h k : Edges) (list : List ℕ) (node to : ℕ) → Adds g (IntoNode list to) h → Adds h (IsEdge node to) k → Adds g (IntoNode (list ++ node ∷ []) to) k
 more_nodes g h k list node to x y = adds_as g k (λ m n. IntoNode list to m n ⊎ IsEdge node to m n) (IntoNode (list ++ node ∷ []) to)
-    (λ m n e. ⊎_elim (λ p. (in_before list (node ∷ []) m p.0, p.1)) (λ p. (subst (In (list ++ node ∷ [])) (sym p.0) (the_last list node), p.1)) e)
+    (λ m n e. ⊎_elim (λ p. (in_left list (node ∷ []) m p.0, p.1)) (λ p. (subst (In (list ++ node ∷ [])) (sym p.0) (the_last list node), p.1)) e)
     (λ m n e. ⊎_elim (λ i. inl (i, e.1)) (λ same. inr (sym same, e.1)) (in_last list node m e.0))
     (adds_then g h k (IntoNode list to) (IsEdge node to) x y)
 

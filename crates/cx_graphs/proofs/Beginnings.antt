@@ -1,7 +1,8 @@
 -- A tally begins, goes on through lists, and is cleared.
 use Rattle.std.proofs.Common.{◌≡◌, ℕ, zero, suc, ◌+◌, ◌<◌, ◌≤◌, List, [], ◌∷◌, ◌++◌, length, slice_set, replicate, ◌⊎◌, inl, inr, ⊎_elim, refl, sym, ◌∙◌, subst, arith}
 use Rattle.std.proofs.lemmas.List.{length-set, get_or-set_same, get_or-set_other}
-use Rattle.cx_graphs.specs.Graphs.{In, Bounded, Edges, targets_of}
+use Rattle.cx_text.specs.Members.{In}
+use Rattle.cx_graphs.specs.Graphs.{Bounded, Edges, targets_of}
 use Rattle.cx_graphs.specs.declared.owners.Owners.{Owners}
 use Rattle.cx_graphs.specs.declared.owners.Owners.TheVariants.{Nobody, Only}
 use Rattle.cx_graphs.specs.Owners.{Covers, Sound, owners_at}

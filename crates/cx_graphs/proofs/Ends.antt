@@ -2,7 +2,8 @@
 use Rattle.std.proofs.Common.{◌≡◌, ◌<◌, ◌≤◌, ℕ, zero, suc, nat_lt, Bool, true, List, [], ◌∷◌, length, ◌⊎◌, inl, inr, ⊎_elim, refl, sym, subst, arith, true≢false}
 use Rattle.std.specs.List.{list_all}
 use Rattle.std.proofs.lemmas.Bool.{ltb-true}
-use Rattle.cx_graphs.specs.Graphs.{In, Edges, targets_of}
+use Rattle.cx_text.specs.Members.{In}
+use Rattle.cx_graphs.specs.Graphs.{Edges, targets_of}
 use Rattle.cx_graphs.specs.Grounds.{IsGrounded, grounded, ends_before, is_grounded}
 use Rattle.cx_graphs.proofs.Counting.{count, same_or_more, all_pass}
 use Rattle.cx_text.proofs.BoolLaws.{and_first, and_second, and_true}

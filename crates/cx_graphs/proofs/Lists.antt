@@ -1,30 +1,17 @@
 -- Members and elements of lists, at their ends.
 use Rattle.std.proofs.Common.{◌≡◌, ℕ, zero, suc, ◌<◌, List, [], ◌∷◌, ◌++◌, Some, length, slice_get, slice_set, ◌⊎◌, inl, inr, ⊎_elim, refl, sym, ap, ◌∙◌, arith}
-use Rattle.cx_graphs.specs.Graphs.{In}
+use Rattle.cx_text.proofs.MemberLaws.{in_either, in_right}
+use Rattle.cx_text.specs.Members.{In}
 
 module _ {A : Type 0} where
   pub some_is : (x y : A) → Some x ≡ Some y → x ≡ y
   some_is x y e = cc
 
-  pub in_before : (xs ys : List A) (x : A) → In xs x → In (xs ++ ys) x
-  in_before [] ys x i = absurd i
-  in_before (z ∷ xs) ys x (inl e) = inl e
-  in_before (z ∷ xs) ys x (inr i) = inr (in_before xs ys x i)
-
-  pub in_behind : (xs ys : List A) (x : A) → In ys x → In (xs ++ ys) x
-  in_behind [] ys x i = i
-  in_behind (z ∷ xs) ys x i = inr (in_behind xs ys x i)
-
-  pub in_one : (xs ys : List A) (x : A) → In (xs ++ ys) x → In xs x ⊎ In ys x
-  in_one [] ys x i = inr i
-  in_one (z ∷ xs) ys x (inl e) = inl (inl e)
-  in_one (z ∷ xs) ys x (inr i) = ⊎_elim (λ p. inl (inr p)) (λ q. inr q) (in_one xs ys x i)
-
   pub in_last : (xs : List A) (y x : A) → In (xs ++ y ∷ []) x → In xs x ⊎ (y ≡ x)
-  in_last xs y x i = ⊎_elim inl (λ j. ⊎_elim inr (λ k. absurd k) j) (in_one xs (y ∷ []) x i)
+  in_last xs y x i = ⊎_elim inl (λ j. ⊎_elim inr (λ k. absurd k) j) (in_either xs (y ∷ []) x i)
 
   pub the_last : (xs : List A) (y : A) → In (xs ++ y ∷ []) y
-  the_last xs y = in_behind xs (y ∷ []) y (inl refl)
+  the_last xs y = in_right xs (y ∷ []) y (inl refl)
 
   pub get_left : (xs ys : List A) (i : ℕ) (x : A) → slice_get xs i ≡ Some x → slice_get (xs ++ ys) i ≡ Some x
   get_left [] ys i x e = absurd (cc)
@@ -36,11 +23,6 @@ module _ {A : Type 0} where
   get_last [] y x (suc i) e = absurd (cc)
   get_last (z ∷ xs) y x zero e = inl e
   get_last (z ∷ xs) y x (suc i) e = ⊎_elim inl (λ b. inr (ap suc b.0, b.1)) (get_last xs y x i e)
-
-  pub get_in : (xs : List A) (i : ℕ) (x : A) → slice_get xs i ≡ Some x → In xs x
-  get_in [] i x e = absurd (cc)
-  get_in (z ∷ xs) zero x e = inl (some_is z x e)
-  get_in (z ∷ xs) (suc i) x e = inr (get_in xs i x e)
 
   pub in_get : (xs : List A) (x : A) → In xs x → (i : ℕ) × (i < length xs) × (slice_get xs i ≡ Some x)
   in_get [] x i = absurd i

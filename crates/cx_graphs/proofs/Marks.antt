@@ -2,7 +2,8 @@
 use Rattle.std.proofs.Common.{◌≡◌, ℕ, zero, suc, ◌+◌, ◌<◌, Bool, true, false, List, [], ◌∷◌, ◌++◌, Some, length, slice_get, slice_set, get_or, take, add-one, ◌⊎◌, inl, inr, ⊎_elim, refl, ap, ◌∙◌, subst, arith}
 use Rattle.std.proofs.lemmas.List.{length-set, length-append}
 use Rattle.std.proofs.Math.Seq.{take-suc}
-use Rattle.cx_graphs.specs.Graphs.{In, Marked, Spread, unmarked}
+use Rattle.cx_text.specs.Members.{In}
+use Rattle.cx_graphs.specs.Graphs.{Marked, Spread, unmarked}
 use Rattle.cx_graphs.proofs.Takes.{marked_here, marked_still, fewer, marked_from}
 
 pub in_left : (xs ys : List ℕ) (n : ℕ) → In xs n → In (xs ++ ys) n

@@ -2,7 +2,8 @@
 use Rattle.std.proofs.Common.{◌≡◌, ℕ, zero, suc, ◌<◌, Bool, true, false, List, [], ◌∷◌, ◌++◌, length, replicate, get_or, inl, inr, ⊎_elim, refl, sym, ap, ◌∙◌, subst, arith}
 use Rattle.std.proofs.lemmas.Option.{slice_get_within}
 use Rattle.std.specs.declared.vec.Vec.{Vec}
-use Rattle.cx_graphs.specs.Graphs.{In, edges_of, targets_of, Marked, Spread}
+use Rattle.cx_text.specs.Members.{In}
+use Rattle.cx_graphs.specs.Graphs.{edges_of, targets_of, Marked, Spread}
 use Rattle.cx_graphs.specs.Ways.{Targets, Way, edge, further, Comes}
 use Rattle.cx_graphs.specs.Reach.{IsUnderWay}
 use Rattle.cx_graphs.proofs.Marks.{in_left, in_right, in_either}

@@ -2,7 +2,8 @@
 use Rattle.std.proofs.Common.{◌≡◌, ◌<◌, ◌≤◌, ℕ, zero, suc, Bool, true, false, List, [], ◌∷◌, ◌++◌, Some, length, take, get_or, slice_get, slice_set, replicate, ◌⊎◌, inl, inr, ⊎_elim, refl, sym, ap, ◌∙◌, subst, arith}
 use Rattle.std.proofs.lemmas.List.{length-set}
 use Rattle.std.proofs.Math.ListN.{length-replicate}
-use Rattle.cx_graphs.specs.Graphs.{In, Edges, targets_of, Bounded, Marked}
+use Rattle.cx_text.specs.Members.{In}
+use Rattle.cx_graphs.specs.Graphs.{Edges, targets_of, Bounded, Marked}
 use Rattle.cx_graphs.specs.Edges.{with_edge, without_edges, no_edges}
 use Rattle.cx_graphs.specs.Grounds.{IsGrounded, grounded, is_grounded}
 use Rattle.cx_graphs.specs.GroundSearch.{AllMarked, Waits, IsOnWay}

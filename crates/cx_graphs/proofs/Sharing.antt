@@ -1,6 +1,7 @@
 -- Owners of groups own what the groups have.
 use Rattle.std.proofs.Common.{ℕ, List, [], ◌∷◌, ◌++◌, length, flat_map, inl, inr, ⊎_elim, refl, sym, subst}
-use Rattle.cx_graphs.specs.Graphs.{In, Bounded, Edges, targets_of}
+use Rattle.cx_text.specs.Members.{In}
+use Rattle.cx_graphs.specs.Graphs.{Bounded, Edges, targets_of}
 use Rattle.cx_graphs.specs.declared.owners.Owners.{Owners}
 use Rattle.cx_graphs.specs.Owners.{Covers, Sound, owners_at}
 use Rattle.cx_graphs.specs.Tallies.{Starts, Tallies, Added, starts_of}

@@ -1,7 +1,8 @@
 -- Owners spread through a graph.
 use Rattle.std.proofs.Common.{◌≡◌, ℕ, zero, suc, ◌+◌, ◌<◌, ◌≤◌, List, [], ◌∷◌, ◌++◌, length, get_or, drop, inl, inr, ⊎_elim, refl, sym, ap, ◌∙◌, subst, arith}
 use Rattle.std.proofs.lemmas.List.{drop-append-le, length-append, get_or_read}
-use Rattle.cx_graphs.specs.Graphs.{In, Bounded, Edges, targets_of, IsReached, at_start, by_edge}
+use Rattle.cx_text.specs.Members.{In}
+use Rattle.cx_graphs.specs.Graphs.{Bounded, Edges, targets_of, IsReached, at_start, by_edge}
 use Rattle.cx_graphs.specs.declared.owners.Owners.{Owners}
 use Rattle.cx_graphs.specs.Owners.{Covers, Sound, owners_at}
 use Rattle.cx_graphs.specs.Tallies.{IsKept, Starts, Reaches, Tallies, Added}

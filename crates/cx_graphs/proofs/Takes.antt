@@ -1,6 +1,7 @@
 -- The first of a list, marks, and tables.
 use Rattle.std.proofs.Common.{◌≡◌, ◌+◌, ◌<◌, ◌≤◌, ℕ, zero, suc, Bool, true, false, List, [], ◌∷◌, Some, length, take, get_or, slice_get, slice_set, replicate, ◌⊎◌, inl, inr, ⊎_elim, refl, sym, ap, subst, arith, add-one}
-use Rattle.cx_graphs.specs.Graphs.{In, Marked, unmarked}
+use Rattle.cx_text.specs.Members.{In}
+use Rattle.cx_graphs.specs.Graphs.{Marked, unmarked}
 use Rattle.cx_graphs.specs.GroundSearch.{AllMarked}
 
 pub none_taken : (xs : List ℕ) (m : ℕ) → In (take 0 xs) m → ⊥

@@ -2,15 +2,17 @@
 use Rattle.std.proofs.Common.{◌≡◌, ℕ, zero, suc, ◌+◌, ◌<◌, ◌≤◌, List, [], ◌∷◌, ◌++◌, Some, length, slice_get, slice_set, inl, inr, ⊎_elim, refl, sym, ap, ◌∙◌, subst, arith}
 use Rattle.std.proofs.lemmas.List.{length-set, length-map}
 use Rattle.std.proofs.lemmas.Option.{slice_get_within}
+use Rattle.cx_text.proofs.MemberLaws.{in_at, in_either, in_left}
+use Rattle.cx_text.specs.Members.{In}
 use Rattle.cx_graphs.specs.declared.walking.Mark.{Mark}
 use Rattle.cx_graphs.specs.declared.walking.Mark.TheVariants.{Fresh, Entered, Left}
 use Rattle.cx_graphs.specs.declared.walking.Step.{Step}
 use Rattle.cx_graphs.specs.declared.walking.Next.{Next}
 use Rattle.std.specs.declared.vec.Vec.{Vec}
-use Rattle.cx_graphs.specs.Graphs.{In, Edges, Bounded, IsGraph, edges_of, targets_of}
+use Rattle.cx_graphs.specs.Graphs.{Edges, Bounded, IsGraph, edges_of, targets_of}
 use Rattle.cx_graphs.specs.Ways.{Targets, Way, edge, further, HasCircle, Comes, HasCircleFrom, IsOrder, LeadsWithin, both}
 use Rattle.cx_graphs.specs.Walks.{Is, freshness, fresh_count, IsKnown, IsChain, AreLeft, IsWalk, IsNext, AllCome, NoFresher}
-use Rattle.cx_graphs.proofs.Lists.{some_is, in_before, in_one, in_last, the_last, get_left, get_last, get_in, in_get, set_here, set_other, set_from, places_differ}
+use Rattle.cx_graphs.proofs.Lists.{some_is, in_last, the_last, get_left, get_last, in_get, set_here, set_other, set_from, places_differ}
 use Rattle.cx_text.proofs.NumberLaws.{same_or_not}
 
 pub fresh_entered : Fresh ≡ Entered → ⊥
@@ -44,7 +46,7 @@ module _ (targets : Targets) where
   -- CHAINS
   pub chain_front : (xs ys : List Step) → IsChain targets (xs ++ ys) → IsChain targets xs
   chain_front [] ys c = tt
-  chain_front (x ∷ xs) ys c = (λ r i. c.0 r (in_before xs ys r i), chain_front xs ys c.1)
+  chain_front (x ∷ xs) ys c = (λ r i. c.0 r (in_left xs ys r i), chain_front xs ys c.1)
 
   pub chain_last : (xs : List Step) (s r : Step) → IsChain targets (xs ++ s ∷ []) → In xs r → Way targets r.node s.node × (r.node ≡ s.node → ⊥)
   chain_last [] s r c i = absurd i
@@ -82,8 +84,8 @@ module _ (targets : Targets) where
         passed = λ s i. absurd (off_path s i);
         left_ordered = λ n e. absurd (fresh_left (some_is Fresh Left (sym (here n Left e) ∙ e)));
         ordered_left = λ n i. absurd (not_ordered n i);
-        once = λ i j n e f. absurd (not_ordered n (get_in order i n e));
-        earlier = λ i n m e f. absurd (not_ordered n (get_in order i n e));
+        once = λ i j n e f. absurd (not_ordered n (in_at order i n e));
+        earlier = λ i n m e f. absurd (not_ordered n (in_at order i n e));
       }
 
   -- a fresh node is entered
@@ -99,7 +101,7 @@ module _ (targets : Targets) where
           within = λ n i. ⊎_elim (λ j. w.known.within n j) (λ e. subst (λ k. k < count) e below) (in_last entered node n i);
           known = λ n h. ⊎_elim
               (λ f. ⊎_elim (λ e. inr (subst (λ k. In (entered ++ node ∷ []) k) e (the_last entered node))) (λ d. inl (set_other marks node n Entered Fresh d f)) (same_or_not node n))
-              (λ j. inr (in_before entered (node ∷ []) n j))
+              (λ j. inr (in_left entered (node ∷ []) n j))
               (w.known.known n h);
         };
         on_path = λ r i. ⊎_elim
@@ -108,7 +110,7 @@ module _ (targets : Targets) where
             (in_last path s r i);
         entered_on = λ n e. ⊎_elim
             (λ b. (s, the_last path s, b.0))
-            (λ b. let r = w.entered_on n b.0 in (r.0, in_before path (s ∷ []) r.0 r.1, r.2))
+            (λ b. let r = w.entered_on n b.0 in (r.0, in_left path (s ∷ []) r.0 r.1, r.2))
             (set_from marks node n Entered Entered e);
         chain = chain_more path s w.chain (λ r i. (ways r i, λ e. places_differ marks node r.node Fresh Entered fresh_entered fresh (w.on_path r i) (sym e)));
         passed = λ r i. ⊎_elim
@@ -125,8 +127,8 @@ module _ (targets : Targets) where
       → (i j n : ℕ) → slice_get (order ++ node ∷ []) i ≡ Some n → slice_get (order ++ node ∷ []) j ≡ Some n → i ≡ j
   once_more order node once new i j n e f =
       ⊎_elim
-      (λ a. ⊎_elim (λ b. once i j n a b) (λ b. absurd (new (subst (In order) (sym b.1) (get_in order i n a)))) (get_last order node n j f))
-      (λ a. ⊎_elim (λ b. absurd (new (subst (In order) (sym a.1) (get_in order j n b)))) (λ b. a.0 ∙ sym b.0) (get_last order node n j f))
+      (λ a. ⊎_elim (λ b. once i j n a b) (λ b. absurd (new (subst (In order) (sym b.1) (in_at order i n a)))) (get_last order node n j f))
+      (λ a. ⊎_elim (λ b. absurd (new (subst (In order) (sym a.1) (in_at order j n b)))) (λ b. a.0 ∙ sym b.0) (get_last order node n j f))
       (get_last order node n i e)
 
   earlier_more : (order : List ℕ) (node : ℕ) → ((i n m : ℕ) → slice_get order i ≡ Some n → In (targets n) m → (j : ℕ) × (j < i) × (slice_get order j ≡ Some m))
@@ -150,16 +152,16 @@ module _ (targets : Targets) where
           within = w.known.within;
           known = λ n h. ⊎_elim (λ f. inl (set_other marks s.node n Left Fresh (places_differ marks s.node n Entered Fresh entered_fresh here f) f)) inr (w.known.known n h);
         };
-        on_path = λ r i. set_other marks s.node r.node Left Entered (λ e. (chain_last path s r w.chain i).1 (sym e)) (w.on_path r (in_before path (s ∷ []) r i));
+        on_path = λ r i. set_other marks s.node r.node Left Entered (λ e. (chain_last path s r w.chain i).1 (sym e)) (w.on_path r (in_left path (s ∷ []) r i));
         entered_on = λ n e. ⊎_elim
             (λ b. absurd (left_entered b.1))
             (λ b. let r = w.entered_on n b.0 in ⊎_elim (λ j. (r.0, j, r.2)) (λ f. absurd (b.1 (ap (λ (v : Step). v.node) f ∙ r.2))) (in_last path s r.0 r.1))
             (set_from marks s.node n Left Entered e);
         chain = chain_front path (s ∷ []) w.chain;
-        passed = λ r i k t lt e. still_left marks s.node t within (w.passed r (in_before path (s ∷ []) r i) k t lt e);
+        passed = λ r i k t lt e. still_left marks s.node t within (w.passed r (in_left path (s ∷ []) r i) k t lt e);
         left_ordered = λ n e. ⊎_elim
             (λ b. subst (In (order ++ s.node ∷ [])) b.0 (the_last order s.node))
-            (λ b. in_before order (s.node ∷ []) n (w.left_ordered n b.0))
+            (λ b. in_left order (s.node ∷ []) n (w.left_ordered n b.0))
             (set_from marks s.node n Left Left e);
         ordered_left = λ n i. ⊎_elim
             (λ j. still_left marks s.node n within (w.ordered_left n j))
@@ -177,16 +179,16 @@ module _ (targets : Targets) where
       record {
         known = w.known;
         on_path = λ r i. ⊎_elim
-            (λ j. w.on_path r (in_before path (s ∷ []) r j))
+            (λ j. w.on_path r (in_left path (s ∷ []) r j))
             (λ e. subst (λ (v : Step). Is marks v.node Entered) e (w.on_path s (the_last path s)))
             (in_last path later r i);
         entered_on = λ n e. let r = w.entered_on n e in ⊎_elim
-            (λ j. (r.0, in_before path (later ∷ []) r.0 j, r.2))
+            (λ j. (r.0, in_left path (later ∷ []) r.0 j, r.2))
             (λ f. (later, the_last path later, ap (λ (v : Step). v.node) f ∙ r.2))
             (in_last path s r.0 r.1);
         chain = chain_more path later (chain_front path (s ∷ []) w.chain) (λ r i. chain_last path s r w.chain i);
         passed = λ r i. ⊎_elim
-            (λ j. w.passed r (in_before path (s ∷ []) r j))
+            (λ j. w.passed r (in_left path (s ∷ []) r j))
             (λ e. subst (λ (v : Step). AreLeft (targets v.node) marks v.next) e passed)
             (in_last path later r i);
         left_ordered = w.left_ordered;
@@ -210,7 +212,7 @@ module _ (targets : Targets) where
   ways_on path s t c e r i = ⊎_elim (λ j. way_on t (chain_last path s r c j).0 e) (λ same. subst (λ (v : Step). Way targets v.node t) same (edge e)) (in_last path s r i)
 
   pub all_come_more : (starts : List ℕ) (path : List Step) (s later : Step) → AllCome targets starts (path ++ s ∷ []) → later.node ≡ s.node → AllCome targets starts (path ++ later ∷ [])
-  all_come_more starts path s later h same r i = ⊎_elim (λ j. h r (in_before path (s ∷ []) r j)) (λ e. subst (Comes targets starts) (sym same ∙ ap (λ (v : Step). v.node) e) (h s (the_last path s))) (in_last path later r i)
+  all_come_more starts path s later h same r i = ⊎_elim (λ j. h r (in_left path (s ∷ []) r j)) (λ e. subst (Comes targets starts) (sym same ∙ ap (λ (v : Step). v.node) e) (h s (the_last path s))) (in_last path later r i)
 
   pub all_come_on : (starts : List ℕ) (path : List Step) (s last : Step) → AllCome targets starts (path ++ s ∷ []) → In (targets s.node) last.node → AllCome targets starts ((path ++ s ∷ []) ++ last ∷ [])
   all_come_on starts path s last h e r i = ⊎_elim (λ j. h r j) (λ same. subst (λ (v : Step). Comes targets starts v.node) same (comes_on starts s.node last.node (h s (the_last path s)) e)) (in_last (path ++ s ∷ []) last r i)
@@ -233,7 +235,7 @@ module _ (targets : Targets) where
       → ((n : ℕ) → In starts n → In order n) → HasCircleFrom targets starts → ⊥
   no_circle_from count marks path order entered starts w all (n, comes, way) =
       no_circle count marks path order entered w n
-      (⊎_elim (λ i. all n i) (λ c. let r = in_get order c.0 (all c.0 c.1) in let q = way_down order w.earlier c.2 r.0 r.2 in get_in order q.0 n q.2) comes) way
+      (⊎_elim (λ i. all n i) (λ c. let r = in_get order c.0 (all c.0 c.1) in let q = way_down order w.earlier c.2 r.0 r.2 in in_at order q.0 n q.2) comes) way
 
   -- where the path is empty, what is not fresh is left
   pub left_at_end : (count : ℕ) (marks : List Mark) (order entered : List ℕ) (n : ℕ) → IsWalk targets count marks [] order entered → n < count → (Is marks n Fresh → ⊥) → In order n
@@ -289,7 +291,7 @@ next_at first second a b ms marks from next e f g h =
 
 pub both_within : {A : Type 0} (lists : List (Vec ℕ A)) (more : Edges) → IsGraph (edges_of lists) → LeadsWithin (length lists) more → (n : ℕ) → Bounded (length lists) (both (edges_of lists) more n)
 both_within lists more g h n m i =
-    ⊎_elim (λ j. subst (λ k. m < k) (length-map lists _) (g n m j)) (λ j. h n m j) (in_one (targets_of (edges_of lists) n) (targets_of more n) m i)
+    ⊎_elim (λ j. subst (λ k. m < k) (length-map lists _) (g n m j)) (λ j. h n m j) (in_either (targets_of (edges_of lists) n) (targets_of more n) m i)
 
 -- what a mark other than the fresh one leaves fresh was fresh
 pub none_fresher : (marks : List Mark) (node : ℕ) (mark : Mark) → (mark ≡ Fresh → ⊥) → NoFresher marks (slice_set marks node mark)
@@ -308,7 +310,7 @@ refreshes count marks entered rest node e k =
     let here : Is (slice_set marks node Fresh) node Fresh = set_here marks node Fresh within in
     record {
       same_length = length-set marks node Fresh ∙ k.same_length;
-      within = λ n i. k.within n (subst (λ l. In l n) (sym e) (in_before rest (node ∷ []) n i));
+      within = λ n i. k.within n (subst (λ l. In l n) (sym e) (in_left rest (node ∷ []) n i));
       known = λ n h. ⊎_elim
           (λ same. inl (subst (λ j. Is (slice_set marks node Fresh) j Fresh) same here))
           (λ d. ⊎_elim
@@ -320,18 +322,18 @@ refreshes count marks entered rest node e k =
 
 -- AN ORDER: the edges of another graph are none
 pub no_more : (xs : List ℕ) (n : ℕ) → In (xs ++ []) n → In xs n
-no_more xs n i = ⊎_elim (λ j. j) (λ k. absurd k) (in_one xs [] n i)
+no_more xs n i = ⊎_elim (λ j. j) (λ k. absurd k) (in_either xs [] n i)
 
 pub is_order : (g : Edges) (count : ℕ) (marks : List Mark) (order entered : List ℕ) → length g ≡ count → IsWalk (both g []) count marks [] order entered → ((n : ℕ) → n < count → In order n) → IsOrder g order
 is_order g count marks order entered long w all = record {
   within = λ n i. subst (λ k. n < k) (w.known.same_length ∙ sym long) (slice_get_within marks n Left (w.ordered_left n i));
   all = λ n h. all n (subst (λ k. n < k) long h);
   once = w.once;
-  earlier = λ i n m e f. w.earlier i n m e (in_before (targets_of g n) [] m f);
+  earlier = λ i n m e f. w.earlier i n m e (in_left (targets_of g n) [] m f);
 }
 
 pub circle_alone : (g : Edges) (starts : List ℕ) → HasCircleFrom (both g []) starts → HasCircle (targets_of g)
 circle_alone g starts (n, comes, way) = (n, way_map (λ k m i. no_more (targets_of g k) m i) way)
 
 pub circle_from_all : (g : Edges) (starts : List ℕ) → ((n : ℕ) → n < length g → In starts n) → HasCircle (targets_of g) → HasCircleFrom (both g []) starts
-circle_from_all g starts all (n, way) = (n, inl (all n (way_within g way)), way_map (λ k m i. in_before (targets_of g k) [] m i) way)
+circle_from_all g starts all (n, way) = (n, inl (all n (way_within g way)), way_map (λ k m i. in_left (targets_of g k) [] m i) way)

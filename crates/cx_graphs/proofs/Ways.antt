@@ -2,7 +2,8 @@
 use Rattle.std.proofs.Common.{◌≡◌, ℕ, zero, suc, ◌<◌, Bool, true, false, List, [], ◌∷◌, ◌++◌, length, replicate, get_or, inl, inr, ⊎_elim, refl, sym, ap, ◌∙◌, subst, arith}
 use Rattle.std.proofs.lemmas.Option.{slice_get_within}
 use Rattle.std.specs.declared.vec.Vec.{Vec}
-use Rattle.cx_graphs.specs.Graphs.{In, Edges, edges_of, targets_of, IsReached, at_start, by_edge, Marked, Spread}
+use Rattle.cx_text.specs.Members.{In}
+use Rattle.cx_graphs.specs.Graphs.{Edges, edges_of, targets_of, IsReached, at_start, by_edge, Marked, Spread}
 use Rattle.cx_graphs.specs.Search.{IsUnderWay}
 use Rattle.cx_graphs.proofs.Marks.{in_left, in_right, in_either}
 use Rattle.cx_graphs.proofs.Members.{targets_are}

@@ -1,6 +1,7 @@
 -- Graphs with more edges.
 use Rattle.std.specs.Prelude.{◌≡◌, ℕ, ◌<◌, ◌⊎◌, List, length}
-use Rattle.cx_graphs.specs.Graphs.{In, Edges, targets_of}
+use Rattle.cx_text.specs.Members.{In}
+use Rattle.cx_graphs.specs.Graphs.{Edges, targets_of}
 
 -- edges, as what they lead from and to
 abbrev pub Link : Type 1

@@ -1,10 +1,7 @@
 -- Graphs whose nodes are the numbers below the length of a list, which has for each node the nodes to which its edges lead.
 use Rattle.std.specs.Prelude.{◌≡◌, ℕ, zero, suc, ◌+◌, ◌*◌, ◌<◌, ◌≤◌, ◌⊎◌, Bool, true, List, [], ◌∷◌, Some, length, slice_get, map, if◌then◌else◌}
 use Rattle.std.specs.declared.vec.Vec.{Vec}
-
-abbrev pub In : {A : Type 0} → List A → A → Type 0
-In [] n = ⊥
-In (m ∷ ms) n = (m ≡ n) ⊎ In ms n
+use Rattle.cx_text.specs.Members.{In}
 
 abbrev pub Edges : Type 0
 Edges = List (List ℕ)

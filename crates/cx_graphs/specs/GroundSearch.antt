@@ -1,6 +1,7 @@
 -- A search for the grounded nodes on its way.
 use Rattle.std.specs.Prelude.{◌≡◌, ℕ, ◌+◌, ◌<◌, ◌⊎◌, Bool, List, length, take, slice_index}
-use Rattle.cx_graphs.specs.Graphs.{In, Edges, edges_of, targets_of, Bounded, Marked, unmarked}
+use Rattle.cx_text.specs.Members.{In}
+use Rattle.cx_graphs.specs.Graphs.{Edges, edges_of, targets_of, Bounded, Marked, unmarked}
 use Rattle.cx_graphs.specs.declared.grounding.Search.{Search}
 use Rattle.cx_graphs.specs.Grounds.{IsGrounded}
 

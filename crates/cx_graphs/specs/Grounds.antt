@@ -1,7 +1,8 @@
 -- Nodes of a graph from which every way ends.
 use Rattle.std.specs.Prelude.{ℕ, zero, suc, ◌<◌, nat_lt, Bool, false, ◌&&◌, length}
 use Rattle.std.specs.List.{list_all}
-use Rattle.cx_graphs.specs.Graphs.{In, Edges, targets_of}
+use Rattle.cx_text.specs.Members.{In}
+use Rattle.cx_graphs.specs.Graphs.{Edges, targets_of}
 
 -- GROUNDED, the least set that has each node whose edges all lead to nodes of it: no way from it leads on for ever
 pub data IsGrounded (g : Edges) : ℕ → Type 0 where

@@ -1,6 +1,6 @@
 -- Which of some numbered owners a node has, as far as none, one and several are told apart.
 use Rattle.std.specs.Prelude.{◌≡◌, ◌≢◌, ℕ, ◌≤◌, nat_eq, nat_lt, List, Option, Some, None, get_or, if◌then◌else◌}
-use Rattle.cx_graphs.specs.Graphs.{In}
+use Rattle.cx_text.specs.Members.{In}
 use Rattle.cx_graphs.specs.declared.owners.Owners.{Owners}
 use Rattle.cx_graphs.specs.declared.owners.Owners.TheVariants.{Nobody, Only, Several}
 

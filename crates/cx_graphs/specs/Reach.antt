@@ -1,6 +1,7 @@
 -- What is reached along the edges of two graphs over the same nodes.
 use Rattle.std.specs.Prelude.{◌≡◌, ℕ, ◌≤◌, ◌⊎◌, Bool, List, [], ◌∷◌, length}
-use Rattle.cx_graphs.specs.Graphs.{In, Edges, Marked}
+use Rattle.cx_text.specs.Members.{In}
+use Rattle.cx_graphs.specs.Graphs.{Edges, Marked}
 use Rattle.cx_graphs.specs.Ways.{Targets, Comes, both}
 
 -- a way leads from a node to one of the nodes from the first to the last, or it is one of them

@@ -1,6 +1,7 @@
 -- A search on its way: what is marked is reached, and what waits has yet to be gone through.
 use Rattle.std.specs.Prelude.{◌≡◌, ℕ, ◌⊎◌, Bool, List, length}
-use Rattle.cx_graphs.specs.Graphs.{In, Edges, targets_of, IsReached, Marked}
+use Rattle.cx_text.specs.Members.{In}
+use Rattle.cx_graphs.specs.Graphs.{Edges, targets_of, IsReached, Marked}
 
 pub record IsUnderWay (g : Edges) (starts : List ℕ) (marks : List Bool) (waiting : List ℕ) : Type 0 where
   pub same_length : length marks ≡ length g

@@ -1,6 +1,7 @@
 -- A tally on its way through lists, and through a graph.
 use Rattle.std.specs.Prelude.{◌≡◌, ℕ, ◌<◌, ◌≤◌, ◌⊎◌, List, length, drop}
-use Rattle.cx_graphs.specs.Graphs.{In, Edges, targets_of}
+use Rattle.cx_text.specs.Members.{In}
+use Rattle.cx_graphs.specs.Graphs.{Edges, targets_of}
 use Rattle.cx_graphs.specs.declared.owners.Owners.{Owners}
 use Rattle.cx_graphs.specs.declared.owners.Owners.TheVariants.{Nobody}
 use Rattle.cx_graphs.specs.Owners.{Covers, Sound, owners_at}

@@ -1,6 +1,7 @@
 -- Tallies: the owners of each node of a list, and the nodes that have some.
 use Rattle.std.specs.Prelude.{◌≡◌, ℕ, ◌+◌, ◌≤◌, ◌⊎◌, List, [], ◌∷◌, ◌++◌, length, flat_map}
-use Rattle.cx_graphs.specs.Graphs.{In, Edges, targets_of, Bounded, IsReached}
+use Rattle.cx_text.specs.Members.{In}
+use Rattle.cx_graphs.specs.Graphs.{Edges, targets_of, Bounded, IsReached}
 use Rattle.cx_graphs.specs.declared.owners.Owners.{Owners}
 use Rattle.cx_graphs.specs.declared.owners.Owners.TheVariants.{Nobody}
 use Rattle.cx_graphs.specs.Owners.{Covers, Tells, joined, room, owners_at}

@@ -1,12 +1,13 @@
 -- A walk along edges, on its way.
 use Rattle.std.specs.Prelude.{◌≡◌, ℕ, ◌+◌, ◌<◌, ◌⊎◌, List, [], ◌∷◌, Some, length, slice_get}
+use Rattle.cx_text.specs.Members.{In}
 use Rattle.cx_graphs.specs.declared.walking.Mark.{Mark}
 use Rattle.cx_graphs.specs.declared.walking.Mark.TheVariants.{Fresh, Entered, Left}
 use Rattle.cx_graphs.specs.declared.walking.Step.{Step}
 use Rattle.cx_graphs.specs.declared.walking.Next.{Next}
 use Rattle.cx_graphs.specs.declared.walking.Next.TheVariants as next
 use Rattle.cx_graphs.specs.declared.walking.Walk.{Walk}
-use Rattle.cx_graphs.specs.Graphs.{In, Bounded}
+use Rattle.cx_graphs.specs.Graphs.{Bounded}
 use Rattle.cx_graphs.specs.Ways.{Targets, Way, Comes}
 
 abbrev pub Is : List Mark → ℕ → Mark → Type 0

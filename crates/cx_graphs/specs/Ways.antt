@@ -1,6 +1,7 @@
 -- Ways along edges, circles, and orders in which each edge leads to an earlier node.
 use Rattle.std.specs.Prelude.{◌≡◌, ℕ, ◌<◌, ◌⊎◌, List, ◌++◌, Some, length, slice_get}
-use Rattle.cx_graphs.specs.Graphs.{In, Edges, Bounded, targets_of}
+use Rattle.cx_text.specs.Members.{In}
+use Rattle.cx_graphs.specs.Graphs.{Edges, Bounded, targets_of}
 
 -- the nodes to which the edges of each node lead
 abbrev pub Targets : Type 0

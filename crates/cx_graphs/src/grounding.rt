@@ -1,7 +1,8 @@
 //! Nodes from which every way ends.
 
 ghost use Rattle.std.specs.Prelude.{◌≡◌, ◌<◌, ◌≤◌, ◌++◌, ℕ, List, [], ◌∷◌, false, true, Some, IfNone, IfOk, IfSome, OnOk, length, slice_get, slice_index, slice_set, take};
-ghost use Rattle.cx_graphs.specs.Graphs.{In, Bounded, Edges, IsGraph, edges_of};
+ghost use Rattle.cx_text.specs.Members.{In};
+ghost use Rattle.cx_graphs.specs.Graphs.{Bounded, Edges, IsGraph, edges_of};
 ghost use Rattle.cx_graphs.specs.Grounds.{is_grounded};
 ghost use Rattle.cx_graphs.specs.GroundSearch.{AllMarked, HasCounts, IsSearch, work};
 

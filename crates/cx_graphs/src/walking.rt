@@ -1,7 +1,8 @@
 //! Walks along edges, which find circles and orders.
 
 ghost use Rattle.std.specs.Prelude.{◌≡◌, ◌↔◌, ◌+◌, ◌*◌, ◌<◌, ℕ, List, [], ◌∷◌, ◌++◌, Some, true, false, IfOk, IfSome, IfNone, IsTrue, MatchOption, OnOk, length, slice_get, slice_set};
-ghost use Rattle.cx_graphs.specs.Graphs.{Bounded, In, IsGraph, edges_of, targets_of};
+ghost use Rattle.cx_text.specs.Members.{In};
+ghost use Rattle.cx_graphs.specs.Graphs.{Bounded, IsGraph, edges_of, targets_of};
 ghost use Rattle.cx_graphs.specs.Ways.{HasCircle, HasCircleFrom, IsOrder, LeadsWithin, Targets, both};
 ghost use Rattle.cx_graphs.specs.Walks.{AllCome, AreLeft, Is, IsKnown, IsKnownOf, IsNext, IsReady, IsWalk, IsWalkOf, NoFresher, fresh_count};
 ghost use Rattle.cx_graphs.specs.declared.walking.Mark.TheVariants as mark;

@@ -1,5 +1,5 @@
 -- Facts of truth values.
-use Rattle.std.proofs.Common.{◌≡◌, Bool, true, false, ◌&&◌, refl, sym, true≢false, not, ◌||◌, ◌⊎◌, inl, inr, ap, ◌∙◌, ℕ, if◌then◌else◌, zero, suc, ◌<◌, arith}
+use Rattle.std.proofs.Common.{◌≡◌, Bool, true, false, ◌&&◌, refl, sym, true≢false, not, ◌||◌, ◌⊎◌, inl, inr, ap, ◌∙◌, ℕ, if◌then◌else◌, cond, zero, suc, ◌<◌, arith}
 
 pub and_both : (a b : Bool) → (a && b) ≡ true → (a ≡ true) × (b ≡ true)
 and_both true b h = (refl, h)
@@ -143,3 +143,10 @@ pub bools_same : (a b : Bool) → (a ≡ true → b ≡ true) → (b ≡ true �
 bools_same true b one other = sym (one refl)
 bools_same false true one other = other refl
 bools_same false false one other = refl
+
+-- one of two is found: a search that goes on where the first is not
+pub cond_either : (b h : Bool) → cond b true h ≡ (h || (b || false))
+cond_either true true = refl
+cond_either true false = refl
+cond_either false true = refl
+cond_either false false = refl

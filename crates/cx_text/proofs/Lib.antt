@@ -4,5 +4,6 @@ pub mod OptionLaws
 pub mod BoolLaws
 pub mod NumberLaws
 pub mod ListLaws
+pub mod MemberLaws
 pub mod LoadingLemmas
 pub mod SpanLemmas

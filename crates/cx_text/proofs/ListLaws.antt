@@ -149,10 +149,18 @@ pub both_none : {A : Type 0} (xs ys : List A) → xs ≡ [] → ys ≡ [] → xs
 both_none xs ys e h = ap₂ ◌++◌ e h
 
 -- an item for each number, behind a list
-range_appended : {A : Type 0} (f : ℕ → A) (old xs ys : List A) (x : A) (n : ℕ) → ys ≡ xs ++ x ∷ [] → xs ≡ old ++ map f (range_with_len 0 n) → x ≡ f n → ys ≡ old ++ map f (range_with_len 0 (n + 1))
+pub range_appended : {A : Type 0} (f : ℕ → A) (old xs ys : List A) (x : A) (n : ℕ) → ys ≡ xs ++ x ∷ [] → xs ≡ old ++ map f (range_with_len 0 n) → x ≡ f n → ys ≡ old ++ map f (range_with_len 0 (n + 1))
 range_appended f old xs ys x n pushed so_far is =
     pushed ∙ ap (λ l. l ++ x ∷ []) so_far ∙ ap (λ y. (old ++ map f (range_with_len 0 n)) ++ y ∷ []) is ∙ append_assoc old (map f (range_with_len 0 n)) (f n ∷ [])
     ∙ ap (λ l. old ++ l) (sym (map-range_with_len_more f 0 n n (omega arith)))
 
 pub range_pushed : {A : Type 0} (f : ℕ → A) (xs ys : List A) (x : A) (n : ℕ) → ys ≡ xs ++ x ∷ [] → xs ≡ map f (range_with_len 0 n) → x ≡ f n → ys ≡ map f (range_with_len 0 (n + 1))
 range_pushed f xs ys x n = range_appended f [] xs ys x n
+
+-- the elements from one on
+pub drop_next : {A : Type 0} (xs : List A) (i : ℕ) (x : A) → i < length xs → x ≡ get_or xs i x → drop i xs ≡ x ∷ drop (i + 1) xs
+drop_next xs i x lt at = drop_item xs i x at lt
+
+pub two_maps : {A B C : Type 0} (f : A → B) (g : B → C) (h : A → C) → ((x : A) → g (f x) ≡ h x) → (xs : List A) → map g (map f xs) ≡ map h xs
+two_maps f g h same [] = refl
+two_maps f g h same (x ∷ xs) = ap (λ y. y ∷ map g (map f xs)) (same x) ∙ ap (λ ys. h x ∷ ys) (two_maps f g h same xs)

@@ -1,6 +1,7 @@
 use Rattle.std.proofs.Common.{◌<◌, [], ◌∙◌, ap, subst, sym, slice_get}
 use Rattle.std.proofs.lemmas.List.{length-map}
-use Rattle.cx_graphs.specs.Graphs.{In, edges_of}
+use Rattle.cx_text.specs.Members.{In}
+use Rattle.cx_graphs.specs.Graphs.{edges_of}
 use Rattle.cx_graphs.specs.Edges.{without_edges}
 use Rattle.cx_graphs.specs.GroundSearch.{IsSearch, IsOnWay}
 use Rattle.cx_graphs.proofs.EdgeLemmas.{in_end}

@@ -1,5 +1,5 @@
 use Rattle.std.proofs.Common.{◌≡◌, ◌+◌, ◌<◌, ◌∷◌, ◌++◌, [], ℕ, ◌⊎◌, ⊎_elim, sym, subst, arith}
-use Rattle.cx_graphs.specs.Graphs.{In}
+use Rattle.cx_text.specs.Members.{In}
 use Rattle.cx_graphs.proofs.EdgeLemmas.{in_front, in_end, front_or_end}
 use Rattle.cx_graphs.proofs.grounding.numbers.Goals as goal
 

@@ -1,6 +1,7 @@
 use Rattle.std.proofs.Common.{◌≡◌, ◌<◌, ◌≤◌, ◌∷◌, [], ◌∙◌, ap, subst, sym, Bool, Some, true, false, get_or, slice_get, slice_set, length, arith}
 use Rattle.std.proofs.lemmas.List.{length-map, length-append}
-use Rattle.cx_graphs.specs.Graphs.{In, edges_of, targets_of, unmarked}
+use Rattle.cx_text.specs.Members.{In}
+use Rattle.cx_graphs.specs.Graphs.{edges_of, targets_of, unmarked}
 use Rattle.cx_graphs.specs.GroundSearch.{IsOnWay}
 use Rattle.cx_graphs.proofs.EdgeLemmas.{targets_are}
 use Rattle.cx_graphs.proofs.Takes.{in_at, marked_as, fewer}

@@ -1,6 +1,7 @@
 use Rattle.std.proofs.Common.{◌≡◌, ◌<◌, length, sym, subst, ◌∙◌}
 use Rattle.std.proofs.lemmas.List.{length-map}
-use Rattle.cx_graphs.specs.Graphs.{In, Marked, Spread, edges_of, targets_of}
+use Rattle.cx_text.specs.Members.{In}
+use Rattle.cx_graphs.specs.Graphs.{Marked, Spread, edges_of, targets_of}
 use Rattle.cx_graphs.specs.Search.{IsUnderWay}
 use Rattle.cx_graphs.proofs.Ways.{begins, goes_on, ends, waits_within}
 use Rattle.cx_graphs.proofs.ReachWays.{no_mark}

@@ -1,5 +1,6 @@
 use Rattle.std.proofs.Common.{◌≡◌, OnOk, sym, subst, ◌∙◌}
-use Rattle.cx_graphs.specs.Graphs.{In, Spread, edges_of, targets_of}
+use Rattle.cx_text.specs.Members.{In}
+use Rattle.cx_graphs.specs.Graphs.{Spread, edges_of, targets_of}
 use Rattle.cx_graphs.proofs.Members.{targets_are}
 use Rattle.cx_graphs.proofs.searching.mark_targets.Goals as goal
 

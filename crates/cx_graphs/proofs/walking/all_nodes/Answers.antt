@@ -1,6 +1,7 @@
 use Rattle.std.proofs.Common.{◌≡◌, ◌<◌, ◌∷◌, [], ◌++◌, ⊎_elim, sym, ◌∙◌, subst, arith}
-use Rattle.cx_graphs.specs.Graphs.{In}
-use Rattle.cx_graphs.proofs.Lists.{in_before, in_last, the_last}
+use Rattle.cx_text.proofs.MemberLaws.{in_left}
+use Rattle.cx_text.specs.Members.{In}
+use Rattle.cx_graphs.proofs.Lists.{in_last, the_last}
 use Rattle.cx_text.proofs.NumberLaws.{same_or_not}
 use Rattle.cx_graphs.proofs.walking.all_nodes.Goals as goal
 
@@ -19,6 +20,6 @@ loop-node-preserved c =
       all = λ n h. subst (λ l. In l n) (sym items)
           (⊎_elim
           (λ e. subst (In (old ++ node ∷ [])) (same ∙ e) (the_last old node))
-          (λ d. let below : n < k = omega (arith, d) in in_before old (node ∷ []) n (c.loop-node.invariant.all n below))
+          (λ d. let below : n < k = omega (arith, d) in in_left old (node ∷ []) n (c.loop-node.invariant.all n below))
           (same_or_not k n));
     }

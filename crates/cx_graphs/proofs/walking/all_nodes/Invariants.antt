@@ -1,5 +1,6 @@
 use Rattle.std.proofs.Common.{ℕ, ◌<◌}
-use Rattle.cx_graphs.specs.Graphs.{In, Bounded}
+use Rattle.cx_text.specs.Members.{In}
+use Rattle.cx_graphs.specs.Graphs.{Bounded}
 use Rattle.cx_graphs.proofs.walking.all_nodes.Given as goal
 
 -- the nodes so far

@@ -1,6 +1,7 @@
 use Rattle.std.proofs.Common.{◌<◌, [], length, sym, subst}
 use Rattle.std.proofs.lemmas.List.{length-map}
-use Rattle.cx_graphs.specs.Graphs.{In, edges_of}
+use Rattle.cx_text.specs.Members.{In}
+use Rattle.cx_graphs.specs.Graphs.{edges_of}
 use Rattle.cx_graphs.specs.Ways.{IsOrder, both}
 use Rattle.cx_graphs.proofs.WalkLemmas.{circle_alone, circle_from_all, is_order, no_circle_from}
 use Rattle.cx_graphs.proofs.walking.order.Goals as goal

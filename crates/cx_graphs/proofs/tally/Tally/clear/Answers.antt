@@ -1,7 +1,7 @@
 use Rattle.std.proofs.Common.{arith, ◌<◌, ◌∷◌, [], length, sym, subst, ◌∙◌, inl, refl}
 use Rattle.std.proofs.lemmas.List.{length-set}
 use Rattle.cx_graphs.specs.declared.owners.Owners.TheVariants.{Nobody}
-use Rattle.cx_graphs.specs.Graphs.{In}
+use Rattle.cx_text.specs.Members.{In}
 use Rattle.cx_graphs.proofs.Marks.{in_right}
 use Rattle.cx_graphs.proofs.Beginnings.{kept_without, cleared}
 use Rattle.cx_graphs.proofs.tally.Tally.clear.Goals as goal

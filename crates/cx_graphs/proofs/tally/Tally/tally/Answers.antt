@@ -1,5 +1,6 @@
 use Rattle.std.proofs.Common.{rules, arith, ◌≡◌, ◌<◌, length, sym, subst, ◌∙◌}
-use Rattle.cx_graphs.specs.Graphs.{In, edges_of, targets_of}
+use Rattle.cx_text.specs.Members.{In}
+use Rattle.cx_graphs.specs.Graphs.{edges_of, targets_of}
 use Rattle.cx_graphs.specs.declared.owners.Owners.TheVariants.{Only}
 use Rattle.cx_graphs.specs.Tallies.{Added}
 use Rattle.cx_graphs.proofs.Members.{targets_are}

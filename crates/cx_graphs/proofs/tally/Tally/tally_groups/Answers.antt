@@ -1,6 +1,7 @@
 use Rattle.std.proofs.Common.{rules, arith, refl, ◌≡◌, ◌<◌, ◌+◌, ◌∷◌, ◌++◌, [], length, take, sym, ap, subst, ◌∙◌}
 use Rattle.std.proofs.lemmas.List.{get_or_read, take_all}
-use Rattle.cx_graphs.specs.Graphs.{In, Bounded, edges_of, targets_of}
+use Rattle.cx_text.specs.Members.{In}
+use Rattle.cx_graphs.specs.Graphs.{Bounded, edges_of, targets_of}
 use Rattle.cx_graphs.specs.declared.owners.Owners.TheVariants.{Nobody}
 use Rattle.cx_graphs.specs.Owners.{owners_at}
 use Rattle.cx_graphs.specs.Tallies.{Added}

@@ -1,5 +1,5 @@
 use Rattle.std.proofs.Common.{◌<◌, sym, ◌∙◌, subst}
-use Rattle.cx_graphs.specs.Graphs.{In}
+use Rattle.cx_text.specs.Members.{In}
 use Rattle.cx_graphs.specs.Walks.{Is}
 use Rattle.cx_graphs.specs.declared.walking.Mark.TheVariants as mark
 use Rattle.cx_graphs.specs.declared.walking.Step.{Step}

@@ -1,13 +1,15 @@
 use Rattle.std.proofs.Common.{◌≡◌, ◌+◌, ◌<◌, true≢false, [], ◌∷◌, ◌++◌, length, sym, ap, ◌∙◌, subst, refl, arith}
 use Rattle.std.proofs.lemmas.List.{length-append}
 use Rattle.std.proofs.lemmas.Option.{slice_get_within}
-use Rattle.cx_graphs.specs.Graphs.{In, edges_of, targets_of}
+use Rattle.cx_text.proofs.MemberLaws.{in_at, in_left}
+use Rattle.cx_text.specs.Members.{In}
+use Rattle.cx_graphs.specs.Graphs.{edges_of, targets_of}
 use Rattle.cx_graphs.specs.Ways.{both}
 use Rattle.cx_graphs.specs.Walks.{Is, IsWalk, fresh_count}
 use Rattle.cx_graphs.specs.declared.walking.Mark.TheVariants as mark
 use Rattle.cx_graphs.specs.declared.walking.Next.TheVariants as next
 use Rattle.cx_graphs.specs.declared.walking.Step.{Step}
-use Rattle.cx_graphs.proofs.Lists.{in_before, the_last, get_in}
+use Rattle.cx_graphs.proofs.Lists.{the_last}
 use Rattle.cx_graphs.proofs.WalkLemmas.{next_at, both_within, same_walk, leaves, advances, enters, closes, ways_on, all_come_more, all_come_on, none_fresher, left_fresh, entered_fresh, count_set}
 use Rattle.cx_graphs.proofs.walking.Walk.go_on.Goals as goal
 
@@ -69,7 +71,7 @@ returns-in_ok-leave-in-Nothing c =
       known = walked.known;
       found = λ h. absurd (true≢false (sym h));
       walked = λ h. walked;
-      comes = λ h starts come r i. come r (in_before old.path.items (s ∷ []) r (subst (λ l. In l r) e.path i));
+      comes = λ h starts come r i. come r (in_left old.path.items (s ∷ []) r (subst (λ l. In l r) e.path i));
       no_fresher = λ n f. none_fresher old.marks.items s.node mark.Left left_fresh n (subst (λ l. Is l n mark.Fresh) e.marks f);
       less = λ h. omega (arith, fewer, marked, shorter);
     }
@@ -89,7 +91,7 @@ returns-in_ok-enter-in-Fresh c =
     let entry : Step = record { node = t; next = 0 } in
     let is = next_at c.edges-first.result.now c.edges-second.result.now (targets_of g s.node) (targets_of m s.node) c.as_slice.result.now old.marks.items s.next (next.Fresh c.in-Fresh.at t)
     c.edges-first.ensures.value c.edges-second.ensures.value c.as_slice.ensures.value c.in-Fresh.ensures.value (w.passed s (the_last old.path.items s)) in
-    let leads : In (both g m s.node) t = get_in (both g m s.node) c.in-Fresh.at t is.1 in
+    let leads : In (both g m s.node) t = in_at (both g m s.node) c.in-Fresh.at t is.1 in
     let below : t < count = both_within c.args.graph.now m c.requires.graph c.requires.more s.node t leads in
     let path_is : after.path.items ≡ (old.path.items ++ later ∷ []) ++ entry ∷ [] = e.path ∙ ap (λ l. l ++ entry ∷ []) c.in_ok-push-in-Fresh.ensures.items in
     let advanced = advances (both g m) count old.marks.items old.path.items s old.order.items old.entered.items c.in-Fresh.at w is.0 in

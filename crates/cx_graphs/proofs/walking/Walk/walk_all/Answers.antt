@@ -1,6 +1,7 @@
 use Rattle.std.proofs.Common.{rules, ◌≡◌, ◌+◌, ◌≤◌, ◌++◌, [], ◌∷◌, get_or, take, length, sym, subst, ⊎_elim, arith}
 use Rattle.std.proofs.lemmas.List.{take_more, take_all}
-use Rattle.cx_graphs.specs.Graphs.{In, edges_of}
+use Rattle.cx_text.specs.Members.{In}
+use Rattle.cx_graphs.specs.Graphs.{edges_of}
 use Rattle.cx_graphs.specs.Ways.{both}
 use Rattle.cx_graphs.specs.Walks.{Is, IsWalk}
 use Rattle.cx_graphs.specs.declared.walking.Mark.TheVariants.{Fresh}

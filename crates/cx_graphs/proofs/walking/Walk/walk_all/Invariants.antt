@@ -1,5 +1,6 @@
 use Rattle.std.proofs.Common.{◌≡◌, ℕ, [], length, take}
-use Rattle.cx_graphs.specs.Graphs.{In, edges_of}
+use Rattle.cx_text.specs.Members.{In}
+use Rattle.cx_graphs.specs.Graphs.{edges_of}
 use Rattle.cx_graphs.specs.Ways.{both}
 use Rattle.cx_graphs.specs.Walks.{Is, IsWalkOf}
 use Rattle.cx_graphs.specs.declared.walking.Mark.TheVariants as mark
