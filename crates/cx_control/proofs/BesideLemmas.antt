@@ -4,6 +4,8 @@ use Rattle.std.proofs.Common.{◌≡◌, ℕ, zero, suc, ◌<◌, ◌⊎◌, inl
 use Rattle.std.specs.Prelude.{slice_get}
 use Rattle.std.proofs.lemmas.Bool.{cases_lt}
 use Rattle.std.proofs.lemmas.List.{get_or_past}
+use Rattle.cx_text.proofs.MemberLaws.{number_in}
+use Rattle.cx_text.specs.Members.{In}
 use Rattle.cx_text.specs.declared.rules.Rule.TheVariants.{CallShape}
 use Rattle.cx_prim.specs.declared.ports.Side.{Side}
 use Rattle.cx_prim.specs.declared.ports.Side.TheVariants as sides
@@ -15,7 +17,7 @@ use Rattle.cx_meaning.specs.Rows.{side_of}
 use Rattle.cx_meaning.specs.Designs.{PlainKind, OfPrimitive, OfComponent, PlainCell, PlainComponent, PlainDesign, component_at, no_component, group_at}
 use Rattle.cx_meaning.specs.Instances.{Instance, At, Nothing, OfRow, OfInstance, cell_at, cells_of, part_of, add_cell, cells_for, tree_within, tree_of, Path, instance_at}
 use Rattle.cx_meaning.specs.Active.{Active, same_port, Owned, source_order, drivers}
-use Rattle.cx_meaning.specs.Sights.{In, PartPort, Go, AnInput, AnOutput, ItsDone, part_port}
+use Rattle.cx_meaning.specs.Sights.{PartPort, Go, AnInput, AnOutput, ItsDone, part_port}
 use Rattle.cx_rules.specs.Ports.{component_of, path_of}
 use Rattle.cx_rules.specs.Items.{is_plain}
 use Rattle.cx_rules.specs.Footprints.{Mentions, SideLeads, PartLeads, CellLeads, Leads, Depends, at_once, by_way_of}
@@ -27,7 +29,6 @@ use Rattle.cx_rules.specs.Accepted.{IsAccepted}
 use Rattle.cx_rules.proofs.CircleLemmas.{Reached, a_tree, no_tree, reached}
 use Rattle.cx_meaning.proofs.InstancesLemmas.{row_instance, instance_row, instance_is}
 use Rattle.cx_meaning.proofs.DesignsLemmas.{same_part}
-use Rattle.cx_meaning.proofs.SightsLaws.{number_in}
 
 pub record IsBeside (i whole : Instance) : Type 0 where
   pub same : part_of i ≡ part_of whole

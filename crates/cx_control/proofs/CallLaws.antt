@@ -13,7 +13,7 @@ use Rattle.cx_meaning.specs.Sights.{Held, seen}
 use Rattle.cx_meaning.specs.Cycles.{Fault, Ended, Goes, Faults, cycle}
 use Rattle.cx_meaning.specs.Answers.{Answer, End, More, Meaning, after_turns, then_do, idle_turn, Turn, turn_then, one_turn}
 use Rattle.cx_meaning.specs.Answers as answers
-use Rattle.cx_meaning.specs.Control.{drives}
+use Rattle.cx_meaning.specs.Control.{form_drives, drives}
 use Rattle.cx_meaning.specs.Islands.{turn_of, is_one}
 use Rattle.cx_meaning.specs.Calls as calls
 use Rattle.cx_meaning.specs.Calls.{captures, lift_answer, inputs_of_call, after_child}
@@ -34,7 +34,7 @@ use Rattle.cx_control.specs.CodingLaws.{IsBank, region_bank_is}
 use Rattle.cx_control.specs.StatementCodingLaws.{IsRegion}
 use Rattle.cx_control.specs.Spots.{Spot, Cell, Number, Input, Holds, Kept, cells_in, held_in, shown, pull, input_count, own_input, spots_of, reads_spot}
 use Rattle.cx_control.specs.Numbers.{number_idle_at, number_idle_below, spot_idle, world_of, world_below, Rests, RestsBelow}
-use Rattle.cx_control.specs.Leaves.{Coded, code_of, child_at, leaf_drives, written, turn_writes, turn_faults, inputs_now, captured_now, hole_now, capture_now, child_writes, call_writes, child_faults, call_machine}
+use Rattle.cx_control.specs.Leaves.{Coded, code_of, child_at, written, turn_writes, turn_faults, inputs_now, captured_now, hole_now, capture_now, child_writes, call_writes, child_faults, call_machine}
 use Rattle.cx_control.specs.InstanceRules.{InstanceRules, Stands}
 use Rattle.cx_control.specs.CallRules.{CallRules}
 use Rattle.cx_control.proofs.RestLaws.{number_idle_at-zero, number_idle_below-zero, rest_is_kept, idle_is_shown, idle_rests, cycle_keeps_root, cycle_keeps_at}
@@ -394,17 +394,17 @@ module _ (part : PlainComponent) (cells : Cells) (rules : InstanceRules (Node pa
           capture_stays : K.step tt w ≡ At tt
           capture_stays = steps_as Done tt (shown held_now own) at_end end_shows w near false no_hole
 
-          capture_writes : (x : Spot) → K.writes tt w x ≡ turn_writes {F = Fault} (leaf_drives part (Enable g)) (answers.Goes alike.0) x
+          capture_writes : (x : Spot) → K.writes tt w x ≡ turn_writes {F = Fault} (form_drives part (Enable g)) (answers.Goes alike.0) x
           capture_writes x =
               writes_as Done tt (shown held_now own) at_end end_shows w near false no_hole x
-              ∙ ap (λ b. if b then turn_writes (leaf_drives part (Enable g)) there x else None) it_captures
-              ∙ ap (λ t. turn_writes (leaf_drives part (Enable g)) t x) alike.1
+              ∙ ap (λ b. if b then turn_writes (form_drives part (Enable g)) there x else None) it_captures
+              ∙ ap (λ t. turn_writes (form_drives part (Enable g)) t x) alike.1
 
           number_none : (b : Bool) (path : Path) (n : ℕ) → written b alike.0 (Number path n) ≡ None
           number_none true path n = refl
           number_none false path n = refl
 
-          capture_edge : (x : Spot) → R x → edge_of (turn_writes {F = Fault} (leaf_drives part (Enable g)) (answers.Goes alike.0) x) (spot_idle i x (w x)) ≡ shown e after x
+          capture_edge : (x : Spot) → R x → edge_of (turn_writes {F = Fault} (form_drives part (Enable g)) (answers.Goes alike.0) x) (spot_idle i x (w x)) ≡ shown e after x
           capture_edge (Cell []) r = near (Cell []) r ∙ sym (cycle_keeps_root i rules e (capture g c) over after goes)
           capture_edge (Cell (d ∷ path)) r = either (drives part Whole d) refl
             where
@@ -530,8 +530,8 @@ module _ (part : PlainComponent) (cells : Cells) (rules : InstanceRules (Node pa
       at_place q (Number (d ∷ f ∷ path) n) none = ap (λ b. if b then Machine.writes child.machine q (pull c (inputs_now i child g c capturing s) s) (Number (f ∷ path) n) else None) (away d none)
       at_place q (Input n) none = refl
 
-      by_capture : (b : Bool) → (if b then turn_writes (leaf_drives part (Enable g)) (capture_now i child g c capturing s) x else None) ≡ None
-      by_capture true = turn_writes-none (leaf_drives part (Enable g)) (capture_now i child g c capturing s) x free
+      by_capture : (b : Bool) → (if b then turn_writes (form_drives part (Enable g)) (capture_now i child g c capturing s) x else None) ≡ None
+      by_capture true = turn_writes-none (form_drives part (Enable g)) (capture_now i child g c capturing s) x free
       by_capture false = refl
 
       by_hole : (b : Bool) (k : Control Stand) → (if b then None else child_writes i child g c capturing k s x) ≡ None

@@ -1,6 +1,8 @@
 -- What a cell comes to at an edge of any solution: what its cycle comes to, and its idle step where nothing active drives it.
-use Rattle.std.proofs.Common.{◌≡◌, ℕ, zero, suc, ◌+◌, Bool, true, false, ◌||◌, List, [], ◌∷◌, Option, Some, None, Result, Ok, Err, refl, sym, ap, ◌∙◌, subst, arith}
+use Rattle.std.proofs.Common.{◌≡◌, ℕ, zero, suc, ◌+◌, Bool, true, List, [], ◌∷◌, Option, Some, None, Result, Ok, Err, refl, sym, ap, ◌∙◌, subst, arith}
 use Rattle.std.specs.Prelude.{slice_get}
+use Rattle.cx_text.proofs.BoolLaws.{or_left, or_right}
+use Rattle.cx_text.specs.Members.{In}
 use Rattle.cx_bits.specs.BitVector.{BitVector}
 use Rattle.cx_prim.specs.declared.ports.PortRow.{PortRow}
 use Rattle.cx_prim.specs.declared.ports.Side.TheVariants as sides
@@ -11,7 +13,7 @@ use Rattle.cx_meaning.specs.Rows.{side_of}
 use Rattle.cx_meaning.specs.Designs.{group_at}
 use Rattle.cx_meaning.specs.Instances.{Instance, OfRow, part_of, cells_of, cell_at, State}
 use Rattle.cx_meaning.specs.Active.{Active, Owned, source_order, drivers, offset_of}
-use Rattle.cx_meaning.specs.Sights.{Look, In, Gathered, Given, Lacks, gather}
+use Rattle.cx_meaning.specs.Sights.{Look, Gathered, Given, Lacks, gather}
 use Rattle.cx_meaning.specs.Cycles.{Next, Stops, after_edge, after_data, after_enabling, enables, looks_at, cell_outcome}
 use Rattle.cx_rules.specs.Ports.{width_of}
 use Rattle.cx_rules.proofs.ForeignLemmas.{assigns_drive_in, acting_none, OwnerOf, continuous, of_group, owner_of}
@@ -42,14 +44,6 @@ module _ (look : Look) (v : Values) (c : ℕ) (row : Row) (state : CellState) (l
   abbrev Enabling : Inputs → Type 0
   Enabling inputs = gather (λ q. look (ports.Cell c q)) (enables row) 0 row.ports ≡ Given inputs
 
-  or_is : (a b : Bool) → a ≡ true → (a || b) ≡ true
-  or_is true b e = refl
-  or_is false b e = absurd (cc)
-
-  or_then : (a b : Bool) → b ≡ true → (a || b) ≡ true
-  or_then true b e = refl
-  or_then false b e = e
-
   is_enabling : (n : ℕ) (port : PortRow) → slice_get row.ports n ≡ Some port → port.side ≡ sides.Enable → enables row n ≡ true
   is_enabling n port at side = ap is_enable_side (side_at row.ports n port at ∙ side)
 
@@ -58,16 +52,16 @@ module _ (look : Look) (v : Values) (c : ℕ) (row : Row) (state : CellState) (l
 
   same_edge : (first : Inputs) → Enabling first → (inputs : Inputs) → gather (λ q. look (ports.Cell c q)) (looks_at row state first) 0 row.ports ≡ Given inputs → edge row state inputs ≡ edge row state Whole
   same_edge first e inputs f = lawful.looked_at state inputs Whole (record {
-    enabling = λ n port at side. gathered (looks_at row state first) inputs f n (or_is (enables row n) (row.demands state first n) (is_enabling n port at side));
+    enabling = λ n port at side. gathered (looks_at row state first) inputs f n (or_left (enables row n) (row.demands state first n) (is_enabling n port at side));
     demanded = λ n port at side is.
         gathered (looks_at row state first) inputs f n
-        (or_then (enables row n) (row.demands state first n) (lawful.by_enabling state first inputs n (record { enabling = agrees }) ∙ is));
+        (or_right (enables row n) (row.demands state first n) (lawful.by_enabling state first inputs n (record { enabling = agrees }) ∙ is));
   })
     where
       agrees : (m : ℕ) (port : PortRow) → slice_get row.ports m ≡ Some port → port.side ≡ sides.Enable → input first m ≡ input inputs m
       agrees m port at side =
           gathered (enables row) first e m (is_enabling m port at side)
-          ∙ sym (gathered (looks_at row state first) inputs f m (or_is (enables row m) (row.demands state first m) (is_enabling m port at side)))
+          ∙ sym (gathered (looks_at row state first) inputs f m (or_left (enables row m) (row.demands state first m) (is_enabling m port at side)))
 
   stops_never : (kind : _) (port : ℕ) (after : CellState) → Stops kind port ≡ Next after → ⊥
   stops_never kind port after e = cc

@@ -3,17 +3,18 @@
 use Rattle.std.proofs.Common.{◌≡◌, ℕ, suc, ◌⊎◌, inl, inr, Bool, true, false, ◌||◌, nat_eq, List, [], ◌∷◌, ◌++◌, Option, Some, None, length, refl, sym, ap, ◌∙◌, subst, arith}
 use Rattle.std.specs.List.{list_all, list_any}
 use Rattle.std.proofs.lemmas.Bool.{eqb-true}
+use Rattle.cx_text.proofs.MemberLaws.{in_left, in_right}
+use Rattle.cx_text.specs.Members.{In}
 use Rattle.cx_meaning.specs.declared.ports.PortRef.{PortRef}
 use Rattle.cx_meaning.specs.Designs.{PlainGuard, Always, Atom, Negation, All, Any, Compared, Within, PlainGuards, no_guards, a_guard}
 use Rattle.cx_meaning.specs.Active.{same_port}
 use Rattle.cx_meaning.specs.Truths.{Truth, One, Zero, truth_of, and_truth}
 use Rattle.cx_meaning.specs.Truths as truths
-use Rattle.cx_meaning.specs.Sights.{Look, In, guard_truth, all_truth}
+use Rattle.cx_meaning.specs.Sights.{Look, guard_truth, all_truth}
 use Rattle.cx_rules.specs.CallShape.{joined, conjuncts, conjuncts_in, are_dones}
 use Rattle.cx_rules.proofs.FoundLemmas.{same_is}
 use Rattle.cx_text.proofs.BoolLaws.{and_both}
 use Rattle.cx_text.proofs.OptionLaws.{none_is_some}
-use Rattle.cx_meaning.proofs.SightsLaws.{in_left, in_right}
 
 some_is : {A : Type 0} (x y : A) → ◌≡◌ {A = Option A} (Some x) (Some y) → x ≡ y
 some_is x y e = cc

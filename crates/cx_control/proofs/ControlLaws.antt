@@ -1,18 +1,17 @@
 -- THE CONTROL OF EVERY INSTANCE does what it means, by the tree of instances, where its islands do.
-use Rattle.std.proofs.Common.{◌≡◌, ℕ, zero, suc, inl, Bool, true, List, [], ◌∷◌, Option, Some, None, length, if◌then◌else◌, refl, sym, ap, ◌∙◌, subst}
+use Rattle.std.proofs.Common.{◌≡◌, ℕ, zero, suc, inl, Bool, true, [], ◌∷◌, Option, Some, None, length, if◌then◌else◌, refl, sym, ap, ◌∙◌, subst}
 use Rattle.std.specs.Prelude.{◌++◌, is_some}
+use Rattle.cx_text.specs.Members.{In}
 use Rattle.cx_text.specs.declared.places.Place.{Place}
-use Rattle.cx_meaning.specs.declared.ports.PortRef.{PortRef}
-use Rattle.cx_meaning.specs.declared.ports.PortRef.TheVariants as ports
 use Rattle.cx_meaning.specs.declared.ports.PlacedPort.{PlacedPort}
 use Rattle.cx_meaning.specs.declared.kinds.GroupKind.{GroupKind}
 use Rattle.cx_meaning.specs.declared.kinds.GroupKind.TheVariants as kinds
 use Rattle.cx_meaning.specs.Designs.{PlainComponent, PlainForm, Empty, Enable, Seq, Par, If, While, Repeat, StaticSeq, StaticPar, StaticIf, StaticRepeat, Timed, PlainStatement, Placed, group_at, list_of}
-use Rattle.cx_meaning.specs.Instances.{Instance, Node, Cells, no_cells, a_primitive, an_instance, OfInstance, cell_at, cells_of, part_of, Path, State, instance_at, child_at}
-use Rattle.cx_meaning.specs.Sights.{Held, In}
-use Rattle.cx_meaning.specs.Control.{with_comb, drives, groups_of, run}
+use Rattle.cx_meaning.specs.Instances.{Instance, Node, Cells, no_cells, a_primitive, an_instance, OfInstance, cell_at, part_of, Path, State, instance_at, child_at}
+use Rattle.cx_meaning.specs.Sights.{Held}
+use Rattle.cx_meaning.specs.Control.{drives, groups_of, run}
 use Rattle.cx_meaning.specs.Islands.{island, kind_length}
-use Rattle.cx_meaning.specs.Calls.{called_by, called_in, called, captures, call_or_turns, enable_kind, test}
+use Rattle.cx_meaning.specs.Calls.{called, captures, call_or_turns, enable_kind, test}
 use Rattle.cx_meaning.specs.Running.{leaves, control_below, run_control}
 use Rattle.cx_rules.specs.Items.{Dynamic, visit, test_in}
 use Rattle.cx_rules.specs.Footprints.{Reads}
@@ -34,14 +33,15 @@ use Rattle.cx_control.specs.InstanceRules.{InstanceRules, Stands}
 use Rattle.cx_control.specs.ControlRules.{ControlRules}
 use Rattle.cx_control.proofs.ControlCodes.{island_coded, kind_coded}
 use Rattle.cx_control.proofs.RestLaws.{rest_is_kept}
-use Rattle.cx_control.proofs.StandLaws.{as_visited, parts_stand, part_drives, part_reads, spots_wider, reads_wider, are_apart, merge_is_shown}
+use Rattle.cx_control.proofs.StandLaws.{parts_stand, part_drives, part_reads, spots_wider, reads_wider, are_apart, merge_is_shown}
 use Rattle.cx_control.proofs.GroupLaws.{spots_within, near_inputs, near_cells, group_leaf}
 use Rattle.cx_control.proofs.CallLaws.{ChildLaws, call_leaf}
 use Rattle.cx_meaning.proofs.InstancesLemmas.{here as itself_at, nothing_instance, row_instance}
-use Rattle.cx_text.proofs.OptionLaws.{none_some, some_inj}
 use Rattle.cx_text.proofs.NumberLaws.{end_is, false_true}
 use Rattle.cx_rules.proofs.CirclesLemmas.{cells_below, own_acyclic}
 use Rattle.cx_meaning.proofs.ControlLemmas.{called_child}
+use Rattle.cx_meaning.proofs.SightsLaws.{in_comb}
+use Rattle.cx_laws.proofs.VisitLemmas.{as_visited}
 
 -- the islands of an instance do what they mean
 abbrev pub IslandsDo : Instance → Type 1
@@ -164,10 +164,6 @@ module _ (part : PlainComponent) (cells : Cells) (control : ControlRules (Node p
       (λ g is. good i held rules.kept rules.circles rules.groups rules.islands v stands (Reads part (Placed form place)) closed g (groups g is))
       s (cells_in w) (near_cells (Reads part (Placed form place)) held s w near))
 
-  with_its_comb : (comb : Option ℕ) (gs : List ℕ) (g : ℕ) → comb ≡ Some g → In (with_comb comb gs) g
-  with_its_comb None gs g e = absurd (none_some g e)
-  with_its_comb (Some h) gs g e = inl (some_inj h g e)
-
   pub leaves_are_lawful : AreLawful (world_of i) (Rests i) (leaves i (control_below cells)) (leaf_machines i (coded_below cells)) (λ s. spots_of (drives part s)) (λ s. reads_spot (Reads part s)) (Stands i)
   leaves_are_lawful = record {
     parts_stand = parts_stand i;
@@ -178,8 +174,8 @@ module _ (part : PlainComponent) (cells : Cells) (control : ControlRules (Node p
     part_reads = λ s whole is_part. reads_wider (Reads part s) (Reads part whole) (λ c r. part_reads part s whole is_part r);
     keeps_rest = rest_is_kept i;
     merges = λ held arm s t x. merge_is_shown part held arm s t x;
-    if_tests = λ test comb a b place stands held s w near. test_does (If test comb a b) place stands test comb refl (λ g e. with_its_comb comb (groups_of a ++ groups_of b) g e) held s w near;
-    while_tests = λ test comb a place stands held s w near. test_does (While test comb a) place stands test comb refl (λ g e. with_its_comb comb (groups_of a) g e) held s w near;
+    if_tests = λ test comb a b place stands held s w near. test_does (If test comb a b) place stands test comb refl (λ g e. in_comb comb (groups_of a ++ groups_of b) g e) held s w near;
+    while_tests = λ test comb a place stands held s w near. test_does (While test comb a) place stands test comb refl (λ g e. in_comb comb (groups_of a) g e) held s w near;
     leaf_does = leaf_does;
   }
 

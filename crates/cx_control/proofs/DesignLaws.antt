@@ -1,5 +1,5 @@
 -- THE MACHINE OF A DESIGN runs as its main, where the control of main does what it means.
-use Rattle.std.proofs.Common.{◌≡◌, ℕ, zero, suc, ◌⊎◌, inl, inr, ◌<◌, ◌≤◌, Bool, false, List, refl, sym, ap, subst, arith}
+use Rattle.std.proofs.Common.{◌≡◌, ℕ, ◌⊎◌, inl, inr, ◌<◌, Bool, false, List, refl, sym, subst, arith}
 use Rattle.cx_meaning.specs.Designs.{PlainDesign, PlainComponent}
 use Rattle.cx_meaning.specs.Instances.{State, tree_of, start, part_of, IsSettled}
 use Rattle.cx_meaning.specs.Sights.{unheld}
@@ -13,6 +13,7 @@ use Rattle.cx_lockstep.proofs.EndLaws.{ended, StillGoes, going}
 use Rattle.cx_control.specs.Spots.{Spot, Cell, Number, Input, Kept, shown, spots_of, reads_spot}
 use Rattle.cx_control.specs.Numbers.{world_of, Rests}
 use Rattle.cx_control.specs.DesignRuns.{design_machine, moment_of, EndsSo, GoesOnSo, MachineRuns}
+use Rattle.cx_text.proofs.NumberLaws.{before_more}
 
 module _ (d : PlainDesign)
     (does : Does (world_of (tree_of d)) (Rests (tree_of d)) (design_machine d) (spots_of (drives (part_of (tree_of d)) (PlainComponent.control (part_of (tree_of d)))))
@@ -39,21 +40,11 @@ module _ (d : PlainDesign)
       let it = ended (world_of (tree_of d)) (Rests (tree_of d)) (design_machine d) driven (Machine.start (design_machine d)) (begun words) n t (shown unheld after) met in
       record { in_budget = met.in_budget; quiet = it.quiet; is_over = it.is_over; cells = λ path. it.store (Cell path) }
 
-  by_order : (k n : ℕ) → k ≤ n → (k < n) ⊎ (k ≡ n)
-  by_order zero zero less = inr refl
-  by_order zero (suc n) less = inl (omega arith)
-  by_order (suc k) zero less = absurd (omega arith)
-  by_order (suc k) (suc n) less = up (by_order k n (omega arith))
-    where
-      up : (k < n) ⊎ (k ≡ n) → (suc k < suc n) ⊎ (suc k ≡ suc n)
-      up (inl h) = inl (omega arith)
-      up (inr e) = inr (ap suc e)
-
   goes : (words : List (List ℕ)) (n : ℕ) → run_main d words n ≡ More → GoesOnSo d words n
   goes words n is =
       let met = subst (Meets (world_of (tree_of d)) (Rests (tree_of d)) (design_machine d) (λ x. Unit {0}) unheld driven (Machine.start (design_machine d)) (begun words) n) is (meets words n) in
       let it = going (world_of (tree_of d)) (Rests (tree_of d)) (design_machine d) (Machine.start (design_machine d)) (begun words) n met in
-      record { quiet = it.quiet; undone = λ k less. undone it k (by_order k n less) }
+      record { quiet = it.quiet; undone = λ k less. undone it k (before_more n k (omega (arith, less))) }
     where
       undone : StillGoes (world_of (tree_of d)) (Rests (tree_of d)) (design_machine d) (Machine.start (design_machine d)) (begun words) n → (k : ℕ) → (k < n) ⊎ (k ≡ n) → is_done (Moment.control (moment_of d words k)) ≡ false
       undone it k (inl less) = IsQuiet.goes (it.quiet k less)

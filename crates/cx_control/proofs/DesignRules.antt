@@ -3,6 +3,8 @@ use Rattle.std.proofs.Common.{◌≡◌, ℕ, suc, ◌-◌, ◌<◌, ◌⊎◌, 
 use Rattle.std.specs.Prelude.{is_some}
 use Rattle.std.proofs.lemmas.Bool.{cases_lt, lt-ltb}
 use Rattle.std.proofs.lemmas.List.{get_or_past}
+use Rattle.cx_text.proofs.MemberLaws.{in_at}
+use Rattle.cx_text.specs.Members.{In}
 use Rattle.cx_text.specs.declared.places.Place.{Place}
 use Rattle.cx_prim.specs.RegisterRow.{register_row}
 use Rattle.cx_prim.specs.Table.{PrimitiveRow, HasRow}
@@ -14,9 +16,9 @@ use Rattle.cx_meaning.specs.Rows.{side_of}
 use Rattle.cx_meaning.specs.Designs.{PlainAssign, PlainKind, OfPrimitive, OfComponent, PlainCell, PlainComponent, PlainDesign, component_at, no_component, group_at, no_group, PlainForm, Empty, Enable, Seq, Par, If, While, Repeat, StaticSeq, StaticPar, StaticIf, StaticRepeat, Timed, PlainStatement, Placed}
 use Rattle.cx_meaning.specs.Instances.{Instance, Node, Cells, OfRow, OfInstance, cell_at, cells_of, part_of, tree_of, Path, State, instance_at}
 use Rattle.cx_meaning.specs.Active.{Active, Owned, group, entries, source_order, same_port}
-use Rattle.cx_meaning.specs.Sights.{Held, In, AnInput, AnOutput, ItsDone, PartPort, output_port, part_port}
+use Rattle.cx_meaning.specs.Sights.{Held, AnInput, AnOutput, ItsDone, PartPort, output_port, part_port}
 use Rattle.cx_meaning.specs.Cycles.{Goes, cycle}
-use Rattle.cx_meaning.specs.Control.{drives, groups_in, group_drives}
+use Rattle.cx_meaning.specs.Control.{form_drives, drives, groups_in, group_drives}
 use Rattle.cx_meaning.specs.Islands.{History, active_in, form_flat, or_zero, kind_length, group_length, form_length}
 use Rattle.cx_meaning.specs.Calls.{called_in, called, captures}
 use Rattle.cx_meaning.specs.Rows.{KeepsIdle}
@@ -29,7 +31,7 @@ use Rattle.cx_rules.specs.Items.{Dynamic, Visited, statements_in, is_plain}
 use Rattle.cx_rules.specs.Footprints.{Reads, Leads, PartLeads, CellLeads, Depends, at_once, by_way_of}
 use Rattle.cx_rules.specs.Circles.{IsAcyclic, AreAcyclic}
 use Rattle.cx_rules.specs.StaticControl.{is_static, may_stand, is_island_form}
-use Rattle.cx_rules.specs.CallShape.{is_reg_name, is_reg_kind, write_en_of, captured}
+use Rattle.cx_rules.specs.CallShape.{is_reg_name, is_reg_kind, write_en_of, captured, IsOutputOrDone}
 use Rattle.cx_rules.proofs.FoundLemmas.{same_is}
 use Rattle.cx_control.specs.Flows.{Reaches}
 use Rattle.cx_rules.specs.Accepted.{IsAccepted}
@@ -43,20 +45,19 @@ use Rattle.cx_frames.proofs.CircleFrames.{group_acyclic}
 use Rattle.cx_frames.proofs.RuleLemmas.{IsKept, kept_instance}
 use Rattle.cx_frames.proofs.RunLemmas.{undriven_group, group_undriven, capture_undriven, island_undriven}
 use Rattle.cx_frames.proofs.ShareLemmas.{none_shared}
-use Rattle.cx_frames.proofs.StatementFrames.{visits, visited}
+use Rattle.cx_laws.proofs.VisitLemmas.{visits, visited}
 use Rattle.cx_control.proofs.InstanceLemmas.{KeepsPorts, instance_ports}
 use Rattle.cx_control.specs.Spots.{input_count}
-use Rattle.cx_control.specs.Leaves.{leaf_drives}
 use Rattle.cx_control.specs.InstanceRules.{InstanceRules, Stands}
 use Rattle.cx_control.specs.CallRules.{CallForm, CallRules}
 use Rattle.cx_control.specs.ControlRules.{ControlRules}
 use Rattle.cx_control.proofs.BesideLemmas.{KeepsCalls, StandsFor, of_component, of_nothing, instance_stands, keeps_calls}
-use Rattle.cx_control.proofs.ShapeLemmas.{drives_driving, none_outside, plain_group, calls_what_it_drives, child, is_a_plain_group, no_output, right_enable, right_go, right_done}
+use Rattle.cx_control.proofs.ShapeLemmas.{none_outside, calls_what_it_drives, child, is_a_plain_group, no_output, right_enable, right_go, right_done, plain_if_driven}
 use Rattle.cx_control.proofs.TargetLemmas.{group_acts}
-use Rattle.cx_control.proofs.HeldLemmas.{IsGiven, held_same}
+use Rattle.cx_control.proofs.HeldLemmas.{held_same}
 use Rattle.cx_control.proofs.RegisterLemmas.{register_is_row, Captured, captured_is}
 use Rattle.cx_control.proofs.HoleLemmas.{CaptureRules, hole_is_open, captured_hole, Register, register}
-use Rattle.cx_control.proofs.StaticLemmas.{static_form, static_may, all_may, static_lasts, group_lasts}
+use Rattle.cx_laws.proofs.StaticLemmas.{static_form, static_may, all_may, static_lasts, group_lasts}
 use Rattle.cx_text.proofs.OptionLaws.{none_some}
 use Rattle.cx_prim.proofs.PortsLemmas.{is_enable_side-Enable}
 use Rattle.cx_meaning.proofs.DesignsLemmas.{same_part}
@@ -64,8 +65,8 @@ use Rattle.cx_rules.proofs.CirclesLemmas.{cells_below}
 use Rattle.cx_text.proofs.NumberLaws.{false_true}
 use Rattle.cx_meaning.proofs.InstancesLemmas.{instance_row}
 use Rattle.cx_meaning.proofs.ControlLaws.{driver}
-use Rattle.cx_meaning.proofs.SightsLaws.{in_at}
 use Rattle.cx_rules.proofs.ShapeRulesLemmas.{a_target}
+use Rattle.cx_rules.proofs.ItemsLemmas.{bare_form}
 
 plain_is : (kind : GroupKind) → is_plain kind ≡ true → kind ≡ kinds.Plain
 plain_is kinds.Plain e = refl
@@ -109,8 +110,8 @@ module _ (part : PlainComponent) (cells more : Cells) (keeps : KeepsCalls (Node 
       let acts = group_acts part g (group g) (λ h. refl) (ports.Cell c (suc n)) (no_bare (suc n)) at_port.0 at_port.1 in
       (at_port.0.assign, acts.0, acts.1)
 
-  no_given : (n : ℕ) → part_port (part_of (child i whole keeps g c e).0) (suc n) ≡ AnInput n → (q : ℕ) → IsGiven (child i whole keeps g c e).0 q → Reaches i (group g) (ports.Cell c (suc n)) (ports.Cell c q) → ⊥
-  no_given n input q given_so (inl same) = input_is_not_given (part_port (part_of (child i whole keeps g c e).0) (suc n)) n input (subst (IsGiven (child i whole keeps g c e).0) (sym (port_is same)) given_so)
+  no_given : (n : ℕ) → part_port (part_of (child i whole keeps g c e).0) (suc n) ≡ AnInput n → (q : ℕ) → IsOutputOrDone (child i whole keeps g c e).0 q → Reaches i (group g) (ports.Cell c (suc n)) (ports.Cell c q) → ⊥
+  no_given n input q given_so (inl same) = input_is_not_given (part_port (part_of (child i whole keeps g c e).0) (suc n)) n input (subst (IsOutputOrDone (child i whole keeps g c e).0) (sym (port_is same)) given_so)
     where
       port_is : ports.Cell c (suc n) ≡ ports.Cell c q → suc n ≡ q
       port_is f = cc
@@ -142,7 +143,7 @@ module _ (part : PlainComponent) (cells more : Cells) (keeps : KeepsCalls (Node 
   }
 
   -- a captured register is driven, and is not the called cell
-  captured_driven : (cap : captures i g ≡ true) (r : ℕ) (j : In (captured part (group_at part g).assigns) r) → (leaf_drives part (Enable g) r ≡ true) × (r ≡ c → ⊥)
+  captured_driven : (cap : captures i g ≡ true) (r : ℕ) (j : In (captured part (group_at part g).assigns) r) → (form_drives part (Enable g) r ≡ true) × (r ≡ c → ⊥)
   captured_driven cap r j =
       let it = captured_is (group_at part g).assigns part.cells 0 r j in
       let a = a_target (same_port (write_en_of r)) (group_at part g).assigns (Captured.driven it) in (
@@ -229,11 +230,7 @@ module _ (d : PlainDesign) (design : IsDesign d) (accepted : IsAccepted d) where
     forms : KeepsForms (part_of (instance_at (tree_of d) path))
     forms = instance_part KeepsForms
         (λ k l v i. subst (λ part. IsForm part v.form) (same_part d (length d.components) k) (((design.components k l).statements v i).form))
-        (λ v i. bare v i) path
-      where
-        bare : (v : Visited) → In (statements_in no_component) v → IsForm no_component v.form
-        bare v (inl e) = subst (λ w. IsForm no_component w.form) e tt
-        bare v (inr i) = absurd i
+        bare_form path
 
     abbrev KeepsStatic : PlainComponent → Type 0
     KeepsStatic part = (v : Visited) → In (statements_in part) v → v.context ≡ Dynamic → is_static v.form ≡ true → (0 < form_length part v.form) × ((g : ℕ) → In (groups_in v.form) g → is_some (group_length part g) ≡ true)
@@ -342,20 +339,12 @@ module _ (d : PlainDesign) (design : IsDesign d) (accepted : IsAccepted d) where
         (λ part cells more is keeps stands e. calls_what_it_drives (Node part cells) (Node part more) keeps g c below stands e)
     called_if_driven (of_nothing none) g c below = λ stands e. absurd (nothing_drives (part_of (instance_at (tree_of d) path)) none g c e)
 
-    plain_if_driven : StandsFor d (instance_at (tree_of d) path) → (g c : ℕ) (child : Instance) → cell_at (cells_of (instance_at (tree_of d) path)) c ≡ OfInstance child → group_drives (part_of (instance_at (tree_of d) path)) g c ≡ true
-        → is_plain (group_at (part_of (instance_at (tree_of d) path)) g).kind ≡ true
-    plain_if_driven (of_component k l beside) g c below =
-        whole_of (instance_at (tree_of d) path) (component_of d k) beside.same (keeps_calls d accepted k l (instance_at (tree_of d) path) beside)
-        (λ i. cell_at (cells_of i) c ≡ OfInstance below → group_drives (part_of i) g c ≡ true → is_plain (group_at (part_of i) g).kind ≡ true)
-        (λ part cells more is keeps stands e. let it = drives_driving cells (group_at part g).assigns c e in plain_group (Node part cells) (Node part more) keeps g it.assign it.is_in c it.port below it.target stands)
-    plain_if_driven (of_nothing none) g c below = λ stands e. absurd (nothing_drives (part_of (instance_at (tree_of d) path)) none g c e)
-
     no_static_calls : IsFlat d → (form : PlainForm) (place : Place) (c : ℕ) (child : Instance) → Stands (instance_at (tree_of d) path) (Placed form place) → is_static form ≡ true → cell_at (cells_of (instance_at (tree_of d) path)) c ≡ OfInstance child
         → drives (part_of (instance_at (tree_of d) path)) (Placed form place) c ≡ true → ⊥
     no_static_calls flat form place c child stands static at_child e =
         let g = driver (part_of (instance_at (tree_of d) path)) (groups_in form) c e in
         let timed = (statics flat (record { context = Dynamic; form = form; place = place }) stands refl static).1 g.0 g.1 in
-        not_both (group_at (part_of (instance_at (tree_of d) path)) g.0).kind (plain_if_driven (instance_stands d path) g.0 c child at_child g.2) timed
+        not_both (group_at (part_of (instance_at (tree_of d) path)) g.0).kind (plain_if_driven d accepted path g.0 c child at_child g.2) timed
       where
         not_both : (kind : GroupKind) → is_plain kind ≡ true → is_some (kind_length kind) ≡ true → ⊥
         not_both kinds.Plain plain timed = false_true timed

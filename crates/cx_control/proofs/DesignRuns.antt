@@ -1,12 +1,13 @@
 -- THE MACHINE OF AN ACCEPTED DESIGN runs as its main, and the invariant of every instance's control is kept.
-use Rattle.std.proofs.Common.{◌≡◌, ℕ, zero, suc, ◌<◌, List, [], ◌∷◌, ◌++◌, refl, ◌∙◌, sym, subst}
+use Rattle.std.proofs.Common.{◌≡◌, ℕ, ◌<◌, List, [], ◌++◌, ◌∙◌, sym, subst}
 use Rattle.cx_meaning.specs.Designs.{PlainDesign, PlainForm, Placed}
-use Rattle.cx_meaning.specs.Instances.{Instance, Node, Cells, no_cells, a_primitive, an_instance, part_of, tree_of, Path, instance_at, child_at, idle_at, start, IsSettled}
-use Rattle.cx_meaning.specs.Sights.{In}
+use Rattle.cx_meaning.specs.Instances.{Instance, part_of, tree_of, Path, instance_at, idle_at, start, IsSettled}
+use Rattle.cx_text.specs.Members.{In}
 use Rattle.cx_meaning.specs.Islands.{History, active_in, looked_at, form_flat, form_length}
 use Rattle.cx_rules.specs.Items.{Visited, statements_in}
 use Rattle.cx_laws.specs.Positions.{HasNoEmptyIf, active_at, begun_at}
 use Rattle.cx_laws.specs.Samples.{Samples, AreKept, active_by, begun_by}
+use Rattle.cx_laws.proofs.VisitLemmas.{as_visited}
 use Rattle.cx_control.specs.DesignRuns.{MachineRuns}
 use Rattle.cx_control.specs.Leaves.{Coded}
 use Rattle.cx_control.specs.Controls.{coded_control}
@@ -20,8 +21,8 @@ use Rattle.cx_control.specs.StatementCodingLaws.{IsRegion}
 use Rattle.cx_control.proofs.ControlLaws.{IslandsDo, control_coded, control_does}
 use Rattle.cx_control.proofs.KeepLaws.{control_keeps}
 use Rattle.cx_control.proofs.DesignLaws as design_laws
-use Rattle.cx_control.proofs.StandLaws.{as_visited}
-use Rattle.cx_meaning.proofs.InstancesLemmas.{nowhere}
+use Rattle.cx_laws.proofs.VisitLemmas.{as_visited}
+use Rattle.cx_meaning.proofs.InstancesLemmas.{instance_along}
 
 -- the samples and timers of every instance
 pub islands_keep : (i : Instance)
@@ -39,25 +40,13 @@ islands_keep i by_active by_begun timed_active timed_begun no_empty = record {
 pub islands_do : (i : Instance) → ControlRules i → IslandRules i → IslandsDo i
 islands_do i control island form place stands is_one = island_leaf i control.rules island form place stands
 
-mutual
-  pub joined : (i : Instance) (path more : Path) → instance_at (instance_at i path) more ≡ instance_at i (path ++ more)
-  joined (Node part cells) [] more = refl
-  joined (Node part cells) (c ∷ path) more = joined_below cells c path more
-
-  joined_below : (cells : Cells) (c : ℕ) (path more : Path) → instance_at (child_at cells c path) more ≡ child_at cells c (path ++ more)
-  joined_below no_cells c path more = nowhere more
-  joined_below (a_primitive row rest) zero path more = nowhere more
-  joined_below (a_primitive row rest) (suc c) path more = joined_below rest c path more
-  joined_below (an_instance child rest) zero path more = joined child path more
-  joined_below (an_instance child rest) (suc c) path more = joined_below rest c path more
-
 -- THE CONTROL of every instance, where all keep their rules
 module _ (d : PlainDesign) (rules : (path : Path) → ControlRules (instance_at (tree_of d) path)) (islands : (path : Path) → IslandRules (instance_at (tree_of d) path)) where
   pub rules_below : (path more : Path) → ControlRules (instance_at (instance_at (tree_of d) path) more)
-  rules_below path more = subst ControlRules (sym (joined (tree_of d) path more)) (rules (path ++ more))
+  rules_below path more = subst ControlRules (sym (instance_along (tree_of d) path more)) (rules (path ++ more))
 
   pub islands_below : (path more : Path) → IslandRules (instance_at (instance_at (tree_of d) path) more)
-  islands_below path more = subst IslandRules (sym (joined (tree_of d) path more)) (islands (path ++ more))
+  islands_below path more = subst IslandRules (sym (instance_along (tree_of d) path more)) (islands (path ++ more))
 
   pub codes_at : (path : Path) → IsRegion (Coded.machine (coded_control (instance_at (tree_of d) path))) (Coded.coding (coded_control (instance_at (tree_of d) path)))
   codes_at path = control_coded (instance_at (tree_of d) path) (rules path)

@@ -12,7 +12,7 @@ use Rattle.cx_meaning.specs.Sights.{Held, seen}
 use Rattle.cx_meaning.specs.Cycles.{Fault, Ended, Goes, cycle}
 use Rattle.cx_meaning.specs.Answers.{Turn, turns_of}
 use Rattle.cx_meaning.specs.Answers as answers
-use Rattle.cx_meaning.specs.Control.{drives}
+use Rattle.cx_meaning.specs.Control.{form_drives, drives}
 use Rattle.cx_meaning.specs.Calls.{hole_turn, group_turn}
 use Rattle.cx_rules.specs.Items.{Dynamic, Visited}
 use Rattle.cx_rules.specs.Footprints.{Reads}
@@ -26,7 +26,7 @@ use Rattle.cx_lockstep.specs.Doing.{Does}
 use Rattle.cx_lockstep.proofs.TurnLaws.{Takes, turn_does}
 use Rattle.cx_control.specs.Spots.{Spot, Cell, Number, Input, Kept, cells_in, held_in, shown, spots_of, reads_spot}
 use Rattle.cx_control.specs.Numbers.{number_idle_at, spot_idle, world_of, Rests}
-use Rattle.cx_control.specs.Leaves.{leaf_drives, written, turn_next, turn_writes, turn_faults, group_machine}
+use Rattle.cx_control.specs.Leaves.{written, turn_next, turn_writes, turn_faults, group_machine}
 use Rattle.cx_control.specs.InstanceRules.{InstanceRules, Stands}
 use Rattle.cx_control.proofs.RestLaws.{number_idle_at-zero, rest_is_kept, idle_is_shown, idle_rests, cycle_keeps_root, cycle_keeps_at}
 use Rattle.cx_text.proofs.NumberLaws.{false_true}
@@ -110,18 +110,18 @@ module _ (i : Instance) (rules : InstanceRules i) (g : ℕ) (place : Place) (sta
       by_turn answers.Ends is same = record {
         clean = ap turn_faults same;
         is_over = ap turn_next same;
-        writes_none = λ x. ap (λ t. turn_writes (leaf_drives (part_of i) (Enable g)) t x) same;
+        writes_none = λ x. ap (λ t. turn_writes (form_drives (part_of i) (Enable g)) t x) same;
         idles = λ x driven. idle_is_shown i held s x;
         settles = λ x driven. idle_rests i rules held s x;
       }
       by_turn (answers.Goes after) is (b, same, agrees) = record {
         clean = ap turn_faults same;
         stays = ap turn_next same;
-        writes_it = λ x driven. ap (λ t. edge_of (turn_writes (leaf_drives (part_of i) (Enable g)) t x) (spot_idle i x (w x))) same
-            ∙ turn_written i (leaf_drives (part_of i) (Enable g)) held Fault s b after w
+        writes_it = λ x driven. ap (λ t. edge_of (turn_writes (form_drives (part_of i) (Enable g)) t x) (spot_idle i x (w x))) same
+            ∙ turn_written i (form_drives (part_of i) (Enable g)) held Fault s b after w
             (λ c path inside. sym (agrees c path ((rules.closed Whole).driven c inside)))
             (λ y inside. near y (spots_within (drives (part_of i) Whole) Seen (λ c k. (rules.closed Whole).driven c k) y inside)) x driven;
-        keeps = turn_kept i (leaf_drives (part_of i) (Enable g)) held rules (group g) s after (hole_goes g (truth_of (seen i held (group g) s (ports.Done g))) (cycle i held (group g) s) after is)
+        keeps = turn_kept i (form_drives (part_of i) (Enable g)) held rules (group g) s after (hole_goes g (truth_of (seen i held (group g) s (ports.Done g))) (cycle i held (group g) s) after is)
             (λ c free. rules.alone Whole g c (inl refl) free);
       }
       by_turn (answers.Faults fault) is same = tt
@@ -131,6 +131,6 @@ module _ (i : Instance) (rules : InstanceRules i) (g : ℕ) (place : Place) (sta
   group_leaf =
       turn_does (world_of i) (Rests i) (group_machine i g) tt (spots_of (drives (part_of i) Whole)) (λ e. idle i)
       (λ x v rests. (rest_is_kept i).quiet x v rests) (λ e s x rests. (rest_is_kept i).rested e s x rests)
-      (λ d s x free. turn_writes-none (leaf_drives (part_of i) (Enable g)) (group_turn i (held_in s) g (cells_in s)) x free)
+      (λ d s x free. turn_writes-none (form_drives (part_of i) (Enable g)) (group_turn i (held_in s) g (cells_in s)) x free)
       (λ held. group_turn i held g) (reads_spot Seen) takes refl
       (spots_within (drives (part_of i) Whole) Seen (λ c k. (rules.closed Whole).driven c k))

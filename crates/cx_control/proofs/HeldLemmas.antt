@@ -17,6 +17,7 @@ use Rattle.cx_meaning.specs.Sights.{Look, Below, Held, unheld, PartPort, Go, AnI
 use Rattle.cx_meaning.proofs.SightsLemmas.{one_sight}
 use Rattle.cx_rules.specs.Footprints.{Leads, at_once}
 use Rattle.cx_rules.specs.Circles.{IsAcyclic, AcyclicBelow}
+use Rattle.cx_rules.specs.CallShape.{IsOutputOrDone}
 use Rattle.cx_rules.proofs.FoundLemmas.{needs_leads, seen_found, below_found}
 use Rattle.cx_control.specs.Flows.{Reaches}
 use Rattle.cx_meaning.proofs.InstancesLemmas.{instance_is, instance_row}
@@ -26,13 +27,9 @@ reaches_then : (i : Instance) (act : Active) (p q r : PortRef) → Reaches i act
 reaches_then i act p q r (inl e) l = inr (at_once (subst (λ x. Leads i act x r) (sym e) l))
 reaches_then i act p q r (inr d) l = inr (depends_then d l)
 
--- an output or the done of a component cell
-abbrev pub IsGiven : Instance → ℕ → Type 0
-IsGiven child q = ((m : ℕ) × (part_port (part_of child) q ≡ AnOutput m)) ⊎ (part_port (part_of child) q ≡ ItsDone)
-
 module _ (i : Instance) (act : Active) (acyclic : IsAcyclic i act) (deeper : AcyclicBelow (cells_of i)) (c : ℕ) (child : Instance) (at_child : cell_at (cells_of i) c ≡ OfInstance child)
     (held : Held) (s t : State) (outside : (e : ℕ) (path : Path) → (e ≡ c → ⊥) → s (e ∷ path) ≡ t (e ∷ path)) (from : PortRef)
-    (apart : (q : ℕ) → IsGiven child q → Reaches i act from (ports.Cell c q) → ⊥) where
+    (apart : (q : ℕ) → IsOutputOrDone child q → Reaches i act from (ports.Cell c q) → ⊥) where
   abbrev beneath : Below
   beneath = outputs_below (cells_of i) (λ k. under k t)
 

@@ -2,6 +2,7 @@
 use Rattle.std.proofs.Common.{◌≡◌, ℕ, suc, ◌+◌, ◌-◌, ◌⊎◌, inl, inr, Bool, true, false, ◌&&◌, ◌||◌, nat_eq, List, [], ◌∷◌, Option, Some, None, length, if◌then◌else◌, refl, sym, ap, ◌∙◌, subst, arith}
 use Rattle.std.specs.Prelude.{slice_get, map}
 use Rattle.std.proofs.lemmas.Bool.{eqb-true, le-ltb}
+use Rattle.cx_text.specs.Members.{In}
 use Rattle.cx_prim.specs.Rows.{Row, is_enable_side}
 use Rattle.cx_prim.specs.RegisterRow.{register_output, register_row}
 use Rattle.cx_meaning.specs.declared.ports.PortRef.{PortRef}
@@ -12,7 +13,7 @@ use Rattle.cx_meaning.specs.Designs.{PlainGuard, Always, Atom, Negation, All, An
 use Rattle.cx_meaning.specs.Instances.{Instance, Cells, At, Nothing, OfRow, OfInstance, cell_at, cells_of, part_of, State, under, idle_at}
 use Rattle.cx_meaning.specs.Active.{Active, Owned, group, capture, same_port, source_order, drivers}
 use Rattle.cx_meaning.specs.Truths.{One, truth_of}
-use Rattle.cx_meaning.specs.Sights.{Look, Held, In, AnInput, AnOutput, ItsDone, part_port, output_port, bit_of, of_option, guard_truth, target_seen, cell_step, part_step, seen, outputs_below}
+use Rattle.cx_meaning.specs.Sights.{Look, Held, AnInput, AnOutput, ItsDone, part_port, output_port, bit_of, of_option, guard_truth, target_seen, cell_step, part_step, seen, outputs_below}
 use Rattle.cx_meaning.specs.Cycles.{Goes, cycle}
 use Rattle.cx_meaning.specs.Islands.{is_one}
 use Rattle.cx_meaning.specs.Calls.{enables_at, enables_primitive, captures_in}

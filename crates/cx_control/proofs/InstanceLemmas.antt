@@ -4,16 +4,18 @@ use Rattle.std.proofs.Common.{◌≡◌, ℕ, zero, suc, ◌<◌, ◌⊎◌, inl
 use Rattle.std.specs.Prelude.{slice_get}
 use Rattle.std.proofs.lemmas.Bool.{cases_lt}
 use Rattle.std.proofs.lemmas.List.{get_or_past}
+use Rattle.cx_text.proofs.MemberLaws.{number_in}
+use Rattle.cx_text.specs.Members.{In}
 use Rattle.cx_prim.specs.declared.ports.PortRow.{PortRow}
 use Rattle.cx_prim.specs.declared.ports.Side.TheVariants as sides
 use Rattle.cx_prim.specs.Rows.{Row}
 use Rattle.cx_prim.specs.Table.{PrimitiveRow, row_of}
 use Rattle.cx_meaning.specs.declared.ports.PortRef.TheVariants as ports
 use Rattle.cx_meaning.specs.Rows.{side_from}
-use Rattle.cx_meaning.specs.Designs.{PlainGroup, PlainKind, OfPrimitive, OfComponent, PlainCell, PlainComponent, PlainDesign, component_at, no_component, group_at, no_group}
+use Rattle.cx_meaning.specs.Designs.{PlainKind, OfPrimitive, OfComponent, PlainCell, PlainComponent, PlainDesign, component_at, no_component, group_at, no_group}
 use Rattle.cx_meaning.specs.Instances.{Instance, Cells, OfRow, OfInstance, cell_at, cells_of, part_of, add_cell, cells_for, tree_within, tree_of, Path, instance_at}
 use Rattle.cx_meaning.specs.Active.{Owned, source_order}
-use Rattle.cx_meaning.specs.Sights.{In, Go, part_port}
+use Rattle.cx_meaning.specs.Sights.{Go, part_port}
 use Rattle.cx_rules.specs.Ports.{component_of, is_target_only, path_of, part_width, width_of, cell_width}
 use Rattle.cx_rules.specs.Accepted.{IsAccepted}
 use Rattle.cx_text.specs.declared.rules.Rule.TheVariants.{NotASource}
@@ -23,10 +25,9 @@ use Rattle.cx_rules.specs.ShapeRules.{is_hole}
 use Rattle.cx_rules.specs.Spots.{AnAssign}
 use Rattle.cx_rules.specs.Wellformed.{IsDesign, StandsIn}
 use Rattle.cx_rules.proofs.CircleLemmas.{Reached, a_tree, no_tree, reached}
-use Rattle.cx_rules.proofs.ForeignLemmas.{OwnerOf, continuous, of_group, owner_of}
-use Rattle.cx_meaning.proofs.SightsLaws.{number_in}
 use Rattle.cx_meaning.proofs.InstancesLemmas.{row_is}
 use Rattle.cx_meaning.proofs.DesignsLemmas.{same_part}
+use Rattle.cx_laws.proofs.TreeLemmas.{stands_in}
 
 -- ROWS are those of the table
 abbrev pub OfTable : Row → Type 0
@@ -101,17 +102,6 @@ abbrev AllKeep : (Owned → Type 0) → PlainComponent → Type 0
 AllKeep Keeps part = (o : Owned) → In (source_order part) o → Keeps o
 
 module _ (d : PlainDesign) (Keeps : Owned → Type 0) (each : (k : ℕ) → k < length d.components → (o : Owned) → In (source_order (component_at d k)) o → StandsIn (component_at d k) o.owner o.assign → Keeps o) where
-  stands_in : (part : PlainComponent) (o : Owned) → In (source_order part) o → StandsIn part o.owner o.assign
-  stands_in part o i = by (owner_of part o i)
-    where
-      by : OwnerOf part o → StandsIn part o.owner o.assign
-      by (continuous owner stands) = subst (λ w. StandsIn part w o.assign) (sym owner) stands
-      by (of_group n owner stands) = by_group (there_below part n)
-        where
-          by_group : (n < length part.groups) ⊎ (group_at part n ≡ no_group) → StandsIn part o.owner o.assign
-          by_group (inl h) = subst (λ w. StandsIn part w o.assign) (sym owner) (h, stands)
-          by_group (inr e) = absurd (subst (λ (x : PlainGroup). In x.assigns o.assign) e stands)
-
   component_keeps : (k : ℕ) → k < length d.components → AllKeep Keeps (component_at d k)
   component_keeps k within o i = each k within o i (stands_in (component_at d k) o i)
 

@@ -3,6 +3,8 @@ use Rattle.std.proofs.Common.{◌≡◌, ℕ, zero, suc, ◌+◌, ◌<◌, inl, 
 use Rattle.std.specs.Prelude.{not, option_map, option_and_then, nat_eq, ◌%◌}
 use Rattle.std.proofs.Math.Path.{fun_ext}
 use Rattle.std.proofs.lemmas.Bool.{lt-ltb, le-ltb}
+use Rattle.cx_text.proofs.MemberLaws.{in_left, in_right}
+use Rattle.cx_text.specs.Members.{In}
 use Rattle.cx_text.specs.declared.places.Place.{Place}
 use Rattle.cx_meaning.specs.declared.ports.PortRef.{PortRef}
 use Rattle.cx_meaning.specs.declared.ports.PlacedPort.{PlacedPort}
@@ -10,11 +12,11 @@ use Rattle.cx_meaning.specs.Designs.{PlainComponent, PlainForm, Empty, Enable, S
 use Rattle.cx_meaning.specs.Instances.{Instance, part_of, State, idle}
 use Rattle.cx_meaning.specs.Active.{nothing, entries}
 use Rattle.cx_meaning.specs.Truths.{truth_of}
-use Rattle.cx_meaning.specs.Sights.{Held, In, seen}
+use Rattle.cx_meaning.specs.Sights.{Held, seen}
 use Rattle.cx_meaning.specs.Cycles.{Fault, Ended, Goes, Faults, cycle}
 use Rattle.cx_meaning.specs.Answers.{Answer, End, More, Turn, after_turns, idle_turn, turn_then}
 use Rattle.cx_meaning.specs.Answers as answers
-use Rattle.cx_meaning.specs.Control.{drives}
+use Rattle.cx_meaning.specs.Control.{form_drives, drives}
 use Rattle.cx_meaning.specs.Islands.{History, no_history, length_of, form_length, form_flat, active_in, looked_at, and_now, is_one, first_unclear, unless_unclear, island_turn, island_from, island}
 use Rattle.cx_rules.specs.Items.{Context, Dynamic, InStatic, Branch, Visited, visit, visit_all, test_in}
 use Rattle.cx_rules.specs.Footprints.{Reads}
@@ -32,13 +34,12 @@ use Rattle.cx_control.specs.Sampling.{within_length, behind_length, taken, where
 use Rattle.cx_control.proofs.SamplingLaws.{first_sampled, next_sampled}
 use Rattle.cx_control.specs.Spots.{Spot, Holds, Kept, cells_in, shown, spots_of, reads_spot}
 use Rattle.cx_control.specs.Numbers.{spot_idle, world_of, Rests}
-use Rattle.cx_control.specs.Leaves.{leaf_drives, turn_writes, turn_faults, InIsland, Cycle, LastTurn, no_samples, island_start, sampled_now, island_now, next_cycle, island_machine}
+use Rattle.cx_control.specs.Leaves.{turn_writes, turn_faults, InIsland, Cycle, LastTurn, no_samples, island_start, sampled_now, island_now, next_cycle, island_machine}
 use Rattle.cx_control.specs.InstanceRules.{InstanceRules, Stands}
 use Rattle.cx_control.specs.IslandRules.{IslandRules}
 use Rattle.cx_control.proofs.RestLaws.{rest_is_kept, idle_is_shown, idle_rests}
 use Rattle.cx_control.proofs.GroupLaws.{spots_within, turn_writes-none, turn_written, turn_kept, near_inputs, near_cells}
 use Rattle.cx_frames.proofs.RunLemmas.{unless_unclear-Goes}
-use Rattle.cx_meaning.proofs.SightsLaws.{in_left, in_right}
 use Rattle.cx_rules.proofs.CirclesLemmas.{cells_below, own_acyclic}
 
 -- WHAT IS SAMPLED hangs on the ports that are tested
@@ -177,7 +178,7 @@ module _ (i : Instance) (rules : InstanceRules i) (island_rules : IslandRules i)
 
         kept_there : (x : Spot) → R x → spots_of (drives (part_of i) Whole) x ≡ false → shown e after x ≡ shown e st x
         kept_there x r free =
-            turn_kept i (leaf_drives (part_of i) form) e rules (entries (active_in now t (form_flat (part_of i) form 0 []))) st after cycle_goes (λ c none. rules.in_island form place now t c none) x free (calm x r free)
+            turn_kept i (form_drives (part_of i) form) e rules (entries (active_in now t (form_flat (part_of i) form 0 []))) st after cycle_goes (λ c none. rules.in_island form place now t c none) x free (calm x r free)
 
         clean : (w : Kept) → Agree R w (shown e st) → M.faults (Cycle t kept) w ≡ false
         clean w near = ap turn_faults (there w near).1
@@ -185,13 +186,13 @@ module _ (i : Instance) (rules : InstanceRules i) (island_rules : IslandRules i)
         comes_to : (w : Kept) → Agree R w (shown e st) → Agree R (edge (spot_idle i) M (At (Cycle t kept)) w) (shown e after)
         comes_to w near x r = either (spots_of (drives (part_of i) Whole) x) refl
           where
-            either : (b : Bool) → spots_of (drives (part_of i) Whole) x ≡ b → edge_of (turn_writes (leaf_drives (part_of i) form) (island_now i form t kept w) x) (spot_idle i x (w x)) ≡ shown e after x
+            either : (b : Bool) → spots_of (drives (part_of i) Whole) x ≡ b → edge_of (turn_writes (form_drives (part_of i) form) (island_now i form t kept w) x) (spot_idle i x (w x)) ≡ shown e after x
             either true driven =
-                ap (λ u. edge_of (turn_writes (leaf_drives (part_of i) form) u x) (spot_idle i x (w x))) (there w near).1
-                ∙ turn_written i (leaf_drives (part_of i) form) e Fault st (there w near).0 after w (λ c path one. sym ((there w near).2 c path ((rules.closed Whole).driven c one)))
+                ap (λ u. edge_of (turn_writes (form_drives (part_of i) form) u x) (spot_idle i x (w x))) (there w near).1
+                ∙ turn_written i (form_drives (part_of i) form) e Fault st (there w near).0 after w (λ c path one. sym ((there w near).2 c path ((rules.closed Whole).driven c one)))
                 (λ y one. near y (more y (spots_within (drives (part_of i) Whole) Seen (λ c k. (rules.closed Whole).driven c k) y one))) x driven
             either false free =
-                ap (λ o. edge_of o (spot_idle i x (w x))) (turn_writes-none (leaf_drives (part_of i) form) (island_now i form t kept w) x free)
+                ap (λ o. edge_of o (spot_idle i x (w x))) (turn_writes-none (form_drives (part_of i) form) (island_now i form t kept w) x free)
                 ∙ ap (spot_idle i x) (near x r) ∙ (rest_is_kept i).quiet x (shown e st x) (calm x r free) ∙ sym (kept_there x r free)
 
         calm_after : Calm after
@@ -248,7 +249,7 @@ module _ (i : Instance) (rules : InstanceRules i) (island_rules : IslandRules i)
         by_turn (answers.Faults fault) is later = tt
 
   only : (p : InIsland) (s : Kept) (x : Spot) → spots_of (drives (part_of i) Whole) x ≡ false → M.writes p s x ≡ None
-  only (Cycle t kept) s x free = turn_writes-none (leaf_drives (part_of i) form) (island_now i form t kept s) x free
+  only (Cycle t kept) s x free = turn_writes-none (form_drives (part_of i) form) (island_now i form t kept s) x free
   only LastTurn s x free = refl
 
   start_is : (length : ℕ) → island_start length ≡ stand length 0 no_samples

@@ -1,6 +1,7 @@
 -- THE INVARIANT IS KEPT: it holds at a start from rest, is kept by a step without a fault, and an end leaves all at rest.
 use Rattle.std.proofs.Common.{◌≡◌, ℕ, zero, suc, ◌⊎◌, inl, inr, Bool, true, false, ◌||◌, List, [], ◌∷◌, Option, Some, None, if◌then◌else◌, refl, sym, ap, ◌∙◌, subst}
 use Rattle.std.proofs.Math.Path.{fun_ext}
+use Rattle.cx_text.specs.Members.{In}
 use Rattle.cx_text.specs.declared.places.Place.{Place}
 use Rattle.cx_meaning.specs.declared.ports.PortRef.TheVariants as ports
 use Rattle.cx_meaning.specs.Designs.{PlainComponent, PlainForm, Enable, PlainStatement, Placed, group_at}
@@ -8,9 +9,9 @@ use Rattle.cx_meaning.specs.Instances as instances
 use Rattle.cx_meaning.specs.Instances.{Instance, Node, Cells, no_cells, a_primitive, an_instance, Nothing, OfRow, OfInstance, cell_at, cells_of, part_of, Path, State, just, idle_at, idle_below, instance_at}
 use Rattle.cx_meaning.specs.Active.{group, capture}
 use Rattle.cx_meaning.specs.Truths.{One, truth_of}
-use Rattle.cx_meaning.specs.Sights.{Held, In, seen}
+use Rattle.cx_meaning.specs.Sights.{Held, seen}
 use Rattle.cx_meaning.specs.Cycles.{Fault, Ended, Goes, Faults, cycle}
-use Rattle.cx_meaning.specs.Control.{drives}
+use Rattle.cx_meaning.specs.Control.{form_drives, drives}
 use Rattle.cx_meaning.specs.Islands.{is_one, turn_of}
 use Rattle.cx_meaning.specs.Calls.{called, captures}
 use Rattle.cx_meaning.specs.Running.{leaves, control_below}
@@ -27,7 +28,7 @@ use Rattle.cx_control.specs.Codings.{Coding, Bank, region_bank, at_fine}
 use Rattle.cx_control.specs.CodingLaws.{IsBank, region_bank_is}
 use Rattle.cx_control.specs.Spots.{Spot, Cell, Number, Input, Holds, Kept, cells_in, held_in, pull, spots_of, reads_spot}
 use Rattle.cx_control.specs.Numbers.{number_idle_at, number_idle_below, idle_by, spot_idle, world_of, Rests}
-use Rattle.cx_control.specs.Leaves.{Coded, code_of, child_at, leaf_drives, written, turn_writes, turn_faults, inputs_now, captured_now, hole_now, capture_now, child_writes, child_faults, leaf_machines}
+use Rattle.cx_control.specs.Leaves.{Coded, code_of, child_at, written, turn_writes, turn_faults, inputs_now, captured_now, hole_now, capture_now, child_writes, child_faults, leaf_machines}
 use Rattle.cx_control.specs.Controls.{coded_control, coded_below}
 use Rattle.cx_control.specs.Standing.{Bare, bare, bare_under, RestsAt, Calling, runs, at_end, captured, GoodAt, good_control, good_below}
 use Rattle.cx_control.specs.Keeping.{AllRest, Keeps}
@@ -129,7 +130,7 @@ module _ (part : PlainComponent) (cells : Cells) (control : ControlRules (Node p
     pub drives_it : drives part (Placed (Enable g) place) c ≡ true
     drives_it = ap (λ b. b || false) (called_drives cells (group_at part g).assigns c e)
 
-    hole_opens : (b : Bare) → captures i g ≡ true → ((d : ℕ) → leaf_drives part (Enable g) d ≡ true → (d ≡ c → ⊥) → idle_at i (d ∷ []) (b.cell (d ∷ [])) ≡ b.cell (d ∷ []))
+    hole_opens : (b : Bare) → captures i g ≡ true → ((d : ℕ) → form_drives part (Enable g) d ≡ true → (d ≡ c → ⊥) → idle_at i (d ∷ []) (b.cell (d ∷ [])) ≡ b.cell (d ∷ []))
         → (held : Held) → truth_of (seen i held (group g) b.cell (ports.Done g)) ≡ One → ⊥
     hole_opens b k rest held is_set = not_one_of (truth_of (seen i held (group g) b.cell (ports.Done g))) (call.is_open k held b.cell rest) is_set
 
@@ -358,7 +359,7 @@ module _ (part : PlainComponent) (cells : Cells) (control : ControlRules (Node p
             opens : captures i g ≡ true → (held : Held) → truth_of (seen i held (group g) next.cell (ports.Done g)) ≡ One → ⊥
             opens caps = hole_opens g place c its_stands e next caps still
               where
-                still : (d : ℕ) → leaf_drives part (Enable g) d ≡ true → (d ≡ c → ⊥) → idle_at i (d ∷ []) (next.cell (d ∷ [])) ≡ next.cell (d ∷ [])
+                still : (d : ℕ) → form_drives part (Enable g) d ≡ true → (d ≡ c → ⊥) → idle_at i (d ∷ []) (next.cell (d ∷ [])) ≡ next.cell (d ∷ [])
                 still d drive differ =
                     let idle = idles (Cell (d ∷ [])) (write_of (Cell (d ∷ [])) drive ∙ ap (λ b. if b then Machine.writes (Coded.machine (kid c)) q (pull c inputs s) (Cell []) else None) (not_just c d differ)) in
                     ap (idle_at i (d ∷ [])) idle ∙ rules.settles (cells_in s) (d ∷ []) ∙ sym idle
@@ -374,10 +375,10 @@ module _ (part : PlainComponent) (cells : Cells) (control : ControlRules (Node p
             at_its_end : child_at (kid c) c s ≡ Done
             at_its_end = decoded g place c its_stands e s Done tt code
 
-            write_of : (x : Spot) → spots (Placed (Enable g) place) x ≡ true → M.writes p s x ≡ turn_writes (leaf_drives part (Enable g)) (capture_now i (kid c) g c (captures i g) s) x
+            write_of : (x : Spot) → spots (Placed (Enable g) place) x ≡ true → M.writes p s x ≡ turn_writes (form_drives part (Enable g)) (capture_now i (kid c) g c (captures i g) s) x
             write_of x d =
                 writes_so x d ∙ ap (λ k. child_writes i (kid c) g c (captures i g) k s x) at_its_end
-                ∙ ap (λ b. if b then turn_writes (leaf_drives part (Enable g)) (capture_now i (kid c) g c (captures i g) s) x else None) caps
+                ∙ ap (λ b. if b then turn_writes (form_drives part (Enable g)) (capture_now i (kid c) g c (captures i g) s) x else None) caps
 
             clean : turn_faults (capture_now i (kid c) g c (captures i g) s) ≡ false
             clean =
@@ -388,16 +389,16 @@ module _ (part : PlainComponent) (cells : Cells) (control : ControlRules (Node p
             by_cycle (Faults fault) is = true_false true refl (ap (λ t. turn_faults (turn_of t)) (sym is) ∙ clean)
             by_cycle (Goes left) is = captured rest caps set_so
               where
-                cell_of : (d : ℕ) (path : Path) → leaf_drives part (Enable g) d ≡ true → next.cell (d ∷ path) ≡ left (d ∷ path)
+                cell_of : (d : ℕ) (path : Path) → form_drives part (Enable g) d ≡ true → next.cell (d ∷ path) ≡ left (d ∷ path)
                 cell_of d path drive =
                     ap (λ o. edge_of o (idle_at i (d ∷ path) (s (Cell (d ∷ path)))))
-                    (write_of (Cell (d ∷ path)) drive ∙ ap (λ t. turn_writes (leaf_drives part (Enable g)) (turn_of t) (Cell (d ∷ path))) is ∙ ap (λ b. written b left (Cell (d ∷ path))) drive)
+                    (write_of (Cell (d ∷ path)) drive ∙ ap (λ t. turn_writes (form_drives part (Enable g)) (turn_of t) (Cell (d ∷ path))) is ∙ ap (λ b. written b left (Cell (d ∷ path))) drive)
 
                 rest : RestsAt cells c next
                 rest = record {
                   cells_rest = λ path. let same = cell_of c path (drives_it g place c its_stands e) ∙ rules.children its_child_here (held_in s) (capture g c) (cells_in s) left c (at_child g place c its_stands e) is path in
                       ap (idle_below cells c path) same ∙ end_rests g place c its_stands e (bare s) code gd path ∙ sym same;
-                  numbers_rest = λ path n. idles (Number (c ∷ path) n) (write_of (Number (c ∷ path) n) (drives_it g place c its_stands e) ∙ turn_number i (coded_below cells) s (leaf_drives part (Enable g)) (capture_now i (kid c) g c (captures i g) s) (c ∷ path) n)
+                  numbers_rest = λ path n. idles (Number (c ∷ path) n) (write_of (Number (c ∷ path) n) (drives_it g place c its_stands e) ∙ turn_number i (coded_below cells) s (form_drives part (Enable g)) (capture_now i (kid c) g c (captures i g) s) (c ∷ path) n)
                       ∙ end_numbers g place c its_stands e (bare s) code gd path n;
                 }
                   where
@@ -489,7 +490,7 @@ module _ (part : PlainComponent) (cells : Cells) (control : ControlRules (Node p
                 let same = is_it d drive r q n f follows in
                 quiet r n (ap (λ t. drives part t c) (sym (same_leaf r q follows) ∙ ap (leaf_of P) (sym same)) ∙ driven) q follows
 
-            still : (d : ℕ) → leaf_drives part (Enable g) d ≡ true → (d ≡ c → ⊥) → idle_at i (d ∷ []) (next.cell (d ∷ [])) ≡ next.cell (d ∷ [])
+            still : (d : ℕ) → form_drives part (Enable g) d ≡ true → (d ≡ c → ⊥) → idle_at i (d ∷ []) (next.cell (d ∷ [])) ≡ next.cell (d ∷ [])
             still d drive differ = RestsAt.cells_rest (rests_after d (quiet_too d drive)) []
 
         by_going : Going c R ⊎ NoneGoes c R → CallingOf g c next

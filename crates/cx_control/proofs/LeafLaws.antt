@@ -12,9 +12,10 @@ use Rattle.cx_meaning.specs.Answers.{Turn}
 use Rattle.cx_meaning.specs.Answers as answers
 use Rattle.cx_meaning.specs.Islands.{is_one, form_length}
 use Rattle.cx_meaning.specs.Calls.{called, captures, group_turn}
+use Rattle.cx_meaning.specs.Control.{form_drives}
 use Rattle.cx_lockstep.specs.Worlds.{Control, At, Done, Machine, is_done}
 use Rattle.cx_control.specs.Spots.{Spot, Number, Holds, Kept, cells_in, held_in, pull, spots_of}
-use Rattle.cx_control.specs.Leaves.{Coded, code_of, child_at, leaf_drives, written, turn_next, turn_writes, InIsland, Cycle, LastTurn, sampled_now, island_machine, inputs_now, hole_now, capture_now, child_writes, call_writes, child_faults, call_machine, called_machine, kind_machine}
+use Rattle.cx_control.specs.Leaves.{Coded, code_of, child_at, written, turn_next, turn_writes, InIsland, Cycle, LastTurn, sampled_now, island_machine, inputs_now, hole_now, capture_now, child_writes, call_writes, child_faults, call_machine, called_machine, kind_machine}
 
 -- a test has one outcome
 pub true_false : {A : Type 0} (b : Bool) → b ≡ true → b ≡ false → A
@@ -76,7 +77,7 @@ module _ (i : Instance) (children : ℕ → Coded) (s : Kept) where
   pub record IsQuietEnd (M : Machine Spot Holds) (stand : M.Place) : Type 0 where
     pub nothing : is_done (M.step stand s) ≡ true → (x : Spot) → M.writes stand s x ≡ None
 
-  group_ends : (g : ℕ) (turn : Turn State Fault) (x : Spot) → is_done (turn_next turn) ≡ true → turn_writes (leaf_drives (part_of i) (Enable g)) turn x ≡ None
+  group_ends : (g : ℕ) (turn : Turn State Fault) (x : Spot) → is_done (turn_next turn) ≡ true → turn_writes (form_drives (part_of i) (Enable g)) turn x ≡ None
   group_ends g answers.Ends x e = refl
   group_ends g (answers.Goes after) x e = true_false false e refl
   group_ends g (answers.Faults fault) x e = refl
@@ -108,12 +109,12 @@ module _ (i : Instance) (children : ℕ → Coded) (s : Kept) where
     child_number child g d capturing away (At q) (f ∷ p) = ap (λ b. if b then Machine.writes child.machine q (pull d (inputs_now i child g d capturing s) s) (Number (f ∷ p) n) else None) away
     child_number child g d capturing away Done p = either capturing
       where
-        either : (b : Bool) → (if b then turn_writes (leaf_drives (part_of i) (Enable g)) (capture_now i child g d capturing s) (Number (c ∷ p) n) else None) ≡ None
-        either true = turn_number (leaf_drives (part_of i) (Enable g)) (capture_now i child g d capturing s) (c ∷ p) n
+        either : (b : Bool) → (if b then turn_writes (form_drives (part_of i) (Enable g)) (capture_now i child g d capturing s) (Number (c ∷ p) n) else None) ≡ None
+        either true = turn_number (form_drives (part_of i) (Enable g)) (capture_now i child g d capturing s) (c ∷ p) n
         either false = refl
 
     called_number : (g : ℕ) (o : Option ℕ) → ((d : ℕ) → o ≡ Some d → just d c ≡ false) → (stand : Machine.Place (called_machine i children g o)) → Machine.writes (called_machine i children g o) stand s (Number (c ∷ path) n) ≡ None
-    called_number g None other stand = turn_number (leaf_drives (part_of i) (Enable g)) (group_turn i (held_in s) g (cells_in s)) (c ∷ path) n
+    called_number g None other stand = turn_number (form_drives (part_of i) (Enable g)) (group_turn i (held_in s) g (cells_in s)) (c ∷ path) n
     called_number g (Some d) other stand = either (hole_now i (children d) g d (captures i g) (child_at (children d) d s) s)
       where
         either : (b : Bool) → (if b then None else child_writes i (children d) g d (captures i g) (child_at (children d) d s) s (Number (c ∷ path) n)) ≡ None
@@ -121,7 +122,7 @@ module _ (i : Instance) (children : ℕ → Coded) (s : Kept) where
         either false = child_number (children d) g d (captures i g) (other d refl) (child_at (children d) d s) path
 
     pub island_number : (form : PlainForm) (stand : InIsland) → Machine.writes (island_machine i form) stand s (Number (c ∷ path) n) ≡ None
-    island_number form (Cycle t kept) = turn_number (leaf_drives (part_of i) form) _ (c ∷ path) n
+    island_number form (Cycle t kept) = turn_number (form_drives (part_of i) form) _ (c ∷ path) n
     island_number form LastTurn = refl
 
     pub kind_number : (g : ℕ) (kind : GroupKind) → ((d : ℕ) → called i g ≡ Some d → just d c ≡ false) → (stand : Machine.Place (kind_machine i children g kind)) → Machine.writes (kind_machine i children g kind) stand s (Number (c ∷ path) n) ≡ None

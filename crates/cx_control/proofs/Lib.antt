@@ -14,7 +14,6 @@ pub mod ShapeLemmas
 pub mod HeldLemmas
 pub mod RegisterLemmas
 pub mod HoleLemmas
-pub mod StaticLemmas
 pub mod DesignRules
 pub mod DesignRuns
 pub mod RestLaws

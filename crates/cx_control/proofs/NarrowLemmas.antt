@@ -1,5 +1,6 @@
 -- In an accepted design an enabling port of a primitive cell has one bit: where nothing drives it, it is seen as one bit.
-use Rattle.std.proofs.Common.{◌≡◌, ℕ, zero, suc, ◌<◌, true, false, [], ◌∷◌, ◌++◌, Some, None, refl, sym, ap, ◌∙◌, subst}
+use Rattle.std.proofs.Common.{◌≡◌, ℕ, ◌<◌, true, false, ◌++◌, Some, None, refl, sym, ap, ◌∙◌, subst}
+use Rattle.cx_text.specs.Members.{In}
 use Rattle.cx_bits.specs.BitVector.{BitVector}
 use Rattle.cx_prim.specs.declared.ports.Side.TheVariants as sides
 use Rattle.cx_prim.specs.CellStates.{IsState}
@@ -7,12 +8,12 @@ use Rattle.cx_prim.specs.Rows.{Row, IsLawful, KeepsStates, is_enable_side}
 use Rattle.cx_prim.proofs.TableLaws.{row_of_lawful}
 use Rattle.cx_meaning.specs.declared.ports.PortRef.{PortRef}
 use Rattle.cx_meaning.specs.declared.ports.PortRef.TheVariants as ports
-use Rattle.cx_meaning.specs.declared.sights.Seen.TheVariants.{Value, Undefined}
+use Rattle.cx_meaning.specs.declared.sights.Seen.TheVariants.{Value}
 use Rattle.cx_meaning.specs.Rows.{side_of}
 use Rattle.cx_meaning.specs.Designs.{PlainDesign}
-use Rattle.cx_meaning.specs.Instances.{Instance, Node, Cells, no_cells, a_primitive, an_instance, OfRow, cell_at, cells_of, child_at, part_of, tree_of, Path, State, instance_at, start_at, start_below}
+use Rattle.cx_meaning.specs.Instances.{Instance, OfRow, cell_at, cells_of, part_of, tree_of, Path, State, instance_at, start_at}
 use Rattle.cx_meaning.specs.Active.{Active, Owned, source_order, nothing}
-use Rattle.cx_meaning.specs.Sights.{Held, In, Sees, bit_of, seen, unheld}
+use Rattle.cx_meaning.specs.Sights.{Held, Sees, bit_of, seen, unheld}
 use Rattle.cx_rules.specs.Ports.{is_primitive_enable, enables_cell, width_of}
 use Rattle.cx_rules.specs.WidthRules.{IsBadLiteral}
 use Rattle.cx_rules.specs.Wellformed.{IsDesign, IsThere, port_count}
@@ -23,41 +24,10 @@ use Rattle.cx_rules.proofs.ForeignLemmas.{foreign_zero}
 use Rattle.cx_laws.specs.Widths.{HoldsStates, HoldsWidths}
 use Rattle.cx_control.proofs.InstanceLemmas.{instance_rows, instance_within, enables_there}
 use Rattle.cx_rules.proofs.CirclesLemmas.{cells_below, own_acyclic}
-use Rattle.cx_meaning.proofs.InstancesLemmas.{nowhere}
+use Rattle.cx_meaning.proofs.InstancesLemmas.{instance_along}
+use Rattle.cx_meaning.proofs.SightsLaws.{undefined_value}
+use Rattle.cx_meaning.proofs.CyclesLemmas.{start_deep}
 use Rattle.cx_prim.proofs.PortsLemmas.{port_below}
-
--- at the start each cell holds its row's start
-mutual
-  starts : (i : Instance) (path : Path) (c : ℕ) (row : Row) → cell_at (cells_of (instance_at i path)) c ≡ OfRow row → start_at i (path ++ c ∷ []) ≡ row.start
-  starts (Node part cells) [] c row e = starts_here cells c row e
-  starts (Node part cells) (b ∷ path) c row e = starts_below cells b path c row e
-
-  starts_here : (cells : Cells) (c : ℕ) (row : Row) → cell_at cells c ≡ OfRow row → start_below cells c [] ≡ row.start
-  starts_here no_cells c row e = absurd (cc)
-  starts_here (a_primitive r rest) zero row e = let f : r ≡ row = cc in ap (λ (x : Row). x.start) f
-  starts_here (a_primitive r rest) (suc c) row e = starts_here rest c row e
-  starts_here (an_instance child rest) zero row e = absurd (cc)
-  starts_here (an_instance child rest) (suc c) row e = starts_here rest c row e
-
-  starts_below : (cells : Cells) (b : ℕ) (path : Path) (c : ℕ) (row : Row) → cell_at (cells_of (child_at cells b path)) c ≡ OfRow row → start_below cells b (path ++ c ∷ []) ≡ row.start
-  starts_below no_cells b path c row e = absurd (cc)
-  starts_below (a_primitive r rest) zero path c row e = absurd (cc)
-  starts_below (a_primitive r rest) (suc b) path c row e = starts_below rest b path c row e
-  starts_below (an_instance child rest) zero path c row e = starts child path c row e
-  starts_below (an_instance child rest) (suc b) path c row e = starts_below rest b path c row e
-
--- below an instance of the tree stands what stands at the joined path
-mutual
-  joins : (i : Instance) (p q : Path) → instance_at (instance_at i p) q ≡ instance_at i (p ++ q)
-  joins (Node part cells) [] q = refl
-  joins (Node part cells) (c ∷ p) q = joins_below cells c p q
-
-  joins_below : (cells : Cells) (c : ℕ) (p q : Path) → instance_at (child_at cells c p) q ≡ child_at cells c (p ++ q)
-  joins_below no_cells c p q = nowhere q
-  joins_below (a_primitive r rest) zero p q = nowhere q
-  joins_below (a_primitive r rest) (suc c) p q = joins_below rest c p q
-  joins_below (an_instance child rest) zero p q = joins child p q
-  joins_below (an_instance child rest) (suc c) p q = joins_below rest c p q
 
 -- no continuous assignment drives an enabling port, and values have the widths of their ports
 module _ (d : PlainDesign) (path : Path) (design : IsDesign d) (accepted : IsAccepted d)
@@ -79,15 +49,12 @@ module _ (d : PlainDesign) (path : Path) (design : IsDesign d) (accepted : IsAcc
   no_literal : (c p : ℕ) → IsBadLiteral (ports.Cell c p) → ⊥
   no_literal c p (w, v, e, f) = cc
 
-  undefined_value : (b : BitVector) → Undefined ≡ Value b → ⊥
-  undefined_value b e = cc
-
   -- an enabling port has one bit
   pub enables_narrow : (c p : ℕ) (row : Row) → cell_at (cells_of I) c ≡ OfRow row → side_of row p ≡ sides.Enable → width_of I (ports.Cell c p) ≡ Some 1
   enables_narrow c p row at side =
       let port = enables_there row.ports p side in
       widths unheld nothing (start_at I) (ports.Cell c p) (record { width = 1; value = 0 }) (λ n b e. absurd (undefined_value b e))
-      (λ q e other stands. subst (IsState other.shape) (sym (starts I q e other stands)) (states q e other stands))
+      (λ q e other stands. subst (IsState other.shape) (sym (start_deep I q e other stands)) (states q e other stands))
       (instance_within d path c row at, subst (λ x. p < port_count x) (sym at) (port_below row.ports p port.0 port.1))
       (no_literal c p)
       (subst (Sees I unheld nothing (start_at I) (ports.Cell c p)) (always_zero c p row at side (start_at I))
@@ -95,5 +62,5 @@ module _ (d : PlainDesign) (path : Path) (design : IsDesign d) (accepted : IsAcc
     where
       states : (q : Path) (e : ℕ) (other : Row) → cell_at (cells_of (instance_at I q)) e ≡ OfRow other → IsState other.shape other.start
       states q e other stands =
-          let p = instance_rows d (path ++ q) e other (ap (λ x. cell_at (cells_of x) e) (sym (joins (tree_of d) path q)) ∙ stands) in
+          let p = instance_rows d (path ++ q) e other (ap (λ x. cell_at (cells_of x) e) (sym (instance_along (tree_of d) path q)) ∙ stands) in
           KeepsStates.start (IsLawful.states (subst IsLawful p.1 (row_of_lawful p.0)))

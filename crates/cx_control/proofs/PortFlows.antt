@@ -1,6 +1,7 @@
 -- What is seen as a value flows as that value: all ports.
 use Rattle.std.proofs.Common.{◌≡◌, ℕ, zero, suc, ◌+◌, inl, inr, Bool, true, false, List, [], ◌∷◌, Option, Some, None, refl, sym, ap, ◌∙◌, subst, arith}
 use Rattle.std.specs.Prelude.{unwrap_or}
+use Rattle.cx_text.specs.Members.{In}
 use Rattle.cx_bits.specs.BitVector.{BitVector}
 use Rattle.cx_prim.specs.declared.ports.PortRow.{PortRow}
 use Rattle.cx_prim.specs.declared.ports.Side.{Side}
@@ -13,7 +14,7 @@ use Rattle.cx_meaning.specs.declared.sights.Seen.TheVariants.{Value, Conflict, U
 use Rattle.cx_meaning.specs.Rows.{side_of}
 use Rattle.cx_meaning.specs.Instances.{Instance, At, Nothing, OfRow, OfInstance, part_of, cells_of, cell_at, State, under}
 use Rattle.cx_meaning.specs.Active.{Active, nothing, group, Owned, source_order, drivers, offset_of, only_at}
-use Rattle.cx_meaning.specs.Sights.{Look, Below, Held, unheld, bit_of, In, Sees, by_step, step, side_step, part_step, cell_step, Needs, SideNeeds, PartNeeds, CellNeeds, output_seen, Gathered, Given, Lacks, gather, gather_port, PartPort, Go, AnInput, AnOutput, ItsDone, part_port}
+use Rattle.cx_meaning.specs.Sights.{Look, Below, Held, unheld, bit_of, Sees, by_step, step, side_step, part_step, cell_step, Needs, SideNeeds, PartNeeds, CellNeeds, output_seen, Gathered, Given, Lacks, gather, gather_port, PartPort, Go, AnInput, AnOutput, ItsDone, part_port}
 use Rattle.cx_rules.specs.Footprints.{Depends, at_once, by_way_of, Leads}
 use Rattle.cx_rules.specs.Ports.{width_of}
 use Rattle.cx_rules.proofs.FoundLemmas.{needs_leads}

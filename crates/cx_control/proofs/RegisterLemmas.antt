@@ -1,6 +1,7 @@
 -- Registers: their row, the done that is 0 where they rest, the state that a write leaves; and which of them a group captures.
 use Rattle.std.proofs.Common.{◌≡◌, ℕ, zero, suc, ◌+◌, inl, inr, Bool, true, false, ◌&&◌, List, [], ◌∷◌, Option, Some, None, IsSome, if◌then◌else◌, refl, sym, ap, ◌∙◌, subst, arith}
 use Rattle.std.specs.Prelude.{slice_get, unwrap_or, map, drop}
+use Rattle.cx_text.specs.Members.{In}
 use Rattle.cx_bits.specs.BitVector.{BitVector}
 use Rattle.cx_prim.specs.declared.names.PrimitiveName.{PrimitiveName}
 use Rattle.cx_prim.specs.declared.names.PrimitiveName.TheVariants as names
@@ -19,11 +20,11 @@ use Rattle.cx_meaning.specs.Instances.{Instance, OfRow, cell_at, cell_count, cel
 use Rattle.cx_meaning.specs.Active.{Active, same_port}
 use Rattle.cx_meaning.specs.Truths.{One, Zero, truth_of}
 use Rattle.cx_meaning.specs.Truths as truths
-use Rattle.cx_meaning.specs.Sights.{Look, Held, In, of_option, Given, with_entry, gather_one, gather_port, gather, seen}
+use Rattle.cx_meaning.specs.Sights.{Look, Held, of_option, Given, with_entry, gather_one, gather_port, gather, seen}
 use Rattle.cx_meaning.specs.Cycles.{Next, enables, after_data, after_enabling, cell_outcome, outcome_of, Goes, every_cell, cycle}
 use Rattle.cx_meaning.proofs.CycleLemmas.{each_steps, row_within, outcome_listed, next_is}
 use Rattle.cx_rules.specs.ShapeRules.{some_target}
-use Rattle.cx_rules.specs.CallShape.{is_reg_name, is_reg_kind, write_en_of, register_done, captured_from}
+use Rattle.cx_rules.specs.CallShape.{is_reg_name, is_reg_kind, write_en_of, register_done, added, captured_from}
 use Rattle.cx_control.proofs.ConjunctLemmas.{AreOnce}
 use Rattle.cx_text.proofs.NumberLaws.{false_true}
 use Rattle.cx_text.proofs.BoolLaws.{and_both}
@@ -137,10 +138,6 @@ cycle_steps i held act s after c row goes at =
     ∙ each_steps (outcome_of every_cell (seen i held act s) (cells_of i) s) (cell_count (cells_of i)) s after goes c (row_within (cells_of i) c row at)
 
 -- THE CAPTURED REGISTERS, from a number on
-abbrev added : ℕ → Bool → List ℕ → List ℕ
-added r true rest = r ∷ rest
-added r false rest = rest
-
 pub record Captured (assigns : List PlainAssign) (cells : List PlainCell) (from r : ℕ) : Type 0 where
   pub number : ℕ
   pub is : r ≡ from + number

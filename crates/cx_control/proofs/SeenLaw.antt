@@ -1,5 +1,6 @@
 -- What is seen as a value flows as that value: in every instance of an accepted design.
 use Rattle.std.proofs.Common.{◌≡◌, ℕ, false, [], ◌∷◌, Some, None, refl, subst}
+use Rattle.cx_text.specs.Members.{In}
 use Rattle.cx_bits.specs.BitVector.{BitVector}
 use Rattle.cx_prim.proofs.TableLaws.{row_of_lawful}
 use Rattle.cx_prim.specs.Rows.{Row, IsLawful}
@@ -10,7 +11,7 @@ use Rattle.cx_meaning.specs.declared.sights.Seen.TheVariants.{Value}
 use Rattle.cx_meaning.specs.Designs.{PlainDesign}
 use Rattle.cx_meaning.specs.Instances.{Instance, OfRow, part_of, cell_at, cells_of, Path, State, tree_of, instance_at}
 use Rattle.cx_meaning.specs.Active.{Active, Owned, source_order}
-use Rattle.cx_meaning.specs.Sights.{Held, In, Sees, seen}
+use Rattle.cx_meaning.specs.Sights.{Held, Sees, seen}
 use Rattle.cx_meaning.specs.Cycles.{Next, cell_outcome}
 use Rattle.cx_rules.specs.Wellformed.{IsDesign, IsThere}
 use Rattle.cx_rules.specs.Accepted.{IsAccepted}

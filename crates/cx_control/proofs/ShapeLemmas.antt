@@ -3,25 +3,27 @@ use Rattle.std.proofs.Common.{◌≡◌, ℕ, suc, ◌+◌, ◌<◌, ◌⊎◌, 
 use Rattle.std.specs.Prelude.{is_some}
 use Rattle.std.proofs.lemmas.Bool.{eqb-true, true_from_ne_false}
 use Rattle.std.proofs.lemmas.Bool.Decides.{eqb_tells}
+use Rattle.cx_text.specs.Members.{In}
 use Rattle.cx_prim.specs.Rows.{Row}
 use Rattle.cx_meaning.specs.declared.ports.PortRef.{PortRef}
 use Rattle.cx_meaning.specs.declared.ports.PortRef.TheVariants as ports
-use Rattle.cx_meaning.specs.Designs.{PlainAssign, PlainComponent, group_at}
-use Rattle.cx_meaning.specs.Instances.{Instance, Cells, At, Nothing, OfRow, OfInstance, cell_at, cells_of, part_of, just}
+use Rattle.cx_meaning.specs.Designs.{PlainAssign, PlainComponent, group_at, PlainDesign}
+use Rattle.cx_meaning.specs.Instances.{Instance, Cells, At, Nothing, OfRow, OfInstance, cell_at, cells_of, part_of, just, Path, tree_of, instance_at}
 use Rattle.cx_meaning.specs.Active.{Owned, group, same_port, source_order}
-use Rattle.cx_meaning.specs.Sights.{In, AnInput, AnOutput, ItsDone, part_port}
+use Rattle.cx_meaning.specs.Sights.{AnInput, AnOutput, ItsDone, part_port}
 use Rattle.cx_meaning.specs.Control.{targets_cell, assigns_drive, group_drives}
 use Rattle.cx_meaning.specs.Calls.{if_instance, called_by, called_in}
-use Rattle.cx_rules.specs.Ports.{enables_cell, is_primitive_enable, is_instance, is_part_port}
+use Rattle.cx_rules.specs.Ports.{enables_cell, is_primitive_enable, is_instance, is_part_port, component_of}
 use Rattle.cx_rules.specs.Items.{is_plain}
 use Rattle.cx_rules.specs.Footprints.{Depends}
 use Rattle.cx_rules.specs.ShapeRules.{is_hole_of, some_target}
 use Rattle.cx_rules.specs.InvokeShape.{latency_at, is_static_port}
 use Rattle.cx_rules.proofs.FoundLemmas.{same_is}
 use Rattle.cx_rules.specs.CallShape.{is_port_of, Calls, go_port, is_right_go, wrong_go, done_port, is_register_enable, with_target, is_right_enable, captured, wanted_dones, is_right_done, CallBreak, another_cell, input_by_output, wrong_enable, wrong_done}
-use Rattle.cx_control.proofs.BesideLemmas.{IsBeside, depends_too, KeepsCalls}
-use Rattle.cx_text.proofs.NumberLaws.{equal}
+use Rattle.cx_control.proofs.BesideLemmas.{IsBeside, depends_too, KeepsCalls, StandsFor, of_component, of_nothing, instance_stands, keeps_calls}
+use Rattle.cx_text.proofs.NumberLaws.{equal, never}
 use Rattle.cx_rules.proofs.ShapeRulesLemmas.{some_in, a_target}
+use Rattle.cx_rules.specs.Accepted.{IsAccepted}
 use Rattle.cx_meaning.proofs.InstancesLemmas.{just_true}
 use Rattle.cx_text.proofs.OptionLaws.{none_some, some_inj}
 use Rattle.cx_meaning.proofs.ControlLemmas.{called_child as called_instance}
@@ -228,3 +230,15 @@ module _ (i whole : Instance) (keeps : KeepsCalls i whole) where
           is_hole (ports.Output n) f = absurd (cc)
           is_hole (ports.Done h) f = ap ports.Done (eqb-true h g f)
           is_hole (ports.Literal w v) f = absurd (cc)
+
+-- IN A DESIGN a group that drives a component cell is a plain one
+pub plain_if_driven : (d : PlainDesign) → IsAccepted d → (path : Path) (g c : ℕ) (child : Instance) → cell_at (cells_of (instance_at (tree_of d) path)) c ≡ OfInstance child
+    → group_drives (part_of (instance_at (tree_of d) path)) g c ≡ true → is_plain (group_at (part_of (instance_at (tree_of d) path)) g).kind ≡ true
+plain_if_driven d accepted path g c child at drives = by (instance_stands d path)
+  where
+    by : StandsFor d (instance_at (tree_of d) path) → is_plain (group_at (part_of (instance_at (tree_of d) path)) g).kind ≡ true
+    by (of_component k l beside) =
+        let it = drives_driving (cells_of (instance_at (tree_of d) path)) (group_at (part_of (component_of d k)) g).assigns c (sym (ap (λ part. group_drives part g c) beside.same) ∙ drives) in
+        ap (λ part. is_plain (group_at part g).kind) beside.same
+        ∙ plain_group (instance_at (tree_of d) path) (component_of d k) (keeps_calls d accepted k l (instance_at (tree_of d) path) beside) g it.assign it.is_in c it.port child it.target at
+    by (of_nothing none) = never (sym (ap (λ part. group_drives part g c) none) ∙ drives)

@@ -1,33 +1,28 @@
 -- Statements of the control of an instance: their parts stand there too, and drive and read no more.
 use Rattle.std.proofs.Common.{◌≡◌, ℕ, suc, inl, inr, Bool, true, false, ◌||◌, List, [], ◌∷◌, ◌++◌, refl, sym, subst}
 use Rattle.std.specs.Prelude.{flat_map, if◌then◌else◌}
+use Rattle.cx_text.proofs.MemberLaws.{in_left, in_right, number_in}
+use Rattle.cx_text.specs.Members.{In}
 use Rattle.cx_meaning.specs.declared.ports.PlacedPort.{PlacedPort}
 use Rattle.cx_meaning.specs.Designs.{PlainComponent, PlainStatement, Placed, PlainStatements, no_statements, a_statement, list_of}
 use Rattle.cx_meaning.specs.Instances.{Instance, part_of, State, merge}
-use Rattle.cx_meaning.specs.Sights.{In, Held}
+use Rattle.cx_meaning.specs.Sights.{Held}
 use Rattle.cx_meaning.specs.Control.{groups_of, group_drives, groups_drive, drives}
 use Rattle.cx_rules.specs.Items.{Dynamic, Visited, visit, visit_all, statements_in, test_in, option_list, tests_of}
 use Rattle.cx_rules.specs.Footprints as footprints
 use Rattle.cx_rules.specs.Footprints.{Reads}
 use Rattle.cx_rules.specs.RaceRule.{IsShared}
-use Rattle.cx_frames.proofs.StatementFrames.{visited}
+use Rattle.cx_laws.proofs.VisitLemmas.{visited, as_visited, itself}
 use Rattle.cx_lockstep.specs.Lawful.{IsPart, of_seq, of_par, then_branch, else_branch, of_while, of_repeat, Apart, AreApart}
 use Rattle.cx_control.specs.Spots.{Spot, Cell, Number, Input, shown, spots_of, reads_spot}
 use Rattle.cx_control.specs.InstanceRules.{Stands}
-use Rattle.cx_meaning.proofs.SightsLaws.{number_in, behind_comb, in_left, in_right}
+use Rattle.cx_meaning.proofs.SightsLaws.{behind_comb}
 use Rattle.cx_meaning.proofs.ControlLaws.{groups_drive_in, in_parts}
 use Rattle.cx_text.proofs.NumberLaws.{suc_zero, zero_suc, false_true}
 use Rattle.cx_rules.proofs.InvokesLemmas.{drives_more, reads_more}
 
--- the statement as it is visited in dynamic control
-abbrev pub as_visited : PlainStatement → Visited
-as_visited (Placed form place) = record { context = Dynamic; form = form; place = place }
-
 pub stands_visited : (i : Instance) (s : PlainStatement) → Stands i s → In (statements_in (part_of i)) (as_visited s)
 stands_visited i (Placed form place) stands = stands
-
-itself : (s : PlainStatement) → In (visit Dynamic s) (as_visited s)
-itself (Placed form place) = inl refl
 
 visits_all : (ss : PlainStatements) (s : PlainStatement) (v : Visited) → In (list_of ss) s → In (visit Dynamic s) v → In (visit_all Dynamic ss) v
 visits_all no_statements s v i j = absurd i

@@ -1,13 +1,13 @@
 -- The leaves that run are groups and static statements.
 use Rattle.std.proofs.Common.{◌≡◌, zero, suc, ◌⊎◌, inl, inr, true, List, refl, subst}
+use Rattle.cx_text.proofs.MemberLaws.{in_either}
 use Rattle.cx_meaning.specs.Designs.{Empty, Enable, Seq, Par, If, While, Repeat, StaticSeq, StaticPar, StaticIf, StaticRepeat, Timed, PlainStatement, Placed, PlainStatements, no_statements, a_statement}
-use Rattle.cx_meaning.specs.Sights.{In}
+use Rattle.cx_text.specs.Members.{In}
 use Rattle.cx_rules.specs.StaticControl.{is_static}
 use Rattle.cx_lockstep.specs.Worlds.{Control, At, Done, Machine}
 use Rattle.cx_lockstep.specs.Machines.{First, Second, InPar, left_of, right_of, AtTest, InThen, InElse, AtHead, InBody}
 use Rattle.cx_lockstep.specs.Statements.{LeafMachines, machine_of, parts_machine, arms_machine}
 use Rattle.cx_lockstep.specs.Running.{Running, AGroup, AnIsland, at_control, par_runs, running, parts_run, arms_run}
-use Rattle.cx_meaning.proofs.SightsLaws.{in_either}
 
 module _ {X : Type 0} {V : X → Type 0} {F : Type 0} (leaves : LeafMachines X V F) where
   -- an island that runs is a static statement

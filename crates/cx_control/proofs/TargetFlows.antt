@@ -1,6 +1,7 @@
 -- What is seen as a value flows as that value.
 use Rattle.std.proofs.Common.{◌≡◌, ℕ, inl, inr, Bool, true, false, ◌||◌, ◌&&◌, not, List, [], ◌∷◌, refl, sym, ap, ◌∙◌, subst}
 use Rattle.std.specs.Prelude.{◌==◌, if◌then◌else◌, nat_le, nat_lt}
+use Rattle.cx_text.specs.Members.{In}
 use Rattle.cx_bits.specs.BitVector.{BitVector}
 use Rattle.cx_meaning.specs.declared.ports.PortRef.{PortRef}
 use Rattle.cx_meaning.specs.declared.ports.Comparison.{Comparison}
@@ -10,7 +11,9 @@ use Rattle.cx_meaning.specs.Designs.{PlainGuard, Always, Atom, Negation, All, An
 use Rattle.cx_meaning.specs.Active.{Acting}
 use Rattle.cx_meaning.specs.Truths.{Truth, One, Zero, truth_of_bit, truth_of, not_truth, and_truth, or_truth, compares, compared}
 use Rattle.cx_meaning.specs.Truths as truths
-use Rattle.cx_meaning.specs.Sights.{Look, In, guard_truth, all_truth, any_truth, GuardNames, AnyNames, Taken, Sources, Stopped, with_source, take_guard, taken, agreed, all_agreed, settle, target_seen, TargetNeeds, IsTaken}
+use Rattle.cx_meaning.specs.Sights.{Look, guard_truth, all_truth, any_truth, GuardNames, AnyNames, Taken, Sources, Stopped, with_source, take_guard, taken, all_agreed, settle, target_seen, TargetNeeds, IsTaken}
+use Rattle.cx_meaning.proofs.SightsLaws.{undefined_value}
+use Rattle.cx_laws.proofs.SightWidths.{first_agrees}
 use Rattle.cx_control.specs.Flows.{Values, is_set, guard_on, all_on, any_on, first_on}
 
 pub value_is : (a b : BitVector) → ◌≡◌ {A = Seen} (Value a) (Value b) → a ≡ b
@@ -152,23 +155,9 @@ module _ (look : Look) (v : Values) where
   conflict_value : (b : BitVector) → Conflict ≡ Value b → ⊥
   conflict_value b e = cc
 
-  undefined_value : (b : BitVector) → Undefined ≡ Value b → ⊥
-  undefined_value b e = cc
-
-  agreed_first : (x y : Seen) (b : BitVector) → agreed x y ≡ Value b → x ≡ Value b
-  agreed_first (Value a) (Value c) b e = by_equal (a.value == c.value) e
-    where
-      by_equal : (t : Bool) → (if t then Value a else Conflict) ≡ Value b → Value a ≡ Value b
-      by_equal true f = f
-      by_equal false f = absurd (conflict_value b f)
-  agreed_first (Value a) Conflict b e = absurd (conflict_value b e)
-  agreed_first (Value a) Undefined b e = absurd (undefined_value b e)
-  agreed_first Conflict y b e = absurd (conflict_value b e)
-  agreed_first Undefined y b e = absurd (undefined_value b e)
-
   all_first : (q : PortRef) (qs : List PortRef) (b : BitVector) → all_agreed look q qs ≡ Value b → look q ≡ Value b
   all_first q [] b e = e
-  all_first q (n ∷ qs) b e = agreed_first (look q) (all_agreed look n qs) b e
+  all_first q (n ∷ qs) b e = first_agrees (look q) (all_agreed look n qs) b e
 
   -- what stops is no value
   never_value : (acts : List Acting) (x : Seen) → taken look acts ≡ Stopped x → (b : BitVector) → x ≡ Value b → ⊥

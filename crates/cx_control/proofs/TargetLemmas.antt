@@ -4,6 +4,7 @@ use Rattle.std.proofs.Common.{◌≡◌, ℕ, ◌⊎◌, inl, inr, Bool, true, f
 use Rattle.std.specs.Prelude.{◌==◌}
 use Rattle.std.proofs.lemmas.Bool.Decides.{eqb_tells}
 use Rattle.std.proofs.lemmas.Bool.{eqb-true}
+use Rattle.cx_text.specs.Members.{In}
 use Rattle.cx_bits.specs.BitVector.{BitVector}
 use Rattle.cx_meaning.specs.declared.ports.PortRef.{PortRef}
 use Rattle.cx_meaning.specs.declared.sights.Seen.{Seen}
@@ -12,7 +13,7 @@ use Rattle.cx_meaning.specs.Designs.{PlainAssign, PlainComponent, group_at}
 use Rattle.cx_meaning.specs.Active.{Active, Owned, Acting, offset_of, same_port, source_order, drivers, only_at}
 use Rattle.cx_meaning.specs.Truths.{Truth, One, Zero, truth_of}
 use Rattle.cx_meaning.specs.Truths as truths
-use Rattle.cx_meaning.specs.Sights.{Look, In, bit_of, guard_truth, Taken, Sources, Stopped, with_source, take_guard, taken, agreed, all_agreed, settle, target_seen}
+use Rattle.cx_meaning.specs.Sights.{Look, bit_of, guard_truth, Taken, Sources, Stopped, with_source, take_guard, taken, agreed, all_agreed, settle, target_seen}
 use Rattle.cx_rules.specs.CallShape.{with_target}
 use Rattle.cx_rules.proofs.FoundLemmas.{same_is}
 use Rattle.cx_control.proofs.LeadsLemmas.{Stands, acting_stands}

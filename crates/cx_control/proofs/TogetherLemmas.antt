@@ -1,37 +1,33 @@
 -- Nothing leads in a circle under what a statement may have active at once.
-use Rattle.std.proofs.Common.{◌≡◌, ℕ, zero, suc, ◌<◌, ◌⊎◌, inl, inr, ⊎_elim, Bool, true, false, List, [], ◌∷◌, ◌++◌, length, Option, Some, None, refl, sym, ap, ◌∙◌, subst, arith}
-use Rattle.std.specs.Prelude.{slice_get, nat_eq, if◌then◌else◌}
-use Rattle.std.proofs.lemmas.Bool.{cases_lt, eqb-true}
-use Rattle.std.proofs.lemmas.List.{get_or_past}
-use Rattle.cx_text.specs.declared.rules.Rule.TheVariants.{Race}
+use Rattle.std.proofs.Common.{◌≡◌, ℕ, suc, ◌<◌, ◌⊎◌, inl, inr, Bool, true, false, List, [], ◌∷◌, ◌++◌, length, Option, Some, None, refl, sym, ap, ◌∙◌, subst}
+use Rattle.std.specs.Prelude.{nat_eq, if◌then◌else◌}
+use Rattle.std.proofs.lemmas.Bool.{eqb-true}
+use Rattle.cx_text.proofs.MemberLaws.{in_left, in_right, number_in}
 use Rattle.cx_meaning.specs.declared.ports.PortRef.{PortRef}
 use Rattle.cx_meaning.specs.declared.ports.PortRef.TheVariants as ports
-use Rattle.cx_meaning.specs.Designs.{PlainDesign, PlainComponent, PlainGroup, component_at, no_component, group_at, no_group, Par, StaticPar, PlainStatement}
+use Rattle.cx_meaning.specs.Designs.{PlainDesign, PlainComponent, PlainGroup, group_at, no_group, Par, StaticPar, PlainStatement}
 use Rattle.cx_meaning.specs.Instances.{Instance, part_of, tree_of, Path, instance_at}
 use Rattle.cx_meaning.specs.Active.{Active, nothing, only_at, group, comb, entries, Owned, source_order, drivers, offset_of}
-use Rattle.cx_meaning.specs.Sights.{In}
+use Rattle.cx_text.specs.Members.{In}
 use Rattle.cx_meaning.specs.Control.{with_comb, groups_of, group_drives, drives}
 use Rattle.cx_rules.specs.Footprints.{AssignNames, Reads, Mentions, Depends, at_once, by_way_of, Leads}
 use Rattle.cx_rules.specs.Items.{Context, InStatic, Branch, below_dynamic, Visited, visit, statements_in}
-use Rattle.cx_rules.specs.RaceRule.{Arms, arms_of, IsShared}
-use Rattle.cx_rules.specs.Ports.{component_of}
-use Rattle.cx_rules.specs.Spots.{AStatement}
+use Rattle.cx_rules.specs.RaceRule.{arms_of, IsShared}
 use Rattle.cx_rules.specs.Accepted.{IsAccepted}
 use Rattle.cx_rules.specs.Circles.{IsAcyclic}
-use Rattle.cx_rules.proofs.CircleLemmas.{Reached, a_tree, no_tree, reached}
 use Rattle.cx_control.specs.Apart.{IsApart, HasLess}
 use Rattle.cx_control.specs.Together.{or_else, union, IsTogether, at_rest, enabled, in_seq, at_if, in_then, in_else, at_while, in_while, in_repeat, at_offset, in_static_seq, in_static_par, in_static_then, in_static_else, in_static_repeat, in_par, AreTogether, no_arm, an_arm}
 use Rattle.cx_control.proofs.InstanceLemmas.{KeepsPorts, there_below}
 use Rattle.cx_control.proofs.LeadsLemmas.{less_acyclic, leads_by}
 use Rattle.cx_control.proofs.UnionLemmas.{union_acyclic}
-use Rattle.cx_meaning.proofs.SightsLaws.{behind_comb, in_left, in_right, number_in}
+use Rattle.cx_meaning.proofs.SightsLaws.{behind_comb}
 use Rattle.cx_text.proofs.OptionLaws.{none_some}
-use Rattle.cx_meaning.proofs.DesignsLemmas.{same_part}
 use Rattle.cx_rules.proofs.FrameLemmas.{acting_alike}
 use Rattle.cx_meaning.proofs.ControlLaws.{groups_drive_in, in_parts}
 use Rattle.cx_rules.proofs.InvokesLemmas.{drives_more, reads_more}
 use Rattle.cx_rules.proofs.ItemsLemmas.{part_in}
 use Rattle.cx_rules.proofs.ForeignLemmas.{OwnerOf, continuous, of_group, owner_of}
+use Rattle.cx_frames.proofs.ShareLemmas.{none_shared}
 
 only_is : (g h o : ℕ) → only_at g h ≡ Some o → g ≡ h
 only_is g h o e = by (nat_eq g h) refl e
@@ -175,44 +171,8 @@ module _ (i : Instance) (keeps : (o : Owned) → In (source_order (part_of i)) o
 
 -- IN AN ACCEPTED DESIGN no two arms share a cell
 module _ (d : PlainDesign) (accepted : IsAccepted d) where
-  module _ (k : ℕ) (within : k < length d.components) where
-    least : (v : Visited) → In (statements_in (component_at d k)) v → (c : ℕ) → ((e : ℕ) → e < c → IsShared (part_of (component_of d k)) (arms_of v.form) e → ⊥) → IsShared (part_of (component_of d k)) (arms_of v.form) c → ⊥
-    least v i c below shared =
-        let n = number_in (statements_in (component_at d k)) v i in
-        accepted.no_races Race (record { component = k; part = AStatement n.0 }) v.place _ refl
-        (record { within = within; number = n.0; is = refl; statement = v; stands = n.1; breaks = inl (c, shared, below, (refl, refl)) })
-
-    none_below : (v : Visited) → In (statements_in (component_at d k)) v → (n e : ℕ) → e < n → IsShared (part_of (component_of d k)) (arms_of v.form) e → ⊥
-    none_below v i zero e l shared = absurd (omega arith)
-    none_below v i (suc n) e l shared = least v i e (λ f m other. none_below v i n f (omega arith) other) shared
-
-    component_unshared : NoneShared (component_at d k) (statements_in (component_at d k))
-    component_unshared v i c shared = none_below v i (suc c) c (omega arith) (subst (λ x. IsShared x (arms_of v.form) c) (sym (same_part d (length d.components) k)) shared)
-
-  no_arms : Arms [] → ⊥
-  no_arms two = none two.first_stands
-    where
-      none : slice_get {X = PlainStatement} [] two.one ≡ Some two.first → ⊥
-      none e = cc
-
-  bare_unshared : NoneShared no_component (statements_in no_component)
-  bare_unshared v (inl e) c shared = no_arms (subst (λ (x : Visited). IsShared no_component (arms_of x.form) c) (sym e) shared).0
-  bare_unshared v (inr i) c shared = absurd i
-
-  abbrev PartUnshared : PlainComponent → Type 0
-  PartUnshared part = NoneShared part (statements_in part)
-
-  reached_unshared : {i : Instance} → Reached d i → PartUnshared (part_of i)
-  reached_unshared (a_tree m k) =
-      subst PartUnshared (sym (same_part d m k))
-      (⊎_elim (λ h. component_unshared k h) (λ h. past (get_or_past d.components k no_component h)) (cases_lt k (length d.components)))
-    where
-      past : component_at d k ≡ no_component → PartUnshared (component_at d k)
-      past e = subst PartUnshared (sym e) bare_unshared
-  reached_unshared no_tree = bare_unshared
-
-  pub instance_unshared : (path : Path) → PartUnshared (part_of (instance_at (tree_of d) path))
-  instance_unshared path = reached_unshared (reached d path (length d.components) d.main)
+  pub instance_unshared : (path : Path) → NoneShared (part_of (instance_at (tree_of d) path)) (statements_in (part_of (instance_at (tree_of d) path)))
+  instance_unshared path = none_shared d accepted path
 
 -- a group that is not there leads nowhere
 module _ (i : Instance) (bare : IsAcyclic i nothing) (g : ℕ) (none : group_at (part_of i) g ≡ no_group) where

@@ -1,5 +1,6 @@
 -- What the rules on the shape of a call give, as far as the machine of a call needs it.
 use Rattle.std.specs.Prelude.{◌≡◌, ◌⊎◌, ℕ, suc, ◌<◌, ◌&&◌, true, false, [], ◌∷◌, Some, None, slice_get}
+use Rattle.cx_text.specs.Members.{In}
 use Rattle.cx_prim.specs.Rows.{Row}
 use Rattle.cx_prim.specs.RegisterRow.{register_row}
 use Rattle.cx_meaning.specs.declared.ports.PortRef.TheVariants as ports
@@ -8,15 +9,15 @@ use Rattle.cx_meaning.specs.Designs.{PlainAssign, PlainCell, Enable, group_at}
 use Rattle.cx_meaning.specs.Instances.{Instance, OfRow, OfInstance, cell_at, cells_of, part_of, Path, State, idle_at}
 use Rattle.cx_meaning.specs.Active.{Owned, group, capture, source_order}
 use Rattle.cx_meaning.specs.Truths.{truth_of}
-use Rattle.cx_meaning.specs.Sights.{Held, In, AnInput, AnOutput, ItsDone, part_port, seen}
+use Rattle.cx_meaning.specs.Sights.{Held, AnInput, AnOutput, ItsDone, part_port, seen}
 use Rattle.cx_meaning.specs.Cycles.{Goes, cycle}
 use Rattle.cx_meaning.specs.Islands.{is_one}
 use Rattle.cx_meaning.specs.Calls.{called, captures}
+use Rattle.cx_meaning.specs.Control.{form_drives}
 use Rattle.cx_rules.specs.Ports.{enables_cell}
 use Rattle.cx_rules.specs.CallShape.{go_port, done_port, is_reg_kind, with_target, is_right_go, is_right_enable, is_register_enable, captured, wanted_dones, is_right_done}
 use Rattle.cx_control.specs.Flows.{Reaches}
 use Rattle.cx_control.specs.Spots.{input_count}
-use Rattle.cx_control.specs.Leaves.{leaf_drives}
 
 -- THE FORM OF A CALL: which component cell it is, and how its go, enables of registers and the group's done are driven
 pub record CallForm (i : Instance) (g c : ℕ) : Type 0 where
@@ -43,8 +44,8 @@ pub record CallRules (i : Instance) (g c : ℕ) : Type 0 where
       → seen i held (group g) s (ports.Cell c (suc n)) ≡ seen i held (group g) t (ports.Cell c (suc n))
   -- the hole of a group that captures is 0 where what it drives rests, and 1 where that is as the capture cycle left it
   pub is_open : captures i g ≡ true → (held : Held) (s : State)
-      → ((e : ℕ) → leaf_drives (part_of i) (Enable g) e ≡ true → (e ≡ c → ⊥) → idle_at i (e ∷ []) (s (e ∷ [])) ≡ s (e ∷ []))
+      → ((e : ℕ) → form_drives (part_of i) (Enable g) e ≡ true → (e ≡ c → ⊥) → idle_at i (e ∷ []) (s (e ∷ [])) ≡ s (e ∷ []))
       → is_one (truth_of (seen i held (group g) s (ports.Done g))) ≡ false
   pub is_set : captures i g ≡ true → (held other : Held) (s after t : State) → cycle i held (capture g c) s ≡ Goes after
-      → ((e : ℕ) → leaf_drives (part_of i) (Enable g) e ≡ true → (e ≡ c → ⊥) → t (e ∷ []) ≡ after (e ∷ []))
+      → ((e : ℕ) → form_drives (part_of i) (Enable g) e ≡ true → (e ≡ c → ⊥) → t (e ∷ []) ≡ after (e ∷ []))
       → is_one (truth_of (seen i other (group g) t (ports.Done g))) ≡ true

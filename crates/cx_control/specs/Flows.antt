@@ -1,6 +1,7 @@
 -- Two-valued ports of an instance under the union of what all its arms have active: an undriven port is 0, and the first
 -- true guard in source order drives.
 use Rattle.std.specs.Prelude.{◌≡◌, ℕ, suc, ◌⊎◌, Bool, true, false, ◌&&◌, ◌||◌, not, ◌==◌, nat_lt, nat_le, List, [], ◌∷◌, Option, Some, None, unwrap_or, if◌then◌else◌}
+use Rattle.cx_text.specs.Members.{In}
 use Rattle.cx_bits.specs.BitVector.{BitVector}
 use Rattle.cx_prim.specs.declared.ports.PortRow.{PortRow}
 use Rattle.cx_prim.specs.declared.ports.Side.{Side}
@@ -14,7 +15,7 @@ use Rattle.cx_meaning.specs.Rows.{side_of}
 use Rattle.cx_meaning.specs.Instances.{Instance, At, Nothing, OfRow, OfInstance, part_of, cells_of, cell_at, State, under}
 use Rattle.cx_meaning.specs.Active.{Active, nothing, group, Owned, Acting, source_order, drivers, offset_of}
 use Rattle.cx_meaning.specs.Truths.{compares}
-use Rattle.cx_meaning.specs.Sights.{Held, In, Sees, PartPort, Go, AnInput, AnOutput, ItsDone, part_port, is_done_cell, bit_of, unheld}
+use Rattle.cx_meaning.specs.Sights.{Held, Sees, PartPort, Go, AnInput, AnOutput, ItsDone, part_port, is_done_cell, bit_of, unheld}
 use Rattle.cx_rules.specs.Footprints.{Depends}
 use Rattle.cx_rules.specs.Ports.{width_of}
 

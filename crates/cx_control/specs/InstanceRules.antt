@@ -1,10 +1,11 @@
 -- What the rules of acceptance give an instance of a design's tree, as far as the machines of its control need it.
 use Rattle.std.specs.Prelude.{◌≡◌, ℕ, ◌<◌, false, [], length}
+use Rattle.cx_text.specs.Members.{In}
 use Rattle.cx_meaning.specs.Designs.{PlainStatement, PlainForm, Placed}
 use Rattle.cx_text.specs.declared.places.Place.{Place}
 use Rattle.cx_meaning.specs.Instances.{Instance, OfInstance, cell_at, cells_of, part_of, State, idle, IsSettled}
 use Rattle.cx_meaning.specs.Active.{Active, group, capture, entries}
-use Rattle.cx_meaning.specs.Sights.{Held, In}
+use Rattle.cx_meaning.specs.Sights.{Held}
 use Rattle.cx_meaning.specs.Cycles.{Goes, cycle}
 use Rattle.cx_meaning.specs.Control.{drives, groups_of}
 use Rattle.cx_meaning.specs.Islands.{History, active_in, form_flat}

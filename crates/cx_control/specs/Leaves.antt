@@ -3,7 +3,7 @@ use Rattle.std.specs.Prelude.{ℕ, zero, suc, nat_lt, Bool, true, false, [], ◌
 use Rattle.cx_meaning.specs.declared.ports.PortRef.TheVariants as ports
 use Rattle.cx_meaning.specs.declared.kinds.GroupKind.{GroupKind}
 use Rattle.cx_meaning.specs.declared.kinds.GroupKind.TheVariants as kinds
-use Rattle.cx_meaning.specs.Designs.{PlainComponent, PlainForm, Enable, group_at}
+use Rattle.cx_meaning.specs.Designs.{PlainForm, Enable, group_at}
 use Rattle.cx_meaning.specs.Instances.{Instance, cell_at, cells_of, part_of, State, Set, just}
 use Rattle.cx_meaning.specs.Active.{nothing, entries, group, capture}
 use Rattle.cx_meaning.specs.Truths.{truth_of}
@@ -11,7 +11,7 @@ use Rattle.cx_meaning.specs.Sights.{Held, seen}
 use Rattle.cx_meaning.specs.Cycles.{Fault, cycle}
 use Rattle.cx_meaning.specs.Answers.{Turn}
 use Rattle.cx_meaning.specs.Answers as answers
-use Rattle.cx_meaning.specs.Control.{groups_drive, groups_in}
+use Rattle.cx_meaning.specs.Control.{form_drives}
 use Rattle.cx_meaning.specs.Islands.{form_length, first_unclear, unless_unclear, turn_of, is_one}
 use Rattle.cx_meaning.specs.Calls.{group_turn, test, called, captures, inputs_of_call}
 use Rattle.cx_laws.specs.Samples.{Samples, says, active_by, begun_by}
@@ -21,10 +21,6 @@ use Rattle.cx_lockstep.specs.Statements.{LeafMachines}
 use Rattle.cx_control.specs.Codings.{Coding, Bank, region_bank, unit_coding}
 use Rattle.cx_control.specs.Sampling.{samples_now}
 use Rattle.cx_control.specs.Spots.{Spot, Cell, Number, Input, Holds, Kept, cells_in, held_in, pull, input_count, own_input, spots_of}
-
--- the cells that a leaf of this form drives
-abbrev pub leaf_drives : PlainComponent → PlainForm → Set
-leaf_drives part form = groups_drive part (groups_in form)
 
 -- what is kept at a spot after a turn that came to a state
 abbrev pub held_after : State → (x : Spot) → Option (Holds x)
@@ -58,7 +54,7 @@ group_machine i g = record {
   Place = Unit {0};
   start = At tt;
   step = λ p s. turn_next (group_turn i (held_in s) g (cells_in s));
-  writes = λ p s x. turn_writes (leaf_drives (part_of i) (Enable g)) (group_turn i (held_in s) g (cells_in s)) x;
+  writes = λ p s x. turn_writes (form_drives (part_of i) (Enable g)) (group_turn i (held_in s) g (cells_in s)) x;
   faults = λ p s. turn_faults (group_turn i (held_in s) g (cells_in s));
 }
 
@@ -92,7 +88,7 @@ module _ (i : Instance) (form : PlainForm) where
   island_step LastTurn s = Done
 
   abbrev pub island_writes : InIsland → Kept → (x : Spot) → Option (Holds x)
-  island_writes (Cycle t kept) s x = turn_writes (leaf_drives (part_of i) form) (island_now t kept s) x
+  island_writes (Cycle t kept) s x = turn_writes (form_drives (part_of i) form) (island_now t kept s) x
   island_writes LastTurn s x = None
 
   abbrev pub island_faults : InIsland → Kept → Bool
@@ -141,7 +137,7 @@ module _ (i : Instance) (child : Coded) (g c : ℕ) (capturing : Bool) where
   child_writes (At p) s (Number (e ∷ []) n) = if just c e then Some (code_of child (Machine.step child.machine p (pull c (inputs_now s) s)) n) else None
   child_writes (At p) s (Number (e ∷ f ∷ path) n) = if just c e then Machine.writes child.machine p (pull c (inputs_now s) s) (Number (f ∷ path) n) else None
   child_writes (At p) s (Input n) = None
-  child_writes Done s x = if capturing then turn_writes (leaf_drives (part_of i) (Enable g)) (capture_now s) x else None
+  child_writes Done s x = if capturing then turn_writes (form_drives (part_of i) (Enable g)) (capture_now s) x else None
 
   abbrev pub call_writes : Control (Machine.Place child.machine) → Kept → (x : Spot) → Option (Holds x)
   call_writes p s x = if hole_now p s then None else child_writes p s x

@@ -1,11 +1,12 @@
 -- Where control stands, over the whole tree: what holds of the store of an instance in every cycle without a fault.
 use Rattle.std.specs.Prelude.{◌≡◌, ℕ, zero, suc, true, false, List, [], ◌∷◌, Some}
+use Rattle.cx_text.specs.Members.{In}
 use Rattle.cx_text.specs.declared.places.Place.{Place}
 use Rattle.cx_meaning.specs.declared.ports.PortRef.TheVariants as ports
 use Rattle.cx_meaning.specs.Instances.{Instance, Node, Cells, no_cells, a_primitive, an_instance, part_of, cells_of, cell_at, OfInstance, Path, State, idle_below}
 use Rattle.cx_meaning.specs.Active.{group}
 use Rattle.cx_meaning.specs.Truths.{One, truth_of}
-use Rattle.cx_meaning.specs.Sights.{Held, In, seen}
+use Rattle.cx_meaning.specs.Sights.{Held, seen}
 use Rattle.cx_meaning.specs.Control.{drives}
 use Rattle.cx_meaning.specs.Calls.{called, captures}
 use Rattle.cx_lockstep.specs.Worlds.{Control, At, Done, Machine}

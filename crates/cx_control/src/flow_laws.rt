@@ -1,6 +1,7 @@
 //! Laws of what stands at ports and cells: each function does nothing but call others, and its clause is the law.
 
 ghost use Rattle.std.specs.Prelude.{◌≡◌, ℕ, [], ◌∷◌, Some};
+ghost use Rattle.cx_text.specs.Members.{In};
 ghost use Rattle.cx_bits.specs.BitVector.{BitVector};
 ghost use Rattle.cx_prim.specs.CellStates.{CellState};
 ghost use Rattle.cx_prim.specs.Rows.{Row};
@@ -10,7 +11,7 @@ ghost use Rattle.cx_meaning.specs.declared.sights.Seen.TheVariants.{Value};
 ghost use Rattle.cx_meaning.specs.Designs.{PlainDesign, PlainStatement};
 ghost use Rattle.cx_meaning.specs.Instances.{Instance, OfRow, Path, State, cell_at, cells_of, instance_at, part_of, tree_of};
 ghost use Rattle.cx_meaning.specs.Active.{Active, Owned, offset_of, source_order};
-ghost use Rattle.cx_meaning.specs.Sights.{Held, In, Sees, seen};
+ghost use Rattle.cx_meaning.specs.Sights.{Held, Sees, seen};
 ghost use Rattle.cx_meaning.specs.Cycles.{Next, cell_outcome};
 ghost use Rattle.cx_rules.specs.Accepted.{IsAccepted};
 ghost use Rattle.cx_rules.specs.Circles.{IsAcyclic};

@@ -1,9 +1,13 @@
 -- Answers that are alike, and the meanings whose answers hang on a set of cells alone.
-use Rattle.std.proofs.Common.{◌≡◌, ℕ, zero, suc, ◌-◌, Bool, true, false, if◌then◌else◌, nat_le, max, refl, sym, ap, subst}
+use Rattle.std.proofs.Common.{◌≡◌, ℕ, zero, suc, ◌-◌, Bool, true, false, Option, Some, None, if◌then◌else◌, nat_le, max, refl, sym, ap, subst}
 use Rattle.cx_meaning.specs.Instances.{State}
-use Rattle.cx_meaning.specs.Cycles.{Fault}
+use Rattle.cx_meaning.specs.Truths.{Truth, One, Zero}
+use Rattle.cx_meaning.specs.Truths as truths
+use Rattle.cx_meaning.specs.Cycles.{Fault, Ended}
 use Rattle.cx_meaning.specs.Answers.{Answer, End, More, Meaning, after_turns, then_do, stay, idle_turn, Turn, Ends, Goes, Faults, turn_then, one_turn, turns_of, Test, Holds, Fails, Unclear, chosen, test_turn, loop, loop_of, rounds, both}
 use Rattle.cx_meaning.specs.Answers as answers
+use Rattle.cx_meaning.specs.Islands.{turn_of, unless_unclear}
+use Rattle.cx_meaning.specs.Calls.{hole_turn}
 use Rattle.cx_frames.specs.Agreeing.{Agree, Alike}
 
 -- from states that agree on the set the answers are alike on it
@@ -15,6 +19,23 @@ abbrev pub AlikeTurn : (ℕ → Type 0) → Turn State Fault → Turn State Faul
 AlikeTurn set Ends x = x ≡ Ends
 AlikeTurn set (Goes a) x = (b : State) × (x ≡ Goes b) × Agree set a b
 AlikeTurn set (Faults f) x = x ≡ Faults f
+
+-- by a done, and by samples, that are the same
+pub hole_alike : (set : ℕ → Type 0) (g : ℕ) (x y : Truth) (a b : Ended) → x ≡ y → AlikeTurn set (turn_of a) (turn_of b) → AlikeTurn set (hole_turn g a x) (hole_turn g b y)
+hole_alike set g x y a b e h = subst (λ z. AlikeTurn set (hole_turn g a x) (hole_turn g b z)) e (one x)
+  where
+    one : (z : Truth) → AlikeTurn set (hole_turn g a z) (hole_turn g b z)
+    one One = refl
+    one Zero = h
+    one truths.Conflict = refl
+    one truths.Undefined = refl
+
+pub unclear_alike : (set : ℕ → Type 0) (x y : Option Fault) (a b : Ended) → x ≡ y → AlikeTurn set (turn_of a) (turn_of b) → AlikeTurn set (unless_unclear x a) (unless_unclear y b)
+unclear_alike set x y a b e h = subst (λ z. AlikeTurn set (unless_unclear x a) (unless_unclear z b)) e (one x)
+  where
+    one : (z : Option Fault) → AlikeTurn set (unless_unclear z a) (unless_unclear z b)
+    one None = h
+    one (Some f) = refl
 
 abbrev pub a_fault : Fault → ℕ → Answer State Fault
 a_fault f t = answers.Fault f t

@@ -2,10 +2,12 @@
 use Rattle.std.proofs.Common.{◌≡◌, ℕ, zero, suc, ◌≤◌, max, inl, inr, Bool, true, false, ◌||◌, if◌then◌else◌, List, [], ◌∷◌, ◌++◌, Option, Some, take, drop, length, refl, sym, ap, ◌∙◌, subst, arith}
 use Rattle.std.specs.Prelude.{slice_get}
 use Rattle.std.proofs.Math.Path.{fun_ext}
+use Rattle.cx_text.proofs.MemberLaws.{in_left, in_right}
+use Rattle.cx_text.specs.Members.{In}
 use Rattle.cx_text.specs.declared.places.Place.{Place}
 use Rattle.cx_meaning.specs.Designs.{PlainComponent, PlainForm, Par, PlainStatement, Placed, PlainStatements, no_statements, a_statement, statements_of, list_of, no_place}
 use Rattle.cx_meaning.specs.Instances.{Instance, Node, Cells, part_of, State, Path, Set, merge, IsSettled}
-use Rattle.cx_meaning.specs.Sights.{Held, In}
+use Rattle.cx_meaning.specs.Sights.{Held}
 use Rattle.cx_meaning.specs.Cycles.{Fault}
 use Rattle.cx_meaning.specs.Answers.{Answer, End, More, both}
 use Rattle.cx_meaning.specs.Answers as answers
@@ -19,13 +21,12 @@ use Rattle.cx_frames.specs.Agreeing.{Agree}
 use Rattle.cx_frames.specs.Arms.{all_drive, arms_run}
 use Rattle.cx_frames.specs.Ran.{Outcome, Ended, Unfinished, AnswersAs, Ran, limit, joined}
 use Rattle.cx_frames.proofs.AlikeLemmas.{Frames}
-use Rattle.cx_frames.proofs.StatementFrames.{visited}
+use Rattle.cx_laws.proofs.VisitLemmas.{visited}
 use Rattle.cx_frames.proofs.BothLemmas.{both_apart, arm_answers}
 use Rattle.std.proofs.lemmas.Bool.{or_left, or_right}
 use Rattle.cx_text.proofs.BoolLaws.{or_assoc}
 use Rattle.cx_text.proofs.NumberLaws.{true_false}
 use Rattle.cx_meaning.proofs.DesignsLemmas.{list_again}
-use Rattle.cx_meaning.proofs.SightsLaws.{in_left, in_right}
 
 -- merges of sets that have no cell in common, in either order
 merges_apart : (one two : Set) → ((c : ℕ) → one c ≡ true → two c ≡ true → ⊥) → (a b c : State) → merge one a (merge two c b) ≡ merge two c (merge one a b)

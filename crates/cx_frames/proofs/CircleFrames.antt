@@ -3,6 +3,7 @@ use Rattle.std.proofs.Common.{◌≡◌, ℕ, ◌<◌, ◌≤◌, inl, inr, ⊎_
 use Rattle.std.specs.Prelude.{if◌then◌else◌, nat_eq}
 use Rattle.std.proofs.lemmas.Bool.{cases_lt, eqb-true}
 use Rattle.std.proofs.lemmas.List.{get_or_past}
+use Rattle.cx_text.specs.Members.{In}
 use Rattle.cx_prim.specs.declared.ports.Side.{Side}
 use Rattle.cx_prim.specs.declared.ports.Side.TheVariants as sides
 use Rattle.cx_prim.specs.Rows.{Row}
@@ -12,7 +13,7 @@ use Rattle.cx_meaning.specs.Rows.{side_of}
 use Rattle.cx_meaning.specs.Designs.{PlainAssign, PlainComponent, group_at, no_group}
 use Rattle.cx_meaning.specs.Instances.{Instance, At, Nothing, OfRow, OfInstance, cell_at, cells_of, part_of}
 use Rattle.cx_meaning.specs.Active.{Active, nothing, group, capture, Owned, source_order, offset_of, if_acting, if_target, acting, same_port, drivers}
-use Rattle.cx_meaning.specs.Sights.{In, PartPort, Go, AnInput, AnOutput, ItsDone, part_port}
+use Rattle.cx_meaning.specs.Sights.{PartPort, Go, AnInput, AnOutput, ItsDone, part_port}
 use Rattle.cx_rules.specs.Footprints.{Mentions, SideLeads, PartLeads, CellLeads, Leads, Depends, at_once, by_way_of}
 use Rattle.cx_rules.specs.Circles.{IsAcyclic, AreAcyclic}
 use Rattle.cx_rules.proofs.CirclesLemmas.{own_acyclic}

@@ -1,15 +1,16 @@
 -- A run over any leaves hangs on a set of cells alone, where the leaves do.
 use Rattle.std.proofs.Common.{◌≡◌, ℕ, zero, suc, inl, inr, List, ◌++◌, Option, Some, refl}
+use Rattle.cx_text.proofs.MemberLaws.{in_left, in_right}
 use Rattle.cx_meaning.specs.declared.ports.PlacedPort.{PlacedPort}
 use Rattle.cx_meaning.specs.Designs.{PlainForm, Empty, Enable, Seq, Par, If, While, Repeat, StaticSeq, StaticPar, StaticIf, StaticRepeat, Timed, PlainStatement, Placed, PlainStatements, no_statements, a_statement}
 use Rattle.cx_meaning.specs.Instances.{State}
 use Rattle.cx_meaning.specs.Cycles.{Fault}
-use Rattle.cx_meaning.specs.Sights.{In}
+use Rattle.cx_text.specs.Members.{In}
 use Rattle.cx_meaning.specs.Control.{Leaves, groups_in, groups_of, groups_in_all, run_form, run, run_parts, run_arms}
 use Rattle.cx_rules.specs.Items.{Context, below_dynamic, Visited, visit, visit_parts, visit_all, test_in}
 use Rattle.cx_frames.specs.Agreeing.{Agree}
 use Rattle.cx_frames.proofs.AlikeLemmas.{Frames, then_frames, stay_frames, idle_frames, test_frames, loop_of_frames, rounds_frames, both_alike}
-use Rattle.cx_meaning.proofs.SightsLaws.{behind_comb, in_comb, in_left, in_right}
+use Rattle.cx_meaning.proofs.SightsLaws.{behind_comb, in_comb}
 
 -- the groups of a statement and its forms have these properties
 pub record Holds (G : ℕ → Type 0) (P : PlainForm → Type 0) (gs : List ℕ) (vs : List Visited) : Type 0 where

@@ -2,6 +2,7 @@
 use Rattle.std.proofs.Common.{◌≡◌, ℕ, Bool, true, false, [], ◌∷◌, None, if◌then◌else◌, refl, sym, ap, ◌∙◌}
 use Rattle.std.proofs.Math.Path.{fun_ext}
 use Rattle.std.proofs.lemmas.Bool.{both_ways}
+use Rattle.cx_text.specs.Members.{In}
 use Rattle.cx_prim.specs.CellStates.{CellState}
 use Rattle.cx_prim.specs.Rows.{Row}
 use Rattle.cx_meaning.specs.declared.ports.PortRef.TheVariants as ports
@@ -9,7 +10,7 @@ use Rattle.cx_meaning.specs.declared.sights.FaultKind.{FaultKind}
 use Rattle.cx_meaning.specs.Rows.{side_of}
 use Rattle.cx_meaning.specs.Instances.{Instance, Node, Cells, OfRow, OfInstance, cell_at, cell_count, cells_of, part_of, Path, State, Set, merge, idle_at, idle}
 use Rattle.cx_meaning.specs.Active.{Active, Owned, source_order}
-use Rattle.cx_meaning.specs.Sights.{Look, Held, In, seen}
+use Rattle.cx_meaning.specs.Sights.{Look, Held, seen}
 use Rattle.cx_meaning.specs.Cycles.{Fault, Outcome, Next, Stops, enables, cell_outcome, outcome_of, stepped, state_after, Goes, Faults, ended, cycle_of, every_cell}
 use Rattle.cx_meaning.proofs.CycleLemmas.{goes_to, faults_with, one_stops, outcome_cases, state_after-same}
 use Rattle.cx_rules.specs.Ports.{enables_cell, is_primitive_enable}

@@ -1,6 +1,7 @@
 -- What an instance does depends on the inputs alone that its component has: what is seen, its cycles, and the leaves of its control.
 use Rattle.std.proofs.Common.{◌≡◌, ℕ, suc, ◌<◌, Bool, true, false, [], ◌∷◌, length, Option, Some, None, refl, sym, ap, ◌∙◌, subst}
 use Rattle.std.proofs.Math.Path.{fun_ext}
+use Rattle.cx_text.specs.Members.{In}
 use Rattle.cx_prim.specs.CellStates.{CellState}
 use Rattle.cx_prim.specs.Rows.{Row}
 use Rattle.cx_prim.specs.declared.ports.Side.{Side}
@@ -15,7 +16,7 @@ use Rattle.cx_meaning.specs.Designs.{Enable, group_at}
 use Rattle.cx_meaning.specs.Instances.{Instance, At, Nothing, OfRow, OfInstance, cell_at, cells_of, part_of, State, idle, under}
 use Rattle.cx_meaning.specs.Active.{Active, nothing, group, capture, Owned, source_order, drivers}
 use Rattle.cx_meaning.specs.Truths.{truth_of}
-use Rattle.cx_meaning.specs.Sights.{Look, Below, Held, PartPort, Go, AnInput, AnOutput, ItsDone, part_port, gather, step, In, Sees, by_step, seen}
+use Rattle.cx_meaning.specs.Sights.{Look, Below, Held, PartPort, Go, AnInput, AnOutput, ItsDone, part_port, gather, step, Sees, by_step, seen}
 use Rattle.cx_meaning.specs.Cycles.{enables, after_enabling, cell_outcome, every_cell, cycle}
 use Rattle.cx_meaning.specs.Answers.{then_do, one_turn, turns_of, idle_turn}
 use Rattle.cx_meaning.specs.Islands.{island, turn_of}

@@ -8,7 +8,7 @@ use Rattle.cx_meaning.specs.declared.ports.PlacedPort.{PlacedPort}
 use Rattle.cx_meaning.specs.Designs.{PlainComponent, PlainDesign, PlainGroup, component_at, no_component, no_group}
 use Rattle.cx_meaning.specs.Instances.{Instance, Node, Cells, no_cells, part_of, cells_for, tree_within, tree_of, Path, instance_at}
 use Rattle.cx_meaning.specs.Active.{Owned, source_order}
-use Rattle.cx_meaning.specs.Sights.{In}
+use Rattle.cx_text.specs.Members.{In}
 use Rattle.cx_rules.specs.Ports.{component_of}
 use Rattle.cx_rules.specs.Items.{sources_of, Visited, statements_in, test_in}
 use Rattle.cx_rules.specs.Footprints.{AssignNames}

@@ -2,13 +2,15 @@
 use Rattle.std.proofs.Common.{◌≡◌, ℕ, zero, suc, ◌<◌, inl, inr, Bool, true, false, List, [], length, Some, refl, ap, ◌∙◌}
 use Rattle.std.specs.Prelude.{if◌then◌else◌, nat_eq}
 use Rattle.std.proofs.Math.Path.{fun_ext}
+use Rattle.cx_text.proofs.MemberLaws.{in_left, in_right}
+use Rattle.cx_text.specs.Members.{In}
 use Rattle.cx_meaning.specs.declared.ports.PortRef.{PortRef}
 use Rattle.cx_meaning.specs.declared.ports.PlacedPort.{PlacedPort}
 use Rattle.cx_meaning.specs.Designs.{PlainForm, Empty, Enable, Seq, Par, If, While, Repeat, StaticSeq, StaticPar, StaticIf, StaticRepeat, Timed, PlainStatement, Placed, PlainStatements, no_statements, a_statement}
 use Rattle.cx_meaning.specs.Instances.{Instance, Node, State, cells_of, part_of, idle}
 use Rattle.cx_meaning.specs.Active.{nothing, group, entries, Owned, source_order}
 use Rattle.cx_meaning.specs.Truths.{truth_of}
-use Rattle.cx_meaning.specs.Sights.{Held, In, seen}
+use Rattle.cx_meaning.specs.Sights.{Held, seen}
 use Rattle.cx_meaning.specs.Cycles.{cycle}
 use Rattle.cx_meaning.specs.Answers.{turn_then, then_do, both, test_turn, loop_of, rounds}
 use Rattle.cx_meaning.specs.Control.{drives, run, run_form, run_parts, run_arms}
@@ -19,7 +21,6 @@ use Rattle.cx_rules.specs.Footprints.{AssignNames}
 use Rattle.cx_rules.specs.Items.{Context, Dynamic, below_dynamic, Visited, visit, visit_parts, visit_all, test_in}
 use Rattle.cx_frames.proofs.IslandFrames.{AllFine, AreSame, active_same, looked_same, looked_good, unclear_same, form_fine}
 use Rattle.cx_frames.proofs.InputLemmas.{Own, seen_own, cycle_own, test_own, enable_own}
-use Rattle.cx_meaning.proofs.SightsLaws.{in_left, in_right}
 
 abbrev AnyGroup : ℕ → Type 0
 AnyGroup g = Unit {0}

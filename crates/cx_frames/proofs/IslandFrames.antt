@@ -1,20 +1,21 @@
 -- Islands hang on a set of cells alone.
 use Rattle.std.proofs.Common.{◌≡◌, ℕ, zero, suc, ◌+◌, ◌-◌, inl, inr, Bool, true, false, ◌&&◌, nat_le, Option, Some, None, List, [], ◌∷◌, ◌++◌, map, refl, ap, ◌∙◌, subst}
 use Rattle.std.specs.Prelude.{if◌then◌else◌, nat_eq, nat_lt}
+use Rattle.cx_text.specs.Members.{In}
 use Rattle.cx_meaning.specs.declared.ports.PortRef.{PortRef}
 use Rattle.cx_meaning.specs.declared.ports.PlacedPort.{PlacedPort}
 use Rattle.cx_meaning.specs.Designs.{PlainComponent, PlainForm, Empty, Enable, Seq, Par, If, While, Repeat, StaticSeq, StaticPar, StaticIf, StaticRepeat, Timed, PlainStatement, Placed, PlainStatements, no_statements, a_statement}
 use Rattle.cx_meaning.specs.Instances.{Instance, cells_of, part_of, State, idle}
 use Rattle.cx_meaning.specs.Active.{nothing, entries}
 use Rattle.cx_meaning.specs.Truths.{truth_of}
-use Rattle.cx_meaning.specs.Sights.{Look, Held, seen, In}
-use Rattle.cx_meaning.specs.Cycles.{Fault, Ended, cycle}
+use Rattle.cx_meaning.specs.Sights.{Look, Held, seen}
+use Rattle.cx_meaning.specs.Cycles.{cycle}
 use Rattle.cx_meaning.specs.Control.{groups_in, groups_of, groups_in_all}
 use Rattle.cx_meaning.specs.Islands.{group_length, form_length, length_of, Condition, Occurrence, Runs, Looks, condition, rounds_from, occurrence, form_flat, flat, seq_flat, par_flat, History, no_history, is_wanted, hold, entry_if, active_in, port_if, looked_at, is_one, and_now, fault_of, first_unclear, turn_of, unless_unclear, island_turn, island_from, island}
 use Rattle.cx_rules.specs.Items.{Context, InStatic, Branch, visit, visit_parts, visit_all, test_in}
 use Rattle.cx_rules.specs.Circles.{IsAcyclic, AcyclicBelow}
 use Rattle.cx_frames.specs.Agreeing.{Agree, Alike}
-use Rattle.cx_frames.proofs.AlikeLemmas.{Frames, AlikeTurn, idle_frames, turn_alike}
+use Rattle.cx_frames.proofs.AlikeLemmas.{Frames, AlikeTurn, unclear_alike, idle_frames, turn_alike}
 use Rattle.cx_frames.proofs.ControlFrames.{Holds, left, right}
 use Rattle.cx_frames.proofs.RuleLemmas.{IsKept}
 use Rattle.cx_frames.proofs.SightFrames.{InFrame, IsThrough, cycle_alike}
@@ -117,7 +118,7 @@ module _ (G : ℕ → Type 0) (F : PortRef → Type 0) where
         ∙ ap (port_if (nat_eq t at && hold k conditions) port) (looked_same t rest fine)
 
   -- what is active and looked at is such
-  active_good : (h : History) (t : ℕ) (list : List Occurrence) → AllFine list → (g : ℕ) → In (map (λ e. e.group) (active_in h t list)) g → G g
+  pub active_good : (h : History) (t : ℕ) (list : List Occurrence) → AllFine list → (g : ℕ) → In (map (λ e. e.group) (active_in h t list)) g → G g
   active_good h t [] fine g i = absurd i
   active_good h t (Runs n from to conditions ∷ rest) ((good, all), fine) g i = one (nat_le from t && nat_lt t to && hold h conditions) i (active_good h t rest fine g)
     where
@@ -138,13 +139,6 @@ module _ (G : ℕ → Type 0) (F : PortRef → Type 0) where
       one false j later = later j
 
 module _ (i : Instance) (held : Held) (set : ℕ → Type 0) (kept : IsKept i) (through : IsThrough (part_of i) set) (deeper : AcyclicBelow (cells_of i)) (bare : IsAcyclic i nothing) where
-  unclear_alike : (x y : Option Fault) (a b : Ended) → x ≡ y → AlikeTurn set (turn_of a) (turn_of b) → AlikeTurn set (unless_unclear x a) (unless_unclear y b)
-  unclear_alike x y a b e h = subst (λ z. AlikeTurn set (unless_unclear x a) (unless_unclear z b)) e (one x)
-    where
-      one : (z : Option Fault) → AlikeTurn set (unless_unclear z a) (unless_unclear z b)
-      one None = h
-      one (Some f) = refl
-
   module _ (list : List Occurrence) (fine : AllFine (IsGood i held set kept through deeper) (InFrame set) list) (acyclic : (h : History) (t : ℕ) → IsAcyclic i (entries (active_in h t list))) where
     cycle_turn : (t : ℕ) (h : History) (s s2 : State) → Agree set s s2 → AlikeTurn set (turn_of (cycle i held (entries (active_in h t list)) s)) (turn_of (cycle i held (entries (active_in h t list)) s2))
     cycle_turn t h s s2 agree =
@@ -154,11 +148,11 @@ module _ (i : Instance) (held : Held) (set : ℕ → Type 0) (kept : IsKept i) (
     -- a cycle of an island
     pub same_turn : (t : ℕ) (h : History) (s s2 : State) → Agree set s s2 → AlikeTurn set (island_turn i held list t h s) (island_turn i held list t h s2)
     same_turn t h s s2 agree =
-        unclear_alike (first_unclear (seen i held nothing s) (looked_at h t list)) (first_unclear (seen i held nothing s2) (looked_at h t list)) _ _
+        unclear_alike set (first_unclear (seen i held nothing s) (looked_at h t list)) (first_unclear (seen i held nothing s2) (looked_at h t list)) _ _
         (unclear_same (seen i held nothing s) (seen i held nothing s2) (looked_at h t list) (λ q j. bare_seen i held set kept through deeper bare s s2 agree q (looked_good (IsGood i held set kept through deeper) (InFrame set) h t list fine q j)))
         (cycle_turn t h s s2 agree)
 
-    island_alike : (t : ℕ) (h k : History) (s s2 : State) → AreSame (IsGood i held set kept through deeper) (InFrame set) h k → Agree set s s2 → AlikeTurn set (island_turn i held list t h s) (island_turn i held list t k s2)
+    pub island_alike : (t : ℕ) (h k : History) (s s2 : State) → AreSame (IsGood i held set kept through deeper) (InFrame set) h k → Agree set s s2 → AlikeTurn set (island_turn i held list t h s) (island_turn i held list t k s2)
     island_alike t h k s s2 same agree =
         subst (λ es. AlikeTurn set (island_turn i held list t h s) (unless_unclear (first_unclear (seen i held nothing s2) (looked_at k t list)) (cycle i held (entries es) s2)))
         (active_same (IsGood i held set kept through deeper) (InFrame set) h k same t list fine)
@@ -166,7 +160,7 @@ module _ (i : Instance) (held : Held) (set : ℕ → Type 0) (kept : IsKept i) (
         (looked_same (IsGood i held set kept through deeper) (InFrame set) h k same t list fine)
         (same_turn t h s s2 agree))
 
-    now_same : (t : ℕ) (h k : History) (s s2 : State) → AreSame (IsGood i held set kept through deeper) (InFrame set) h k → Agree set s s2
+    pub now_same : (t : ℕ) (h k : History) (s s2 : State) → AreSame (IsGood i held set kept through deeper) (InFrame set) h k → Agree set s s2
         → AreSame (IsGood i held set kept through deeper) (InFrame set) (and_now h t (seen i held nothing s)) (and_now k t (seen i held nothing s2))
     now_same t h k s s2 same agree port at inside = one (nat_eq t at)
       where

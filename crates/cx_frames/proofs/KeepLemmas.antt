@@ -1,14 +1,15 @@
 -- What runs over any leaves keep of a state where idle turns and the leaves of their groups keep it.
 use Rattle.std.proofs.Common.{◌≡◌, ℕ, zero, suc, inl, ◌++◌, refl}
+use Rattle.cx_text.proofs.MemberLaws.{in_left, in_right}
 use Rattle.cx_meaning.specs.Designs.{PlainForm, Empty, Enable, Seq, Par, If, While, Repeat, StaticSeq, StaticPar, StaticIf, StaticRepeat, Timed, PlainStatement, Placed, PlainStatements, no_statements, a_statement}
 use Rattle.cx_meaning.specs.Instances.{Set}
-use Rattle.cx_meaning.specs.Sights.{In}
+use Rattle.cx_text.specs.Members.{In}
 use Rattle.cx_meaning.specs.Answers.{Answer, Meaning, then_do, stay, idle_turn, Turn, Ends, Goes, Faults, turn_then, one_turn, turns_of, Test, Holds, Fails, Unclear, chosen, test_turn, loop, loop_of, rounds, both}
 use Rattle.cx_meaning.specs.Control as control
 use Rattle.cx_meaning.specs.Control.{groups_in, groups_of, groups_in_all, run_form, run, run_parts, run_arms}
 use Rattle.cx_meaning.specs.Budgets.{Leaves}
 use Rattle.cx_meaning.proofs.AnswersLemmas.{leaves_later, leaves_then, leaves_rounds, leaves_both}
-use Rattle.cx_meaning.proofs.SightsLaws.{behind_comb, in_left, in_right}
+use Rattle.cx_meaning.proofs.SightsLaws.{behind_comb}
 
 -- where a run begins in a state of which P holds and ends, P holds of the state that it leaves
 abbrev pub Keeps : {S F : Type 0} → (S → Type 0) → Meaning S F → Type 0

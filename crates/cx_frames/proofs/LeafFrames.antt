@@ -3,6 +3,7 @@ use Rattle.std.proofs.Common.{◌≡◌, ℕ, suc, inl, inr, Bool, true, false, 
 use Rattle.std.specs.Prelude.{if◌then◌else◌, nat_eq}
 use Rattle.std.proofs.Math.Path.{fun_ext}
 use Rattle.std.proofs.lemmas.Bool.{eqb-true, or_right}
+use Rattle.cx_text.specs.Members.{In}
 use Rattle.cx_meaning.specs.declared.ports.PortRef.{PortRef}
 use Rattle.cx_meaning.specs.declared.ports.PortRef.TheVariants as ports
 use Rattle.cx_meaning.specs.declared.kinds.GroupKind.{GroupKind}
@@ -10,19 +11,18 @@ use Rattle.cx_meaning.specs.declared.kinds.GroupKind.TheVariants as kinds
 use Rattle.cx_meaning.specs.Designs.{PlainAssign, group_at, Enable}
 use Rattle.cx_meaning.specs.Instances.{Instance, Cells, At, Nothing, OfRow, OfInstance, cell_at, cells_of, part_of, State, Set, merge, just, beneath, put, under, idle_at, idle}
 use Rattle.cx_meaning.specs.Active.{nothing, only_at, group, capture}
-use Rattle.cx_meaning.specs.Truths.{Truth, One, Zero, truth_of}
-use Rattle.cx_meaning.specs.Truths as truths
-use Rattle.cx_meaning.specs.Sights.{Held, seen, In}
-use Rattle.cx_meaning.specs.Cycles.{Fault, Ended, cycle}
+use Rattle.cx_meaning.specs.Truths.{truth_of}
+use Rattle.cx_meaning.specs.Sights.{Held, seen}
+use Rattle.cx_meaning.specs.Cycles.{Fault, cycle}
 use Rattle.cx_meaning.specs.Answers.{Answer, End, More, idle_turn}
 use Rattle.cx_meaning.specs.Answers as answers
 use Rattle.cx_meaning.specs.Control.{targets_cell, assigns_drive}
 use Rattle.cx_meaning.specs.Islands.{turn_of, island}
-use Rattle.cx_meaning.specs.Calls.{hole_turn, group_turn, test_of, test, if_instance, called_by, called_in, called, captures, lift_answer, inputs_of_call, after_child, call, call_or_turns, enable_kind, enable}
+use Rattle.cx_meaning.specs.Calls.{group_turn, test_of, test, if_instance, called_by, called_in, called, captures, lift_answer, inputs_of_call, after_child, call, call_or_turns, enable_kind, enable}
 use Rattle.cx_meaning.specs.Running.{Children}
 use Rattle.cx_rules.specs.Circles.{IsAcyclic, AcyclicBelow}
 use Rattle.cx_frames.specs.Agreeing.{Agree, Alike}
-use Rattle.cx_frames.proofs.AlikeLemmas.{Frames, AlikeTurn, then_alike, idle_frames, one_frames, turns_frames}
+use Rattle.cx_frames.proofs.AlikeLemmas.{Frames, AlikeTurn, hole_alike, then_alike, idle_frames, one_frames, turns_frames}
 use Rattle.cx_frames.proofs.RuleLemmas.{IsKept}
 use Rattle.cx_frames.proofs.SightFrames.{InFrame, IsThrough, IsWithin, IsAmong, seen_alike, cycle_alike}
 use Rattle.cx_frames.proofs.CircleFrames.{capture_acyclic}
@@ -90,19 +90,10 @@ module _ (i : Instance) (held : Held) (set : ℕ → Type 0) (kept : IsKept i) (
   pub bare_seen : IsAcyclic i nothing → (s t : State) → Agree set s t → (p : PortRef) → InFrame set p → seen i held nothing s p ≡ seen i held nothing t p
   bare_seen bare s t agree p inside = seen_alike i held nothing set [] kept through nothing_among (λ g none. absurd none) s t agree bare deeper p inside
 
-  hole_alike : (g : ℕ) (x y : Truth) (a b : Ended) → x ≡ y → AlikeTurn set (turn_of a) (turn_of b) → AlikeTurn set (hole_turn g a x) (hole_turn g b y)
-  hole_alike g x y a b e h = subst (λ z. AlikeTurn set (hole_turn g a x) (hole_turn g b z)) e (one x)
-    where
-      one : (z : Truth) → AlikeTurn set (hole_turn g a z) (hole_turn g b z)
-      one One = refl
-      one Zero = h
-      one truths.Conflict = refl
-      one truths.Undefined = refl
-
   -- a turn of a group
   pub group_alike : (g : ℕ) → IsGood g → (s t : State) → Agree set s t → AlikeTurn set (group_turn i held g s) (group_turn i held g t)
   group_alike g good s t agree =
-      hole_alike g (truth_of (seen i held (group g) s (ports.Done g))) (truth_of (seen i held (group g) t (ports.Done g))) (cycle i held (group g) s) (cycle i held (group g) t)
+      hole_alike set g (truth_of (seen i held (group g) s (ports.Done g))) (truth_of (seen i held (group g) t (ports.Done g))) (cycle i held (group g) s) (cycle i held (group g) t)
       (ap truth_of (group_seen g good s t agree (ports.Done g) tt))
       (cycle_alike i held (group g) set (g ∷ []) kept through (only_among g) (alone g good) s t agree good.acyclic deeper)
 

@@ -1,9 +1,10 @@
 -- One more arm of a par in an accepted design.
 use Rattle.std.proofs.Common.{◌≡◌, ℕ, suc, ◌+◌, Some, List, [], ◌∷◌, ◌++◌, take, drop, sym, ap, ◌∙◌, subst, arith}
 use Rattle.std.specs.Prelude.{slice_get}
+use Rattle.cx_text.specs.Members.{In}
 use Rattle.cx_meaning.specs.Designs.{PlainDesign, Par, PlainStatement, Placed, PlainStatements, statements_of, list_of}
 use Rattle.cx_meaning.specs.Instances.{part_of, tree_of, State, Path, instance_at}
-use Rattle.cx_meaning.specs.Sights.{Held, In}
+use Rattle.cx_meaning.specs.Sights.{Held}
 use Rattle.cx_meaning.specs.Budgets.{IsSteady}
 use Rattle.cx_meaning.specs.Control.{drives}
 use Rattle.cx_meaning.specs.Running.{run_statement}

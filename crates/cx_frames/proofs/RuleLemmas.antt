@@ -2,25 +2,25 @@
 use Rattle.std.proofs.Common.{◌≡◌, ℕ, zero, suc, ◌<◌, inl, inr, ⊎_elim, true, Some, None, List, [], ◌∷◌, length, refl, sym, ap, ◌∙◌, subst, arith}
 use Rattle.std.proofs.lemmas.Bool.{cases_lt}
 use Rattle.std.proofs.lemmas.List.{get_or_past}
+use Rattle.cx_text.proofs.MemberLaws.{number_in}
 use Rattle.cx_text.specs.declared.rules.Rule.TheVariants.{NotASource, AlwaysEnable}
 use Rattle.cx_prim.specs.declared.ports.Side.TheVariants as sides
 use Rattle.cx_prim.specs.Rows.{Row, is_enable_side}
 use Rattle.cx_meaning.specs.declared.ports.PortRef.TheVariants as ports
 use Rattle.cx_meaning.specs.declared.ports.PlacedPort.{PlacedPort}
 use Rattle.cx_meaning.specs.Rows.{side_of}
-use Rattle.cx_meaning.specs.Designs.{PlainAssign, PlainKind, OfPrimitive, OfComponent, PlainCell, PlainComponent, PlainDesign, component_at, no_component, group_at}
+use Rattle.cx_meaning.specs.Designs.{PlainAssign, PlainKind, OfPrimitive, OfComponent, PlainCell, PlainComponent, PlainDesign, component_at, no_component}
 use Rattle.cx_meaning.specs.Instances.{Instance, Node, Cells, no_cells, Nothing, OfRow, cell_at, cells_of, part_of, add_cell, cells_for, tree_within, tree_of, Path, instance_at}
 use Rattle.cx_meaning.specs.Active.{Owned, source_order}
-use Rattle.cx_meaning.specs.Sights.{In}
+use Rattle.cx_text.specs.Members.{In}
 use Rattle.cx_rules.specs.Ports.{component_of, enables_cell, is_primitive_enable, is_target_only, path_of}
 use Rattle.cx_rules.specs.Items.{Visited, statements_in, test_in}
 use Rattle.cx_rules.specs.Footprints.{AssignNames}
 use Rattle.cx_rules.specs.Spots.{AnAssign, AStatement}
 use Rattle.cx_rules.specs.Accepted.{IsAccepted}
 use Rattle.cx_rules.specs.Wellformed.{IsDesign}
-use Rattle.cx_rules.proofs.CircleLemmas.{Reached, a_tree, no_tree, reached}
+use Rattle.cx_rules.proofs.CircleLemmas.{Reached, a_tree, no_tree, reached, cells_for_none}
 use Rattle.cx_frames.proofs.EnableLemmas.{HasLawfulRows, tree_lawful}
-use Rattle.cx_meaning.proofs.SightsLaws.{number_in}
 use Rattle.cx_text.proofs.OptionLaws.{none_some}
 use Rattle.cx_meaning.proofs.InstancesLemmas.{instance_row, nothing_row}
 use Rattle.cx_rules.proofs.ItemsLemmas.{bare_test}
@@ -95,12 +95,9 @@ module _ (part : PlainComponent) (cells : Cells) (none : part ≡ no_component) 
   }
 
 module _ (d : PlainDesign) (design : IsDesign d) (accepted : IsAccepted d) where
-  empty_cells : (child : ℕ → Instance) (cells : List PlainCell) → cells ≡ [] → (c : ℕ) → cell_at (cells_for child cells) c ≡ Nothing
-  empty_cells child cells e c = ap (λ x. cell_at (cells_for child x) c) e
-
   bare_tree : (m k : ℕ) → component_at d k ≡ no_component → IsKept (tree_within d m k)
   bare_tree zero k e = kept_bare (component_at d k) no_cells e (λ c. refl)
-  bare_tree (suc m) k e = kept_bare (component_at d k) (cells_for (tree_within d m) (component_at d k).cells) e (empty_cells (tree_within d m) (component_at d k).cells (ap (λ x. x.cells) e))
+  bare_tree (suc m) k e = kept_bare (component_at d k) (cells_for (tree_within d m) (component_at d k).cells) e (cells_for_none (tree_within d m) (component_at d k).cells (ap (λ x. x.cells) e))
 
   kept_reached : {i : Instance} → Reached d i → IsKept i
   kept_reached (a_tree m k) = ⊎_elim (λ l. kept_tree d design accepted k l m) (λ l. bare_tree m k (get_or_past d.components k no_component l)) (cases_lt k (length d.components))

@@ -1,6 +1,8 @@
 -- A run of a statement leaves alone what the statement does not drive.
 use Rattle.std.proofs.Common.{◌≡◌, ℕ, zero, suc, ◌+◌, ◌-◌, Bool, true, false, ◌&&◌, nat_eq, nat_le, nat_lt, inl, inr, List, [], ◌∷◌, ◌++◌, Option, Some, None, if◌then◌else◌, refl, sym, ap, ◌∙◌, subst}
 use Rattle.std.proofs.lemmas.Bool.{both_ways, false_from_ne_true, ne_eqb, or_parts}
+use Rattle.cx_text.proofs.MemberLaws.{in_left, in_right}
+use Rattle.cx_text.specs.Members.{In}
 use Rattle.cx_text.specs.declared.places.Place.{Place}
 use Rattle.cx_meaning.specs.declared.ports.PortRef.{PortRef}
 use Rattle.cx_meaning.specs.declared.ports.PortRef.TheVariants as ports
@@ -9,7 +11,7 @@ use Rattle.cx_meaning.specs.declared.kinds.GroupKind.TheVariants as kinds
 use Rattle.cx_meaning.specs.Designs.{PlainAssign, PlainComponent, group_at, PlainForm, Empty, Enable, Seq, Par, If, While, Repeat, StaticSeq, StaticPar, StaticIf, StaticRepeat, Timed, PlainStatement, Placed, PlainStatements, no_statements, a_statement}
 use Rattle.cx_meaning.specs.Instances.{Instance, Node, Cells, At, Nothing, OfRow, OfInstance, cell_at, cells_of, part_of, Path, State, Set, merge, just, beneath, put, under, idle_at, idle}
 use Rattle.cx_meaning.specs.Active.{Active, nothing, group, capture, offset_in, entries}
-use Rattle.cx_meaning.specs.Sights.{Held, In, seen}
+use Rattle.cx_meaning.specs.Sights.{Held, seen}
 use Rattle.cx_meaning.specs.Truths.{Truth, One, Zero}
 use Rattle.cx_meaning.specs.Truths as truths
 use Rattle.cx_meaning.specs.Cycles.{Fault, Ended, Goes, cycle, every_cell}
@@ -27,7 +29,6 @@ use Rattle.cx_frames.proofs.CycleLemmas.{cycle_keeps_root, cycle_keeps}
 use Rattle.cx_frames.proofs.KeepLemmas.{Keeps, keeps_idle, keeps_turn, keeps_turns, leaves_turn_then, keeps_run}
 use Rattle.cx_meaning.proofs.ControlLaws.{groups_drive_in}
 use Rattle.cx_meaning.proofs.CyclesLemmas.{turn_goes}
-use Rattle.cx_meaning.proofs.SightsLaws.{in_left, in_right}
 use Rattle.cx_meaning.proofs.InstancesLemmas.{top_idle}
 
 pub drives_group : (part : PlainComponent) (s : PlainStatement) (g c : ℕ) → In (groups_of s) g → group_drives part g c ≡ true → drives part s c ≡ true

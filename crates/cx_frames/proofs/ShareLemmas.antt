@@ -3,36 +3,19 @@ use Rattle.std.proofs.Common.{◌≡◌, ℕ, zero, suc, ◌<◌, inl, inr, ⊎_
 use Rattle.std.specs.Prelude.{slice_get}
 use Rattle.std.proofs.lemmas.Bool.{cases_lt}
 use Rattle.std.proofs.lemmas.List.{get_or_past}
-use Rattle.cx_text.specs.declared.rules.Rule.TheVariants.{Race}
 use Rattle.cx_meaning.specs.Designs.{PlainComponent, PlainDesign, component_at, no_component, PlainStatement}
 use Rattle.cx_meaning.specs.Instances.{Instance, part_of, tree_of, Path, instance_at}
-use Rattle.cx_meaning.specs.Sights.{In}
+use Rattle.cx_text.specs.Members.{In}
 use Rattle.cx_meaning.specs.Control.{drives}
-use Rattle.cx_rules.specs.Ports.{component_of}
 use Rattle.cx_rules.specs.Items.{Visited, statements_in}
 use Rattle.cx_rules.specs.Footprints.{Reads}
-use Rattle.cx_rules.specs.Spots.{AStatement}
 use Rattle.cx_rules.specs.RaceRule.{Arms, arms_of, IsShared}
 use Rattle.cx_rules.specs.Accepted.{IsAccepted}
+use Rattle.cx_laws.proofs.RaceLemmas.{unshared}
 use Rattle.cx_rules.proofs.CircleLemmas.{Reached, a_tree, no_tree, reached}
 use Rattle.cx_rules.proofs.InvokesLemmas.{drives_more, reads_more}
 use Rattle.cx_frames.specs.Arms.{all_drive}
 use Rattle.cx_meaning.proofs.DesignsLemmas.{same_part}
-use Rattle.cx_meaning.proofs.SightsLaws.{number_in}
-
-module _ (d : PlainDesign) (accepted : IsAccepted d) (k : ℕ) (within : k < length d.components) where
-  shared_least : (v : Visited) → In (statements_in (component_at d k)) v → (c : ℕ) → ((e : ℕ) → e < c → IsShared (part_of (component_of d k)) (arms_of v.form) e → ⊥) → IsShared (part_of (component_of d k)) (arms_of v.form) c → ⊥
-  shared_least v i c least shared =
-      let n = number_in (statements_in (component_at d k)) v i in
-      accepted.no_races Race (record { component = k; part = AStatement n.0 }) v.place _ refl
-      (record { within = within; number = n.0; is = refl; statement = v; stands = n.1; breaks = inl (c, shared, least, (refl, refl)) })
-
-  shared_below : (v : Visited) → In (statements_in (component_at d k)) v → (n e : ℕ) → e < n → IsShared (part_of (component_of d k)) (arms_of v.form) e → ⊥
-  shared_below v i zero e l shared = absurd (omega arith)
-  shared_below v i (suc n) e l shared = shared_least v i e (λ f m s. shared_below v i n f (omega arith) s) shared
-
-  pub unshared : (v : Visited) → In (statements_in (component_at d k)) v → (c : ℕ) → IsShared (component_at d k) (arms_of v.form) c → ⊥
-  unshared v i c shared = shared_below v i (suc c) c (omega arith) (subst (λ x. IsShared x (arms_of v.form) c) (sym (same_part d (length d.components) k)) shared)
 
 -- a component that is not there has no arms
 bare_unshared : (v : Visited) (c : ℕ) → In (statements_in no_component) v → IsShared no_component (arms_of v.form) c → ⊥

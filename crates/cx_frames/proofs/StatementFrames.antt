@@ -1,16 +1,19 @@
 -- What a statement of an accepted design does hangs on what it reads alone.
 use Rattle.std.proofs.Common.{◌≡◌, ℕ, ◌<◌, inl, inr, Some, List, [], ◌∷◌, ◌++◌, length, refl, sym, ap, ◌∙◌, subst}
+use Rattle.cx_text.proofs.MemberLaws.{in_left, in_right, of_joined}
+use Rattle.cx_text.specs.Members.{In}
 use Rattle.cx_meaning.specs.declared.ports.PlacedPort.{PlacedPort}
 use Rattle.cx_meaning.specs.Designs.{PlainForm, Empty, Enable, Seq, Par, If, While, Repeat, StaticSeq, StaticPar, StaticIf, StaticRepeat, Timed, PlainStatement, Placed, PlainStatements, no_statements, a_statement}
 use Rattle.cx_meaning.specs.Instances.{Instance, Node, part_of}
 use Rattle.cx_meaning.specs.Active.{group, entries}
-use Rattle.cx_meaning.specs.Sights.{Held, In}
+use Rattle.cx_meaning.specs.Sights.{Held}
 use Rattle.cx_meaning.specs.Control.{groups_in, groups_of, drives, run}
 use Rattle.cx_meaning.specs.Islands.{History, form_flat, active_in, island}
 use Rattle.cx_meaning.specs.Running.{Children, leaves, control_below, run_statement}
-use Rattle.cx_rules.specs.Items.{Context, Dynamic, InStatic, Branch, below_dynamic, Visited, visit, visit_parts, visit_all, statements_in, test_in, option_list, tests_of}
+use Rattle.cx_rules.specs.Items.{Context, Dynamic, below_dynamic, Visited, visit, visit_parts, visit_all, statements_in, test_in, option_list, tests_of}
 use Rattle.cx_rules.specs.Circles.{IsAcyclic, AreAcyclic}
 use Rattle.cx_laws.specs.Closures.{IsClosed}
+use Rattle.cx_laws.proofs.VisitLemmas.{visits, visited}
 use Rattle.cx_frames.proofs.AlikeLemmas.{Frames}
 use Rattle.cx_frames.proofs.ControlFrames.{Holds, LeavesFrame, run_frames}
 use Rattle.cx_frames.proofs.RuleLemmas.{IsKept}
@@ -19,46 +22,8 @@ use Rattle.cx_frames.proofs.CircleFrames.{group_acyclic}
 use Rattle.cx_frames.proofs.LeafFrames.{merge_agree, idle_agree, IsGood, test_alike, enable_frames}
 use Rattle.cx_frames.proofs.IslandFrames.{island_frames}
 use Rattle.cx_meaning.proofs.ControlLaws.{groups_drive_in}
-use Rattle.cx_meaning.proofs.SightsLaws.{of_joined, in_left, in_right}
 use Rattle.cx_laws.proofs.TogetherLemmas.{in_flat}
 use Rattle.cx_rules.proofs.CirclesLemmas.{own_acyclic, cells_below}
-
--- a statement that is visited, as a statement again
-abbrev pub visits : Visited → List Visited
-visits v = visit v.context (Placed v.form v.place)
-
--- what a visited statement visits is visited
-mutual
-  visited_parts : (context : Context) (form : PlainForm) (v w : Visited) → In (visit_parts context form) v → In (visits v) w → In (visit_parts context form) w
-  visited_parts context Empty v w i j = absurd i
-  visited_parts context (Enable g) v w i j = absurd i
-  visited_parts context (Seq parts) v w i j = visited_all (below_dynamic context) parts v w i j
-  visited_parts context (Par arms) v w i j = visited_all (below_dynamic context) arms v w i j
-  visited_parts context (If test comb a b) v w i j =
-      of_joined (visit (below_dynamic context) a) (visit (below_dynamic context) b) v i
-      (λ k. in_left (visit (below_dynamic context) a) (visit (below_dynamic context) b) w (visited (below_dynamic context) a v w k j))
-      (λ k. in_right (visit (below_dynamic context) a) (visit (below_dynamic context) b) w (visited (below_dynamic context) b v w k j))
-  visited_parts context (While test comb a) v w i j = visited (below_dynamic context) a v w i j
-  visited_parts context (Repeat count a) v w i j = visited (below_dynamic context) a v w i j
-  visited_parts context (StaticSeq written parts) v w i j = visited_all InStatic parts v w i j
-  visited_parts context (StaticPar written arms) v w i j = visited_all InStatic arms v w i j
-  visited_parts context (StaticIf written test a b) v w i j =
-      of_joined (visit Branch a) (visit Branch b) v i
-      (λ k. in_left (visit Branch a) (visit Branch b) w (visited Branch a v w k j))
-      (λ k. in_right (visit Branch a) (visit Branch b) w (visited Branch b v w k j))
-  visited_parts context (StaticRepeat written count a) v w i j = visited InStatic a v w i j
-  visited_parts context (Timed k) v w i j = absurd i
-
-  pub visited : (context : Context) (s : PlainStatement) (v w : Visited) → In (visit context s) v → In (visits v) w → In (visit context s) w
-  visited context (Placed form place) v w (inl e) j = subst (λ x. In (visits x) w) (sym e) j
-  visited context (Placed form place) v w (inr i) j = inr (visited_parts context form v w i j)
-
-  visited_all : (context : Context) (ss : PlainStatements) (v w : Visited) → In (visit_all context ss) v → In (visits v) w → In (visit_all context ss) w
-  visited_all context no_statements v w i j = absurd i
-  visited_all context (a_statement s ss) v w i j =
-      of_joined (visit context s) (visit_all context ss) v i
-      (λ k. in_left (visit context s) (visit_all context ss) w (visited context s v w k j))
-      (λ k. in_right (visit context s) (visit_all context ss) w (visited_all context ss v w k j))
 
 -- the forms that are visited do not hang on where the statement stands
 abbrev Among : List Visited → Visited → Type 0

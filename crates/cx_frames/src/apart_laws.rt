@@ -1,13 +1,14 @@
 //! Laws: each function does nothing, and its clause is the law.
 
 ghost use Rattle.std.specs.Prelude.{◌≡◌, ℕ, true, false, [], ◌∷◌, None};
+ghost use Rattle.cx_text.specs.Members.{In};
 ghost use Rattle.cx_text.specs.declared.places.Place.{Place};
 ghost use Rattle.cx_prim.specs.Rows.{Row};
 ghost use Rattle.cx_meaning.specs.declared.ports.PortRef.TheVariants.{Cell};
 ghost use Rattle.cx_meaning.specs.Designs.{Placed, PlainComponent, PlainDesign, PlainForm, PlainStatement};
 ghost use Rattle.cx_meaning.specs.Instances.{Instance, OfInstance, OfRow, Path, Set, State, cell_at, cells_of, idle, instance_at, merge, part_of, tree_of};
 ghost use Rattle.cx_meaning.specs.Active.{Active, Owned, capture, entries, group, source_order};
-ghost use Rattle.cx_meaning.specs.Sights.{Held, In, seen};
+ghost use Rattle.cx_meaning.specs.Sights.{Held, seen};
 ghost use Rattle.cx_meaning.specs.Cycles.{Fault, Faults, Goes, Next, cell_outcome, cycle_of, every_cell};
 ghost use Rattle.cx_meaning.specs.Islands.{History, active_in, form_flat};
 ghost use Rattle.cx_meaning.specs.Answers.{End};

@@ -1,10 +1,11 @@
 //! Laws of arms that run one after another: each function does nothing but call others, and its clause is the law.
 
 ghost use Rattle.std.specs.Prelude.{◌≡◌, ◌≤◌, ◌<◌, ◌+◌, ℕ, suc, List, [], ◌∷◌, ◌++◌, Some, length, slice_get, take};
+ghost use Rattle.cx_text.specs.Members.{In};
 ghost use Rattle.cx_text.specs.declared.places.Place.{Place};
 ghost use Rattle.cx_meaning.specs.Designs.{PlainDesign, PlainStatement, PlainStatements, Placed, Par, no_statements, statements_of, list_of};
 ghost use Rattle.cx_meaning.specs.Instances.{Instance, State, Path, part_of, tree_of, instance_at, IsSettled};
-ghost use Rattle.cx_meaning.specs.Sights.{In, Held};
+ghost use Rattle.cx_meaning.specs.Sights.{Held};
 ghost use Rattle.cx_meaning.specs.Control.{drives};
 ghost use Rattle.cx_meaning.specs.Running.{run_control, run_statement};
 ghost use Rattle.cx_rules.specs.Accepted.{IsAccepted};

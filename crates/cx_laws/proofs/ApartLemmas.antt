@@ -7,7 +7,7 @@ use Rattle.cx_meaning.specs.declared.ports.PortRef.TheVariants as ports
 use Rattle.cx_meaning.specs.Designs.{PlainAssign, PlainComponent, PlainDesign, PlainStatement, Placed, component_at, no_component, group_at}
 use Rattle.cx_meaning.specs.Instances.{Instance, part_of, tree_of, Path, instance_at}
 use Rattle.cx_meaning.specs.Active.{Active, Entry, offset_in, entries}
-use Rattle.cx_meaning.specs.Sights.{In}
+use Rattle.cx_text.specs.Members.{In}
 use Rattle.cx_meaning.specs.Control.{groups_of, group_drives, drives}
 use Rattle.cx_meaning.specs.Islands.{History, form_length, form_flat, active_in}
 use Rattle.cx_rules.specs.Items.{Visited, Dynamic, statements_in}

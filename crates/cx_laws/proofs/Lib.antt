@@ -8,6 +8,7 @@ pub mod VisitLemmas
 pub mod SourceLemmas
 pub mod RaceLemmas
 pub mod ApartLemmas
+pub mod StaticLemmas
 pub mod LengthLemmas
 pub mod ExampleLemmas
 pub mod SampleLemmas

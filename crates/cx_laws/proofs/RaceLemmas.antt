@@ -1,16 +1,16 @@
 -- In an accepted design no arm drives what another reads, and no group is enabled in two arms.
 use Rattle.std.proofs.Common.{ℕ, zero, suc, ◌<◌, inl, inr, length, refl, sym, subst, arith}
+use Rattle.cx_text.proofs.MemberLaws.{number_in}
 use Rattle.cx_text.specs.declared.rules.Rule.TheVariants.{Race}
 use Rattle.cx_meaning.specs.Designs.{PlainDesign, component_at}
 use Rattle.cx_meaning.specs.Instances.{part_of}
-use Rattle.cx_meaning.specs.Sights.{In}
+use Rattle.cx_text.specs.Members.{In}
 use Rattle.cx_rules.specs.Ports.{component_of}
 use Rattle.cx_rules.specs.Items.{Visited, statements_in}
 use Rattle.cx_rules.specs.Spots.{AStatement}
 use Rattle.cx_rules.specs.RaceRule.{arms_of, IsShared, IsEnabledTwice}
 use Rattle.cx_rules.specs.Accepted.{IsAccepted}
 use Rattle.cx_meaning.proofs.DesignsLemmas.{same_part}
-use Rattle.cx_meaning.proofs.SightsLaws.{number_in}
 
 module _ (d : PlainDesign) (accepted : IsAccepted d) (k : ℕ) (within : k < length d.components) where
   -- no cell that one arm drives and another reads

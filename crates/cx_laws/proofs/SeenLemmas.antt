@@ -41,7 +41,7 @@ bit_width false b e = let f : record { width = 1; value = 0 } ≡ b = cc in ap (
 literal_width : (w v : ℕ) (b : BitVector) → Value (record { width = w; value = v }) ≡ Value b → w ≡ b.width
 literal_width w v b e = let f : record { width = w; value = v } ≡ b = cc in ap (λ (x : BitVector). x.width) f
 
-side_there : (list : List PortRow) (p : ℕ) → p < length list → (port : PortRow) × (slice_get list p ≡ Some port) × (side_from list p ≡ port.side)
+pub side_there : (list : List PortRow) (p : ℕ) → p < length list → (port : PortRow) × (slice_get list p ≡ Some port) × (side_from list p ≡ port.side)
 side_there [] p h = absurd (omega arith)
 side_there (port ∷ list) zero h = (port, refl, refl)
 side_there (port ∷ list) (suc p) h = side_there list p (let k : suc p < suc (length list) = h in omega arith)

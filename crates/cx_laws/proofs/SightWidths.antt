@@ -1,5 +1,6 @@
 -- Where the value of a target and the values that a cell's output looks at come from.
 use Rattle.std.proofs.Common.{◌≡◌, ℕ, zero, suc, ◌+◌, inl, inr, ◌==◌, Bool, true, false, Option, Some, None, List, [], ◌∷◌, if◌then◌else◌, refl, sym, ap, ◌∙◌, subst, arith}
+use Rattle.cx_text.specs.Members.{In}
 use Rattle.cx_bits.specs.BitVector.{BitVector}
 use Rattle.cx_prim.specs.declared.ports.PortRow.{PortRow}
 use Rattle.cx_prim.specs.Rows.{Inputs, input}
@@ -9,12 +10,12 @@ use Rattle.cx_meaning.specs.declared.sights.Seen.TheVariants.{Value, Conflict, U
 use Rattle.cx_meaning.specs.Active.{Acting}
 use Rattle.cx_meaning.specs.Truths.{Truth, One, Zero}
 use Rattle.cx_meaning.specs.Truths as truths
-use Rattle.cx_meaning.specs.Sights.{Look, In, IsTaken, Taken, Sources, Stopped, guard_truth, take_guard, taken, agreed, all_agreed, settle, target_seen, Gathered, Given, Lacks, gather_port, gather, output_seen}
+use Rattle.cx_meaning.specs.Sights.{Look, IsTaken, Taken, Sources, Stopped, guard_truth, take_guard, taken, agreed, all_agreed, settle, target_seen, Gathered, Given, Lacks, gather_port, gather, output_seen}
 use Rattle.cx_bits.proofs.BitVectorLemmas.{none_is}
 use Rattle.cx_meaning.proofs.SightsLaws.{option_is}
 
 -- a value that several sources agree on is that of the first
-first_agrees : (x y : Seen) (b : BitVector) → agreed x y ≡ Value b → x ≡ Value b
+pub first_agrees : (x y : Seen) (b : BitVector) → agreed x y ≡ Value b → x ≡ Value b
 first_agrees (Value a) (Value c) b e = by (a.value == c.value) e
   where
     by : (t : Bool) → (if t then Value a else Conflict) ≡ Value b → Value a ≡ Value b

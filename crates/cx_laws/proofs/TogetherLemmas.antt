@@ -1,16 +1,16 @@
 -- Two entries of one cycle of an island are one, or their groups stand in two arms of a static par.
 use Rattle.std.proofs.Common.{◌≡◌, ℕ, suc, ◌-◌, ◌%◌, inl, inr, ◌⊎◌, Bool, true, false, nat_lt, Some, List, [], ◌∷◌, refl, sym, ap, ◌∙◌, subst}
 use Rattle.std.specs.Prelude.{if◌then◌else◌, slice_get, flat_map}
+use Rattle.cx_text.proofs.MemberLaws.{in_left, in_right, of_joined}
 use Rattle.cx_text.specs.declared.places.Place.{Place}
 use Rattle.cx_meaning.specs.Designs.{PlainComponent, PlainForm, Empty, Enable, Seq, Par, If, While, Repeat, StaticSeq, StaticPar, StaticIf, StaticRepeat, Timed, PlainStatement, Placed, PlainStatements, no_statements, a_statement, list_of}
 use Rattle.cx_meaning.specs.Active.{Entry}
-use Rattle.cx_meaning.specs.Sights.{In}
+use Rattle.cx_text.specs.Members.{In}
 use Rattle.cx_meaning.specs.Control.{groups_in, groups_of, groups_in_all}
 use Rattle.cx_meaning.specs.Islands.{History, length_of}
 use Rattle.cx_rules.specs.Items.{Context, Dynamic, InStatic, Branch, Visited, visit, visit_parts, visit_all}
 use Rattle.cx_rules.specs.RaceRule.{Arms, arms_of, enabled_group, enabled_in}
 use Rattle.cx_laws.specs.Positions.{form_at, statement_at, while_runs, parts_at, arms_at, entry_at, no_entry}
-use Rattle.cx_meaning.proofs.SightsLaws.{of_joined, in_left, in_right}
 
 -- two arms of a list, one with a group and the other with another
 pub record InArms (arms : List PlainStatement) (g k : ℕ) : Type 0 where

@@ -2,6 +2,8 @@
 use Rattle.std.proofs.Common.{◌≡◌, ℕ, zero, suc, ◌+◌, ◌-◌, ◌<◌, inl, inr, ⊎_elim, Bool, true, false, Option, Some, None, List, [], ◌∷◌, ◌++◌, length, if◌then◌else◌, refl, sym, ap, ◌∙◌, subst, arith}
 use Rattle.std.specs.Prelude.{nat_lt, nat_eq, option_map}
 use Rattle.std.proofs.lemmas.Bool.{eqb-true, ltb-true}
+use Rattle.cx_text.proofs.MemberLaws.{number_in}
+use Rattle.cx_text.specs.Members.{In}
 use Rattle.cx_text.specs.declared.rules.Rule.TheVariants as rules
 use Rattle.cx_prim.specs.declared.ports.PortRow.{PortRow}
 use Rattle.cx_prim.specs.Rows.{Row}
@@ -12,7 +14,7 @@ use Rattle.cx_meaning.specs.declared.kinds.PortDecl.{PortDecl}
 use Rattle.cx_meaning.specs.Designs.{PlainKind, OfPrimitive, OfComponent, PlainCell, PlainComponent, PlainDesign, component_at, no_component}
 use Rattle.cx_meaning.specs.Instances.{Instance, Node, Cells, no_cells, a_primitive, an_instance, At, Nothing, OfRow, OfInstance, cell_at, cells_of, part_of, add_cell, cells_for, tree_within, tree_of, Path, instance_at, child_at}
 use Rattle.cx_meaning.specs.Active.{Owned, owned, owned_by_groups, source_order}
-use Rattle.cx_meaning.specs.Sights.{In, PartPort, Go, AnInput, AnOutput, ItsDone, output_port, part_port}
+use Rattle.cx_meaning.specs.Sights.{PartPort, Go, AnInput, AnOutput, ItsDone, output_port, part_port}
 use Rattle.cx_rules.specs.Ports.{component_of, declared_width, part_width, cell_width, width_of, path_of}
 use Rattle.cx_rules.specs.WidthRules.{differ, first_unequal, IsBadLiteral}
 use Rattle.cx_rules.specs.Items.{comparisons_of}
@@ -21,7 +23,7 @@ use Rattle.cx_rules.specs.Accepted.{IsAccepted}
 use Rattle.cx_rules.specs.Wellformed.{IsDesign, IsKind, IsThere, StandsIn, port_count}
 use Rattle.cx_rules.proofs.ForeignLemmas.{sorted_among, owned_among, split, groups_among}
 use Rattle.cx_laws.proofs.RowWidths.{HasWidths, row_has}
-use Rattle.cx_meaning.proofs.SightsLaws.{number_in, not_input, output_is}
+use Rattle.cx_meaning.proofs.SightsLaws.{not_input, output_is}
 use Rattle.cx_meaning.proofs.InstancesLemmas.{here}
 use Rattle.cx_text.proofs.ListLaws.{there_at}
 use Rattle.cx_text.proofs.BoolLaws.{not_not}
@@ -92,7 +94,7 @@ same_widths target v w e f =
     let equal : v ≡ w = eqb-true v w (not_not (nat_eq v w) (ap (λ x. differ x (Some w)) (sym e) ∙ f)) in
     e ∙ ap Some equal
 
-stands_in : (part : PlainComponent) (o : Owned) → In (source_order part) o → StandsIn part o.owner o.assign
+pub stands_in : (part : PlainComponent) (o : Owned) → In (source_order part) o → StandsIn part o.owner o.assign
 stands_in part o i =
     ⊎_elim
     (λ j. let r = owned_among None part.always o j in subst (λ x. StandsIn part x o.assign) (sym r.0) r.1)

@@ -1,9 +1,26 @@
 -- Statements of statements.
-use Rattle.std.proofs.Common.{inl, inr, List, sym, subst}
+use Rattle.std.proofs.Common.{inl, inr, List, ◌++◌, sym, subst, refl}
+use Rattle.cx_text.proofs.MemberLaws.{in_left, in_right, of_joined}
 use Rattle.cx_meaning.specs.Designs.{PlainForm, Empty, Enable, Seq, Par, If, While, Repeat, StaticSeq, StaticPar, StaticIf, StaticRepeat, Timed, PlainStatement, Placed, PlainStatements, no_statements, a_statement}
-use Rattle.cx_meaning.specs.Sights.{In}
-use Rattle.cx_rules.specs.Items.{Context, InStatic, Branch, below_dynamic, Visited, visit, visit_parts, visit_all}
-use Rattle.cx_meaning.proofs.SightsLaws.{in_left, in_right, of_joined}
+use Rattle.cx_text.specs.Members.{In}
+use Rattle.cx_rules.specs.Items.{Context, Dynamic, InStatic, Branch, below_dynamic, Visited, visit, visit_parts, visit_all}
+
+-- a statement of dynamic control, as it is visited
+abbrev pub as_visited : PlainStatement → Visited
+as_visited (Placed form place) = record { context = Dynamic; form = form; place = place }
+
+pub itself : (s : PlainStatement) → In (visit Dynamic s) (as_visited s)
+itself (Placed form place) = inl refl
+
+-- what holds of each in a list
+abbrev pub AllHold : (Visited → Type 0) → List Visited → Type 0
+AllHold P list = (v : Visited) → In list v → P v
+
+pub first_hold : {P : Visited → Type 0} (xs ys : List Visited) → AllHold P (xs ++ ys) → AllHold P xs
+first_hold xs ys h v i = h v (in_left xs ys v i)
+
+pub rest_hold : {P : Visited → Type 0} (xs ys : List Visited) → AllHold P (xs ++ ys) → AllHold P ys
+rest_hold xs ys h v i = h v (in_right xs ys v i)
 
 -- a statement that is visited, as a statement again
 abbrev pub visits : Visited → List Visited

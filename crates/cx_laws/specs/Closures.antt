@@ -4,7 +4,7 @@ use Rattle.cx_meaning.specs.declared.ports.PortRef.TheVariants.{Cell}
 use Rattle.cx_meaning.specs.declared.ports.PlacedPort.{PlacedPort}
 use Rattle.cx_meaning.specs.Designs.{PlainAssign, PlainComponent, PlainStatement, group_at}
 use Rattle.cx_meaning.specs.Control.{groups_of, drives}
-use Rattle.cx_meaning.specs.Sights.{In}
+use Rattle.cx_text.specs.Members.{In}
 use Rattle.cx_rules.specs.Items.{tests_of}
 use Rattle.cx_rules.specs.Footprints.{AssignNames}
 

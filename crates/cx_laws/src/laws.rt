@@ -1,10 +1,11 @@
 //! Laws: each function does nothing, and its clause is the law.
 
 ghost use Rattle.std.specs.Prelude.{◌≡◌, ◌<◌, ℕ, suc, List, [], Some, true};
+ghost use Rattle.cx_text.specs.Members.{In};
 ghost use Rattle.cx_meaning.specs.Designs.{PlainDesign, PlainComponent, PlainForm, PlainStatement};
 ghost use Rattle.cx_meaning.specs.Instances.{Set, Instance, State, Path, part_of, tree_of, instance_at, start, IsSettled};
 ghost use Rattle.cx_meaning.specs.Active.{Entry, entries};
-ghost use Rattle.cx_meaning.specs.Sights.{In, Held, Look};
+ghost use Rattle.cx_meaning.specs.Sights.{Held, Look};
 ghost use Rattle.cx_meaning.specs.Islands.{History, and_now, form_flat, form_length, active_in, looked_at, island};
 ghost use Rattle.cx_rules.specs.Items.{Visited, statements_in};
 ghost use Rattle.cx_rules.specs.Footprints.{Reads};

@@ -1,13 +1,13 @@
 -- What a machine does by the leaves that run: their faults, their writes and where they go next, for every form.
 use Rattle.std.proofs.Common.{◌≡◌, ℕ, zero, suc, ◌⊎◌, inl, inr, false, List, [], ◌∷◌, ◌++◌, refl, sym, ap, ◌∙◌, subst}
+use Rattle.cx_text.proofs.MemberLaws.{in_either, in_left, in_right}
 use Rattle.cx_text.specs.declared.places.Place.{Place}
 use Rattle.cx_meaning.specs.Designs.{PlainForm, Empty, Enable, Seq, Par, If, While, Repeat, StaticSeq, StaticPar, StaticIf, StaticRepeat, Timed, PlainStatement, Placed, PlainStatements, no_statements, a_statement}
-use Rattle.cx_meaning.specs.Sights.{In}
+use Rattle.cx_text.specs.Members.{In}
 use Rattle.cx_lockstep.specs.Worlds.{Store, Control, At, Done, Machine, step, faults}
 use Rattle.cx_lockstep.specs.Machines.{within, First, Second, second_start, InPar, left_of, right_of, join, par_machine, AtTest, InThen, InElse, AtHead, InBody, in_round, next_round}
 use Rattle.cx_lockstep.specs.Statements.{LeafMachines, machine_of, parts_machine, arms_machine}
 use Rattle.cx_lockstep.specs.Running.{Running, AGroup, AnIsland, at_control, par_runs, leaf_faults, leaf_next, group_next, island_next, running, parts_run, arms_run}
-use Rattle.cx_meaning.proofs.SightsLaws.{in_either, in_left, in_right}
 use Rattle.cx_text.proofs.BoolLaws.{neither_first, neither_second}
 
 module _ {X : Type 0} {V : X → Type 0} {F : Type 0} (P : LeafMachines X V F) where

@@ -1,7 +1,7 @@
 -- THE LAW OF CONTROL: the machine of a statement does what the statement means, where the machines of its leaves do.
 use Rattle.std.proofs.Common.{◌≡◌, zero, suc, ◌⊎◌, inl, inr, Bool, true, false, List, [], ◌∷◌, refl}
 use Rattle.cx_meaning.specs.Designs.{Empty, Enable, Seq, Par, If, While, Repeat, StaticSeq, StaticPar, StaticIf, StaticRepeat, Timed, PlainStatement, Placed, PlainStatements, no_statements, a_statement, list_of}
-use Rattle.cx_meaning.specs.Sights.{In}
+use Rattle.cx_text.specs.Members.{In}
 use Rattle.cx_meaning.specs.Control.{Leaves, run, run_parts, run_arms}
 use Rattle.cx_lockstep.specs.Worlds.{World}
 use Rattle.cx_lockstep.specs.Doing.{Does}

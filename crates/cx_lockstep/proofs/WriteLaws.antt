@@ -1,8 +1,9 @@
 -- What a machine writes by the leaves that run: nothing that none of them drives, what the one writes that drives a spot, and
 -- no two of them drive one spot.
 use Rattle.std.proofs.Common.{◌≡◌, zero, suc, ◌⊎◌, inl, inr, Bool, true, false, List, [], ◌∷◌, ◌++◌, Option, None, refl, sym, ap, ◌∙◌, subst}
+use Rattle.cx_text.proofs.MemberLaws.{in_either, in_left, in_right}
 use Rattle.cx_meaning.specs.Designs.{Empty, Enable, Seq, Par, If, While, Repeat, StaticSeq, StaticPar, StaticIf, StaticRepeat, Timed, PlainStatement, Placed, PlainStatements, no_statements, a_statement, list_of}
-use Rattle.cx_meaning.specs.Sights.{In}
+use Rattle.cx_text.specs.Members.{In}
 use Rattle.cx_meaning.specs.Control.{Leaves}
 use Rattle.cx_lockstep.specs.Worlds.{Store, World, Control, At, Done, Machine, writes}
 use Rattle.cx_lockstep.specs.Machines.{First, Second, InPar, left_of, right_of, first_some, par_machine, AtTest, InThen, InElse, AtHead, InBody}
@@ -12,7 +13,6 @@ use Rattle.cx_lockstep.specs.Lawful.{IsPart, of_seq, of_par, then_branch, else_b
 use Rattle.cx_lockstep.proofs.ArmLaws.{first_none}
 use Rattle.cx_lockstep.specs.Running.{Running, AGroup, AnIsland, at_control, par_runs, leaf_of, leaf_writes, running, parts_run, arms_run}
 use Rattle.std.proofs.lemmas.Bool.{false_from_ne_true}
-use Rattle.cx_meaning.proofs.SightsLaws.{in_either, in_left, in_right}
 
 module _ {X : Type 0} {V : X → Type 0} {E S F : Type 0} (W : World X V E S) (Rests : (x : X) → V x → Type 0) (L : E → Leaves S F) (P : LeafMachines X V F)
     (drives : PlainStatement → X → Bool) (reads : PlainStatement → X → Type 0) (Stands : PlainStatement → Type 0) (law : AreLawful W Rests L P drives reads Stands) where

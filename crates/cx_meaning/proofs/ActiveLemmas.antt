@@ -1,16 +1,23 @@
 -- Facts of what `Active` defines, that several crates above take.
-use Rattle.std.proofs.Common.{◌≡◌, ℕ, if◌then◌else◌, Some, None, refl, ap, inl, inr, Bool, true, false, List, [], ◌∷◌, Option, sym, subst, ◌⊎◌, ⊎_elim, ◌++◌, ◌+◌, ◌-◌, arith, get_or, suc, zero, ◌∙◌}
+use Rattle.std.proofs.Common.{◌≡◌, ℕ, if◌then◌else◌, Some, None, refl, ap, inl, inr, Bool, true, false, List, [], ◌∷◌, Option, sym, subst, ◌⊎◌, ⊎_elim, ◌++◌, ◌+◌, arith, get_or, suc, zero, ◌∙◌}
 use Rattle.std.proofs.lemmas.Bool.{eq-eqb, eqb-true}
+use Rattle.cx_text.proofs.MemberLaws.{in_left, in_right}
 use Rattle.cx_meaning.specs.Active.{only_at, Owned, no_later, placed_in, Active, offset_of, if_acting, if_target, acting, same_port, Entry, offset_in, by_place, owned, owned_by_groups, source_order, Acting}
-use Rattle.cx_meaning.specs.Sights.{In}
+use Rattle.cx_text.specs.Members.{In}
 use Rattle.cx_meaning.specs.declared.ports.PortRef.{PortRef}
 use Rattle.std.specs.Prelude.{nat_eq}
 use Rattle.cx_meaning.specs.Designs.{PlainAssign, PlainGroup, no_group, PlainComponent, group_at}
-use Rattle.cx_meaning.proofs.SightsLaws.{in_left, in_right}
 use Rattle.cx_meaning.proofs.DesignsLemmas.{owned_has}
 
 pub only_self : (g : ℕ) → only_at g g ≡ Some 0
 only_self g = ap (λ b. if b then Some 0 else None) (eq-eqb g g refl)
+
+pub only_is : (g h k : ℕ) → only_at g h ≡ Some k → g ≡ h
+only_is g h k e = choice (nat_eq g h) refl e
+  where
+    choice : (b : Bool) → nat_eq g h ≡ b → (if b then Some 0 else None) ≡ Some k → g ≡ h
+    choice true f e = eqb-true g h f
+    choice false f e = absurd (cc)
 
 pub placed_still : (a : Owned) (list : List Owned) (o : Owned) → In list o → In (placed_in a list) o
 placed_still a [] o i = absurd i
@@ -72,7 +79,7 @@ sorted_has [] o i = i
 sorted_has (a ∷ rest) o (inl e) = subst (In (by_place (a ∷ rest))) e (placed_first a (by_place rest))
 sorted_has (a ∷ rest) o (inr i) = placed_still a (by_place rest) o (sorted_has rest o i)
 
-abbrev or_else : Option ℕ → Option ℕ → Option ℕ
+abbrev pub or_else : Option ℕ → Option ℕ → Option ℕ
 or_else None later = later
 or_else (Some o) later = Some o
 

@@ -1,10 +1,10 @@
 -- Facts of what `Control` defines, that several crates above take.
 use Rattle.std.proofs.Common.{◌≡◌, ℕ, true, ◌||◌, inl, inr, List, [], ◌∷◌, ap, ◌∙◌, Bool, false, refl, subst, sym}
 use Rattle.std.proofs.lemmas.Bool.{or_right}
+use Rattle.cx_text.proofs.MemberLaws.{in_left, in_right}
 use Rattle.cx_meaning.specs.Designs.{PlainComponent, PlainStatement, PlainStatements, a_statement, list_of, no_statements}
-use Rattle.cx_meaning.specs.Sights.{In}
+use Rattle.cx_text.specs.Members.{In}
 use Rattle.cx_meaning.specs.Control.{group_drives, groups_drive, groups_in_all, groups_of}
-use Rattle.cx_meaning.proofs.SightsLaws.{in_left, in_right}
 
 -- GROUPS: what a group of a statement drives the statement drives
 pub groups_drive_in : (part : PlainComponent) (gs : List ℕ) (g c : ℕ) → In gs g → group_drives part g c ≡ true → groups_drive part gs c ≡ true

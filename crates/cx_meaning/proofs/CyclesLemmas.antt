@@ -1,6 +1,6 @@
 -- Facts of what `Cycles` defines, that several crates above take.
-use Rattle.std.proofs.Common.{◌≡◌, ap, refl, ℕ, ◌∷◌, [], suc, zero}
-use Rattle.cx_meaning.specs.Instances.{State, Instance, Node, Path, cells_of, start_at, start_below, Cells, OfRow, a_primitive, an_instance, cell_at, no_cells, start, OfInstance}
+use Rattle.std.proofs.Common.{◌≡◌, ap, refl, ℕ, ◌∷◌, ◌++◌, [], suc, zero}
+use Rattle.cx_meaning.specs.Instances.{State, Instance, Node, Path, cells_of, start_at, start_below, instance_at, child_at, Cells, OfRow, a_primitive, an_instance, cell_at, no_cells, OfInstance}
 use Rattle.cx_meaning.specs.Cycles.{Fault, Ended, Goes, Faults}
 use Rattle.cx_meaning.specs.Answers.{Turn}
 use Rattle.cx_meaning.specs.Answers as answers
@@ -30,6 +30,19 @@ start_row (a_primitive other rest) zero row e = ap (λ (r : Row). r.start) (row_
 start_row (a_primitive other rest) (suc c) row e = start_row rest c row e
 start_row (an_instance child rest) zero row e = absurd (cc)
 start_row (an_instance child rest) (suc c) row e = start_row rest c row e
+
+-- at the start each cell holds its row's start
+mutual
+  pub start_deep : (i : Instance) (path : Path) (c : ℕ) (row : Row) → cell_at (cells_of (instance_at i path)) c ≡ OfRow row → start_at i (path ++ c ∷ []) ≡ row.start
+  start_deep (Node part cells) [] c row e = start_row cells c row e
+  start_deep (Node part cells) (x ∷ path) c row e = cells_start cells x path c row e
+
+  cells_start : (cells : Cells) (x : ℕ) (path : Path) (c : ℕ) (row : Row) → cell_at (cells_of (child_at cells x path)) c ≡ OfRow row → start_below cells x (path ++ c ∷ []) ≡ row.start
+  cells_start no_cells x path c row e = absurd (cc)
+  cells_start (a_primitive one rest) zero path c row e = absurd (cc)
+  cells_start (a_primitive one rest) (suc x) path c row e = cells_start rest x path c row e
+  cells_start (an_instance child rest) zero path c row e = start_deep child path c row e
+  cells_start (an_instance child rest) (suc x) path c row e = cells_start rest x path c row e
 
 pub child_start : (cells : Cells) (c : ℕ) (child : Instance) (path : Path) → cell_at cells c ≡ OfInstance child → start_below cells c path ≡ start_at child path
 child_start no_cells c child path e = absurd (cc)

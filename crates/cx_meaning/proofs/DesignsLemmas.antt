@@ -1,10 +1,10 @@
 -- Facts of what `Designs` defines, that several crates above take.
-use Rattle.std.proofs.Common.{◌≡◌, ℕ, zero, suc, refl, ◌<◌, ⊎_elim, length, subst, ◌≤◌, true, false, sym, ap, ◌∙◌, List, [], ◌∷◌, Some, get_or, slice_get, arith, inl, inr, Option}
-use Rattle.cx_meaning.specs.Designs.{PlainDesign, component_at, PlainAssign, PlainComponent, group_at, no_group, PlainGroup, PlainStatement, statements_of, list_of}
+use Rattle.std.proofs.Common.{◌≡◌, ℕ, zero, suc, refl, ◌<◌, ⊎_elim, length, subst, ◌≤◌, true, false, sym, ap, ◌∙◌, List, [], ◌∷◌, ◌++◌, Some, get_or, slice_get, arith, inl, inr, Option}
+use Rattle.cx_meaning.specs.Designs.{PlainDesign, component_at, PlainAssign, PlainComponent, group_at, no_group, PlainGroup, PlainStatement, PlainStatements, no_statements, a_statement, statements_of, list_of}
 use Rattle.cx_meaning.specs.Instances.{part_of, tree_within}
 use Rattle.std.proofs.lemmas.Bool.{cases_lt}
 use Rattle.std.proofs.lemmas.List.{get_or_past}
-use Rattle.cx_meaning.specs.Sights.{In}
+use Rattle.cx_text.specs.Members.{In}
 use Rattle.cx_meaning.specs.Control.{assigns_drive, group_drives}
 use Rattle.cx_meaning.specs.Active.{owned}
 use Rattle.cx_meaning.specs.Designs as plain
@@ -27,6 +27,21 @@ pub there_below : (groups : List PlainGroup) (n : ℕ) → n < length groups →
 there_below [] n h = absurd (omega (arith, h))
 there_below (x ∷ xs) zero h = refl
 there_below (x ∷ xs) (suc n) h = there_below xs n (omega (arith, h))
+
+-- statements before others
+abbrev pub joined : List PlainStatement → PlainStatements → PlainStatements
+joined [] rest = rest
+joined (s ∷ ss) rest = a_statement s (joined ss rest)
+
+-- nothing behind them
+pub joined_none : (ss : List PlainStatement) → joined ss no_statements ≡ statements_of ss
+joined_none [] = refl
+joined_none (s ∷ ss) = ap (a_statement s) (joined_none ss)
+
+-- one more before the others
+pub joined_more : (ss : List PlainStatement) (s : PlainStatement) (rest : PlainStatements) → joined (ss ++ s ∷ []) rest ≡ joined ss (a_statement s rest)
+joined_more [] s rest = refl
+joined_more (t ∷ ss) s rest = ap (a_statement t) (joined_more ss s rest)
 
 pub list_again : (ss : List PlainStatement) → list_of (statements_of ss) ≡ ss
 list_again [] = refl

@@ -1,5 +1,7 @@
 -- Facts of what `Instances` defines, that several crates above take.
-use Rattle.std.proofs.Common.{◌≡◌, ℕ, zero, suc, true, false, refl, ap, [], ◌∷◌, ◌++◌, ◌<◌, arith, Some, length, List, inl, inr, ◌∙◌}
+use Rattle.std.proofs.Common.{◌≡◌, ℕ, zero, suc, true, false, refl, ap, [], ◌∷◌, ◌++◌, ◌<◌, arith, tests, nat_eq, Option, Some, None, length, List, inl, inr, ◌∙◌}
+use Rattle.cx_text.specs.Members.{In}
+use Rattle.cx_text.proofs.NumberLaws.{eq_next}
 use Rattle.cx_meaning.specs.Instances.{just, Instance, Node, instance_at, Cells, add_cell, cell_at, OfInstance, OfRow, no_cells, Path, a_primitive, an_instance, idle_below, Nothing, cells_for, cells_of, tree_within, paths_of, State, idle_at, child_at, At}
 use Rattle.cx_meaning.specs.Designs.{PlainKind, OfPrimitive, OfComponent, no_component, PlainDesign, component_at, PlainCell}
 use Rattle.cx_prim.specs.Rows.{Row}
@@ -8,7 +10,7 @@ use Rattle.std.specs.List.{slice_get}
 use Rattle.cx_meaning.specs.declared.ports.PortRef.TheVariants as ports
 use Rattle.cx_meaning.specs.declared.sights.Seen.TheVariants.{Value}
 use Rattle.cx_meaning.specs.Active.{Active}
-use Rattle.cx_meaning.specs.Sights.{Held, seen, In}
+use Rattle.cx_meaning.specs.Sights.{Held, seen}
 use Rattle.cx_prim.specs.Table.{row_of}
 
 pub just_true : (k c : ℕ) → just k c ≡ true → k ≡ c
@@ -16,6 +18,12 @@ just_true zero zero e = refl
 just_true zero (suc c) e = absurd (let f : false ≡ true = e in cc)
 just_true (suc k) zero e = absurd (let f : false ≡ true = e in cc)
 just_true (suc k) (suc c) e = ap suc (just_true k c e)
+
+pub just_is : (k c : ℕ) → just k c ≡ nat_eq k c
+just_is zero zero = refl
+just_is zero (suc c) = grind (arith, tests)
+just_is (suc k) zero = grind (arith, tests)
+just_is (suc k) (suc c) = just_is k c ∙ eq_next k c
 
 pub here : (i : Instance) → instance_at i [] ≡ i
 here (Node part cells) = refl
@@ -112,7 +120,8 @@ cells_same f g [] h = refl
 cells_same f g (c ∷ cs) h =
     ap (add_cell f c.kind) (cells_same f g cs (λ cell j i. h cell j (inr i))) ∙ kind_same f g c.kind (cells_for g cs) (λ j e. h c j (inl refl) e)
 
-abbrev at_kind : (ℕ → Instance) → PlainKind → At
+-- what stands at a cell of a kind
+abbrev pub at_kind : (ℕ → Instance) → PlainKind → At
 at_kind child (OfPrimitive primitive) = OfRow (row_of primitive)
 at_kind child (OfComponent k) = OfInstance (child k)
 
@@ -120,8 +129,33 @@ pub first_at : (child : ℕ → Instance) (kind : PlainKind) (rest : Cells) → 
 first_at child (OfPrimitive primitive) rest = refl
 first_at child (OfComponent k) rest = refl
 
+abbrev pub at_cell : (ℕ → Instance) → Option PlainCell → At
+at_cell child None = Nothing
+at_cell child (Some cell) = at_kind child cell.kind
+
+pub at_number : (child : ℕ → Instance) (cells : List PlainCell) (c : ℕ) → cell_at (cells_for child cells) c ≡ at_cell child (slice_get cells c)
+at_number child [] c = refl
+at_number child (cell ∷ cells) zero = first_at child cell.kind (cells_for child cells)
+at_number child (cell ∷ cells) (suc c) = kind_skip child cell.kind (cells_for child cells) c ∙ at_number child cells c
+
+pub cell_stands : (child : ℕ → Instance) (cells : List PlainCell) (c : ℕ) (cell : PlainCell) → slice_get cells c ≡ Some cell → cell_at (cells_for child cells) c ≡ at_kind child cell.kind
+cell_stands child cells c cell e = at_number child cells c ∙ ap (at_cell child) e
+
 pub just_other : (c d : ℕ) → (c ≡ d → ⊥) → just c d ≡ false
 just_other zero zero h = absurd (h refl)
 just_other zero (suc d) h = refl
 just_other (suc c) zero h = refl
 just_other (suc c) (suc d) h = just_other c d (λ e. h (ap suc e))
+
+-- below an instance stands what stands at the joined path
+mutual
+  pub instance_along : (i : Instance) (path below : Path) → instance_at (instance_at i path) below ≡ instance_at i (path ++ below)
+  instance_along (Node part cells) [] below = refl
+  instance_along (Node part cells) (c ∷ path) below = cells_along cells c path below
+
+  cells_along : (cells : Cells) (c : ℕ) (path below : Path) → instance_at (child_at cells c path) below ≡ child_at cells c (path ++ below)
+  cells_along no_cells c path below = nowhere below
+  cells_along (a_primitive row rest) zero path below = nowhere below
+  cells_along (a_primitive row rest) (suc c) path below = cells_along rest c path below
+  cells_along (an_instance child rest) zero path below = instance_along child path below
+  cells_along (an_instance child rest) (suc c) path below = cells_along rest c path below

@@ -13,4 +13,5 @@ pub mod ControlLaws
 pub mod PortsLemmas
 pub mod ActiveLemmas
 pub mod RowsLemmas
+pub mod RowReads
 pub mod CyclesLemmas

@@ -1,5 +1,5 @@
 -- Facts of what `Rows` defines, that several crates above take.
-use Rattle.std.proofs.Common.{◌≡◌, ℕ, zero, suc, List, [], ◌∷◌, Some, ap, ◌<◌, length, arith, None, refl, ◌++◌, ◌+◌}
+use Rattle.std.proofs.Common.{◌≡◌, ℕ, zero, suc, List, [], ◌∷◌, Some, ap, ◌<◌, length, arith, None, refl, ◌++◌}
 use Rattle.std.specs.Prelude.{slice_get}
 use Rattle.cx_prim.specs.declared.ports.PortRow.{PortRow}
 use Rattle.cx_meaning.specs.Rows.{side_from}

@@ -53,6 +53,9 @@ groups_drive part [] c = false
 groups_drive part (g ∷ gs) c = group_drives part g c || groups_drive part gs c
 
 -- DRIVES: the cells of which a group or comb group of the statement drives a port
+abbrev pub form_drives : PlainComponent → PlainForm → Set
+form_drives part form = groups_drive part (groups_in form)
+
 abbrev pub drives : PlainComponent → PlainStatement → Set
 drives part s = groups_drive part (groups_of s)
 

@@ -1,5 +1,5 @@
 -- A design as plain data: what the types of a design stand for, without where they lie in memory. Numbers name parts.
-use Rattle.std.specs.Prelude.{ℕ, Bool, List, [], ◌∷◌, Option, None, get_or}
+use Rattle.std.specs.Prelude.{ℕ, Bool, false, ◌||◌, nat_eq, List, [], ◌∷◌, flat_map, Option, None, get_or}
 use Rattle.cx_text.specs.declared.places.Place.{Place}
 use Rattle.cx_prim.specs.Table.{PrimitiveRow}
 use Rattle.cx_meaning.specs.declared.ports.PortRef.{PortRef}
@@ -48,6 +48,18 @@ pub record PlainCell : Type 0 where
   pub kind : PlainKind
   pub external : Bool
   pub place : Place
+
+-- the components of cells
+abbrev pub component_of_kind : PlainKind → List ℕ
+component_of_kind (OfPrimitive primitive) = []
+component_of_kind (OfComponent k) = k ∷ []
+
+abbrev pub components_of : List PlainCell → List ℕ
+components_of cells = flat_map (λ cell. component_of_kind cell.kind) cells
+
+abbrev pub has_number : ℕ → List ℕ → Bool
+has_number k [] = false
+has_number k (n ∷ rest) = nat_eq k n || has_number k rest
 
 -- a statement is a form and a place. The children of a seq and the arms of a par stand in order; a written length of
 -- a static statement is given where there is one; Timed is a statement that takes its cycles by a number: a static invoke

@@ -1,5 +1,6 @@
 -- What a port is seen as under an active set: a value, Conflict, or Undefined.
 use Rattle.std.specs.Prelude.{◌≡◌, ℕ, zero, suc, ◌-◌, ◌⊎◌, Bool, true, false, ◌&&◌, ◌==◌, nat_lt, nat_le, nat_eq, List, [], ◌∷◌, ◌++◌, length, map, Option, Some, None, if◌then◌else◌}
+use Rattle.cx_text.specs.Members.{In}
 use Rattle.cx_bits.specs.BitVector.{BitVector}
 use Rattle.cx_meaning.specs.declared.ports.PortRef.{PortRef}
 use Rattle.cx_meaning.specs.declared.ports.PortRef.TheVariants as ports
@@ -179,10 +180,6 @@ step i held act s look below (ports.Done g) = target_seen (bit_of false) look (d
 step i held act s look below (ports.Literal w v) = Value (record { width = w; value = v })
 
 -- WHAT A STEP NEEDS: all guards of a target and the sources of those that are 1, and the inputs that an output reads
-abbrev pub In : {A : Type 0} → List A → A → Type 0
-In [] x = ⊥
-In (y ∷ ys) x = (y ≡ x) ⊎ In ys x
-
 abbrev mutual
   pub GuardNames : PlainGuard → PortRef → Type 0
   GuardNames Always q = ⊥

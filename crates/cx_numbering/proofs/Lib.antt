@@ -1,2 +1,4 @@
 pub mod KnownNames
 pub mod NameRulesLemmas
+pub mod NamesLemmas
+pub mod DesignOfLemmas

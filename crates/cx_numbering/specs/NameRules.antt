@@ -125,12 +125,12 @@ abbrev mutual
   visit_all (statements.StatementThen (statements.Placed attributes form place) rest) =
       record { form = form; place = place } ∷ (visit_parts form ++ visit_all rest)
 
+abbrev pub visit_control : Option statements.PlainBlock → List Visited
+visit_control None = []
+visit_control (Some block) = visit_block block
+
 abbrev pub statements_in : ast.PlainComponent → List Visited
-statements_in part = of_control part.control
-  where
-    of_control : Option statements.PlainBlock → List Visited
-    of_control None = []
-    of_control (Some block) = visit_block block
+statements_in part = visit_control part.control
 
 module _ (tree : ast.PlainTree) (part : ast.PlainComponent) where
   -- the names of the ports that a port of a cell may name
@@ -344,13 +344,13 @@ module _ (tree : ast.PlainTree) (part : ast.PlainComponent) where
       ++ tell_if (is_wrong_port input port) LeftOut port.place port.name
 
 -- RULE recursive: a cell whose component leads back to the component that the cell stands in, by no more cells than there are components
+abbrev pub kinds_of : CellOf → List ast.PlainComponent
+kinds_of Neither = []
+kinds_of (APrimitive primitive) = []
+kinds_of (AComponent component) = component ∷ []
+
 abbrev pub component_kinds : ast.PlainTree → ast.PlainComponent → List ast.PlainComponent
-component_kinds tree part = flat_map (λ cell. of_cell (cell_of tree cell)) part.cells
-  where
-    of_cell : CellOf → List ast.PlainComponent
-    of_cell Neither = []
-    of_cell (APrimitive primitive) = []
-    of_cell (AComponent component) = component ∷ []
+component_kinds tree part = flat_map (λ cell. kinds_of (cell_of tree cell)) part.cells
 
 abbrev pub some_part : (ast.PlainComponent → Bool) → List ast.PlainComponent → Bool
 some_part test [] = false
@@ -360,13 +360,13 @@ abbrev pub leads_back : ast.PlainTree → List ℕ → ℕ → ast.PlainComponen
 leads_back tree name zero part = same_name part.name name
 leads_back tree name (suc n) part = same_name part.name name || some_part (leads_back tree name n) (component_kinds tree part)
 
+abbrev pub circle_breaks : ast.PlainTree → ast.PlainComponent → ast.PlainCell → CellOf → List Diagnostic
+circle_breaks tree part cell Neither = []
+circle_breaks tree part cell (APrimitive primitive) = []
+circle_breaks tree part cell (AComponent component) = tell_if (leads_back tree part.name (length tree.components) component) Recursive cell.place cell.name
+
 abbrev pub recursive_breaks : ast.PlainTree → ast.PlainComponent → ast.PlainCell → List Diagnostic
-recursive_breaks tree part cell = of_cell (cell_of tree cell)
-  where
-    of_cell : CellOf → List Diagnostic
-    of_cell Neither = []
-    of_cell (APrimitive primitive) = []
-    of_cell (AComponent component) = tell_if (leads_back tree part.name (length tree.components) component) Recursive cell.place cell.name
+recursive_breaks tree part cell = circle_breaks tree part cell (cell_of tree cell)
 
 abbrev pub cell_breaks : ast.PlainTree → ast.PlainComponent → ast.PlainCell → List Diagnostic
 cell_breaks tree part cell = kind_breaks tree part cell (cell_of tree cell) ++ external_breaks tree part cell ++ recursive_breaks tree part cell

@@ -4,7 +4,7 @@ use Rattle.cx_meaning.specs.Designs.{PlainDesign}
 use Rattle.cx_meaning.specs.Instances.{Path, part_of, tree_of, instance_at}
 use Rattle.cx_meaning.specs.Active.{entries}
 use Rattle.cx_meaning.specs.Islands.{History, form_flat, active_in}
-use Rattle.cx_meaning.specs.Sights.{In}
+use Rattle.cx_text.specs.Members.{In}
 use Rattle.cx_rules.specs.Accepted.{IsAccepted}
 use Rattle.cx_rules.specs.Circles.{IsAcyclic}
 use Rattle.cx_rules.specs.Items.{Visited, statements_in}

@@ -1,13 +1,14 @@
 -- Where an arm has a fault alone, the run of the whole has a fault, no later.
 use Rattle.std.proofs.Common.{◌≡◌, ℕ, zero, suc, ◌+◌, ◌-◌, ◌≤◌, ◌<◌, ◌⊎◌, inl, inr, Bool, true, false, nat_le, if◌then◌else◌, List, [], ◌∷◌, length, Option, Some, None, refl, sym, ap, ◌∙◌, subst, arith}
 use Rattle.std.proofs.lemmas.Bool.{leb-true, leb-false}
+use Rattle.cx_text.specs.Members.{In}
 use Rattle.cx_text.specs.declared.places.Place.{Place}
 use Rattle.cx_meaning.specs.declared.ports.PlacedPort.{PlacedPort}
 use Rattle.cx_meaning.specs.declared.kinds.GroupKind.{GroupKind}
 use Rattle.cx_meaning.specs.declared.kinds.GroupKind.TheVariants as kinds
 use Rattle.cx_meaning.specs.Designs.{PlainDesign, PlainComponent, group_at, Enable, Seq, Par, If, While, Repeat, PlainStatement, Placed, PlainStatements, no_statements, a_statement, list_of}
 use Rattle.cx_meaning.specs.Instances.{Instance, Node, OfInstance, cell_at, cells_of, Cells, part_of, Path, State, instance_at, child_at, start, tree_of, under, idle, merge}
-use Rattle.cx_meaning.specs.Sights.{Held, unheld, In}
+use Rattle.cx_meaning.specs.Sights.{Held, unheld}
 use Rattle.cx_meaning.specs.Cycles.{Fault}
 use Rattle.cx_meaning.specs.Answers.{Answer, End, Meaning, after_turns, then_do, stay, idle_turn, Test, Holds, Fails, chosen, test_turn, loop, rounds, both}
 use Rattle.cx_meaning.specs.Answers as answers

@@ -1,8 +1,9 @@
 -- An arm of a par runs from the state that earlier arms left as from the first one: it reads no cell that they drive.
 use Rattle.std.proofs.Common.{◌≡◌, ℕ, Bool, true, false, List, ◌∷◌, ◌++◌, refl, sym, ap, ◌∙◌}
+use Rattle.cx_text.specs.Members.{In}
 use Rattle.cx_meaning.specs.Designs.{PlainDesign, Par, PlainStatement, Placed, PlainStatements, list_of}
 use Rattle.cx_meaning.specs.Instances.{part_of, tree_of, State, Path, instance_at}
-use Rattle.cx_meaning.specs.Sights.{Held, In}
+use Rattle.cx_meaning.specs.Sights.{Held}
 use Rattle.cx_meaning.specs.Running.{run_statement}
 use Rattle.cx_rules.specs.Footprints.{Reads}
 use Rattle.cx_rules.specs.Items.{Visited, statements_in}

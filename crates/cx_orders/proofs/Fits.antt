@@ -1,12 +1,14 @@
 -- What is open fits in a statement: its groups, tests and arms are those of the statement, and arms are apart.
 use Rattle.std.proofs.Common.{◌≡◌, ℕ, zero, suc, inl, inr, true, List, [], ◌∷◌, ◌++◌, Option, Some, None, refl, sym, ap, subst}
+use Rattle.cx_text.proofs.MemberLaws.{in_left, in_right}
+use Rattle.cx_text.specs.Members.{In}
 use Rattle.cx_text.specs.declared.places.Place.{Place}
 use Rattle.cx_meaning.specs.declared.ports.PortRef.{PortRef}
 use Rattle.cx_meaning.specs.declared.kinds.GroupKind.{GroupKind}
 use Rattle.cx_meaning.specs.declared.kinds.GroupKind.TheVariants as kinds
 use Rattle.cx_meaning.specs.Designs.{PlainComponent, group_at, PlainForm, Empty, Enable, Seq, Par, If, While, Repeat, StaticSeq, StaticPar, StaticIf, StaticRepeat, Timed, PlainStatement, Placed, PlainStatements, no_statements, a_statement, list_of}
 use Rattle.cx_meaning.specs.Instances.{Instance, Node, Cells, no_cells, a_primitive, an_instance, part_of, cells_of, Path, instance_at, child_at}
-use Rattle.cx_meaning.specs.Sights.{In, unheld}
+use Rattle.cx_meaning.specs.Sights.{unheld}
 use Rattle.cx_meaning.specs.Control.{groups_in, groups_of, groups_in_all, drives}
 use Rattle.cx_meaning.specs.Calls.{called}
 use Rattle.cx_rules.specs.Items.{Dynamic, Visited, visit, visit_parts, visit_all}
@@ -15,9 +17,10 @@ use Rattle.cx_rules.specs.RaceRule.{IsShared, arms_of}
 use Rattle.cx_frames.proofs.RunLemmas.{drives_group}
 use Rattle.cx_frames.proofs.SightFrames.{InFrame}
 use Rattle.cx_orders.specs.Open.{Open, Idling, InGroup, Choosing, Testing, InIsland, Capturing, Closing, Waiting, InSeq, InPar, InLoop, InRepeat, InCall, Opens, no_arms, an_arm, open_form, open_with, open_arms, open_called, open_kind, open_enable, open_control, open_below, open_statement}
-use Rattle.cx_orders.proofs.Inside.{IsSound, Stands, visited_as, inner_stands, itself, Inside, InsideOne, InsideAll, inside_self, inside_left, inside_right, FormIn, test_inside, drives_inside, reads_inside, Apart, apart_first, apart_rest}
+use Rattle.cx_orders.proofs.Inside.{IsSound, Stands, inner_stands, Inside, InsideOne, InsideAll, inside_self, inside_left, inside_right, FormIn, test_inside, drives_inside, reads_inside, Apart, apart_first, apart_rest}
 use Rattle.cx_meaning.proofs.InstancesLemmas.{here as here_again, nowhere}
-use Rattle.cx_meaning.proofs.SightsLaws.{behind_comb, in_comb, in_left, in_right}
+use Rattle.cx_meaning.proofs.SightsLaws.{behind_comb, in_comb}
+use Rattle.cx_laws.proofs.VisitLemmas.{itself, as_visited}
 use Rattle.cx_frames.proofs.LeafFrames.{called_drives}
 
 -- a test in the frame of a statement, with a comb group of it
@@ -76,7 +79,7 @@ sound_here i all = subst IsSound (here_again i) (all [])
 -- the arms of a par of a statement stand, and are apart
 arm_is : (i : Instance) (st : PlainStatement) → Stands i st → (s : PlainStatement) → InsideOne st s → IsArm i st s
 arm_is i st stands s inside = record {
-  stands = inner_stands i st stands (visited_as s) (inside.forms (visited_as s) (itself s));
+  stands = inner_stands i st stands (as_visited s) (inside.forms (as_visited s) (itself s));
   reads = reads_inside (part_of i) st s inside;
   drives = λ c e. drives_inside (part_of i) st (groups_of s) c inside.groups e;
 }

@@ -2,6 +2,8 @@
 use Rattle.std.proofs.Common.{◌≡◌, ℕ, zero, suc, ◌+◌, ◌-◌, ◌≤◌, ◌<◌, ◌⊎◌, inl, inr, ⊎_elim, Bool, true, false, List, [], ◌∷◌, ◌++◌, length, Option, Some, None, refl, sym, ap, subst, arith}
 use Rattle.std.specs.Prelude.{nat_lt}
 use Rattle.std.proofs.lemmas.Bool.{ltb-true, ltb-false}
+use Rattle.cx_text.proofs.MemberLaws.{in_left, in_right}
+use Rattle.cx_text.specs.Members.{In}
 use Rattle.cx_text.specs.declared.places.Place.{Place}
 use Rattle.cx_meaning.specs.declared.ports.PlacedPort.{PlacedPort}
 use Rattle.cx_meaning.specs.declared.sights.Seen.{Seen}
@@ -10,12 +12,12 @@ use Rattle.cx_meaning.specs.declared.kinds.GroupKind.TheVariants as kinds
 use Rattle.cx_meaning.specs.Designs.{PlainComponent, group_at, PlainForm, Empty, Enable, Seq, Par, If, While, Repeat, StaticSeq, StaticPar, StaticIf, StaticRepeat, Timed, PlainStatement, Placed, PlainStatements, no_statements, a_statement, list_of}
 use Rattle.cx_meaning.specs.Instances.{Instance, Node, OfInstance, cell_at, Cells, no_cells, a_primitive, an_instance, part_of, Path, State, instance_at, child_at, put, under, idle, IsSettled}
 use Rattle.cx_meaning.specs.Active.{nothing, capture}
-use Rattle.cx_meaning.specs.Sights.{Held, In, seen}
+use Rattle.cx_meaning.specs.Sights.{Held, seen}
 use Rattle.cx_meaning.specs.Cycles.{Fault, Ended, cycle_of}
 use Rattle.cx_meaning.specs.Cycles as cycles
 use Rattle.cx_meaning.specs.Answers.{Answer, End, Meaning, after_turns, then_do, stay, Turn, turn_then, turns_of, idle_turn, Test, Holds, Fails, Unclear, chosen, test_turn, loop, rounds, both}
 use Rattle.cx_meaning.specs.Answers as answers
-use Rattle.cx_meaning.specs.Control.{Leaves, groups_in, groups_of, groups_in_all, group_drives, drives, run}
+use Rattle.cx_meaning.specs.Control.{form_drives, Leaves, groups_in, groups_of, groups_in_all, group_drives, drives, run}
 use Rattle.cx_meaning.specs.Islands.{History, island, island_from, and_now, form_flat, form_length, no_history, turn_of}
 use Rattle.cx_meaning.specs.Calls.{called, captures, group_turn, fault_below, inputs_of_call, lift_answer, test, after_child, call, call_or_turns, enable_kind}
 use Rattle.cx_meaning.specs.Running.{leaves, control_below}
@@ -27,11 +29,11 @@ use Rattle.cx_frames.specs.Arms.{all_drive}
 use Rattle.cx_frames.proofs.IslandFrames.{AllFine}
 use Rattle.cx_frames.proofs.RunLemmas.{capture_undriven}
 use Rattle.cx_orders.specs.Open.{Open, Idling, InGroup, Choosing, Testing, InIsland, Capturing, Closing, Waiting, InSeq, InPar, InLoop, InRepeat, InCall, Opens, no_arms, an_arm, leaves_of, open_arms, open_called, open_kind, open_enable, open_control, open_below, open_statement}
-use Rattle.cx_orders.specs.Leaves.{form_drives, rested, own_turn, own_capture, own_island, is_tested, samples_now}
+use Rattle.cx_orders.specs.Leaves.{rested, own_turn, own_capture, own_island, is_tested, samples_now}
 use Rattle.cx_orders.specs.Steps.{Stepped, Now, Stops, within, turned, tested, seq_left, arms_left, par_left, behind_child, first_or, inputs_seen, held_as, step, step_arms}
 use Rattle.cx_orders.specs.Alone.{if_dynamic, IsLeaf, IsInArm, HasAlone, AloneWithin, own, of_arm, of_first, behind_first, of_then, of_else, of_body, behind_body, of_round, behind_round, of_child}
 use Rattle.cx_orders.proofs.OwnTurns.{OnlyIn, TurnsIn, turn_only, island_only}
-use Rattle.cx_orders.proofs.Inside.{IsSound, Stands, itself, Inside, InsideOne, InsideAll, inside_self, inside_left, inside_right, AnyReads, Apart}
+use Rattle.cx_orders.proofs.Inside.{IsSound, Stands, Inside, InsideOne, InsideAll, inside_self, inside_left, inside_right, AnyReads, Apart}
 use Rattle.cx_orders.proofs.Fits.{Fits, ArmsFit, AllSound, sound_below, below_fits, par_arms_fit}
 use Rattle.cx_orders.proofs.StepFrames.{StepsIn, step_only, arms_only}
 use Rattle.cx_orders.proofs.StepFits.{StepFits, step_fits}
@@ -41,7 +43,8 @@ use Rattle.cx_orders.proofs.LeafRuns.{IsLawful, Answered, Busy, busy_settled, bu
 use Rattle.cx_orders.proofs.Runs.{answered_settled, rests, tested_fine, first_at, under_settled, put_settled, ChildRuns, runs_with, statement_settles, below_runs, AllLawful}
 use Rattle.cx_orders.proofs.Halting.{Stopped, HaltsIn, ChildHas, seq_halts, loop_halts, repeat_halts, waiting_goes_on, call_halts, halting_begins, halts_alike}
 use Rattle.cx_text.proofs.NumberLaws.{no_less}
-use Rattle.cx_meaning.proofs.SightsLaws.{in_left, in_right, behind_comb}
+use Rattle.cx_meaning.proofs.SightsLaws.{behind_comb}
+use Rattle.cx_laws.proofs.VisitLemmas.{itself}
 
 -- a run that has the fault in one of its first turns
 abbrev pub Met : Answer State Fault → Fault → ℕ → Type 0

@@ -1,12 +1,14 @@
 -- Instances of accepted designs, statements inside others, and arms apart.
 use Rattle.std.proofs.Common.{◌≡◌, ℕ, suc, ◌<◌, inl, inr, ◌⊎◌, Bool, true, false, ◌||◌, List, [], ◌∷◌, ◌++◌, Some, length, refl, ap, ◌∙◌, subst, arith}
 use Rattle.std.specs.Prelude.{flat_map, slice_get}
+use Rattle.cx_text.proofs.MemberLaws.{in_left, in_right, of_joined}
+use Rattle.cx_text.specs.Members.{In}
 use Rattle.cx_meaning.specs.declared.ports.PlacedPort.{PlacedPort}
 use Rattle.cx_meaning.specs.declared.ports.PortRef.{PortRef}
 use Rattle.cx_meaning.specs.Designs.{PlainComponent, PlainForm, PlainStatement, Placed, PlainStatements, no_place}
 use Rattle.cx_meaning.specs.Instances.{Instance, part_of}
 use Rattle.cx_meaning.specs.Active.{group, entries, same_port}
-use Rattle.cx_meaning.specs.Sights.{Held, In}
+use Rattle.cx_meaning.specs.Sights.{Held}
 use Rattle.cx_meaning.specs.Control.{groups_in, groups_of, groups_in_all, group_drives, groups_drive, drives}
 use Rattle.cx_meaning.specs.Islands.{History, form_flat, active_in}
 use Rattle.cx_rules.specs.Items.{Dynamic, Visited, visit, visit_parts, visit_all, statements_in, test_in, option_list, tests_of}
@@ -22,9 +24,8 @@ use Rattle.cx_frames.proofs.LeafFrames.{IsGood}
 use Rattle.cx_frames.proofs.RuleLemmas.{IsKept}
 use Rattle.cx_frames.proofs.RunLemmas.{drives_group}
 use Rattle.cx_frames.proofs.SightFrames.{InFrame, in_frame, IsThrough}
-use Rattle.cx_frames.proofs.StatementFrames.{visited}
+use Rattle.cx_laws.proofs.VisitLemmas.{visited, as_visited}
 use Rattle.cx_orders.specs.Leaves.{is_among, is_tested}
-use Rattle.cx_meaning.proofs.SightsLaws.{of_joined, in_left, in_right}
 use Rattle.cx_rules.proofs.ItemsLemmas.{tests_flat, option_in}
 use Rattle.cx_text.proofs.NumberLaws.{suc_zero, zero_suc}
 use Rattle.cx_rules.proofs.CirclesLemmas.{cells_below}
@@ -38,18 +39,11 @@ pub record IsSound (i : Instance) : Type 0 where
   pub islands : (v : Visited) (h : History) (t : ℕ) → In (statements_in (part_of i)) v → IsAcyclic i (entries (active_in h t (form_flat (part_of i) v.form 0 [])))
   pub apart : (v : Visited) → In (statements_in (part_of i)) v → (c : ℕ) → IsShared (part_of i) (arms_of v.form) c → ⊥
 
--- a statement of dynamic control
-abbrev pub visited_as : PlainStatement → Visited
-visited_as (Placed form place) = record { context = Dynamic; form = form; place = place }
-
 abbrev pub Stands : Instance → PlainStatement → Type 0
-Stands i st = In (statements_in (part_of i)) (visited_as st)
+Stands i st = In (statements_in (part_of i)) (as_visited st)
 
 pub inner_stands : (i : Instance) (st : PlainStatement) → Stands i st → (w : Visited) → In (visit Dynamic st) w → In (statements_in (part_of i)) w
 inner_stands i (Placed form place) stands w j = visited Dynamic (part_of i).control (record { context = Dynamic; form = form; place = place }) w stands j
-
-pub itself : (st : PlainStatement) → In (visit Dynamic st) (visited_as st)
-itself (Placed form place) = inl refl
 
 -- groups and statements that are those of another statement
 pub record Inside (st : PlainStatement) (gs : List ℕ) (vs : List Visited) : Type 0 where

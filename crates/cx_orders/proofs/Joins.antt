@@ -18,11 +18,12 @@ use Rattle.cx_frames.specs.Arms.{all_drive}
 use Rattle.cx_orders.specs.Open.{Open, Idling, InGroup, Choosing, Testing, InIsland, Capturing, Closing, Waiting, InSeq, InPar, InLoop, InRepeat, InCall, Opens, no_arms, an_arm, leaves_of, leaves_of_all}
 use Rattle.cx_orders.specs.Steps.{Stepped, Now, Stops, within, seq_left, loop_left, repeat_left, arms_left, par_left, call_left, lift_step, inputs_seen, inputs_for, held_as, first_or, step, step_arms}
 use Rattle.cx_orders.proofs.OwnTurns.{OnlyIn}
-use Rattle.cx_orders.proofs.Inside.{Stands, itself, AnyReads, Apart}
+use Rattle.cx_orders.proofs.Inside.{Stands, AnyReads, Apart}
 use Rattle.cx_orders.proofs.Fits.{Fits, ArmsFit, AllSound, sound_below, sound_here}
 use Rattle.cx_orders.proofs.StepFrames.{StepsIn, AlikeStep, step_only, arms_only, step_alike, arms_alike, all_drive_reads}
 use Rattle.cx_text.proofs.NumberLaws.{no_less}
 use Rattle.cx_meaning.proofs.InstancesLemmas.{just_same}
+use Rattle.cx_laws.proofs.VisitLemmas.{itself}
 
 -- a leaf on either side by which both come to the same
 pub record Met {A : Type 0} (m n : ℕ) (one other : ℕ → Stepped A) : Type 0 where

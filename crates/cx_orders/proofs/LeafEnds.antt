@@ -8,13 +8,13 @@ use Rattle.cx_meaning.specs.Cycles.{Fault, cycle_of}
 use Rattle.cx_meaning.specs.Cycles as cycles
 use Rattle.cx_meaning.specs.Answers.{Answer, End, More, Meaning, Turn, after_turns, then_do, idle_turn, turn_then, turns_of}
 use Rattle.cx_meaning.specs.Answers as answers
-use Rattle.cx_meaning.specs.Control.{group_drives}
+use Rattle.cx_meaning.specs.Control.{form_drives, group_drives}
 use Rattle.cx_meaning.specs.Islands.{History, and_now, form_flat, island_from, turn_of, unless_unclear}
 use Rattle.cx_meaning.specs.Calls.{after_child, group_turn}
 use Rattle.cx_frames.proofs.IslandFrames.{AllFine}
 use Rattle.cx_frames.proofs.RunLemmas.{capture_undriven}
 use Rattle.cx_orders.specs.Open.{Idling, InGroup, InIsland, Closing}
-use Rattle.cx_orders.specs.Leaves.{form_drives, rested, own_turn, own_island, is_tested, samples_now}
+use Rattle.cx_orders.specs.Leaves.{rested, own_turn, own_island, is_tested, samples_now}
 use Rattle.cx_orders.specs.Steps.{turned, behind_child}
 use Rattle.cx_orders.proofs.OwnTurns.{TurnsIn, turn_only, capture_only, island_only}
 use Rattle.cx_orders.proofs.Orders.{Goes, EndsIn}

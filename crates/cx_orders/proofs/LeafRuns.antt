@@ -1,6 +1,7 @@
 -- Runs of leaves that end: they are the runs of the meaning, where everything else is settled.
 use Rattle.std.proofs.Common.{◌≡◌, ℕ, zero, suc, ◌≤◌, ◌<◌, Bool, true, false, ◌&&◌, nat_eq, if◌then◌else◌, List, [], ◌∷◌, ◌++◌, length, Option, Some, None, refl, sym, ap, ◌∙◌, subst, arith, ◌+◌}
 use Rattle.std.proofs.Math.Path.{fun_ext}
+use Rattle.cx_text.specs.Members.{In}
 use Rattle.cx_meaning.specs.declared.ports.PortRef.{PortRef}
 use Rattle.cx_meaning.specs.declared.ports.PortRef.TheVariants as ports
 use Rattle.cx_meaning.specs.Rows.{KeepsIdle}
@@ -8,12 +9,12 @@ use Rattle.cx_meaning.specs.Designs.{PlainForm, Par, PlainStatement, PlainStatem
 use Rattle.cx_meaning.specs.Instances.{Instance, Node, part_of, Path, State, Set, idle, idle_at, IsSettled}
 use Rattle.cx_meaning.specs.Active.{Active, nothing, group, capture, entries}
 use Rattle.cx_meaning.specs.Truths.{truth_of}
-use Rattle.cx_meaning.specs.Sights.{Held, In, seen}
+use Rattle.cx_meaning.specs.Sights.{Held, seen}
 use Rattle.cx_meaning.specs.Cycles.{Fault, Ended, cycle, cycle_of, every_cell}
 use Rattle.cx_meaning.specs.Cycles as cycles
 use Rattle.cx_meaning.specs.Answers.{Answer, End, More, Meaning, Turn, after_turns, turn_then, turns_of, idle_turn, one_turn}
 use Rattle.cx_meaning.specs.Answers as answers
-use Rattle.cx_meaning.specs.Control.{group_drives, drives}
+use Rattle.cx_meaning.specs.Control.{form_drives, group_drives, drives}
 use Rattle.cx_meaning.specs.Islands.{History, form_flat, active_in, looked_at, first_unclear, and_now, is_one, island_turn, island_from, turn_of, unless_unclear}
 use Rattle.cx_meaning.specs.Calls.{hole_turn, group_turn, after_child}
 use Rattle.cx_meaning.specs.Laws.{AllRows}
@@ -25,7 +26,7 @@ use Rattle.cx_frames.specs.Rests.{IsUndriven, IsSettledAt}
 use Rattle.cx_frames.proofs.IslandFrames.{AllFine, active_same, looked_same}
 use Rattle.cx_frames.proofs.RunLemmas.{group_undriven, capture_undriven, island_undriven}
 use Rattle.cx_orders.specs.Open.{Idling, InGroup, InIsland, Closing}
-use Rattle.cx_orders.specs.Leaves.{form_drives, rested, own_turn, own_island, is_tested, samples_now}
+use Rattle.cx_orders.specs.Leaves.{rested, own_turn, own_island, is_tested, samples_now}
 use Rattle.cx_orders.specs.Steps.{turned, behind_child}
 use Rattle.cx_orders.proofs.OwnTurns.{OnlyIn, TurnsIn, turn_only, capture_only, island_only}
 use Rattle.cx_orders.proofs.Orders.{Goes, EndsIn}

@@ -1,8 +1,8 @@
 -- Turns of one leaf change no cell that it does not drive, and hang on a set of cells alone.
-use Rattle.std.proofs.Common.{◌≡◌, ℕ, ◌-◌, inl, inr, Bool, true, false, ◌&&◌, nat_eq, nat_le, if◌then◌else◌, List, [], ◌∷◌, map, Option, Some, None, refl, ap, ◌∙◌, subst}
-use Rattle.std.specs.Prelude.{nat_lt}
+use Rattle.std.proofs.Common.{◌≡◌, ℕ, inl, inr, Bool, true, false, ◌&&◌, nat_eq, if◌then◌else◌, List, [], ◌∷◌, map, Option, Some, None, refl, ap, ◌∙◌, subst}
 use Rattle.std.proofs.Math.Path.{fun_ext}
 use Rattle.std.proofs.lemmas.Bool.{both_ways}
+use Rattle.cx_text.specs.Members.{In}
 use Rattle.cx_prim.specs.Rows.{Row}
 use Rattle.cx_meaning.specs.declared.ports.PortRef.{PortRef}
 use Rattle.cx_meaning.specs.declared.ports.PortRef.TheVariants as ports
@@ -11,23 +11,23 @@ use Rattle.cx_meaning.specs.Instances.{Instance, Cells, cell_count, cells_of, pa
 use Rattle.cx_meaning.specs.Active.{Active, nothing, group, capture, entries}
 use Rattle.cx_meaning.specs.Truths.{Truth, One, Zero, truth_of}
 use Rattle.cx_meaning.specs.Truths as truths
-use Rattle.cx_meaning.specs.Sights.{Look, Held, seen, gather, In}
+use Rattle.cx_meaning.specs.Sights.{Look, Held, seen, gather}
 use Rattle.cx_meaning.specs.Cycles.{Fault, Ended, enables, after_enabling, cell_outcome, outcome_of, first_fault, state_after, unless_fault, cycle_of}
 use Rattle.cx_meaning.proofs.CycleLemmas.{unlisted_stays}
 use Rattle.cx_meaning.specs.Answers.{Turn}
 use Rattle.cx_meaning.specs.Answers as answers
-use Rattle.cx_meaning.specs.Control.{group_drives}
-use Rattle.cx_meaning.specs.Islands.{Occurrence, Runs, Looks, History, form_flat, looked_at, first_unclear, active_in, hold, entry_if, is_one, turn_of, unless_unclear}
+use Rattle.cx_meaning.specs.Control.{form_drives, group_drives}
+use Rattle.cx_meaning.specs.Islands.{Occurrence, History, form_flat, looked_at, first_unclear, active_in, is_one, turn_of, unless_unclear}
 use Rattle.cx_meaning.specs.Calls.{hole_turn}
 use Rattle.cx_rules.specs.Circles.{IsAcyclic, AcyclicBelow}
 use Rattle.cx_frames.specs.Agreeing.{Agree}
-use Rattle.cx_frames.proofs.AlikeLemmas.{AlikeTurn}
+use Rattle.cx_frames.proofs.AlikeLemmas.{AlikeTurn, hole_alike, unclear_alike}
 use Rattle.cx_frames.proofs.CircleFrames.{capture_acyclic}
 use Rattle.cx_frames.proofs.RuleLemmas.{IsKept}
 use Rattle.cx_frames.proofs.SightFrames.{InFrame, IsThrough, IsWithin, IsAmong, seen_alike, ends_alike}
 use Rattle.cx_frames.proofs.LeafFrames.{merge_agree, idle_agree, IsGood, bare_seen, only_among}
-use Rattle.cx_frames.proofs.IslandFrames.{AllFine, looked_good, unclear_same}
-use Rattle.cx_orders.specs.Leaves.{form_drives, rested, own_turn, own_capture, sampled_now, own_cycle, own_island}
+use Rattle.cx_frames.proofs.IslandFrames.{AllFine, active_good, looked_good, unclear_same}
+use Rattle.cx_orders.specs.Leaves.{rested, own_turn, own_capture, sampled_now, own_cycle, own_island}
 use Rattle.cx_frames.proofs.SharedLemmas.{entries_among}
 
 -- only cells of the set, and what is below them, differ
@@ -106,18 +106,9 @@ module _ (i : Instance) (held : Held) (set : ℕ → Type 0) (kept : IsKept i) (
   pub group_seen : (g : ℕ) → IsGood i held set kept through deeper g → (s t : State) → Agree set s t → (p : PortRef) → InFrame set p → seen i held (group g) s p ≡ seen i held (group g) t p
   group_seen g good s t agree p inside = seen_alike i held (group g) set (g ∷ []) kept through (only_among g) (own_within g good) s t agree good.acyclic deeper p inside
 
-  hole_alike : (g : ℕ) (x y : Truth) (a b : Ended) → x ≡ y → AlikeTurn set (turn_of a) (turn_of b) → AlikeTurn set (hole_turn g a x) (hole_turn g b y)
-  hole_alike g x y a b e h = subst (λ z. AlikeTurn set (hole_turn g a x) (hole_turn g b z)) e (one x)
-    where
-      one : (z : Truth) → AlikeTurn set (hole_turn g a z) (hole_turn g b z)
-      one One = refl
-      one Zero = h
-      one truths.Conflict = refl
-      one truths.Undefined = refl
-
   pub turn_frames : (g : ℕ) → IsGood i held set kept through deeper g → (s t : State) → Agree set s t → AlikeTurn set (own_turn i held g s) (own_turn i held g t)
   turn_frames g good s t agree =
-      hole_alike g (truth_of (seen i held (group g) s (ports.Done g))) (truth_of (seen i held (group g) t (ports.Done g))) _ _
+      hole_alike set g (truth_of (seen i held (group g) s (ports.Done g))) (truth_of (seen i held (group g) t (ports.Done g))) _ _
       (ap truth_of (group_seen g good s t agree (ports.Done g) tt))
       (cycle_alike (group g) (g ∷ []) (only_among g) (own_within g good) good.acyclic (group_drives (part_of i) g) good.within.drives s t agree)
 
@@ -129,13 +120,6 @@ module _ (i : Instance) (held : Held) (set : ℕ → Type 0) (kept : IsKept i) (
   rest_frames driven s t agree = merge_agree set driven (idle i s) s (idle i t) t (idle_agree set i s t agree) agree
 
   -- islands
-  unclear_alike : (x y : Option Fault) (a b : Ended) → x ≡ y → AlikeTurn set (turn_of a) (turn_of b) → AlikeTurn set (unless_unclear x a) (unless_unclear y b)
-  unclear_alike x y a b e h = subst (λ z. AlikeTurn set (unless_unclear x a) (unless_unclear z b)) e (one x)
-    where
-      one : (z : Option Fault) → AlikeTurn set (unless_unclear z a) (unless_unclear z b)
-      one None = h
-      one (Some f) = refl
-
   module _ (bare : IsAcyclic i nothing) (list : List Occurrence) (fine : AllFine (IsGood i held set kept through deeper) (InFrame set) list) where
     abbrev Good : ℕ → Type 0
     Good = IsGood i held set kept through deeper
@@ -149,20 +133,10 @@ module _ (i : Instance) (held : Held) (set : ℕ → Type 0) (kept : IsKept i) (
         one port at true e false = refl
         one port at false e c = refl
 
-    active_good : (h : History) (t : ℕ) (rest : List Occurrence) → AllFine Good (InFrame set) rest → (g : ℕ) → In (map (λ e. e.group) (active_in h t rest)) g → Good g
-    active_good h t [] all g j = absurd j
-    active_good h t (Runs n from to samples ∷ rest) ((good, others), all) g j = one (nat_le from t && nat_lt t to && hold h samples) j (active_good h t rest all g)
-      where
-        one : (b : Bool) → In (map (λ e. e.group) (entry_if b n (t - from) (active_in h t rest))) g → (In (map (λ e. e.group) (active_in h t rest)) g → Good g) → Good g
-        one true (inl e) later = subst Good e good
-        one true (inr k) later = later k
-        one false k later = later k
-    active_good h t (Looks port at samples ∷ rest) (here, all) g j = active_good h t rest all g j
-
     pub cycle_frames : (driven : Set) → ((c : ℕ) → driven c ≡ true → set c) → (h : History) (t : ℕ) → IsAcyclic i (entries (active_in h t list)) → (s s2 : State) → Agree set s s2
         → AlikeTurn set (own_cycle i held driven list t h s) (own_cycle i held driven list t h s2)
     cycle_frames driven inside h t acyclic s s2 agree =
-        unclear_alike (first_unclear (seen i held nothing s) (looked_at h t list)) (first_unclear (seen i held nothing s2) (looked_at h t list)) _ _
+        unclear_alike set (first_unclear (seen i held nothing s) (looked_at h t list)) (first_unclear (seen i held nothing s2) (looked_at h t list)) _ _
         (unclear_same (seen i held nothing s) (seen i held nothing s2) (looked_at h t list)
         (λ q j. bare_seen i held set kept through deeper bare s s2 agree q (looked_good Good (InFrame set) h t list fine q j)))
-        (cycle_alike (entries (active_in h t list)) (map (λ e. e.group) (active_in h t list)) (entries_among (active_in h t list)) (λ g j. (active_good h t list fine g j).within) acyclic driven inside s s2 agree)
+        (cycle_alike (entries (active_in h t list)) (map (λ e. e.group) (active_in h t list)) (entries_among (active_in h t list)) (λ g j. (active_good Good (InFrame set) h t list fine g j).within) acyclic driven inside s s2 agree)

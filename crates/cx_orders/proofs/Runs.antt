@@ -2,6 +2,8 @@
 use Rattle.std.proofs.Common.{◌≡◌, ℕ, zero, suc, ◌+◌, ◌-◌, ◌≤◌, ◌<◌, max, inl, inr, Bool, true, false, ◌||◌, nat_eq, if◌then◌else◌, List, [], ◌∷◌, ◌++◌, length, get_or, Option, Some, None, refl, sym, ap, ◌∙◌, subst, arith, append_assoc, append-nil}
 use Rattle.std.proofs.Math.Path.{fun_ext}
 use Rattle.std.proofs.lemmas.Bool.{eqb-true, eqb-false, or_right}
+use Rattle.cx_text.proofs.MemberLaws.{in_left, in_right}
+use Rattle.cx_text.specs.Members.{In}
 use Rattle.cx_text.specs.declared.places.Place.{Place}
 use Rattle.cx_meaning.specs.declared.ports.PortRef.{PortRef}
 use Rattle.cx_meaning.specs.declared.ports.PlacedPort.{PlacedPort}
@@ -13,7 +15,7 @@ use Rattle.cx_meaning.specs.declared.kinds.GroupKind.TheVariants as kinds
 use Rattle.cx_meaning.specs.Designs.{PlainComponent, group_at, PlainForm, Empty, Enable, Seq, Par, If, While, Repeat, StaticSeq, StaticPar, StaticIf, StaticRepeat, Timed, PlainStatement, Placed, PlainStatements, no_statements, a_statement, list_of, no_place}
 use Rattle.cx_meaning.specs.Instances.{Instance, Node, Cells, no_cells, a_primitive, an_instance, part_of, Path, State, instance_at, child_at, just, put, under, idle, idle_at, idle_below, IsSettled}
 use Rattle.cx_meaning.specs.Active.{same_port}
-use Rattle.cx_meaning.specs.Sights.{Held, In}
+use Rattle.cx_meaning.specs.Sights.{Held}
 use Rattle.cx_meaning.specs.Cycles.{Fault}
 use Rattle.cx_meaning.specs.Answers.{Answer, End, Meaning, after_turns, then_do, stay, Test, Holds, Fails, Unclear, chosen, test_turn, loop, loop_of, rounds}
 use Rattle.cx_meaning.specs.Answers as answers
@@ -32,15 +34,16 @@ use Rattle.cx_orders.specs.Open.{Open, Choosing, Testing, InIsland, InSeq, InPar
 use Rattle.cx_orders.specs.Leaves.{test_drives, rested, is_among, is_tested}
 use Rattle.cx_orders.specs.Steps.{tested, seq_left, par_left, first_inputs, inputs_seen, held_as}
 use Rattle.cx_orders.proofs.OwnTurns.{OnlyIn}
-use Rattle.cx_orders.proofs.Inside.{IsSound, Stands, inner_stands, itself, Inside, InsideOne, InsideAll, inside_self, inside_left, inside_right}
+use Rattle.cx_orders.proofs.Inside.{IsSound, Stands, inner_stands, Inside, InsideOne, InsideAll, inside_self, inside_left, inside_right}
 use Rattle.cx_orders.proofs.Fits.{Fits, ArmsFit, AllSound, sound_below, below_fits, par_arms_fit}
 use Rattle.cx_orders.proofs.Orders.{Goes, EndsIn, leaves_some}
 use Rattle.cx_orders.proofs.Ending.{seq_splits, loop_splits, repeat_splits, waiting_stays, par_splits, call_splits, call_begins, put_same, ends_only}
 use Rattle.cx_orders.proofs.LeafRuns.{IsLawful, Answered, later_one, busy_settled, rested_idle, group_runs, behind_runs, island_runs, idling_runs}
 use Rattle.cx_meaning.proofs.PortsLemmas.{same_self}
-use Rattle.cx_meaning.proofs.SightsLaws.{in_left, in_right, behind_comb}
+use Rattle.cx_meaning.proofs.SightsLaws.{behind_comb}
 use Rattle.cx_rules.proofs.ItemsLemmas.{tests_flat}
 use Rattle.cx_meaning.proofs.InstancesLemmas.{here as here_again, just_true}
+use Rattle.cx_laws.proofs.VisitLemmas.{itself}
 
 -- one run, and then another
 then_answered : (x : Answer State Fault) (middle final : State) (one two m n : ℕ) (go : Meaning State Fault) → m ≡ one + two → m ≤ n → Answered x middle one

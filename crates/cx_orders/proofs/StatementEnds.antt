@@ -1,6 +1,8 @@
 -- Where the run of a statement ends from a settled state, an order of its leaves ends in the same state.
 use Rattle.std.proofs.Common.{◌≡◌, ℕ, zero, suc, ◌+◌, ◌-◌, ◌<◌, max, nat_le, if◌then◌else◌, inl, inr, Bool, true, false, List, [], ◌∷◌, ◌++◌, length, Option, Some, None, refl, sym, ap, ◌∙◌, subst, arith, append_assoc, append-nil}
 use Rattle.std.proofs.Math.Path.{fun_ext}
+use Rattle.cx_text.proofs.MemberLaws.{in_left, in_right}
+use Rattle.cx_text.specs.Members.{In}
 use Rattle.cx_text.specs.declared.places.Place.{Place}
 use Rattle.cx_meaning.specs.declared.ports.PortRef.{PortRef}
 use Rattle.cx_meaning.specs.declared.sights.Seen.{Seen}
@@ -8,7 +10,7 @@ use Rattle.cx_meaning.specs.declared.kinds.GroupKind.{GroupKind}
 use Rattle.cx_meaning.specs.declared.kinds.GroupKind.TheVariants as kinds
 use Rattle.cx_meaning.specs.Designs.{PlainComponent, group_at, PlainForm, Empty, Enable, Seq, Par, If, While, Repeat, StaticSeq, StaticPar, StaticIf, StaticRepeat, Timed, PlainStatement, Placed, PlainStatements, no_statements, a_statement, list_of}
 use Rattle.cx_meaning.specs.Instances.{Instance, Node, Cells, no_cells, a_primitive, an_instance, part_of, Path, State, instance_at, child_at, put, under, idle, IsSettled}
-use Rattle.cx_meaning.specs.Sights.{Held, In}
+use Rattle.cx_meaning.specs.Sights.{Held}
 use Rattle.cx_meaning.specs.Cycles.{Fault}
 use Rattle.cx_meaning.specs.Answers.{Answer, End, More, Meaning, after_turns, then_do, stay, Test, Holds, Fails, Unclear, chosen, test_turn, loop, both, rounds}
 use Rattle.cx_meaning.specs.Answers as answers
@@ -28,13 +30,14 @@ use Rattle.cx_orders.specs.Open.{Open, Choosing, Testing, InIsland, InSeq, InLoo
 use Rattle.cx_orders.specs.Leaves.{test_drives, rested}
 use Rattle.cx_orders.specs.Steps.{tested, seq_left, par_left, inputs_seen, held_as}
 use Rattle.cx_orders.proofs.OwnTurns.{OnlyIn}
-use Rattle.cx_orders.proofs.Inside.{IsSound, Stands, inner_stands, itself, Inside, InsideOne, InsideAll, inside_self, inside_left, inside_right}
+use Rattle.cx_orders.proofs.Inside.{IsSound, Stands, inner_stands, Inside, InsideOne, InsideAll, inside_self, inside_left, inside_right}
 use Rattle.cx_orders.proofs.Fits.{ArmsFit, AllSound, sound_below, below_fits, par_arms_fit}
 use Rattle.cx_orders.proofs.Orders.{Goes, EndsIn}
 use Rattle.cx_orders.proofs.Ending.{put_same, ends_only}
 use Rattle.cx_orders.proofs.LeafRuns.{IsLawful, busy_settled}
 use Rattle.cx_orders.proofs.Runs.{rests, tested_fine, first_at, under_settled, put_settled}
-use Rattle.cx_meaning.proofs.SightsLaws.{in_left, in_right, behind_comb}
+use Rattle.cx_meaning.proofs.SightsLaws.{behind_comb}
+use Rattle.cx_laws.proofs.VisitLemmas.{itself}
 use Rattle.cx_orders.proofs.Joining.{SomeEnd, seq_joins, loop_joins, repeat_joins, par_joins, call_joins, call_began}
 use Rattle.cx_orders.proofs.LeafEnds.{state_of, no_end, no_fault_ends, earlier, parts_end, idling_ends, group_ends, behind_ends, island_ends}
 

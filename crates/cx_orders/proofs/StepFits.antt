@@ -1,10 +1,11 @@
 -- What a turn leaves open fits in the same statement.
 use Rattle.std.proofs.Common.{◌≡◌, ℕ, zero, suc, ◌-◌, inl, inr, Bool, true, false, List, [], ◌∷◌, Option, Some, None}
 use Rattle.std.specs.Prelude.{nat_lt}
+use Rattle.cx_text.specs.Members.{In}
 use Rattle.cx_meaning.specs.declared.sights.Seen.{Seen}
 use Rattle.cx_meaning.specs.Designs.{PlainStatement, PlainStatements, no_statements, a_statement}
 use Rattle.cx_meaning.specs.Instances.{Instance, part_of, State, instance_at, under}
-use Rattle.cx_meaning.specs.Sights.{In, Held}
+use Rattle.cx_meaning.specs.Sights.{Held}
 use Rattle.cx_meaning.specs.Cycles.{Fault}
 use Rattle.cx_meaning.specs.Answers.{Turn, Ends, Goes, Faults, Test, Holds, Fails, Unclear}
 use Rattle.cx_meaning.specs.Control.{groups_of, groups_in_all, drives}
@@ -13,10 +14,11 @@ use Rattle.cx_rules.specs.Items.{Dynamic, visit, visit_all}
 use Rattle.cx_frames.specs.Arms.{all_drive}
 use Rattle.cx_orders.specs.Open.{Open, Idling, InGroup, Choosing, Testing, InIsland, Capturing, Closing, Waiting, InSeq, InPar, InLoop, InRepeat, InCall, Opens, no_arms, an_arm, leaves_of, open_statement}
 use Rattle.cx_orders.specs.Steps.{Stepped, Now, Stops, within, turned, tested, seq_left, loop_left, repeat_left, arms_left, par_left, behind_child, call_left, lift_step, inputs_seen, inputs_for, held_as, first_or, step, step_arms}
-use Rattle.cx_orders.proofs.Inside.{Stands, itself, InsideAll, inside_left, inside_right, AnyReads}
+use Rattle.cx_orders.proofs.Inside.{Stands, InsideAll, inside_left, inside_right, AnyReads}
 use Rattle.cx_orders.proofs.Fits.{Fits, ArmsFit, AllSound, sound_below, statement_fits}
 use Rattle.std.proofs.lemmas.Bool.{or_right}
 use Rattle.cx_text.proofs.BoolLaws.{or_second}
+use Rattle.cx_laws.proofs.VisitLemmas.{itself}
 
 abbrev pub LeftFits : Instance → PlainStatement → Option Open → Type 0
 LeftFits i st None = Unit {0}

@@ -3,15 +3,16 @@ use Rattle.std.proofs.Common.{◌≡◌, ℕ, zero, suc, ◌-◌, inl, inr, Bool
 use Rattle.std.specs.Prelude.{nat_lt}
 use Rattle.std.proofs.Math.Path.{fun_ext}
 use Rattle.std.proofs.lemmas.Bool.{both_ways, or_right, or_left}
+use Rattle.cx_text.specs.Members.{In}
 use Rattle.cx_meaning.specs.declared.ports.PortRef.{PortRef}
 use Rattle.cx_meaning.specs.declared.ports.PortRef.TheVariants as ports
 use Rattle.cx_meaning.specs.declared.sights.Seen.{Seen}
 use Rattle.cx_meaning.specs.Designs.{PlainComponent, PlainForm, PlainStatement}
 use Rattle.cx_meaning.specs.Instances.{Instance, part_of, Path, State, Set, instance_at, just, beneath, put, under, idle}
-use Rattle.cx_meaning.specs.Sights.{In, Held}
+use Rattle.cx_meaning.specs.Sights.{Held}
 use Rattle.cx_meaning.specs.Cycles.{Fault}
 use Rattle.cx_meaning.specs.Answers.{Turn, Ends, Goes, Faults, Test, Holds, Fails, Unclear}
-use Rattle.cx_meaning.specs.Control.{with_comb, groups_in, groups_of, group_drives, drives}
+use Rattle.cx_meaning.specs.Control.{form_drives, with_comb, groups_in, groups_of, group_drives, drives}
 use Rattle.cx_meaning.specs.Islands.{History, form_flat}
 use Rattle.cx_meaning.specs.Calls.{test, inputs_of_call}
 use Rattle.cx_rules.specs.Items.{Dynamic, visit_parts}
@@ -23,7 +24,7 @@ use Rattle.cx_frames.proofs.AlikeLemmas.{AlikeTurn}
 use Rattle.cx_frames.proofs.LeafFrames.{merge_agree, test_alike}
 use Rattle.cx_frames.proofs.RunLemmas.{drives_group}
 use Rattle.cx_orders.specs.Open.{Open, Idling, InGroup, Choosing, Testing, InIsland, Capturing, Closing, Waiting, InSeq, InPar, InLoop, InRepeat, InCall, Opens, no_arms, an_arm, leaves_of}
-use Rattle.cx_orders.specs.Leaves.{test_drives, form_drives, rested, is_tested, samples_now, own_island}
+use Rattle.cx_orders.specs.Leaves.{test_drives, rested, is_tested, samples_now, own_island}
 use Rattle.cx_orders.specs.Steps.{Stepped, Now, Stops, within, turned, tested, arms_left, par_left, call_left, lift_step, first_inputs, inputs_seen, inputs_for, held_as, first_or, step, step_arms}
 use Rattle.cx_orders.proofs.OwnTurns.{OnlyIn, TurnsIn, only_same, merge_only, only_wider, turn_only, capture_only, island_only, group_seen, turn_frames, capture_frames, rest_frames, samples_frames, cycle_frames}
 use Rattle.cx_orders.proofs.Inside.{IsSound, Stands, Inside, FormIn, through_reads, good, island_fine, tests_inside, island_acyclic, drives_inside, AnyReads}

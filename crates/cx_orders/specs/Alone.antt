@@ -1,5 +1,6 @@
 -- Faults that arms have, each run alone.
 use Rattle.std.specs.Prelude.{◌≡◌, ◌≤◌, ◌<◌, ◌+◌, ◌-◌, ◌⊎◌, ℕ, suc, List, Option, Some, None}
+use Rattle.cx_text.specs.Members.{In}
 use Rattle.cx_text.specs.declared.places.Place.{Place}
 use Rattle.cx_meaning.specs.declared.kinds.GroupKind.{GroupKind}
 use Rattle.cx_meaning.specs.declared.kinds.GroupKind.TheVariants as kinds
@@ -7,7 +8,7 @@ use Rattle.cx_meaning.specs.declared.ports.PlacedPort.{PlacedPort}
 use Rattle.cx_meaning.specs.declared.sights.Seen.{Seen}
 use Rattle.cx_meaning.specs.Designs.{PlainDesign, group_at, Enable, Seq, Par, If, While, Repeat, PlainStatement, Placed, PlainStatements, a_statement, list_of}
 use Rattle.cx_meaning.specs.Instances.{Instance, OfInstance, cell_at, cells_of, part_of, State, start, tree_of, under, idle}
-use Rattle.cx_meaning.specs.Sights.{Held, unheld, In}
+use Rattle.cx_meaning.specs.Sights.{Held, unheld}
 use Rattle.cx_meaning.specs.Cycles.{Fault}
 use Rattle.cx_meaning.specs.Answers.{End, Holds, Fails}
 use Rattle.cx_meaning.specs.Answers as answers

@@ -10,7 +10,7 @@ use Rattle.cx_meaning.specs.Active.{nothing, group, capture, entries, same_port}
 use Rattle.cx_meaning.specs.Sights.{Look, Held, seen}
 use Rattle.cx_meaning.specs.Cycles.{Fault, cycle_of}
 use Rattle.cx_meaning.specs.Answers.{Turn}
-use Rattle.cx_meaning.specs.Control.{with_comb, groups_in, group_drives, groups_drive}
+use Rattle.cx_meaning.specs.Control.{with_comb, form_drives, group_drives, groups_drive}
 use Rattle.cx_meaning.specs.Islands.{Occurrence, History, and_now, form_flat, looked_at, first_unclear, active_in, unless_unclear, turn_of}
 use Rattle.cx_meaning.specs.Calls.{hole_turn}
 use Rattle.cx_rules.specs.Items.{tests_of}
@@ -18,9 +18,6 @@ use Rattle.cx_rules.specs.Items.{tests_of}
 -- the cells that a test drives, by its comb group, and those that an island drives
 abbrev pub test_drives : PlainComponent → Option ℕ → Set
 test_drives part comb = groups_drive part (with_comb comb [])
-
-abbrev pub form_drives : PlainComponent → PlainForm → Set
-form_drives part form = groups_drive part (groups_in form)
 
 -- AN IDLE TURN of the driven cells
 abbrev pub rested : Instance → Set → State → State

@@ -9,9 +9,9 @@ use Rattle.cx_meaning.specs.Sights.{Held}
 use Rattle.cx_meaning.specs.Cycles.{Fault}
 use Rattle.cx_meaning.specs.Answers.{Turn, Ends, Goes, Faults, Test, Holds, Fails, Unclear}
 use Rattle.cx_meaning.specs.Calls.{test, captures, fault_below, inputs_of_call}
-use Rattle.cx_meaning.specs.Control.{group_drives}
+use Rattle.cx_meaning.specs.Control.{form_drives, group_drives}
 use Rattle.cx_orders.specs.Open.{Open, Idling, InGroup, Choosing, Testing, InIsland, Capturing, Closing, Waiting, InSeq, InPar, InLoop, InRepeat, InCall, Opens, no_arms, an_arm, leaves_of, open_statement}
-use Rattle.cx_orders.specs.Leaves.{test_drives, form_drives, rested, own_turn, own_capture, samples_now, own_island}
+use Rattle.cx_orders.specs.Leaves.{test_drives, rested, own_turn, own_capture, samples_now, own_island}
 
 -- what a turn makes of what is open, and the state after it; or its fault
 pub data Stepped (A : Type 0) : Type 0 where

@@ -93,7 +93,7 @@ pub no_circle : (i : Instance) (act : Active) → part_of i ≡ no_component →
 no_circle i act e none (p, at_once l) = no_leads i act e none p p l
 no_circle i act e none (p, by_way_of r l rest) = no_leads i act e none p r l
 
-cells_for_none : (child : ℕ → Instance) (cells : List PlainCell) → cells ≡ [] → (c : ℕ) → cell_at (cells_for child cells) c ≡ Nothing
+pub cells_for_none : (child : ℕ → Instance) (cells : List PlainCell) → cells ≡ [] → (c : ℕ) → cell_at (cells_for child cells) c ≡ Nothing
 cells_for_none child cells e c = ap (λ cs. cell_at (cells_for child cs) c) e
 
 tree_cells : (d : PlainDesign) (n k : ℕ) → component_at d k ≡ no_component → (c : ℕ) → cell_at (cells_of (tree_within d n k)) c ≡ Nothing
@@ -108,7 +108,7 @@ module _ (d : PlainDesign) (accepted : IsAccepted d) where
       go zero h = absurd (omega arith)
       go (suc n) h = (n, refl)
 
-  node_acyclic : (m k : ℕ) → IsAcyclic (tree_within d m k) nothing
+  pub node_acyclic : (m k : ℕ) → IsAcyclic (tree_within d m k) nothing
   node_acyclic m k =
       ⊎_elim
       (λ h. let n = some_component k h in tree_acyclic d accepted n.0 n.1 nothing m k (bare_acyclic d accepted k h))

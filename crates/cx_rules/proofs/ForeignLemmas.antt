@@ -1,5 +1,6 @@
 -- The enabling ports of a cell that no active group drives are 0.
 use Rattle.std.proofs.Common.{◌≡◌, ℕ, suc, ◌+◌, inl, inr, ◌⊎◌, ⊎_elim, Bool, true, false, ◌||◌, Option, Some, None, List, [], ◌∷◌, ◌++◌, length, get_or, refl, sym, ap, ◌∙◌, arith}
+use Rattle.cx_text.specs.Members.{In}
 use Rattle.cx_prim.specs.declared.ports.Side.TheVariants as sides
 use Rattle.cx_prim.specs.Rows.{Row}
 use Rattle.cx_meaning.specs.declared.ports.PortRef.{PortRef}
@@ -8,7 +9,7 @@ use Rattle.cx_meaning.specs.Rows.{side_of}
 use Rattle.cx_meaning.specs.Designs.{PlainAssign, PlainGroup, group_at, no_group, PlainComponent}
 use Rattle.cx_meaning.specs.Instances.{Instance, Node, OfRow, cell_at, cells_of, part_of, State, under}
 use Rattle.cx_meaning.specs.Active.{Active, Owned, owned, owned_by_groups, by_place, source_order, offset_of, if_acting, if_target, acting, same_port, drivers}
-use Rattle.cx_meaning.specs.Sights.{Look, Below, Held, bit_of, target_seen, cell_step, side_step, step, In, outputs_below, approach, ports_of, seen}
+use Rattle.cx_meaning.specs.Sights.{Look, Below, Held, bit_of, target_seen, cell_step, side_step, step, outputs_below, approach, ports_of, seen}
 use Rattle.cx_meaning.specs.Control.{targets_cell, assigns_drive, group_drives}
 use Rattle.cx_rules.proofs.FoundLemmas.{same_is}
 use Rattle.std.proofs.lemmas.Bool.{or_right}

@@ -1,6 +1,8 @@
 -- Where nothing leads in a circle each port is seen as what `seen` finds.
 use Rattle.std.proofs.Common.{◌≡◌, ℕ, zero, suc, ◌+◌, ◌≤◌, ◌<◌, Bool, true, false, inl, inr, ◌⊎◌, ⊎_elim, List, [], ◌∷◌, length, map, Option, Some, None, nat_eq, refl, sym, ap, ◌∙◌, subst, arith}
 use Rattle.std.proofs.lemmas.Bool.{eqb-true}
+use Rattle.cx_text.proofs.MemberLaws.{in_either, in_left, in_right}
+use Rattle.cx_text.specs.Members.{In}
 use Rattle.cx_prim.specs.declared.ports.Side.{Side}
 use Rattle.cx_prim.specs.declared.ports.Side.TheVariants as sides
 use Rattle.cx_prim.specs.Rows.{Row}
@@ -12,15 +14,15 @@ use Rattle.cx_meaning.specs.Instances.{Instance, Node, Cells, no_cells, a_primit
 use Rattle.cx_meaning.specs.Active.{Active, nothing, Acting, Owned, source_order, offset_of, if_acting, if_target, acting, same_port, drivers}
 use Rattle.cx_meaning.specs.Truths.{Truth, One, Zero}
 use Rattle.cx_meaning.specs.Truths as truths
-use Rattle.cx_meaning.specs.Sights.{Look, Below, Held, unheld, guard_truth, Taken, Sources, Stopped, take_guard, taken, PartPort, Go, AnInput, AnOutput, ItsDone, part_port, step, In, IsTaken, TargetNeeds, SideNeeds, PartNeeds, CellNeeds, Needs, Sees, by_step, approach, steps_enough, numbered, ports_of_cells, ports_of, seen, outputs_below, AnyNames, GuardNames}
+use Rattle.cx_meaning.specs.Sights.{Look, Below, Held, unheld, guard_truth, Taken, Sources, Stopped, take_guard, taken, PartPort, Go, AnInput, AnOutput, ItsDone, part_port, step, IsTaken, TargetNeeds, SideNeeds, PartNeeds, CellNeeds, Needs, Sees, by_step, approach, steps_enough, numbered, ports_of_cells, ports_of, seen, outputs_below, AnyNames, GuardNames}
 use Rattle.cx_meaning.proofs.SightsLemmas.{one_sight}
-use Rattle.cx_rules.specs.Footprints.{Mentions, SideLeads, PartLeads, CellLeads, Leads, Depends, at_once, by_way_of, AssignNames}
+use Rattle.cx_rules.specs.Footprints.{Mentions, SideLeads, PartLeads, CellLeads, Leads, Depends, at_once, AssignNames}
 use Rattle.cx_rules.specs.Circles.{IsAcyclic, AreAcyclic, AcyclicBelow}
 use Rattle.cx_rules.proofs.Finite.{Distinct, distinct_few}
+use Rattle.cx_rules.proofs.CircleLemmas.{depends_then}
 use Rattle.cx_text.proofs.BoolLaws.{and_both}
 use Rattle.cx_meaning.proofs.InstancesLemmas.{instance_is, row_is, instance_row, row_instance, nothing_instance, nothing_row}
 use Rattle.cx_meaning.proofs.RowsLemmas.{side_below}
-use Rattle.cx_meaning.proofs.SightsLaws.{in_left, in_right, in_either}
 use Rattle.cx_meaning.specs.declared.ports.PlacedPort.{PlacedPort}
 use Rattle.cx_rules.specs.Items.{sources_of, operands_in, operands_of}
 
@@ -159,16 +161,13 @@ module _ (i : Instance) (act : Active) where
   cell_real c p (OfRow row) q e l = side_real row c p (side_of row p) q e refl l
   cell_real c p (OfInstance child) q e l = part_real c p (part_port (part_of child) p) q l
 
-  leads_real : (p q : PortRef) → Leads i act p q → In (ports_of i) p
+  -- a port that leads on is one of those of the instance
+  pub leads_real : (p q : PortRef) → Leads i act p q → In (ports_of i) p
   leads_real (ports.Cell c p) q l = cell_real c p (cell_at (cells_of i) c) q refl l
   leads_real (ports.Input n) q l = absurd l
   leads_real (ports.Output n) q l = mentioned_real i act (ports.Output n) q l
   leads_real (ports.Done g) q l = mentioned_real i act (ports.Done g) q l
   leads_real (ports.Literal w v) q l = absurd l
-
-  further : (p q r : PortRef) → Depends i act p q → Leads i act q r → Depends i act p r
-  further p q r (at_once l) k = by_way_of q l (at_once k)
-  further p q r (by_way_of m l d) k = by_way_of m l (further m q r d k)
 
   -- steps that are enough: with the ports that depend on this one, all different, there are more than all
   module _ (acyclic : IsAcyclic i act) (held : Held) (s : State) (below : Below)
@@ -182,7 +181,7 @@ module _ (i : Instance) (act : Active) where
         enough n q (p ∷ above)
         ((λ j. acyclic (p, depends p j)), distinct)
         (λ v j. ⊎_elim (λ e. subst (λ x. In (ports_of i) x) e (leads_real p q l)) (λ k. real v k) j)
-        (λ v j. ⊎_elim (λ e. subst (λ x. Depends i act x q) e (at_once l)) (λ k. further v p q (depends v k) l) j)
+        (λ v j. ⊎_elim (λ e. subst (λ x. Depends i act x q) e (at_once l)) (λ k. depends_then (depends v k) l) j)
         (longer n (length above) h))
         (λ c port m child e at. children c m child at)
         refl

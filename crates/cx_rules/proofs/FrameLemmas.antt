@@ -1,6 +1,7 @@
 -- What ports of a frame are seen as depends on the frame alone.
 use Rattle.std.proofs.Common.{◌≡◌, ℕ, Bool, true, false, inl, inr, List, [], ◌∷◌, refl, sym, ap, ◌∙◌, subst}
 use Rattle.std.proofs.Math.Path.{fun_ext}
+use Rattle.cx_text.specs.Members.{In}
 use Rattle.cx_prim.specs.declared.ports.Side.{Side}
 use Rattle.cx_prim.specs.declared.ports.Side.TheVariants as sides
 use Rattle.cx_prim.specs.CellStates.{CellState}
@@ -13,7 +14,7 @@ use Rattle.cx_meaning.specs.Rows.{side_of}
 use Rattle.cx_meaning.specs.Designs.{PlainComponent}
 use Rattle.cx_meaning.specs.Instances.{Instance, At, Nothing, OfRow, OfInstance, part_of, cells_of, cell_at, State, under}
 use Rattle.cx_meaning.specs.Active.{Active, nothing, Acting, Owned, source_order, offset_of, if_acting, if_target, acting, same_port, drivers}
-use Rattle.cx_meaning.specs.Sights.{Look, Below, Held, unheld, bit_of, PartPort, Go, AnInput, AnOutput, ItsDone, part_port, target_seen, of_option, output_seen, gather, is_done_cell, side_step, part_step, cell_step, step, In, TargetNeeds, SideNeeds, PartNeeds, CellNeeds, Needs, Sees, by_step}
+use Rattle.cx_meaning.specs.Sights.{Look, Below, Held, unheld, bit_of, PartPort, Go, AnInput, AnOutput, ItsDone, part_port, target_seen, of_option, output_seen, gather, is_done_cell, side_step, part_step, cell_step, step, TargetNeeds, SideNeeds, PartNeeds, CellNeeds, Needs, Sees, by_step}
 use Rattle.cx_meaning.specs.Sights.{seen, Gathered, Given, Lacks}
 use Rattle.cx_meaning.specs.Cycles.{enables, looks_at, after_data, after_enabling, cell_outcome}
 use Rattle.cx_meaning.proofs.SightsLemmas.{gather_alike, one_sight}

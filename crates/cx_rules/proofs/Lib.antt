@@ -4,6 +4,7 @@ pub mod FrameLemmas
 pub mod CircleLemmas
 pub mod ForeignLemmas
 pub mod KnownRules
+pub mod KnownStatics
 pub mod KnownCounts
 pub mod KeyOrder
 pub mod BreakNames

@@ -2,16 +2,17 @@
 use Rattle.std.proofs.Common.{◌≡◌, ℕ, ◌≤◌, Bool, true, false, ◌&&◌, ◌||◌, Option, Some, None, refl, ap, ap₂, ◌∙◌}
 use Rattle.std.specs.Prelude.{nat_lt, nat_le, if◌then◌else◌}
 use Rattle.std.proofs.lemmas.Bool.{le-leb}
+use Rattle.cx_text.proofs.BoolLaws.{and_true}
 use Rattle.cx_text.specs.declared.limits.TheConstants.{OCCURRENCES, REPETITIONS}
-use Rattle.cx_meaning.specs.Designs.{PlainComponent, PlainDesign, component_at}
+use Rattle.cx_meaning.specs.Designs.{PlainDesign, component_at}
 use Rattle.cx_meaning.specs.Instances.{Instance, part_of, tree_within}
 use Rattle.cx_meaning.specs.Islands.{form_length}
 use Rattle.cx_meaning.proofs.DesignsLemmas.{same_part}
 use Rattle.cx_rules.specs.Items.{Visited}
-use Rattle.cx_rules.specs.StaticControl.{is_island, form_occurrences}
+use Rattle.cx_rules.specs.StaticControl.{is_island}
 use Rattle.cx_rules.specs.Invokes.{form_lasts}
 use Rattle.cx_rules.specs.Counts.{is_any_island, occurrences_at}
-use Rattle.cx_rules.specs.LimitRule.{Limited, OnRepeat, OnOccurrences, OnLatency, count_in, is_too_many, statement_limit}
+use Rattle.cx_rules.specs.LimitRule.{Limited, OnRepeat, OnOccurrences, OnLatency, count_in, is_too_many, first_limit, statement_limit, flat_limit}
 use Rattle.cx_rules.specs.Flat.{IsFlat}
 use Rattle.cx_rules.proofs.CountsLemmas.{any_island-flat, occurrences_at-flat, lasts_within}
 
@@ -27,9 +28,6 @@ some_limit false false long e = (OnLatency, ap (λ b. if b then Some OnLatency e
 island_too : (island other : Bool) → island ≡ true → (island || other) ≡ true
 island_too island other e = ap (λ b. b || other) e
 
-both : (a b : Bool) → a ≡ true → b ≡ true → (a && b) ≡ true
-both a b e f = ap₂ (λ x y. x && y) e f
-
 -- a count of rounds that is too great is told
 pub over_repeat : (i : Instance) (v : Visited) → is_too_many (count_in v.form) ≡ true → statement_limit i v ≡ Some OnRepeat
 over_repeat i v e =
@@ -39,7 +37,7 @@ over_repeat i v e =
 pub over_latency : (i : Instance) (v : Visited) → is_island (part_of i) v ≡ true → REPETITIONS ≤ form_lasts (part_of i) v.form → (limited : Limited) × (statement_limit i v ≡ Some limited)
 over_latency i v island long =
     some_limit (is_too_many (count_in v.form)) (is_any_island (part_of i) v && nat_lt OCCURRENCES (occurrences_at i v.form)) (is_any_island (part_of i) v && nat_le REPETITIONS (form_lasts (part_of i) v.form))
-    (both (is_any_island (part_of i) v) (nat_le REPETITIONS (form_lasts (part_of i) v.form)) (island_too (is_island (part_of i) v) _ island) (le-leb REPETITIONS (form_lasts (part_of i) v.form) long))
+    (and_true (is_any_island (part_of i) v) (nat_le REPETITIONS (form_lasts (part_of i) v.form)) (island_too (is_island (part_of i) v) _ island) (le-leb REPETITIONS (form_lasts (part_of i) v.form) long))
 
 -- where none is told there are few rounds, and no island lasts too long
 pub keeps_limits : (i : Instance) (v : Visited) → statement_limit i v ≡ None
@@ -55,12 +53,8 @@ keeps_limits i v none =
     by false false false other long e = (refl, refl)
 
 -- WITHOUT STATIC COMPONENTS a limit is on what stands there
-abbrev pub flat_limit : PlainComponent → Visited → Option Limited
-flat_limit part v =
-    first_of (is_too_many (count_in v.form)) (is_island part v && nat_lt OCCURRENCES (form_occurrences part v.form)) (is_island part v && nat_le REPETITIONS (form_length part v.form))
-
 pub statement_limit-flat : (d : PlainDesign) → IsFlat d → (n k : ℕ) (v : Visited) → statement_limit (tree_within d n k) v ≡ flat_limit (component_at d k) v
 statement_limit-flat d flat n k v =
-    ap₂ (λ x y. first_of (is_too_many (count_in v.form)) x y)
-    (ap₂ (λ a m. a && nat_lt OCCURRENCES m) (any_island-flat d flat n k v) (occurrences_at-flat d flat n k v.form))
-    (ap₂ (λ a m. a && nat_le REPETITIONS m) (any_island-flat d flat n k v) (lasts_within d flat n k v.form ∙ ap (λ part. form_length part v.form) (same_part d n k)))
+    ap (λ b. first_limit (is_too_many (count_in v.form)) b (occurrences_at (tree_within d n k) v.form) (form_lasts (part_of (tree_within d n k)) v.form)) (any_island-flat d flat n k v)
+    ∙ ap₂ (first_limit (is_too_many (count_in v.form)) (is_island (component_at d k) v)) (occurrences_at-flat d flat n k v.form)
+    (lasts_within d flat n k v.form ∙ ap (λ part. form_length part v.form) (same_part d n k))

@@ -1,12 +1,14 @@
 -- Facts of what `ShapeRules` defines, that several crates above take.
-use Rattle.std.proofs.Common.{◌≡◌, inl, inr, Bool, true, false, ◌||◌, List, [], ◌∷◌, refl, ap, ◌∙◌, ⊎_elim, ◌⊎◌}
+use Rattle.std.proofs.Common.{◌≡◌, ℕ, Option, Some, None, inl, inr, Bool, true, false, ◌||◌, List, [], ◌∷◌, refl, ap, ◌∙◌, ⊎_elim}
 use Rattle.cx_meaning.specs.declared.ports.PortRef.{PortRef}
-use Rattle.cx_meaning.specs.Designs.{PlainAssign, All, Always, Any, Atom, Compared, Negation, PlainGuard, Within}
-use Rattle.cx_meaning.specs.Sights.{In}
-use Rattle.cx_rules.specs.ShapeRules.{some_target}
-use Rattle.std.proofs.lemmas.Bool.{or_cases}
+use Rattle.cx_meaning.specs.declared.ports.PortRef.TheVariants as ports
+use Rattle.cx_meaning.specs.Islands.{group_length}
+use Rattle.cx_meaning.specs.Designs.{PlainAssign, All, Always, Any, Atom, Compared, Negation, PlainComponent, PlainGuard, Within}
+use Rattle.cx_text.specs.Members.{In}
+use Rattle.cx_rules.specs.ShapeRules.{some_target, owner_length}
+use Rattle.std.proofs.lemmas.Bool.{or_cases, eqb-true}
 use Rattle.cx_text.proofs.NumberLaws.{false_true}
-use Rattle.cx_rules.specs.CallShape.{is_always}
+use Rattle.cx_rules.specs.CallShape.{is_always, is_port_of}
 
 pub some_in : (test : PortRef → Bool) (list : List PlainAssign) (a : PlainAssign) → In list a → test a.target ≡ true → some_target test list ≡ true
 some_in test [] a j e = absurd j
@@ -30,3 +32,16 @@ always_is (All gs) e = absurd (false_true e)
 always_is (Any gs) e = absurd (false_true e)
 always_is (Compared c a b) e = absurd (false_true e)
 always_is (Within from to) e = absurd (false_true e)
+
+-- groups that last as long are as long for their assignments
+pub owner_length-same : (part other : PlainComponent) → ((g : ℕ) → group_length other g ≡ group_length part g) → (owner : Option ℕ) → owner_length other owner ≡ owner_length part owner
+owner_length-same part other lengths None = refl
+owner_length-same part other lengths (Some g) = lengths g
+
+-- a port of a cell, by its number
+pub port_of_is : (e : ℕ) (t : PortRef) → is_port_of e t ≡ true → (n : ℕ) × (t ≡ ports.Cell e n)
+port_of_is e (ports.Cell d n) h = (n, ap (λ x. ports.Cell x n) (eqb-true d e h))
+port_of_is e (ports.Input n) h = absurd (cc)
+port_of_is e (ports.Output n) h = absurd (cc)
+port_of_is e (ports.Done g) h = absurd (cc)
+port_of_is e (ports.Literal w v) h = absurd (cc)

@@ -22,7 +22,7 @@ written_is i (ports.Output n) w e = e
 written_is i (ports.Done g) w e = e
 written_is i (ports.Literal x v) w e = literal_width (keeps_literal x v) x w e
 
-not_differ : (a b : ℕ) → differ (Some a) (Some b) ≡ false → a ≡ b
+pub not_differ : (a b : ℕ) → differ (Some a) (Some b) ≡ false → a ≡ b
 not_differ a b e = by (nat_eq a b) refl e
   where
     by : (t : Bool) → nat_eq a b ≡ t → not t ≡ false → a ≡ b

@@ -113,13 +113,13 @@ is_register_enable part (ports.Done g) = false
 is_register_enable part (ports.Literal w v) = false
 
 -- the captured registers: every std_reg whose write_en the assignments drive, in cell order
+abbrev pub added : ℕ → Bool → List ℕ → List ℕ
+added r true rest = r ∷ rest
+added r false rest = rest
+
 abbrev pub captured_from : List PlainAssign → ℕ → List PlainCell → List ℕ
 captured_from assigns r [] = []
-captured_from assigns r (cell ∷ cells) = add (is_reg_kind cell.kind && some_target (same_port (write_en_of r)) assigns) (captured_from assigns (suc r) cells)
-  where
-    add : Bool → List ℕ → List ℕ
-    add true rest = r ∷ rest
-    add false rest = rest
+captured_from assigns r (cell ∷ cells) = added r (is_reg_kind cell.kind && some_target (same_port (write_en_of r)) assigns) (captured_from assigns (suc r) cells)
 
 abbrev pub captured : PlainComponent → List PlainAssign → List ℕ
 captured part assigns = captured_from assigns 0 part.cells

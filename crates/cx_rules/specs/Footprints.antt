@@ -1,5 +1,6 @@
 -- What statements read and drive, what ports rest on state, and what depends on what.
 use Rattle.std.specs.Prelude.{◌≡◌, ℕ, ◌⊎◌, true, List}
+use Rattle.cx_text.specs.Members.{In}
 use Rattle.cx_prim.specs.declared.ports.Side.{Side}
 use Rattle.cx_prim.specs.declared.ports.Side.TheVariants as sides
 use Rattle.cx_prim.specs.Rows.{Row}
@@ -10,7 +11,7 @@ use Rattle.cx_meaning.specs.Rows.{side_of}
 use Rattle.cx_meaning.specs.Designs.{PlainAssign, PlainComponent, group_at, PlainStatement}
 use Rattle.cx_meaning.specs.Instances.{Instance, At, Nothing, OfRow, OfInstance, cell_at, cells_of, part_of}
 use Rattle.cx_meaning.specs.Active.{Active, Acting, drivers}
-use Rattle.cx_meaning.specs.Sights.{In, GuardNames, IsWanted, PartPort, Go, AnInput, AnOutput, ItsDone, part_port}
+use Rattle.cx_meaning.specs.Sights.{GuardNames, IsWanted, PartPort, Go, AnInput, AnOutput, ItsDone, part_port}
 use Rattle.cx_meaning.specs.Control.{groups_of, drives}
 use Rattle.cx_rules.specs.Items.{tests_of}
 

@@ -1,10 +1,11 @@
 -- Frames: sets of ports outside which nothing matters to what is seen in them.
 use Rattle.std.specs.Prelude.{◌≡◌, ℕ, Bool, true, ◌∷◌}
+use Rattle.cx_text.specs.Members.{In}
 use Rattle.cx_meaning.specs.declared.ports.PortRef.{PortRef}
 use Rattle.cx_meaning.specs.declared.ports.PortRef.TheVariants as ports
 use Rattle.cx_meaning.specs.Instances.{Instance, part_of, State, Path}
 use Rattle.cx_meaning.specs.Active.{Active, Owned, source_order, offset_of}
-use Rattle.cx_meaning.specs.Sights.{Held, In, is_done_cell}
+use Rattle.cx_meaning.specs.Sights.{Held, is_done_cell}
 use Rattle.cx_rules.specs.Footprints.{Leads}
 
 -- a set of ports that is closed under what they depend on in one active set; another active set has the same assignments of

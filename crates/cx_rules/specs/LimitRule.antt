@@ -2,9 +2,11 @@
 use Rattle.std.specs.Prelude.{◌≡◌, ℕ, ◌<◌, ◌&&◌, nat_lt, nat_le, if◌then◌else◌, Bool, false, List, Option, Some, None, codes, length}
 use Rattle.cx_text.specs.declared.places.Place.{Place}
 use Rattle.cx_text.specs.declared.limits.TheConstants.{CELLS, GROUPS, INSTANCES, INSTANCE_DEPTH, MEMORY_WORDS, OCCURRENCES, REPETITIONS, WEIGHT}
-use Rattle.cx_meaning.specs.Designs.{PlainDesign, component_at, PlainForm, Empty, Enable, Seq, Par, If, While, Repeat, StaticSeq, StaticPar, StaticIf, StaticRepeat, Timed}
+use Rattle.cx_meaning.specs.Designs.{PlainComponent, PlainDesign, component_at, PlainForm, Empty, Enable, Seq, Par, If, While, Repeat, StaticSeq, StaticPar, StaticIf, StaticRepeat, Timed}
 use Rattle.cx_meaning.specs.Instances.{Instance, part_of, tree_of}
+use Rattle.cx_meaning.specs.Islands.{form_length}
 use Rattle.cx_rules.specs.Sizes.{words_below}
+use Rattle.cx_rules.specs.StaticControl.{is_island, form_occurrences}
 use Rattle.cx_rules.specs.Invokes.{form_lasts}
 use Rattle.cx_rules.specs.Counts.{is_any_island, occurrences_at, counted_cells, counted_groups, counted_weight, counted_instances, counted_depth}
 use Rattle.cx_rules.specs.Ports.{component_of}
@@ -66,12 +68,19 @@ is_too_many (Some n) = nat_le REPETITIONS n
 
 -- the first limit that a statement exceeds: on the count of a repeat, on the occurrences in an island before repetition,
 -- on an island's length
-abbrev pub statement_limit : Instance → Visited → Option Limited
-statement_limit i v =
-    if is_too_many (count_in v.form) then Some OnRepeat
-    else if is_any_island (part_of i) v && nat_lt OCCURRENCES (occurrences_at i v.form) then Some OnOccurrences
-    else if is_any_island (part_of i) v && nat_le REPETITIONS (form_lasts (part_of i) v.form) then Some OnLatency
+abbrev pub first_limit : Bool → Bool → ℕ → ℕ → Option Limited
+first_limit many island occurring long =
+    if many then Some OnRepeat
+    else if island && nat_lt OCCURRENCES occurring then Some OnOccurrences
+    else if island && nat_le REPETITIONS long then Some OnLatency
     else None
+
+abbrev pub statement_limit : Instance → Visited → Option Limited
+statement_limit i v = first_limit (is_too_many (count_in v.form)) (is_any_island (part_of i) v) (occurrences_at i v.form) (form_lasts (part_of i) v.form)
+
+-- the same without static components: of what stands in the component itself
+abbrev pub flat_limit : PlainComponent → Visited → Option Limited
+flat_limit part v = first_limit (is_too_many (count_in v.form)) (is_island part v) (form_occurrences part v.form) (form_length part v.form)
 
 -- RULE limit, at a statement: of several limits that it exceeds the first is told
 abbrev pub BreaksStatement : StatementRule

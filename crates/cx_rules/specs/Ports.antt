@@ -55,6 +55,12 @@ is_part_output (AnInput n) = false
 is_part_output (AnOutput n) = true
 is_part_output ItsDone = true
 
+abbrev pub is_part_done : PartPort → Bool
+is_part_done Go = false
+is_part_done (AnInput n) = false
+is_part_done (AnOutput n) = false
+is_part_done ItsDone = true
+
 abbrev pub is_cell_output : At → ℕ → Bool
 is_cell_output Nothing p = false
 is_cell_output (OfRow row) p = is_output_side (side_of row p)

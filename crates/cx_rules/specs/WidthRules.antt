@@ -5,7 +5,7 @@ use Rattle.cx_meaning.specs.declared.ports.PortRef.TheVariants as ports
 use Rattle.cx_meaning.specs.declared.ports.PlacedPort.{PlacedPort}
 use Rattle.cx_meaning.specs.Designs.{PlainAssign}
 use Rattle.cx_meaning.specs.Instances.{Instance}
-use Rattle.cx_meaning.specs.Sights.{In}
+use Rattle.cx_text.specs.Members.{In}
 use Rattle.cx_rules.specs.Ports.{keeps_literal, width_of, written_width, is_source_only, is_target_only, path_of}
 use Rattle.cx_rules.specs.Items.{Pair, atoms_of, comparisons_of, sources_of, test_in}
 use Rattle.cx_rules.specs.Spots.{Tells, AssignRule, StatementRule}

@@ -1,6 +1,7 @@
 //! Laws of what is seen where nothing leads in a circle: each function does nothing, and its clause is the law.
 
 ghost use Rattle.std.specs.Prelude.{◌≡◌, ◌<◌, ℕ, Bool, true, false, [], ◌∷◌, length};
+ghost use Rattle.cx_text.specs.Members.{In};
 ghost use Rattle.cx_prim.specs.Rows.{Row};
 ghost use Rattle.cx_prim.specs.declared.ports.Side.TheVariants.{Enable};
 ghost use Rattle.cx_meaning.specs.declared.ports.PortRef.TheVariants.{Cell};
@@ -12,7 +13,7 @@ ghost use Rattle.cx_meaning.specs.Control.{drives, group_drives};
 ghost use Rattle.cx_meaning.specs.Rows.{side_of};
 ghost use Rattle.cx_meaning.specs.Instances.{Instance, OfRow, Path, State, cell_at, cells_of, part_of, tree_of, instance_at, under};
 ghost use Rattle.cx_meaning.specs.Active.{Active, Owned, source_order, group};
-ghost use Rattle.cx_meaning.specs.Sights.{Held, In, Sees, bit_of, seen, step, outputs_below};
+ghost use Rattle.cx_meaning.specs.Sights.{Held, Sees, bit_of, seen, step, outputs_below};
 ghost use Rattle.cx_rules.specs.Accepted.{IsAccepted};
 ghost use Rattle.cx_rules.specs.Circles.{IsAcyclic, AreAcyclic, AcyclicBelow};
 ghost use Rattle.cx_rules.specs.Footprints.{Reads};

@@ -1,10 +1,10 @@
 use Rattle.cx_meaning.specs.Instances.{part_of, start, tree_of}
 use Rattle.cx_meaning.specs.Sights.{unheld}
 use Rattle.std.proofs.Common.{Some}
+use Rattle.cx_laws.proofs.VisitLemmas.{itself}
 use Rattle.cx_orders.specs.Open.{open_control}
 use Rattle.cx_orders.proofs.Accepted.{design_sound}
 use Rattle.cx_orders.proofs.Fits.{control_fits}
-use Rattle.cx_orders.proofs.Inside.{itself}
 use Rattle.cx_orders.proofs.Orders.{orders_end, orders_go_on, none_faults}
 use Rattle.cx_orders.proofs.laws.orders_agree.Goals as goal
 

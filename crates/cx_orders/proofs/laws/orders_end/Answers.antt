@@ -3,11 +3,11 @@ use Rattle.cx_meaning.specs.Rows.{KeepsIdle}
 use Rattle.cx_meaning.specs.Designs.{no_place}
 use Rattle.cx_meaning.specs.Instances.{part_of, instance_at, start, tree_of}
 use Rattle.cx_meaning.specs.Sights.{unheld}
+use Rattle.cx_laws.proofs.VisitLemmas.{itself}
 use Rattle.cx_orders.specs.Open.{open_control}
 use Rattle.cx_orders.specs.Woven.{Ends, woven}
 use Rattle.cx_orders.proofs.Accepted.{design_sound}
 use Rattle.cx_orders.proofs.Fits.{control_fits}
-use Rattle.cx_orders.proofs.Inside.{itself}
 use Rattle.cx_orders.proofs.Lawful.{rows_at}
 use Rattle.cx_orders.proofs.Orders.{ends_so}
 use Rattle.cx_orders.proofs.StatementEnds.{AllFair, control_ends}

@@ -2,10 +2,11 @@
 use Rattle.std.proofs.Common.{◌≡◌, ℕ, ◌<◌, ◌⊎◌, inl, inr, ⊎_elim, Bool, true, false, ◌&&◌, ◌||◌, List, [], ◌∷◌, ◌++◌, Some, length, refl, sym, ap, ◌∙◌, subst, arith}
 use Rattle.std.specs.Prelude.{is_some, nat_eq}
 use Rattle.std.proofs.lemmas.Bool.{cases_lt}
+use Rattle.cx_text.proofs.MemberLaws.{in_either, in_left, in_right, number_in}
 use Rattle.cx_text.specs.declared.rules.Rule.TheVariants.{StaticShape}
 use Rattle.cx_meaning.specs.Designs.{PlainComponent, PlainDesign, component_at, group_at, PlainForm, Empty, Enable, Seq, Par, If, While, Repeat, StaticSeq, StaticPar, StaticIf, StaticRepeat, Timed, PlainStatement, Placed, PlainStatements, no_statements, a_statement}
 use Rattle.cx_meaning.specs.Instances.{part_of}
-use Rattle.cx_meaning.specs.Sights.{In}
+use Rattle.cx_text.specs.Members.{In}
 use Rattle.cx_meaning.specs.Control.{groups_in, groups_of, groups_in_all}
 use Rattle.cx_meaning.specs.Islands.{group_length, form_length}
 use Rattle.cx_rules.specs.Ports.{component_of}
@@ -17,7 +18,6 @@ use Rattle.cx_rules.specs.Invokes.{form_lasts}
 use Rattle.cx_rules.specs.Flat.{IsFlat}
 use Rattle.cx_rules.specs.Accepted.{IsAccepted}
 use Rattle.cx_rules.proofs.InvokesLemmas.{form_lasts-flat, timed_may_not}
-use Rattle.cx_meaning.proofs.SightsLaws.{in_either, in_left, in_right, number_in}
 use Rattle.cx_meaning.proofs.DesignsLemmas.{same_part}
 use Rattle.cx_text.proofs.NumberLaws.{false_true}
 
