@@ -17,7 +17,7 @@ use Rattle.cx_flattening.specs.Controlled.{AllControlled, AllControlledBelow}
 use Rattle.cx_flattening.specs.Ends.{NoneNamesDone}
 use Rattle.cx_flattening.proofs.CellLayout.{kind_at, at_kind, cell_for, count_for, kind_there, kind_in}
 use Rattle.cx_flattening.proofs.TreeLevels.{IsWay, no_way, further, way_is_short, levels}
-use Rattle.cx_flattening.proofs.RowReads.{ReadsPlain, reads_plain}
+use Rattle.cx_meaning.proofs.RowReads.{ReadsPlain, reads_plain}
 use Rattle.cx_flattening.proofs.Ruled.{IsRuled, AllRuled, AllRuledBelow, ruled}
 use Rattle.cx_flattening.proofs.FairParts.{HasCells, AllHave, AllHaveBelow, fair_part, controlled_part, control_lasts, some_of}
 use Rattle.cx_flattening.proofs.FlatBlocks.{block_part}

@@ -1,15 +1,15 @@
 -- THE ARMS OF A PAR drive in the flat instance what they drive in the tree; and of two arms neither drives what the other does.
 use Rattle.std.proofs.Common.{◌≡◌, ℕ, zero, suc, ◌+◌, ◌<◌, inl, inr, ⊎_elim, Bool, true, false, ◌||◌, List, [], ◌∷◌, length, map, get_or, Some, None, refl, sym, ap, ◌∙◌, subst, arith}
 use Rattle.std.specs.Prelude.{flat_map, slice_get}
-use Rattle.std.proofs.lemmas.Bool.{cases_eq, eq-eqb, eqb-true}
+use Rattle.std.proofs.lemmas.Bool.{cases_eq, eq-eqb, eqb-true, false_from_ne_true}
 use Rattle.std.proofs.lemmas.List.{get_or_append_left, get_or-map, length-map}
+use Rattle.cx_text.proofs.MemberLaws.{image_in, in_image}
 use Rattle.cx_meaning.specs.declared.ports.PortRef.{PortRef}
 use Rattle.cx_meaning.specs.declared.ports.PortRef.TheVariants as ports
 use Rattle.cx_meaning.specs.Designs.{PlainAssign, PlainGroup, PlainComponent, group_at, no_group, PlainStatement, Placed, form_of, PlainStatements, no_statements, a_statement, list_of}
 use Rattle.cx_meaning.specs.Instances.{Instance, Node, Cells, part_of}
 use Rattle.cx_meaning.specs.Control.{groups_in, groups_of, assigns_drive, group_drives, groups_drive, drives}
-use Rattle.cx_meaning.specs.Sights.{In}
-use Rattle.cx_meaning.proofs.SightsLaws.{in_image, image_in}
+use Rattle.cx_text.specs.Members.{In}
 use Rattle.cx_meaning.proofs.ControlLaws.{groups_drive_in, driver}
 use Rattle.cx_rules.specs.RaceRule.{IsShared}
 use Rattle.cx_rules.specs.Invokes.{invokes_of, captures_of, invokes_cell, drives_all, driven}
@@ -40,10 +40,6 @@ cell_of (ports.Input n) = 0
 cell_of (ports.Output n) = 0
 cell_of (ports.Done g) = 0
 cell_of (ports.Literal w v) = 0
-
-not_true : (b : Bool) → (b ≡ true → ⊥) → b ≡ false
-not_true true none = absurd (none refl)
-not_true false none = refl
 
 in_groups : (xs : List PlainGroup) (n : ℕ) → n < length xs → In xs (get_or xs n no_group)
 in_groups [] n less = absurd (omega (arith, less))
@@ -212,7 +208,7 @@ module _ (part : PlainComponent) (cells : Cells) (fair : IsFair (Node part cells
     drives_alike = record {
       kept = λ c less none. bools_same (drives (part_of flat) (flat_statement kids part s) (kept_at kids c)) (drives_all part s c) (kept_back c less none) (kept_forth c none);
       block = λ c e child less its inside undriven.
-          not_true (drives (part_of flat) (flat_statement kids part s) (start_of kids part c + e))
+          false_from_ne_true (drives (part_of flat) (flat_statement kids part s) (start_of kids part c + e))
           (λ h. let none : false ≡ true = sym undriven ∙ block_back c e child its inside h in cc);
     }
 
@@ -221,7 +217,7 @@ module _ (part : PlainComponent) (all : List PlainStatement) (unshared : (c : �
   later_none : (k n : ℕ) (s : PlainStatement) (ss : PlainStatements) (c : ℕ) → slice_get all k ≡ Some s → k < n → ((m : ℕ) → slice_get (list_of ss) m ≡ slice_get all (n + m)) → drives_all part s c ≡ true → NoneDrive part c ss
   later_none k n s no_statements c at less tail e = tt
   later_none k n s (a_statement x xs) c at less tail e = (
-    not_true (drives_all part x c) (λ h.
+    false_from_ne_true (drives_all part x c) (λ h.
         unshared c (record { one = k; other = n; differ = (λ same. omega (arith, less, same)); first = s; second = x; first_stands = at; second_stands = ap (slice_get all) (let z : n ≡ n + 0 = omega arith in z) ∙ sym (tail 0) }, e, driven h)),
     later_none k (suc n) s xs c at (omega (arith, less)) (λ m. tail (suc m) ∙ ap (slice_get all) (let z : n + suc m ≡ suc n + m = omega arith in z)) e,
   )

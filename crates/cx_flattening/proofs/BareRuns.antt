@@ -25,10 +25,10 @@ use Rattle.cx_flattening.specs.Whole.{look_below, whole_cycle, whole_turn, whole
 use Rattle.cx_flattening.proofs.BareIslands.{Bare, BareOne, BareAll, event_of, bare_form, bare_form_lasts, Says, acts_same, looks_same, unclear_same, NoStatic, whole_is_cycle}
 
 module _ (part : PlainComponent) (cells : Cells) (none : part.invokes ≡ []) (u : NoStatic cells) (held : Held) where
-  says_now : (h : History) (k : islands.History) → Says h k → (t : ℕ) (s : State) → Says (and_now h t (look_below (Node part cells) held s)) (islands.and_now k t (seen (Node part cells) held nothing s))
+  pub says_now : (h : History) (k : islands.History) → Says h k → (t : ℕ) (s : State) → Says (and_now h t (look_below (Node part cells) held s)) (islands.and_now k t (seen (Node part cells) held nothing s))
   says_now h k says t s p at = ap (λ b. cond (nat_eq t at) (is_one (truth_of (seen (Node part cells) held nothing s p))) b) (says p at)
 
-  turn_same : (list : List Occurrence) (t : ℕ) (h : History) (k : islands.History) → Says h k → (s : State) → whole_turn (Node part cells) held (map event_of list) t h s ≡ island_turn (Node part cells) held list t k s
+  pub turn_same : (list : List Occurrence) (t : ℕ) (h : History) (k : islands.History) → Says h k → (s : State) → whole_turn (Node part cells) held (map event_of list) t h s ≡ island_turn (Node part cells) held list t k s
   turn_same list t h k says s =
       ap (λ x. unless_unclear x (whole_cycle (Node part cells) held (entries (own_entries (deeds_in h t (map event_of list)))) (deeds_in h t (map event_of list)) s))
       (ap (first_unclear (look_below (Node part cells) held s)) (looks_same h k says t list) ∙ unclear_same (look_below (Node part cells) held s) (looked_at k t list))
@@ -138,7 +138,7 @@ mutual
   pub control_same : (i : Instance) → BareTree i → (held : Held) (s : State) (n : ℕ) → whole_control i held s n ≡ run_control i held s n
   control_same (Node part cells) b held s n = run_same part cells b.0 b.1.1.0 held (whole_below cells) (control_below cells) (below_same cells b.1.1.1) part.control b.1.0 s n
 
-  below_same : (cells : Cells) → BareCells cells → (c : ℕ) (held : Held) (s : State) (n : ℕ) → whole_below cells c held s n ≡ control_below cells c held s n
+  pub below_same : (cells : Cells) → BareCells cells → (c : ℕ) (held : Held) (s : State) (n : ℕ) → whole_below cells c held s n ≡ control_below cells c held s n
   below_same no_cells b c held s n = refl
   below_same (a_primitive row rest) b zero held s n = refl
   below_same (a_primitive row rest) b (suc c) held s n = below_same rest b c held s n

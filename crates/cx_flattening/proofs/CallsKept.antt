@@ -1,7 +1,9 @@
 -- THE RULE ON CALLS: the flat design of an accepted design keeps it. A plain group of a flat component is one of the component, whose calls have the
 -- form that they had; nothing else drives a port of a component cell.
-use Rattle.std.proofs.Common.{◌≡◌, ℕ, suc, ◌+◌, ◌<◌, ◌⊎◌, inl, inr, ⊎_elim, Bool, true, false, ◌||◌, ◌&&◌, nat_eq, List, [], ◌∷◌, length, map, Option, Some, None, is_some, refl, sym, ap, ap₂, ◌∙◌, subst, arith}
+use Rattle.std.proofs.Common.{◌≡◌, ℕ, suc, ◌+◌, ◌<◌, ◌⊎◌, inl, inr, ⊎_elim, Bool, true, false, ◌&&◌, nat_eq, List, [], ◌∷◌, length, map, Option, Some, None, is_some, refl, sym, ap, ap₂, ◌∙◌, subst, arith}
 use Rattle.std.proofs.lemmas.Bool.{eqb-true, eq-eqb}
+use Rattle.cx_text.proofs.MemberLaws.{image_in, number_in}
+use Rattle.cx_text.specs.Members.{In}
 use Rattle.cx_text.specs.declared.places.Place.{Place}
 use Rattle.cx_text.specs.declared.rules.Rule.TheVariants as rules
 use Rattle.cx_prim.specs.Rows.{Row}
@@ -10,9 +12,8 @@ use Rattle.cx_meaning.specs.declared.ports.PortRef.TheVariants as ports
 use Rattle.cx_meaning.specs.Designs.{PlainAssign, PlainGroup, PlainComponent, PlainDesign, component_at, group_at}
 use Rattle.cx_meaning.specs.Instances.{Instance, Node, Cells, At, Nothing, OfRow, OfInstance, part_of, cells_of, cell_at}
 use Rattle.cx_meaning.specs.Active.{Owned, same_port, source_order}
-use Rattle.cx_meaning.specs.Sights.{In, part_port}
+use Rattle.cx_meaning.specs.Sights.{part_port}
 use Rattle.cx_meaning.proofs.InstancesLemmas.{row_instance, instance_is}
-use Rattle.cx_meaning.proofs.SightsLaws.{number_in, image_in}
 use Rattle.cx_meaning.proofs.DesignsLemmas.{same_part}
 use Rattle.cx_rules.specs.Accepted.{IsAccepted}
 use Rattle.cx_rules.specs.Items.{is_plain}
@@ -21,9 +22,10 @@ use Rattle.cx_rules.specs.ShapeRules.{is_hole_of, some_target}
 use Rattle.cx_rules.specs.CallShape.{is_port_of, Calls, go_port, done_port, register_done, with_target, is_right_go, is_right_enable, is_register_enable, captured, wanted_dones, is_right_done, assigns_of, IsOutputOrDone, has_right_go, IsFedBack, has_right_enable, has_right_done, CallBreak, another_cell, wrong_go, input_by_output, wrong_enable, wrong_done, IsOutside, IsMisshapen, BreaksCallShape, GroupBreaksCallShape}
 use Rattle.cx_rules.specs.Spots.{AnAssign, AGroup, Spot, OnAssign, OnGroup}
 use Rattle.cx_rules.specs.Wellformed.{IsDesign}
-use Rattle.cx_rules.proofs.ShapeRulesLemmas.{some_in}
+use Rattle.cx_rules.proofs.ShapeRulesLemmas.{some_in, a_target}
 use Rattle.cx_rewrites.specs.Moving.{moved_assign, moved_group}
 use Rattle.cx_rewrites.proofs.MovedLists.{some_target-moved}
+use Rattle.cx_rewrites.proofs.MovedCalls.{Anywhere, IsApart, apart_right, apart_alone, all_anywhere, with_target-moved, is_right_go-moved, is_right_enable-moved, is_right_done-moved}
 use Rattle.cx_flattening.specs.Whole.{is_static}
 use Rattle.cx_flattening.specs.Flattened.{Kids, kid_at, kept_at, flat_cells, own_port, flat_kids, flat_part}
 use Rattle.cx_flattening.specs.FlatDesign.{reached_below, renumbered_cell, flat_design}
@@ -43,23 +45,10 @@ use Rattle.cx_flattening.proofs.FlatNumbers.{IsMade, made}
 use Rattle.cx_flattening.proofs.FlatRanges.{slice_in}
 use Rattle.cx_flattening.proofs.FlatStages.{good_component}
 use Rattle.cx_flattening.proofs.Ruled.{in_order}
-use Rattle.cx_flattening.proofs.MovedCalls.{IsAlone, alone_right, with_target-moved, is_right_go-moved, is_right_enable-moved, is_right_done-moved}
 use Rattle.cx_flattening.proofs.FlatCaptures.{own_one, cell_alone, done_alone, register_kept, captured_moved, captured_one}
 use Rattle.cx_flattening.proofs.FlatDepends.{depends_back}
 use Rattle.cx_flattening.proofs.FlatCallees.{AtKinds, tree_kinds, part_callee, PlainCall, plain_calls}
 use Rattle.cx_rules.proofs.ItemsLemmas.{plain_untimed}
-
--- what drives a port
-abbrev Drives : (PortRef → Bool) → List PlainAssign → Type 0
-Drives test list = (a : PlainAssign) × In list a × (test a.target ≡ true)
-
-driving : (test : PortRef → Bool) (list : List PlainAssign) → some_target test list ≡ true → Drives test list
-driving test [] e = absurd (cc)
-driving test (a ∷ rest) e = by (test a.target) refl e (λ f. driving test rest f)
-  where
-    by : (b : Bool) → test a.target ≡ b → (b || some_target test rest) ≡ true → (some_target test rest ≡ true → Drives test rest) → Drives test (a ∷ rest)
-    by true is f later = (a, inl refl, is)
-    by false is f later = let r = later f in (r.0, inr r.1, r.2)
 
 no_latency : (latency : Option ℕ) → is_some latency ≡ false → latency ≡ None
 no_latency None e = refl
@@ -154,7 +143,7 @@ module _ (part : PlainComponent) (cells : Cells) (flat : Instance) (flattened : 
 
     callee : (e : ℕ) (k : Calls flat (assigns_of flat g) e) → Callee e k.child
     callee e k =
-        let t = driving (is_port_of e) (assigns_of flat g) k.driven in
+        let t = a_target (is_port_of e) (assigns_of flat g) k.driven in
         let r = image_in (moved_assign f) list t.0 (subst (λ l. In l t.0) list_moved t.1) in
         of_target r.0 r.1 r.0.target refl (own_target r.0 r.1) (ap (λ (x : PlainAssign). is_port_of e x.target) r.2 ∙ t.2)
       where
@@ -206,7 +195,7 @@ module _ (part : PlainComponent) (cells : Cells) (flat : Instance) (flattened : 
       port_is : (p : ℕ) → f (ports.Cell c p) ≡ ports.Cell e p
       port_is p = own-kept kids part c p k.none ∙ ap (λ x. ports.Cell x p) k.number
 
-      alone : (p : ℕ) → IsAlone f (ports.Cell c p)
+      alone : (p : ℕ) → IsApart f (ports.Cell c p)
       alone p = cell_alone kids part c p k.less k.none
 
       inputs_same : (part_of twin).inputs ≡ (part_of child).inputs
@@ -224,16 +213,19 @@ module _ (part : PlainComponent) (cells : Cells) (flat : Instance) (flattened : 
       ports_same : (p : ℕ) → part_port (part_of twin) p ≡ part_port (part_of child) p
       ports_same p = ports_like (part_of twin) (part_of child) inputs_same outputs_same p
 
-      done_at : IsAlone f (done_port c child)
+      done_at : IsApart f (done_port c child)
       done_at = alone (suc (length (part_of child).inputs + length (part_of child).outputs))
+
+      target_moved : (q : PortRef) → IsApart f q → with_target (f q) (map (moved_assign f) list) ≡ map (moved_assign f) (with_target q list)
+      target_moved q apart = with_target-moved f (own_one kids part) Anywhere q (apart_alone f q apart) list (all_anywhere list)
 
       -- the go
       go_kept : has_right_go flat g e twin ≡ has_right_go i g c child
       go_kept =
           ap₂ (λ x l. is_right_go x (with_target (go_port e) l)) done_is list_moved
           ∙ ap (λ q. is_right_go (f (done_port c child)) (with_target q (map (moved_assign f) list))) (sym (port_is 0))
-          ∙ ap (is_right_go (f (done_port c child))) (with_target-moved f (own_one kids part) (go_port c) (alone 0) list)
-          ∙ is_right_go-moved f (own_one kids part) (done_port c child) done_at (with_target (go_port c) list)
+          ∙ ap (is_right_go (f (done_port c child))) (target_moved (go_port c) (alone 0))
+          ∙ is_right_go-moved f (own_one kids part) Anywhere (done_port c child) (apart_alone f (done_port c child) done_at) (with_target (go_port c) list) (all_anywhere (with_target (go_port c) list))
 
       -- enables of registers
       enable_kept : (q : PortRef) → OwnTarget kids part q → has_right_enable flat g e twin (f q) ≡ has_right_enable i g c child q
@@ -241,8 +233,8 @@ module _ (part : PlainComponent) (cells : Cells) (flat : Instance) (flattened : 
           let q = ports.Cell r p in
           ap₂ ◌&&◌ (register_alike q own)
           (ap₂ (λ x l. is_right_enable x (with_target (f q) l)) done_is list_moved
-          ∙ ap (is_right_enable (f (done_port c child))) (with_target-moved f (own_one kids part) q (cell_alone kids part r p own.0 own.1) list)
-          ∙ is_right_enable-moved f (own_one kids part) (done_port c child) done_at (with_target q list))
+          ∙ ap (is_right_enable (f (done_port c child))) (target_moved q (cell_alone kids part r p own.0 own.1))
+          ∙ is_right_enable-moved f (own_one kids part) Anywhere (done_port c child) (apart_alone f (done_port c child) done_at) (with_target q list) (all_anywhere (with_target q list)))
       enable_kept (ports.Input n) own = absurd own
       enable_kept (ports.Output n) own = refl
       enable_kept (ports.Done h) own = refl
@@ -260,12 +252,12 @@ module _ (part : PlainComponent) (cells : Cells) (flat : Instance) (flattened : 
           rest [] all = refl
           rest (x ∷ xs) all = ap₂ ◌∷◌ (sym (own-kept kids part x 3 (all x (inl refl)).1)) (rest xs (λ y j. all y (inr j)))
 
-      wanted_alone : (done : PortRef) → IsAlone f done → (rs : List ℕ) → ((r : ℕ) → In rs r → Kept r) → (w : PortRef) → In (wanted_dones done rs) w → IsAlone f w
-      wanted_alone done is [] each w (inl same) = subst (IsAlone f) same is
+      wanted_alone : (done : PortRef) → IsApart f done → (rs : List ℕ) → ((r : ℕ) → In rs r → Kept r) → (w : PortRef) → In (wanted_dones done rs) w → IsApart f w
+      wanted_alone done is [] each w (inl same) = subst (IsApart f) same is
       wanted_alone done is [] each w (inr j) = absurd j
       wanted_alone done is (r ∷ rs) each w j =
           let n = image_in register_done (r ∷ rs) w j in
-          subst (IsAlone f) n.2 (cell_alone kids part n.0 3 (each n.0 n.1).0 (each n.0 n.1).1)
+          subst (IsApart f) n.2 (cell_alone kids part n.0 3 (each n.0 n.1).0 (each n.0 n.1).1)
 
       captured_kept : (r : ℕ) → In (captured part list) r → Kept r
       captured_kept r j = let h = captured_one kids part list own_target r j in (h.0, h.1)
@@ -276,8 +268,8 @@ module _ (part : PlainComponent) (cells : Cells) (flat : Instance) (flattened : 
           let rs = captured part list in
           ap₂ (λ x l. is_right_done (wanted_dones x (captured (part_of flat) l)) (with_target (ports.Done g) l)) done_is list_moved
           ∙ ap (λ x. is_right_done (wanted_dones (f done) x) (with_target (ports.Done g) (map (moved_assign f) list))) (captured_moved kids part list own_target d (part_of flat) its_cells)
-          ∙ ap₂ is_right_done (wanted_moved done rs captured_kept) (with_target-moved f (own_one kids part) (ports.Done g) (done_alone kids part g) list)
-          ∙ is_right_done-moved f (own_one kids part) (wanted_dones done rs) (wanted_alone done done_at rs captured_kept) (with_target (ports.Done g) list)
+          ∙ ap₂ is_right_done (wanted_moved done rs captured_kept) (target_moved (ports.Done g) (done_alone kids part g))
+          ∙ is_right_done-moved f (own_one kids part) Anywhere (wanted_dones done rs) (λ w j. apart_alone f w (wanted_alone done done_at rs captured_kept w j)) (with_target (ports.Done g) list) (all_anywhere (with_target (ports.Done g) list))
 
       -- inputs by outputs
       named : (p : ℕ) → IsNamed i (ports.Cell c p)
@@ -309,7 +301,7 @@ module _ (part : PlainComponent) (cells : Cells) (flat : Instance) (flattened : 
       ends_kept : (some_target (same_port (go_port e)) (assigns_of flat g) && some_target (is_hole_of g) (assigns_of flat g)) ≡ (some_target (same_port (go_port c)) list && some_target (is_hole_of g) list)
       ends_kept =
           ap₂ ◌&&◌
-          (ap₂ (λ q l. some_target (same_port q) l) (sym (port_is 0)) list_moved ∙ some_target-moved f (same_port (go_port c)) (same_port (f (go_port c))) (alone_right f (go_port c) (alone 0)) list)
+          (ap₂ (λ q l. some_target (same_port q) l) (sym (port_is 0)) list_moved ∙ some_target-moved f (same_port (go_port c)) (same_port (f (go_port c))) (apart_right f (go_port c) (alone 0)) list)
           (ap (some_target (is_hole_of g)) list_moved ∙ some_target-moved f (is_hole_of g) (is_hole_of g) (hole_stays kids part g) list)
 
 -- IN THE TREE

@@ -8,10 +8,10 @@ use Rattle.cx_prim.specs.Widths.{is_width}
 use Rattle.cx_prim.specs.Table.{row_of, no_row}
 use Rattle.cx_meaning.specs.declared.kinds.PortDecl.{PortDecl}
 use Rattle.cx_meaning.specs.Designs.{PlainKind, OfPrimitive, OfComponent, PlainCell, PlainComponent, PlainDesign}
-use Rattle.cx_meaning.specs.Instances.{Instance, Cells, At, Nothing, OfRow, OfInstance, cell_at, cell_count, add_cell, cells_for}
-use Rattle.cx_meaning.specs.Sights.{In}
+use Rattle.cx_meaning.specs.Instances.{Instance, Cells, At, Nothing, OfRow, cell_at, cell_count, add_cell, cells_for}
+use Rattle.cx_text.specs.Members.{In}
 use Rattle.cx_rules.specs.Wellformed.{IsSignature}
-use Rattle.cx_meaning.proofs.InstancesLemmas.{kind_skip}
+use Rattle.cx_meaning.proofs.InstancesLemmas.{kind_skip, at_kind as at_one, first_at}
 use Rattle.cx_flattening.specs.Flattened.{Kids, kid_at, kept, kept_at, block, blocks, block_size, block_at, inner_cell, wire_of, flat_cells, start_of, wire_at}
 use Rattle.cx_flattening.specs.Embedded.{wire_row, HasWires}
 use Rattle.cx_flattening.specs.FlatDesign.{renumbered_kind, renumbered_cell, reached_below}
@@ -33,22 +33,14 @@ kind_at [] e = None
 kind_at (c ∷ cs) zero = Some c.kind
 kind_at (c ∷ cs) (suc e) = kind_at cs e
 
-abbrev pub at_one : (ℕ → Instance) → PlainKind → At
-at_one trees (OfPrimitive primitive) = OfRow (row_of primitive)
-at_one trees (OfComponent k) = OfInstance (trees k)
-
 abbrev pub at_kind : (ℕ → Instance) → Option PlainKind → At
 at_kind trees None = Nothing
 at_kind trees (Some kind) = at_one trees kind
 
-first_cell : (trees : ℕ → Instance) (kind : PlainKind) (rest : Cells) → cell_at (add_cell trees kind rest) 0 ≡ at_one trees kind
-first_cell trees (OfPrimitive primitive) rest = refl
-first_cell trees (OfComponent k) rest = refl
-
 -- what stands at a cell of a tree
 pub cell_for : (trees : ℕ → Instance) (cs : List PlainCell) (e : ℕ) → cell_at (cells_for trees cs) e ≡ at_kind trees (kind_at cs e)
 cell_for trees [] e = refl
-cell_for trees (c ∷ cs) zero = first_cell trees c.kind (cells_for trees cs)
+cell_for trees (c ∷ cs) zero = first_at trees c.kind (cells_for trees cs)
 cell_for trees (c ∷ cs) (suc e) = kind_skip trees c.kind (cells_for trees cs) e ∙ cell_for trees cs e
 
 one_more : (trees : ℕ → Instance) (kind : PlainKind) (rest : Cells) → cell_count (add_cell trees kind rest) ≡ suc (cell_count rest)

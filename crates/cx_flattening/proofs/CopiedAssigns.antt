@@ -3,7 +3,7 @@ use Rattle.std.proofs.Common.{◌≡◌, ℕ, Bool, true, false, List, [], ◌�
 use Rattle.cx_meaning.specs.declared.ports.PortRef.{PortRef}
 use Rattle.cx_meaning.specs.Designs.{PlainAssign}
 use Rattle.cx_meaning.specs.Active.{Active, owned, offset_of, if_acting, if_target, same_port, acting}
-use Rattle.cx_meaning.specs.Sights.{In}
+use Rattle.cx_text.specs.Members.{In}
 use Rattle.cx_rewrites.specs.Moving.{moved_assign, moved_acting}
 
 -- COPIES act as what they copy does, where they act at the same offset and the map keeps apart what is targeted

@@ -1,14 +1,14 @@
 -- WHAT A COPY OF A STATIC CHILD'S STATEMENT DRIVES AND READS: in the block of the child what the statement does there, and outside it what
 -- the sources of the inputs lead to, from which no rule lets anything lead back to the child.
 use Rattle.std.proofs.Common.{◌≡◌, ℕ, ◌+◌, ◌<◌, ◌⊎◌, inl, inr, ⊎_elim, true, length, Option, Some, None, refl, sym, ap, ◌∙◌, subst, arith}
+use Rattle.cx_text.proofs.MemberLaws.{image_in}
 use Rattle.cx_meaning.specs.declared.ports.PortRef.{PortRef}
 use Rattle.cx_meaning.specs.declared.ports.PortRef.TheVariants as ports
 use Rattle.cx_meaning.specs.declared.ports.PlacedPort.{PlacedPort}
 use Rattle.cx_meaning.specs.Designs.{PlainAssign, PlainGroup, PlainComponent, group_at, PlainStatement}
 use Rattle.cx_meaning.specs.Instances.{Node, Cells}
 use Rattle.cx_meaning.specs.Control.{groups_of, drives}
-use Rattle.cx_meaning.specs.Sights.{In}
-use Rattle.cx_meaning.proofs.SightsLaws.{image_in}
+use Rattle.cx_text.specs.Members.{In}
 use Rattle.cx_meaning.proofs.ControlLaws.{groups_drive_in, driver}
 use Rattle.cx_rules.specs.Footprints.{AssignNames, Reads, driven, named, tested, through}
 use Rattle.cx_rules.specs.InvokeShape.{LeadsToCell, itself, fed_back}

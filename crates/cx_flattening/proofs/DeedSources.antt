@@ -7,7 +7,7 @@ use Rattle.cx_meaning.specs.Designs.{PlainInvoke, PlainComponent, PlainForm, Emp
 use Rattle.cx_meaning.specs.Instances.{Instance, Node, Cells, no_cells, a_primitive, an_instance, OfInstance, part_of, cells_of, cell_at, Path}
 use Rattle.cx_meaning.specs.Active.{Entry}
 use Rattle.cx_meaning.specs.Islands.{group_length, or_zero, is_wanted}
-use Rattle.cx_meaning.specs.Sights.{In}
+use Rattle.cx_text.specs.Members.{In}
 use Rattle.cx_rules.specs.Invokes.{lasts, sum_lasts}
 use Rattle.cx_flattening.specs.Events.{the_invoke, Spot, spot, Event, Beginning, Events, later_by, also_if, group_events, capture_events, rounds_events, bound_below, invoke_events, form_events, events, seq_events, par_events, control_events, events_below}
 use Rattle.cx_flattening.specs.Deeds.{History, hold, Deed, Acts, Fed, deed_if, is_now, deeds_in}

@@ -3,12 +3,12 @@ use Rattle.std.proofs.Common.{◌≡◌, ℕ, zero, suc, ◌+◌, ◌≤◌, ◌
 use Rattle.std.specs.Prelude.{nat_eq, slice_get}
 use Rattle.std.proofs.lemmas.Bool.{cases_eq, eq-eqb, eqb-true}
 use Rattle.std.proofs.lemmas.List.{append-nil}
+use Rattle.cx_text.proofs.MemberLaws.{in_either, in_left, in_right}
 use Rattle.cx_meaning.specs.Designs.{PlainComponent, PlainForm, StaticSeq, StaticPar, StaticIf, StaticRepeat, PlainStatement, form_of, PlainStatements, list_of}
 use Rattle.cx_meaning.specs.Instances.{Instance, Node, Cells, no_cells, a_primitive, an_instance, OfInstance, part_of, cell_at}
 use Rattle.cx_meaning.specs.Active.{Entry, entries}
 use Rattle.cx_meaning.specs.Control.{groups_of, group_drives}
-use Rattle.cx_meaning.specs.Sights.{In}
-use Rattle.cx_meaning.proofs.SightsLaws.{in_either, in_left, in_right}
+use Rattle.cx_text.specs.Members.{In}
 use Rattle.cx_meaning.proofs.ActiveLemmas.{entry_of}
 use Rattle.cx_meaning.proofs.InstancesLemmas.{instance_is}
 use Rattle.cx_rules.specs.Circles.{IsAcyclic, AreAcyclic, AcyclicBelow}

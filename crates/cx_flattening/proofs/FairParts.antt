@@ -2,6 +2,8 @@
 use Rattle.std.proofs.Common.{◌≡◌, ℕ, zero, suc, ◌<◌, ◌⊎◌, inl, inr, ⊎_elim, Bool, true, false, List, [], ◌∷◌, ◌++◌, length, get_or, Option, Some, None, refl, sym, ap, ◌∙◌, subst, arith}
 use Rattle.std.specs.Prelude.{◌&&◌, not, is_some, if◌then◌else◌}
 use Rattle.std.proofs.lemmas.Option.{slice_get-get_or}
+use Rattle.cx_text.proofs.MemberLaws.{in_at, in_either, in_left, in_right}
+use Rattle.cx_text.specs.Members.{In}
 use Rattle.cx_prim.specs.Rows.{Row}
 use Rattle.cx_meaning.specs.declared.ports.PortRef.{PortRef}
 use Rattle.cx_meaning.specs.declared.ports.PortRef.TheVariants as ports
@@ -10,10 +12,9 @@ use Rattle.cx_meaning.specs.Instances.{Instance, Node, Cells, no_cells, a_primit
 use Rattle.cx_meaning.specs.Active.{same_port}
 use Rattle.cx_meaning.specs.Control.{groups_in, groups_of, groups_in_all}
 use Rattle.cx_meaning.specs.Islands.{group_length, kind_length}
-use Rattle.cx_meaning.specs.Sights.{In, PartPort, Go, AnInput, AnOutput, ItsDone, part_port}
-use Rattle.cx_meaning.proofs.SightsLaws.{in_at, in_either, in_left, in_right}
+use Rattle.cx_meaning.specs.Sights.{PartPort, Go, AnInput, AnOutput, ItsDone, part_port}
 use Rattle.cx_meaning.proofs.PortsLemmas.{same_self}
-use Rattle.cx_rules.specs.Ports.{is_part_output, is_cell_output, is_source_only}
+use Rattle.cx_rules.specs.Ports.{is_part_output, is_cell_output, is_source_only, is_part_done}
 use Rattle.cx_rules.specs.Items.{Context, Dynamic, InStatic, Branch, Visited, visit, visit_parts, visit_all, statements_in}
 use Rattle.cx_rules.specs.ShapeRules.{some_target}
 use Rattle.cx_rules.specs.StaticControl.{is_in_static, is_written, is_timed, may_stand, form_has_length, has_length, all_have_length}
@@ -29,9 +30,9 @@ use Rattle.cx_flattening.specs.Flattened.{Kids, kid_at, flat_kids}
 use Rattle.cx_flattening.specs.Targets.{OwnTarget, IsBlock}
 use Rattle.cx_flattening.specs.Fair.{IsAssignOf, IsNamed, IsFair}
 use Rattle.cx_flattening.specs.Controlled.{timed_of, tested_of, IsInvoked, IsControlled}
-use Rattle.cx_flattening.specs.Ends.{is_done, is_done_at}
+use Rattle.cx_flattening.specs.Ends.{is_done_at}
 use Rattle.cx_flattening.proofs.LevelSights.{kid-row, kid-dynamic}
-use Rattle.cx_flattening.proofs.RowReads.{ReadsPlain}
+use Rattle.cx_meaning.proofs.RowReads.{ReadsPlain}
 use Rattle.cx_flattening.proofs.Ruled.{owner_is, IsSource, IsRuled}
 use Rattle.cx_flattening.proofs.Statements.{Among, NamesGroup, group_one, timed_one, test_one}
 
@@ -102,7 +103,7 @@ module _ (part : PlainComponent) (cells : Cells) (ruled : IsRuled part (Node par
       by (AnInput n) e = absurd (no_target (AnInput n) e refl)
       by (AnOutput n) e = (n, e)
       by ItsDone e =
-          absurd (true_is_false (sym (ap (λ x. is_done_at x p) at ∙ ap (λ b. b && is_done (part_port (part_of child) p)) static ∙ ap is_done e) ∙ s.no_done))
+          absurd (true_is_false (sym (ap (λ x. is_done_at x p) at ∙ ap (λ b. b && is_part_done (part_port (part_of child) p)) static ∙ ap is_part_done e) ∙ s.no_done))
 
   pub named : (q : PortRef) → IsSource i q → IsNamed i q
   named (ports.Cell c p) s = (s.there.0, λ child at static. cell_named c p s child at static)

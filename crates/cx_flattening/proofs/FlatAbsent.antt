@@ -1,5 +1,5 @@
 -- RULES ON STATIC COMPONENTS AND INVOKES: a flat design has neither, so it breaks none of them.
-use Rattle.std.proofs.Common.{◌≡◌, ℕ, zero, suc, ◌<◌, ◌≤◌, ⊎_elim, true, false, is_some, List, length, Option, Some, None, refl, sym, ap, ◌∙◌}
+use Rattle.std.proofs.Common.{◌≡◌, ℕ, ◌<◌, ◌≤◌, ⊎_elim, true, false, is_some, List, length, Option, Some, None, refl, sym, ap, ◌∙◌}
 use Rattle.std.specs.Prelude.{slice_get}
 use Rattle.std.proofs.lemmas.Bool.{cases_lt}
 use Rattle.std.proofs.lemmas.List.{get_or_past}
@@ -7,7 +7,7 @@ use Rattle.cx_text.specs.declared.places.Place.{Place}
 use Rattle.cx_meaning.specs.declared.ports.PortRef.{PortRef}
 use Rattle.cx_meaning.specs.declared.ports.PortRef.TheVariants as ports
 use Rattle.cx_meaning.specs.Designs.{PlainKind, OfPrimitive, OfComponent, PlainComponent, PlainDesign, component_at, no_component}
-use Rattle.cx_meaning.specs.Instances.{part_of, cells_of, cell_at, tree_within}
+use Rattle.cx_meaning.specs.Instances.{part_of, tree_within}
 use Rattle.cx_meaning.proofs.DesignsLemmas.{same_part}
 use Rattle.cx_rules.specs.Flat.{IsFlat}
 use Rattle.cx_rules.specs.Invokes.{invoke_at}
@@ -15,7 +15,8 @@ use Rattle.cx_rules.specs.InvokeShape.{latency_at, is_static_port, BreaksStaticC
 use Rattle.cx_rules.specs.Ports.{component_of}
 use Rattle.cx_rules.specs.ShapeRules.{BreaksInvokeLength, BreaksPartLength, BreaksKept}
 use Rattle.cx_rules.specs.Spots.{Spot, OnAssign, OnStatement}
-use Rattle.cx_flattening.proofs.CellLayout.{kind_at, at_kind, cell_for}
+use Rattle.cx_rewrites.proofs.FlatRulesLemmas.{tree_latency}
+use Rattle.cx_flattening.proofs.CellLayout.{at_kind}
 
 module _ (d : PlainDesign) (flat : IsFlat d) where
   no_latency : (k : ℕ) → (component_at d k).latency ≡ None
@@ -27,12 +28,8 @@ module _ (d : PlainDesign) (flat : IsFlat d) where
   kind_latency n (Some (OfPrimitive p)) = refl
   kind_latency n (Some (OfComponent k)) = ap (λ (p : PlainComponent). p.latency) (same_part d n k) ∙ no_latency k
 
-  cell_latency : (n k c : ℕ) → latency_at (cell_at (cells_of (tree_within d n k)) c) ≡ None
-  cell_latency zero k c = refl
-  cell_latency (suc n) k c = ap latency_at (cell_for (tree_within d n) (component_at d k).cells c) ∙ kind_latency n (kind_at (component_at d k).cells c)
-
   dynamic_port : (k : ℕ) (q : PortRef) → is_static_port (component_of d k) q ≡ false
-  dynamic_port k (ports.Cell c p) = ap is_some (cell_latency (length d.components) k c)
+  dynamic_port k (ports.Cell c p) = ap is_some (tree_latency d flat (length d.components) k c)
   dynamic_port k (ports.Input n) = refl
   dynamic_port k (ports.Output n) = refl
   dynamic_port k (ports.Done g) = refl

@@ -7,7 +7,7 @@ use Rattle.cx_meaning.specs.Designs.{PlainAssign, PlainInvoke, PlainComponent}
 use Rattle.cx_meaning.specs.Instances.{Instance, Node, Cells, no_cells, a_primitive, an_instance, OfInstance, cell_at}
 use Rattle.cx_meaning.specs.Active.{nothing, Entry, offset_in, entries}
 use Rattle.cx_meaning.specs.Control.{groups_of}
-use Rattle.cx_meaning.specs.Sights.{In}
+use Rattle.cx_text.specs.Members.{In}
 use Rattle.cx_flattening.specs.Events.{no_invoke, the_invoke}
 use Rattle.cx_flattening.specs.Deeds.{Deed, Acts, Fed, deed_if, own_entries, deeds_below}
 use Rattle.cx_flattening.specs.Whole.{is_static}
@@ -21,13 +21,9 @@ use Rattle.cx_flattening.proofs.FlatGroups.{enabled_grows, enabled_get, copies_f
 use Rattle.cx_flattening.proofs.LevelSights.{kid-static}
 use Rattle.cx_flattening.proofs.FlatDeeds.{lower, entry_by, Pairs, none_done, own_group, an_invoke}
 use Rattle.cx_flattening.proofs.StillActs.{still_acts}
-use Rattle.cx_meaning.proofs.ActiveLemmas.{offset-both}
+use Rattle.cx_meaning.proofs.ActiveLemmas.{offset-both, or_else}
 
 -- OFFSETS in lists
-abbrev or_else : Option ℕ → Option ℕ → Option ℕ
-or_else None later = later
-or_else (Some o) later = Some o
-
 -- of entries by their copies, where the groups are among these
 offset-copied : (copy : ℕ → ℕ) (P : ℕ → Type 0) (g : ℕ) → ((m : ℕ) → P m → nat_eq (copy m) (copy g) ≡ nat_eq m g) → (list : List Entry) → ((e : Entry) → In list e → P e.group) → offset_in (map (entry_by copy) list) (copy g) ≡ offset_in list g
 offset-copied copy P g apart [] all = refl

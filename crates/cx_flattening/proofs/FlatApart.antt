@@ -4,11 +4,11 @@ use Rattle.std.proofs.Common.{◌≡◌, ◌≢◌, ℕ, zero, suc, inl, inr, �
 use Rattle.std.specs.Prelude.{if◌then◌else◌, slice_get}
 use Rattle.std.proofs.lemmas.Bool.{ne_eqb}
 use Rattle.std.proofs.lemmas.List.{append_assoc}
+use Rattle.cx_text.proofs.MemberLaws.{image_in, in_either, in_image, in_right}
 use Rattle.cx_meaning.specs.declared.kinds.PortDecl.{PortDecl}
 use Rattle.cx_meaning.specs.Designs.{PlainCell, PlainComponent}
 use Rattle.cx_meaning.specs.Instances.{Instance, Node, Cells, OfInstance, cell_at}
-use Rattle.cx_meaning.specs.Sights.{In}
-use Rattle.cx_meaning.proofs.SightsLaws.{in_either, in_right, image_in, in_image}
+use Rattle.cx_text.specs.Members.{In}
 use Rattle.cx_rules.specs.Flat.{IsPlainName, HasPlainNames}
 use Rattle.cx_rules.specs.Wellformed.{AreApart}
 use Rattle.cx_rules.proofs.Finite.{Distinct}

@@ -4,7 +4,7 @@ use Rattle.std.proofs.lemmas.List.{map-append, append_assoc}
 use Rattle.cx_meaning.specs.declared.ports.PortRef.{PortRef}
 use Rattle.cx_meaning.specs.Designs.{PlainAssign, PlainGroup}
 use Rattle.cx_meaning.specs.Active.{Active, owned, owned_by_groups, same_port, acting}
-use Rattle.cx_meaning.specs.Sights.{In}
+use Rattle.cx_text.specs.Members.{In}
 use Rattle.cx_rewrites.specs.Moving.{moved_assign, moved_group, moved_acting}
 use Rattle.cx_rules.specs.Counts.{is_one_of, group_if}
 use Rattle.cx_flattening.specs.Copies.{copied_group, count_if, enabled_below, enabled_groups}

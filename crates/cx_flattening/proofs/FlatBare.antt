@@ -1,12 +1,12 @@
 -- NO CONTINUOUS ASSIGNMENT OF A FLAT INSTANCE ENABLES ANYTHING, where none of the tree does.
 use Rattle.std.proofs.Common.{◌≡◌, ℕ, zero, suc, ◌+◌, ◌<◌, ⊎_elim, Bool, true, false, length, Some, None, refl, sym, ap, ◌∙◌, subst, arith}
+use Rattle.cx_text.proofs.MemberLaws.{image_in, in_either}
 use Rattle.cx_meaning.specs.declared.ports.PortRef.{PortRef}
 use Rattle.cx_meaning.specs.declared.ports.PortRef.TheVariants as ports
 use Rattle.cx_meaning.specs.Designs.{PlainAssign, PlainComponent}
 use Rattle.cx_meaning.specs.Instances.{Instance, Node, Cells, no_cells, a_primitive, an_instance, At, Nothing, OfRow, OfInstance, part_of, cells_of, cell_at}
 use Rattle.cx_meaning.specs.Active.{Owned, source_order}
-use Rattle.cx_meaning.specs.Sights.{In}
-use Rattle.cx_meaning.proofs.SightsLaws.{in_either, image_in}
+use Rattle.cx_text.specs.Members.{In}
 use Rattle.cx_rules.specs.Ports.{enables_cell, is_primitive_enable}
 use Rattle.std.specs.Prelude.{map}
 use Rattle.cx_rewrites.specs.Moving.{moved_assign}

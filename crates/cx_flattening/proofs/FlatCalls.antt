@@ -4,13 +4,15 @@ use Rattle.std.specs.Prelude.{◌⊎◌, if◌then◌else◌, flat_map}
 use Rattle.std.proofs.Math.Path.{fun_ext}
 use Rattle.std.proofs.lemmas.Bool.{cases_eq, eqb-true, eq-eqb}
 use Rattle.std.proofs.lemmas.List.{get_or_append_left, get_or-map, length-map}
+use Rattle.cx_text.proofs.MemberLaws.{in_at}
+use Rattle.cx_text.specs.Members.{In}
 use Rattle.cx_prim.specs.Rows.{Row}
 use Rattle.cx_meaning.specs.declared.ports.PortRef.{PortRef}
 use Rattle.cx_meaning.specs.declared.ports.PortRef.TheVariants as ports
 use Rattle.cx_meaning.specs.Designs.{PlainAssign, PlainComponent, group_at, no_group}
 use Rattle.cx_meaning.specs.Instances.{Instance, Node, Cells, no_cells, a_primitive, an_instance, At, Nothing, OfRow, OfInstance, part_of, cells_of, cell_at, Path, State, under, put, beneath, idle}
 use Rattle.cx_meaning.specs.Active.{group, capture}
-use Rattle.cx_meaning.specs.Sights.{Held, In, seen}
+use Rattle.cx_meaning.specs.Sights.{Held, seen}
 use Rattle.cx_meaning.specs.Cycles.{Fault, cycle}
 use Rattle.cx_meaning.specs.Answers.{Answer, End, More, after_turns, then_do, idle_turn, one_turn}
 use Rattle.cx_meaning.specs.Answers as answers
@@ -19,7 +21,6 @@ use Rattle.cx_meaning.specs.Calls.{enables_at, enables_primitive, captures_in, c
 use Rattle.cx_meaning.specs.Calls as calls
 use Rattle.cx_meaning.specs.Running.{Children}
 use Rattle.cx_meaning.proofs.InstancesLemmas.{just_same, not_just, row_instance}
-use Rattle.cx_meaning.proofs.SightsLaws.{in_at}
 use Rattle.cx_meaning.proofs.DesignsLemmas.{there_below}
 use Rattle.cx_rewrites.specs.Moving.{moved_assign, moved_group}
 use Rattle.cx_flattening.specs.Whole.{is_static, whole_cycle, after_child, call}

@@ -7,18 +7,18 @@ use Rattle.cx_meaning.specs.declared.ports.PortRef.{PortRef}
 use Rattle.cx_meaning.specs.declared.ports.PortRef.TheVariants as ports
 use Rattle.cx_meaning.specs.Designs.{PlainAssign, PlainKind, OfPrimitive, OfComponent, PlainCell, PlainComponent, PlainDesign}
 use Rattle.cx_meaning.specs.Active.{same_port}
-use Rattle.cx_meaning.specs.Sights.{In}
+use Rattle.cx_text.specs.Members.{In}
 use Rattle.cx_rules.specs.ShapeRules.{some_target}
-use Rattle.cx_rules.specs.CallShape.{write_en_of, is_reg_kind, is_register_cell, is_register, one, captured_from, captured}
+use Rattle.cx_rules.specs.CallShape.{write_en_of, is_reg_kind, is_register_cell, is_register, one, added, captured_from, captured}
 use Rattle.cx_rewrites.specs.Moving.{moved_assign}
 use Rattle.cx_rewrites.proofs.MovedLists.{some_target-moved}
+use Rattle.cx_rewrites.proofs.MovedCalls.{IsApart, apart_right}
 use Rattle.cx_flattening.specs.Flattened.{Kids, kid_at, kept, kept_at, blocks, flat_cells, port_if, own_port}
 use Rattle.cx_flattening.specs.FlatDesign.{renumbered_kind, renumbered_cell}
 use Rattle.cx_flattening.specs.Targets.{OwnTarget}
 use Rattle.cx_flattening.proofs.Placing.{kept_less, kept_apart}
 use Rattle.cx_flattening.proofs.PortLemmas.{own-kept, not_same}
 use Rattle.cx_flattening.proofs.CellLayout.{kind_at, kept_stands}
-use Rattle.cx_flattening.proofs.MovedCalls.{IsAlone, alone_right}
 
 abbrev cell_number : PortRef → ℕ
 cell_number (ports.Cell c p) = c
@@ -51,7 +51,7 @@ module _ (kids : Kids) (part : PlainComponent) where
   own_one (ports.Literal w v) = refl
 
   -- A PORT OF A CELL THAT IS KEPT stands alone
-  pub cell_alone : (c p : ℕ) → c < length part.cells → kid_at kids c ≡ None → IsAlone f (ports.Cell c p)
+  pub cell_alone : (c p : ℕ) → c < length part.cells → kid_at kids c ≡ None → IsApart f (ports.Cell c p)
   cell_alone c p less none t e = by t (e ∙ own-kept kids part c p none)
     where
       of_cell : (d m : ℕ) (k : Option PlainComponent) → kid_at kids d ≡ k → port_if kids part k d m ≡ ports.Cell (kept_at kids c) p → ports.Cell d m ≡ ports.Cell c p
@@ -73,7 +73,7 @@ module _ (kids : Kids) (part : PlainComponent) where
       by (ports.Literal w v) e = absurd (cc)
 
   -- so does a hole
-  pub done_alone : (h : ℕ) → IsAlone f (ports.Done h)
+  pub done_alone : (h : ℕ) → IsApart f (ports.Done h)
   done_alone h (ports.Cell d m) e = absurd (by (kid_at kids d) e)
     where
       by : (k : Option PlainComponent) → port_if kids part k d m ≡ ports.Done h → ⊥
@@ -85,10 +85,6 @@ module _ (kids : Kids) (part : PlainComponent) where
   done_alone h (ports.Literal w v) e = absurd (cc)
 
 -- REGISTERS
-abbrev added : ℕ → Bool → List ℕ → List ℕ
-added r true rest = r ∷ rest
-added r false rest = rest
-
 abbrev reg_at : Option PlainKind → Bool
 reg_at None = false
 reg_at (Some kind) = is_reg_kind kind
@@ -194,7 +190,7 @@ module _ (kids : Kids) (part : PlainComponent) (assigns : List PlainAssign) (own
   writes_kept c less none =
       some_target-moved (own_port kids part) (same_port (write_en_of c)) (same_port (write_en_of (K c)))
       (λ p. ap (λ q. same_port q (own_port kids part p)) (sym (own-kept kids part c 1 none))
-      ∙ alone_right (own_port kids part) (ports.Cell c 1) (cell_alone kids part c 1 less none) p)
+      ∙ apart_right (own_port kids part) (ports.Cell c 1) (cell_alone kids part c 1 less none) p)
       assigns
 
   -- nothing drives a port of a static child's cell

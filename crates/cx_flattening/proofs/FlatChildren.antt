@@ -1,13 +1,14 @@
 -- A STATIC CHILD ACTS IN THE HOST as what it does, where the instance that holds it acts there.
 use Rattle.std.proofs.Common.{◌≡◌, ℕ, zero, suc, ◌+◌, ◌<◌, ⊎_elim, Bool, true, false, List, [], ◌∷◌, length, map, Some, None, nat_eq, refl, sym, ap, ◌∙◌, subst, arith}
 use Rattle.std.proofs.lemmas.List.{length-append}
+use Rattle.cx_text.specs.Members.{In}
 use Rattle.cx_meaning.specs.declared.ports.PortRef.{PortRef}
 use Rattle.cx_meaning.specs.declared.ports.PortRef.TheVariants as ports
 use Rattle.cx_meaning.specs.declared.sights.Seen.TheVariants.{Undefined}
 use Rattle.cx_meaning.specs.Designs.{PlainAssign, PlainInvoke, PlainComponent}
 use Rattle.cx_meaning.specs.Instances.{Instance, Node, Cells, no_cells, a_primitive, an_instance, OfInstance, part_of, cells_of, cell_at, State, under}
 use Rattle.cx_meaning.specs.Active.{Active, entries, Owned, source_order, offset_of, drivers}
-use Rattle.cx_meaning.specs.Sights.{Look, Held, In, is_done_cell, target_seen, seen}
+use Rattle.cx_meaning.specs.Sights.{Look, Held, is_done_cell, target_seen, seen}
 use Rattle.cx_meaning.proofs.DesignsLemmas.{group_there}
 use Rattle.cx_rules.specs.Circles.{IsAcyclic, AcyclicBelow}
 use Rattle.cx_rules.specs.Footprints.{AssignNames}

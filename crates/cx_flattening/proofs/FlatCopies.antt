@@ -7,7 +7,7 @@ use Rattle.cx_meaning.specs.declared.ports.PortRef.TheVariants as ports
 use Rattle.cx_meaning.specs.Designs.{PlainGroup, PlainInvoke, PlainComponent}
 use Rattle.cx_meaning.specs.Instances.{Instance, Node, Cells, no_cells, a_primitive, an_instance, OfInstance, cell_at}
 use Rattle.cx_meaning.specs.Control.{groups_of}
-use Rattle.cx_meaning.specs.Sights.{In}
+use Rattle.cx_text.specs.Members.{In}
 use Rattle.cx_rules.specs.Sizes.{assigns_size, groups_size}
 use Rattle.cx_rules.specs.Counts.{needed, needed_from, needed_groups, is_one_of, group_if, inner_at, always_count_of, always_in, copy_count_of, copies_for, inner, if_static, inners_of}
 use Rattle.cx_rewrites.specs.Moving.{moved_assign, moved_group}

@@ -1,6 +1,7 @@
 -- THE LIST OF THE FLAT COMPONENT does in a cycle what the tree does: its own groups, and for each invoke the copies of what the child does.
 use Rattle.std.proofs.Common.{◌≡◌, ℕ, zero, suc, ◌+◌, ◌-◌, ◌<◌, inl, inr, ⊎_elim, Bool, true, false, ◌&&◌, nat_le, nat_lt, List, [], ◌∷◌, ◌++◌, length, map, Option, Some, None, refl, sym, ap, ◌∙◌, subst, arith}
 use Rattle.std.proofs.lemmas.List.{map-append, append-nil, append_assoc}
+use Rattle.cx_text.proofs.MemberLaws.{image_in, in_either, in_left, in_right}
 use Rattle.cx_meaning.specs.declared.ports.PortRef.{PortRef}
 use Rattle.cx_meaning.specs.declared.ports.PortRef.TheVariants as ports
 use Rattle.cx_meaning.specs.Designs.{PlainInvoke, PlainComponent, PlainForm, Empty, Enable, Seq, Par, If, While, Repeat, StaticSeq, StaticPar, StaticIf, StaticRepeat, Timed, PlainStatement, Placed, PlainStatements, no_statements, a_statement}
@@ -9,8 +10,7 @@ use Rattle.cx_meaning.specs.Active.{Entry}
 use Rattle.cx_meaning.specs.Control.{groups_in, groups_of, groups_in_all}
 use Rattle.cx_meaning.specs.Islands.{group_length, or_zero, length_of, Condition, condition, Occurrence, occurrence, rounds_from, form_flat, flat, seq_flat, par_flat, is_wanted, entry_if, active_in}
 use Rattle.cx_meaning.specs.Islands as islands
-use Rattle.cx_meaning.specs.Sights.{In}
-use Rattle.cx_meaning.proofs.SightsLaws.{image_in, in_left, in_right, in_either}
+use Rattle.cx_text.specs.Members.{In}
 use Rattle.cx_rules.specs.Invokes.{lasts}
 use Rattle.cx_flattening.specs.Events.{the_invoke, Spot, spot, Sample, Event, Feeds, Beginning, Events, source_to, group_events, capture_events, rounds_events, bound_below, invoke_events, form_events, events, seq_events, par_events, control_events, events_below}
 use Rattle.cx_flattening.specs.Deeds.{History, hold, Deed, Acts, Fed, deed_if, is_now, deeds_in}

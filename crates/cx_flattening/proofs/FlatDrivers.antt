@@ -4,13 +4,14 @@ use Rattle.std.proofs.Common.{◌≡◌, ◌≢◌, ℕ, zero, suc, ◌+◌, ◌
 use Rattle.std.proofs.lemmas.List.{append-nil, length-append}
 use Rattle.std.specs.Prelude.{flat_map, take, get_or}
 use Rattle.std.proofs.lemmas.Bool.{cases_eq}
+use Rattle.cx_text.proofs.MemberLaws.{image_in}
+use Rattle.cx_text.specs.Members.{In}
 use Rattle.cx_meaning.specs.declared.ports.PortRef.{PortRef}
 use Rattle.cx_meaning.specs.declared.ports.PortRef.TheVariants as ports
 use Rattle.cx_meaning.specs.Designs.{PlainGuard, Always, Atom, Negation, All, Any, Compared, Within, PlainGuards, no_guards, a_guard, PlainAssign, PlainGroup, PlainInvoke, PlainComponent}
 use Rattle.cx_meaning.specs.Active.{Active, owned, owned_by_groups, same_port, acting, drivers}
 use Rattle.cx_meaning.specs.Control.{groups_of}
-use Rattle.cx_meaning.specs.Sights.{In, GuardNames, AnyNames}
-use Rattle.cx_meaning.proofs.SightsLaws.{image_in}
+use Rattle.cx_meaning.specs.Sights.{GuardNames, AnyNames}
 use Rattle.cx_rules.specs.Footprints.{AssignNames}
 use Rattle.cx_rewrites.specs.Moving.{moved_port, moved_guard, moved_guards, moved_assign, moved_group, moved_acting}
 use Rattle.cx_flattening.specs.Events.{no_invoke, the_invoke}

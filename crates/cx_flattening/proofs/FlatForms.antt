@@ -2,12 +2,13 @@
 use Rattle.std.proofs.Common.{◌≡◌, ℕ, zero, suc, inl, inr, ⊎_elim, List, [], ◌∷◌, ◌++◌, map, Option, Some, None, refl, sym, ap, ap₂, ◌∙◌, subst}
 use Rattle.std.specs.Prelude.{slice_get}
 use Rattle.std.proofs.lemmas.List.{map-append}
+use Rattle.cx_text.proofs.MemberLaws.{flat_in, image_in, in_either, in_image, in_left, in_right}
 use Rattle.cx_meaning.specs.declared.ports.PortRef.{PortRef}
 use Rattle.cx_meaning.specs.declared.ports.PlacedPort.{PlacedPort}
 use Rattle.cx_meaning.specs.Designs.{PlainComponent, PlainForm, Empty, Enable, Seq, Par, If, While, Repeat, StaticSeq, StaticPar, StaticIf, StaticRepeat, Timed, PlainStatement, Placed, PlainStatements, no_statements, a_statement, list_of, no_place}
 use Rattle.cx_meaning.specs.Control.{groups_in, groups_of, groups_in_all}
-use Rattle.cx_meaning.specs.Sights.{In}
-use Rattle.cx_meaning.proofs.SightsLaws.{in_either, in_left, in_right, in_image, image_in, behind_comb, flat_in}
+use Rattle.cx_text.specs.Members.{In}
+use Rattle.cx_meaning.proofs.SightsLaws.{behind_comb}
 use Rattle.cx_rules.specs.Items.{Context, Dynamic, InStatic, Branch, below_dynamic, Visited, visit, visit_parts, visit_all, test_in, option_list, tests_of}
 use Rattle.cx_rules.specs.RaceRule.{Arms, arms_of, enabled_group, enabled_in}
 use Rattle.cx_laws.proofs.TogetherLemmas.{in_flat}

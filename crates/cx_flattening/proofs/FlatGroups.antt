@@ -7,7 +7,7 @@ use Rattle.std.proofs.lemmas.List.Concat.{get_or-flat_map}
 use Rattle.cx_meaning.specs.Designs.{PlainGroup, PlainInvoke, PlainComponent, group_at, no_group}
 use Rattle.cx_meaning.specs.Control.{groups_of}
 use Rattle.cx_meaning.specs.Islands.{kind_length, group_length}
-use Rattle.cx_meaning.specs.Sights.{In}
+use Rattle.cx_text.specs.Members.{In}
 use Rattle.cx_rewrites.specs.Moving.{moved_group}
 use Rattle.cx_flattening.specs.Events.{no_invoke, the_invoke}
 use Rattle.cx_rules.specs.Counts.{is_one_of, group_if}

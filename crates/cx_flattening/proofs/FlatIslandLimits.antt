@@ -1,26 +1,26 @@
 -- LIMITS ON ISLANDS: a statement of the flat component exceeds none, where none of the component does with its invokes written out.
 use Rattle.std.proofs.Common.{◌≡◌, ℕ, ◌<◌, inl, inr, ⊎_elim, Bool, true, false, ◌&&◌, ◌||◌, List, length, Option, Some, None, refl, sym, ap, ◌∙◌, subst}
-use Rattle.std.specs.Prelude.{nat_lt, nat_le, if◌then◌else◌, slice_get}
+use Rattle.std.proofs.lemmas.Bool.{false_from_ne_true}
+use Rattle.std.specs.Prelude.{slice_get}
+use Rattle.cx_text.proofs.MemberLaws.{number_in}
 use Rattle.cx_text.specs.declared.places.Place.{Place}
 use Rattle.cx_text.specs.declared.rules.Rule.TheVariants as rules
-use Rattle.cx_text.specs.declared.limits.TheConstants.{OCCURRENCES, REPETITIONS}
 use Rattle.cx_meaning.specs.Designs.{PlainForm, PlainComponent, PlainDesign, component_at}
 use Rattle.cx_meaning.specs.Instances.{Instance, Node, Cells, part_of}
 use Rattle.cx_meaning.specs.Islands.{group_length, form_length}
-use Rattle.cx_meaning.specs.Sights.{In}
-use Rattle.cx_meaning.proofs.SightsLaws.{number_in}
+use Rattle.cx_text.specs.Members.{In}
 use Rattle.cx_meaning.proofs.DesignsLemmas.{same_part}
 use Rattle.cx_rules.specs.Accepted.{IsAccepted}
 use Rattle.cx_rules.specs.Counts.{inners_of, form_counted, is_any_island}
 use Rattle.cx_rules.specs.Invokes.{form_lasts}
 use Rattle.cx_rules.specs.Items.{Context, Dynamic, Visited, statements_in}
-use Rattle.cx_rules.specs.LimitRule.{Limited, OnRepeat, OnOccurrences, OnLatency, word_of, count_in, is_too_many}
+use Rattle.cx_rules.specs.LimitRule.{Limited, OnRepeat, OnOccurrences, OnLatency, word_of, count_in, is_too_many, first_limit, flat_limit}
 use Rattle.cx_rules.specs.LimitRule as whole
 use Rattle.cx_rules.specs.Ports.{component_of}
 use Rattle.cx_rules.specs.Spots.{AStatement, Spot, OnStatement}
 use Rattle.cx_rules.specs.StaticControl.{is_dynamic, is_island_form, is_island, form_occurrences}
 use Rattle.cx_rules.specs.Wellformed.{IsDesign}
-use Rattle.cx_rewrites.specs.FlatRules.{statement_limit, BreaksStatement}
+use Rattle.cx_rewrites.specs.FlatRules.{BreaksStatement}
 use Rattle.cx_flattening.specs.Flattened.{Kids, flat_form, flat_kids, flat_part}
 use Rattle.cx_flattening.specs.FlatDesign.{flat_design}
 use Rattle.cx_flattening.specs.Fair.{AllFair}
@@ -37,17 +37,9 @@ use Rattle.cx_flattening.proofs.FlatRepeats.{keeps_repeats}
 use Rattle.cx_flattening.proofs.FlatStages.{good_component}
 use Rattle.cx_flattening.proofs.FlatStands.{kids_may}
 use Rattle.cx_flattening.proofs.FlatVisits.{flattened_one, becomes, flat_visits, AreThere}
-use Rattle.cx_flattening.proofs.Ruled.{not_so, AllRuled}
+use Rattle.cx_flattening.proofs.Ruled.{AllRuled}
 
--- the first limit that is exceeded
-abbrev limit_by : Bool → Bool → ℕ → ℕ → Option Limited
-limit_by many island occurring long =
-    if many then Some OnRepeat
-    else if island && nat_lt OCCURRENCES occurring then Some OnOccurrences
-    else if island && nat_le REPETITIONS long then Some OnLatency
-    else None
-
-none_later : (many island : Bool) (occurring long : ℕ) → limit_by many island occurring long ≡ None → limit_by false island occurring long ≡ None
+none_later : (many island : Bool) (occurring long : ℕ) → first_limit many island occurring long ≡ None → first_limit false island occurring long ≡ None
 none_later true island occurring long e = absurd (cc)
 none_later false island occurring long e = e
 
@@ -86,32 +78,32 @@ module _ (part : PlainComponent) (cells : Cells) (ruled : AllRuled (Node part ce
       ∙ form_lasting part cells fair.0 controlled.0 (kids_last cells fair.1 controlled.1) J (λ q. q) (λ g. g) form there.0 there.1 (λ g i. same g)
 
   head_quiet : (c : Context) (place : Place) (form : PlainForm) → Standing form → whole.statement_limit (Node part cells) (here c place form) ≡ None → IsFew (flattened_one kids part c place form)
-      → statement_limit J (flattened_one kids part c place form) ≡ None
+      → flat_limit J (flattened_one kids part c place form) ≡ None
   head_quiet c place form there quiet few =
       let x = flat_form kids part form in
-      ap (λ b. limit_by b (is_dynamic c && is_island_form J x) (form_occurrences J x) (form_length J x)) few
-      ∙ ap (λ b. limit_by false b (form_occurrences J x) (form_length J x)) (is_one c form there ∙ spread (is_dynamic c) _ _)
-      ∙ ap (λ n. limit_by false (is_any_island part (here c place form)) n (form_length J x)) (occurs form there)
-      ∙ ap (limit_by false (is_any_island part (here c place form)) (form_counted part (inners_of cells) form)) (long form there)
+      ap (λ b. first_limit b (is_dynamic c && is_island_form J x) (form_occurrences J x) (form_length J x)) few
+      ∙ ap (λ b. first_limit false b (form_occurrences J x) (form_length J x)) (is_one c form there ∙ spread (is_dynamic c) _ _)
+      ∙ ap (λ n. first_limit false (is_any_island part (here c place form)) n (form_length J x)) (occurs form there)
+      ∙ ap (first_limit false (is_any_island part (here c place form)) (form_counted part (inners_of cells) form)) (long form there)
       ∙ none_later (is_too_many (count_in form)) (is_any_island part (here c place form)) (form_counted part (inners_of cells) form) (form_lasts part form) quiet
 
-  still_quiet : (w : Visited) → is_dynamic w.context ≡ false → IsFew w → statement_limit J w ≡ None
+  still_quiet : (w : Visited) → is_dynamic w.context ≡ false → IsFew w → flat_limit J w ≡ None
   still_quiet w still few =
-      ap (λ b. limit_by b (is_island J w) (form_occurrences J w.form) (form_length J w.form)) few
-      ∙ ap (λ b. limit_by false (b && is_island_form J w.form) (form_occurrences J w.form) (form_length J w.form)) still
+      ap (λ b. first_limit b (is_island J w) (form_occurrences J w.form) (form_length J w.form)) few
+      ∙ ap (λ b. first_limit false (b && is_island_form J w.form) (form_occurrences J w.form) (form_length J w.form)) still
 
-  flat_quiet : ((v : Visited) → In (statements_in part) v → whole.statement_limit (Node part cells) v ≡ None) → (w : Visited) → In (statements_in flat) w → IsFew w → statement_limit J w ≡ None
+  flat_quiet : ((v : Visited) → In (statements_in part) v → whole.statement_limit (Node part cells) v ≡ None) → (w : Visited) → In (statements_in flat) w → IsFew w → flat_limit J w ≡ None
   flat_quiet quiet w i few =
       let r = from_flat (becomes kids part) (statements_in part) w (subst (λ l. In l w) (flat_visits kids part Dynamic part.control) i) in
       let there = forms_there part cells fair.0 controlled.0 (kids_last cells fair.1 controlled.1) (kids_may cells ruled.1 fair.1 controlled.1) (counted_below cells ruled.1 fair.1 controlled.1) r.0 r.1 in
       ⊎_elim
-      (λ e. subst (λ y. IsFew y → statement_limit J y ≡ None) e (head_quiet r.0.context r.0.place r.0.form there (quiet r.0 r.1)) few)
+      (λ e. subst (λ y. IsFew y → flat_limit J y ≡ None) e (head_quiet r.0.context r.0.place r.0.form there (quiet r.0 r.1)) few)
       (λ still. still_quiet w still few)
       (become_head part cells fair.0 controlled.0 (kids_last cells fair.1 controlled.1) (kids_may cells ruled.1 fair.1 controlled.1) (counted_below cells ruled.1 fair.1 controlled.1)
       r.0.context r.0.place r.0.form there.1 w r.2)
 
 quiet_instance : (i : Instance) → AllRuled i → AllFair i → AllControlled i → (J : PlainComponent) → ((g : ℕ) → group_length J g ≡ group_length (flat_part i) g)
-    → ((v : Visited) → In (statements_in (part_of i)) v → whole.statement_limit i v ≡ None) → (w : Visited) → In (statements_in (flat_part i)) w → IsFew w → statement_limit J w ≡ None
+    → ((v : Visited) → In (statements_in (part_of i)) v → whole.statement_limit i v ≡ None) → (w : Visited) → In (statements_in (flat_part i)) w → IsFew w → flat_limit J w ≡ None
 quiet_instance (Node part cells) ruled fair controlled J same quiet = flat_quiet part cells ruled fair controlled J same quiet
 
 module _ (d : PlainDesign) (design : IsDesign d) (accepted : IsAccepted d) (undone : NoneNamesDone d) where
@@ -131,7 +123,7 @@ module _ (d : PlainDesign) (design : IsDesign d) (accepted : IsAccepted d) (undo
   pub keeps_statements : (spot : Spot) (place : Place) (name : List ℕ) → OnStatement BreaksStatement (flat_design d) spot place name → ⊥
   keeps_statements spot place name b =
       let g = good_component d design accepted undone m.old m.less in
-      let few = not_so (is_too_many (count_in b.statement.form))
+      let few = false_from_ne_true (is_too_many (count_in b.statement.form))
       (λ e. keeps_repeats d accepted design spot place name (record { within = b.within; number = b.number; is = b.is; statement = b.statement; stands = b.stands; breaks = e })) in
       let quiet = quiet_instance (component_of d m.old) g.rules g.fair g.controlled (part_of (component_of (flat_design d) spot.component))
       (λ h. ap (λ (l : PlainComponent). group_length l h) (same_part (flat_design d) (length (flat_design d).components) spot.component ∙ m.part)) (quiet_component m.old m.less) b.statement

@@ -3,6 +3,7 @@
 use Rattle.std.proofs.Common.{◌≡◌, ℕ, zero, suc, ◌+◌, ◌<◌, ◌⊎◌, inl, inr, ⊎_elim, Bool, true, false, ◌||◌, List, [], ◌∷◌, ◌++◌, length, map, get_or, Option, Some, None, refl, sym, ap, ◌∙◌, subst, arith}
 use Rattle.std.specs.Prelude.{flat_map, is_some}
 use Rattle.std.proofs.lemmas.List.{get_or_append_left, get_or-map, length-map}
+use Rattle.cx_text.proofs.MemberLaws.{image_in, number_in}
 use Rattle.cx_text.specs.declared.places.Place.{Place}
 use Rattle.cx_text.specs.declared.rules.Rule.TheVariants as rules
 use Rattle.cx_meaning.specs.declared.ports.PortRef.{PortRef}
@@ -14,8 +15,7 @@ use Rattle.cx_meaning.specs.Instances.{Instance, Node, Cells, no_cells, a_primit
 use Rattle.cx_meaning.specs.Active.{Owned, source_order}
 use Rattle.cx_meaning.specs.Control.{groups_of}
 use Rattle.cx_meaning.specs.Islands.{kind_length, group_length}
-use Rattle.cx_meaning.specs.Sights.{In}
-use Rattle.cx_meaning.proofs.SightsLaws.{number_in, image_in}
+use Rattle.cx_text.specs.Members.{In}
 use Rattle.cx_meaning.proofs.DesignsLemmas.{same_part}
 use Rattle.cx_rules.specs.Accepted.{IsAccepted}
 use Rattle.cx_rules.specs.Counts.{is_one_of, group_if}

@@ -1,9 +1,9 @@
 -- WHAT FLAT COMPONENTS LEAD TO: their components lead to it in the design, so no flat component leads back to itself.
 use Rattle.std.proofs.Common.{◌≡◌, ℕ, zero, suc, ◌<◌, ⊎_elim, true, List, [], length, refl, sym, ap, ◌∙◌, subst}
+use Rattle.cx_text.proofs.MemberLaws.{image_in, in_either}
 use Rattle.cx_meaning.specs.Designs.{PlainKind, OfPrimitive, OfComponent, PlainCell, PlainComponent, PlainDesign, component_at}
 use Rattle.cx_meaning.specs.Instances.{cells_for, tree_within}
-use Rattle.cx_meaning.specs.Sights.{In}
-use Rattle.cx_meaning.proofs.SightsLaws.{in_either, image_in}
+use Rattle.cx_text.specs.Members.{In}
 use Rattle.cx_rules.specs.Wellformed.{LeadsTo, by_cell, by_way_of, IsDesign}
 use Rattle.cx_flattening.specs.Flattened.{Kids, kept, blocks, flat_kids, flat_part}
 use Rattle.cx_flattening.specs.FlatDesign.{flat_of, is_reached, reached_below, renumbered_kind, renumbered_cell, flat_design}

@@ -2,13 +2,13 @@
 -- component, where each copied group lasts as long as the group.
 use Rattle.std.proofs.Common.{◌≡◌, ℕ, zero, suc, ◌+◌, ◌*◌, ◌<◌, max, ⊎_elim, inl, inr, List, [], ◌∷◌, ◌++◌, length, Option, Some, None, refl, sym, ap, ◌∙◌, subst, arith}
 use Rattle.std.proofs.lemmas.Option.{slice_get-get_or}
+use Rattle.cx_text.proofs.MemberLaws.{in_either, in_left, in_right}
 use Rattle.cx_meaning.specs.declared.ports.PortRef.{PortRef}
 use Rattle.cx_meaning.specs.Designs.{PlainComponent, PlainForm, Empty, Enable, Seq, Par, If, While, Repeat, StaticSeq, StaticPar, StaticIf, StaticRepeat, Timed, PlainStatement, Placed, PlainStatements, no_statements, a_statement}
 use Rattle.cx_meaning.specs.Instances.{Instance, Node, Cells, no_cells, a_primitive, an_instance, OfInstance, part_of, cell_at}
 use Rattle.cx_meaning.specs.Control.{with_comb, groups_in, groups_of, groups_in_all}
 use Rattle.cx_meaning.specs.Islands.{group_length, or_zero, form_length, length_of, sum_length, max_length}
-use Rattle.cx_meaning.specs.Sights.{In}
-use Rattle.cx_meaning.proofs.SightsLaws.{in_left, in_right, in_either}
+use Rattle.cx_text.specs.Members.{In}
 use Rattle.cx_rules.specs.Invokes.{invoke_at, capture_length, cycles_of, invoke_length, form_lasts, lasts, sum_lasts, max_lasts}
 use Rattle.cx_flattening.specs.Events.{no_invoke, the_invoke}
 use Rattle.cx_flattening.specs.Copies.{copied_comb, copied_form, copied_statement, copied_statements}

@@ -9,15 +9,15 @@ use Rattle.cx_text.specs.declared.limits.TheConstants.{CELLS, INSTANCES, INSTANC
 use Rattle.cx_prim.specs.Rows.{Row}
 use Rattle.cx_meaning.specs.Designs.{PlainKind, OfPrimitive, OfComponent, PlainCell, PlainComponent, PlainDesign, component_at}
 use Rattle.cx_meaning.specs.Instances.{Instance, Node, Cells, cells_of, add_cell, cells_for, tree_within, tree_of}
-use Rattle.cx_meaning.specs.Sights.{In}
+use Rattle.cx_text.specs.Members.{In}
 use Rattle.cx_rules.specs.Accepted.{IsAccepted}
 use Rattle.cx_rules.specs.Wellformed.{IsDesign}
 use Rattle.cx_rules.specs.Ports.{component_of}
 use Rattle.cx_rules.specs.Counts.{unless_static, instances_within, depth_within, counted_instances, counted_depth}
 use Rattle.cx_rules.specs.Sizes.{instances_below, instances_in, depth_below, depth_in, shape_words, words_below, words_in}
 use Rattle.cx_rules.specs.Spots.{Itself, Whole, Spot}
-use Rattle.cx_rules.specs.LimitRule.{Limited, OnCells, OnInstances, OnDepth, OnWords, order_of, word_of, BreaksTree}
-use Rattle.cx_rewrites.specs.FlatRules.{BreaksCells, BreaksInstances, BreaksDepth, BreaksWords}
+use Rattle.cx_rules.specs.LimitRule.{Limited, OnCells, OnInstances, OnDepth, OnWords, order_of, word_of, BreaksTree, BreaksWords}
+use Rattle.cx_rewrites.specs.FlatRules.{BreaksCells, BreaksInstances, BreaksDepth}
 use Rattle.cx_flattening.specs.Embedded.{IsFlattened}
 use Rattle.cx_flattening.specs.Flattened.{flat_part}
 use Rattle.cx_flattening.specs.FlatDesign.{renumbered_cell, flat_design}

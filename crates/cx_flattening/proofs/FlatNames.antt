@@ -4,7 +4,7 @@ use Rattle.std.proofs.lemmas.Bool.{ne_eqb}
 use Rattle.std.proofs.lemmas.List.{length-map}
 use Rattle.cx_meaning.specs.declared.kinds.PortDecl.{PortDecl}
 use Rattle.cx_meaning.specs.Designs.{PlainCell, PlainComponent}
-use Rattle.cx_meaning.specs.Sights.{In}
+use Rattle.cx_text.specs.Members.{In}
 use Rattle.cx_rules.specs.Ports.{declared_name, cell_name}
 use Rattle.cx_rules.specs.Flat.{IsPlainName}
 use Rattle.cx_flattening.specs.Flattened.{point, inner_cell, wire_of, Kids, kid_at, kept, kept_at, block, blocks, block_size, block_at, flat_cells, start_of, wire_at}

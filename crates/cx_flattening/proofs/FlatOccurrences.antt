@@ -9,7 +9,7 @@ use Rattle.cx_meaning.specs.Designs.{PlainInvoke, PlainComponent, PlainForm, Emp
 use Rattle.cx_meaning.specs.Instances.{Instance, Node, Cells, no_cells, a_primitive, an_instance, OfInstance, cell_at}
 use Rattle.cx_meaning.specs.Control.{groups_in, groups_of, groups_in_all}
 use Rattle.cx_meaning.specs.Islands.{group_length}
-use Rattle.cx_meaning.specs.Sights.{In}
+use Rattle.cx_text.specs.Members.{In}
 use Rattle.cx_rules.specs.Items.{Context, Dynamic, InStatic, Branch, Amiss, Visited, visit, visit_parts, visit_all, statements_in}
 use Rattle.cx_rules.specs.StaticControl.{is_dynamic, is_island_form, is_island, may_stand, is_written, one_if, form_occurrences, occurrences, occurrences_in, island_occurrences, occurrences_of}
 use Rattle.cx_rules.specs.Invokes.{invoke_at, capture_length, invoke_in}

@@ -2,12 +2,12 @@
 -- invoke stands in one arm alone.
 use Rattle.std.proofs.Common.{◌≡◌, ℕ, zero, suc, ◌+◌, ◌<◌, ◌≤◌, inl, inr, ⊎_elim, List, [], ◌∷◌, length, Some, refl, sym, ap, ◌∙◌, subst, arith}
 use Rattle.std.proofs.lemmas.Bool.{cases_eq, cases_lt, eq-eqb, eqb-true}
+use Rattle.cx_text.proofs.MemberLaws.{image_in}
 use Rattle.cx_meaning.specs.declared.ports.PortRef.{PortRef}
 use Rattle.cx_meaning.specs.Designs.{PlainComponent, PlainDesign, component_at, OfComponent, PlainForm, PlainStatement}
 use Rattle.cx_meaning.specs.Instances.{Instance, Node, Cells, no_cells, a_primitive, an_instance, OfInstance, cell_at, cells_for, tree_within}
 use Rattle.cx_meaning.specs.Control.{groups_of}
-use Rattle.cx_meaning.specs.Sights.{In}
-use Rattle.cx_meaning.proofs.SightsLaws.{image_in}
+use Rattle.cx_text.specs.Members.{In}
 use Rattle.cx_rules.specs.Accepted.{IsAccepted}
 use Rattle.cx_rules.specs.Items.{Dynamic, Visited, statements_in}
 use Rattle.cx_rules.specs.RaceRule.{Arms, arms_of, enabled_group, enabled_in, IsShared, IsEnabledTwice}

@@ -1,14 +1,14 @@
 -- WHAT A FLAT STATEMENT DRIVES AND READS: a flat cell that it drives or reads is, or stands in the block of, a cell that the statement
 -- drives or reads in the tree.
 use Rattle.std.proofs.Common.{◌≡◌, ℕ, ◌+◌, ◌<◌, inl, inr, ⊎_elim, true, length, map, Some, None, refl, sym, ap, ◌∙◌, subst, arith}
+use Rattle.cx_text.proofs.MemberLaws.{image_in, in_either}
 use Rattle.cx_meaning.specs.declared.ports.PortRef.{PortRef}
 use Rattle.cx_meaning.specs.declared.ports.PortRef.TheVariants as ports
 use Rattle.cx_meaning.specs.declared.ports.PlacedPort.{PlacedPort}
 use Rattle.cx_meaning.specs.Designs.{PlainAssign, PlainComponent, group_at, PlainStatement}
 use Rattle.cx_meaning.specs.Instances.{Instance, Node, Cells}
 use Rattle.cx_meaning.specs.Control.{groups_of, drives}
-use Rattle.cx_meaning.specs.Sights.{In}
-use Rattle.cx_meaning.proofs.SightsLaws.{in_either, image_in}
+use Rattle.cx_text.specs.Members.{In}
 use Rattle.cx_meaning.proofs.ControlLaws.{driver}
 use Rattle.cx_rules.specs.Footprints.{AssignNames, Reads}
 use Rattle.cx_rules.specs.Footprints as plain

@@ -1,14 +1,14 @@
 -- REPEATS of flat control: none is of too many rounds, where none of the tree is.
 use Rattle.std.proofs.Common.{◌≡◌, ℕ, zero, suc, ◌<◌, inl, inr, ⊎_elim, Bool, true, false, if◌then◌else◌, List, [], ◌∷◌, length, Option, Some, None, refl, sym, ◌∙◌, subst}
-use Rattle.std.proofs.lemmas.Bool.{cases_lt}
+use Rattle.std.proofs.lemmas.Bool.{cases_lt, false_from_ne_true}
 use Rattle.std.proofs.lemmas.List.{get_or_past}
+use Rattle.cx_text.proofs.MemberLaws.{in_left, in_right, number_in}
 use Rattle.cx_text.specs.declared.places.Place.{Place}
 use Rattle.cx_text.specs.declared.rules.Rule.TheVariants as rules
 use Rattle.cx_meaning.specs.declared.ports.PortRef.{PortRef}
 use Rattle.cx_meaning.specs.Designs.{PlainKind, OfPrimitive, OfComponent, PlainCell, PlainForm, Empty, Enable, Seq, Par, If, While, Repeat, StaticSeq, StaticPar, StaticIf, StaticRepeat, Timed, PlainStatement, Placed, PlainStatements, no_statements, a_statement, PlainComponent, PlainDesign, component_at, no_component, no_place}
 use Rattle.cx_meaning.specs.Instances.{Instance, Node, Cells, no_cells, a_primitive, an_instance, OfInstance, cell_at, add_cell, cells_for, tree_within}
-use Rattle.cx_meaning.specs.Sights.{In}
-use Rattle.cx_meaning.proofs.SightsLaws.{number_in, in_left, in_right}
+use Rattle.cx_text.specs.Members.{In}
 use Rattle.cx_rules.specs.Accepted.{IsAccepted}
 use Rattle.cx_rules.specs.Items.{Context, Dynamic, InStatic, Branch, below_dynamic, Visited, visit, visit_parts, visit_all, statements_in}
 use Rattle.cx_rules.specs.LimitRule.{Limited, OnRepeat, word_of, count_in, is_too_many}
@@ -23,7 +23,6 @@ use Rattle.cx_flattening.proofs.FlatLasts.{Forms, both_forms, headed, one_other,
 use Rattle.cx_flattening.proofs.FlatNumbers.{made}
 use Rattle.cx_flattening.proofs.FlatRanges.{slice_in}
 use Rattle.cx_flattening.proofs.FlatSafe.{kid_from}
-use Rattle.cx_flattening.proofs.Ruled.{not_so}
 
 abbrev Few : PlainForm → Type 0
 Few form = is_too_many (count_in form) ≡ false
@@ -143,7 +142,7 @@ module _ (d : PlainDesign) (accepted : IsAccepted d) where
     where
       there : k < length d.components → AllFew (component_at d k)
       there within v i =
-          not_so (is_too_many (count_in v.form))
+          false_from_ne_true (is_too_many (count_in v.form))
           (λ many.
           let at = number_in (statements_in (component_at d k)) v i in
           accepted.limits rules.Limit (record { component = k; part = AStatement at.0 }) v.place (word_of OnRepeat) refl

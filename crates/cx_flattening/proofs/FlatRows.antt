@@ -6,7 +6,7 @@ use Rattle.std.proofs.lemmas.Bool.{eq-eqb}
 use Rattle.cx_meaning.specs.declared.kinds.PortDecl.{PortDecl}
 use Rattle.cx_meaning.specs.Designs.{PlainKind, OfPrimitive, OfComponent, PlainCell, PlainComponent, PlainDesign, component_at, no_component}
 use Rattle.cx_meaning.specs.Instances.{Instance, Node, add_cell, cells_for, tree_within}
-use Rattle.cx_meaning.specs.Sights.{In}
+use Rattle.cx_text.specs.Members.{In}
 use Rattle.cx_rules.specs.Ports.{component_of}
 use Rattle.cx_rules.specs.Externals.{row_for, if_external, rows_of, external_rows}
 use Rattle.cx_rules.specs.Wellformed.{IsExternal, IsDesign}

@@ -1,8 +1,9 @@
 -- STATIC GROUPS of a flat component take a cycle at least and drive no done, where those of the tree do.
 use Rattle.std.proofs.Common.{◌≡◌, ℕ, zero, suc, ◌<◌, inl, inr, ⊎_elim, true, false, ◌||◌, nat_eq, List, [], ◌∷◌, length, map, Option, Some, None, refl, sym, ap, ◌∙◌, subst}
 use Rattle.std.specs.Prelude.{flat_map}
-use Rattle.std.proofs.lemmas.Bool.{cases_lt}
+use Rattle.std.proofs.lemmas.Bool.{cases_lt, false_from_ne_true}
 use Rattle.std.proofs.lemmas.List.{get_or_past}
+use Rattle.cx_text.proofs.MemberLaws.{image_in, in_either, number_in}
 use Rattle.cx_text.specs.declared.places.Place.{Place}
 use Rattle.cx_text.specs.declared.rules.Rule.TheVariants as rules
 use Rattle.cx_text.proofs.BoolLaws.{or_left, or_right}
@@ -13,8 +14,7 @@ use Rattle.cx_meaning.specs.Instances.{Instance, Node, Cells, no_cells, a_primit
 use Rattle.cx_meaning.specs.Active.{Owned, source_order}
 use Rattle.cx_meaning.specs.Control.{groups_of}
 use Rattle.cx_meaning.specs.Islands.{kind_length}
-use Rattle.cx_meaning.specs.Sights.{In}
-use Rattle.cx_meaning.proofs.SightsLaws.{number_in, in_either, image_in}
+use Rattle.cx_text.specs.Members.{In}
 use Rattle.cx_meaning.proofs.DesignsLemmas.{same_part}
 use Rattle.cx_rules.specs.Accepted.{IsAccepted}
 use Rattle.cx_rules.specs.Ports.{component_of, path_of, is_source_only}
@@ -30,7 +30,7 @@ use Rattle.cx_flattening.proofs.FlatNumbers.{IsMade, made}
 use Rattle.cx_flattening.proofs.FlatRanges.{in_number}
 use Rattle.cx_flattening.proofs.FlatSafe.{kid_from}
 use Rattle.cx_flattening.proofs.FlatKinds.{in_groups}
-use Rattle.cx_flattening.proofs.Ruled.{in_order, not_so}
+use Rattle.cx_flattening.proofs.Ruled.{in_order}
 
 -- no hole, and no input
 abbrev NoHole : PortRef → Type 0
@@ -146,8 +146,8 @@ hole_among (x ∷ xs) a (inr i) e = or_right (is_hole x.target) (some_target is_
 module _ (d : PlainDesign) (accepted : IsAccepted d) where
   group_shaped : (k : ℕ) → k < length d.components → AllIn (component_at d k)
   group_shaped k within x i n e = (
-    not_so (nat_eq n 0) (λ f. broken (or_right (some_target is_hole x.assigns) (nat_eq n 0) f)),
-    λ a j. no_hole_is (component_of d k) a.target (not_so (is_hole a.target) (λ f. broken (or_left (some_target is_hole x.assigns) (nat_eq n 0) (hole_among x.assigns a j f)))) (not_so (is_source_only (component_of d k) a.target) (source a j)),
+    false_from_ne_true (nat_eq n 0) (λ f. broken (or_right (some_target is_hole x.assigns) (nat_eq n 0) f)),
+    λ a j. no_hole_is (component_of d k) a.target (false_from_ne_true (is_hole a.target) (λ f. broken (or_left (some_target is_hole x.assigns) (nat_eq n 0) (hole_among x.assigns a j f)))) (false_from_ne_true (is_source_only (component_of d k) a.target) (source a j)),
   )
     where
       g : (g : ℕ) × (g < length (component_at d k).groups) × (group_at (component_at d k) g ≡ x)

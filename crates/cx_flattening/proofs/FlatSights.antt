@@ -1,12 +1,13 @@
 -- WHAT IS SEEN where the flat component acts as the instance does: each port of the caller as in the instance.
 use Rattle.std.proofs.Common.{◌≡◌, ℕ, ◌⊎◌, inl, inr, ⊎_elim, map, None, refl, sym, ap, ◌∙◌, subst}
+use Rattle.cx_text.specs.Members.{In}
 use Rattle.cx_meaning.specs.declared.ports.PortRef.{PortRef}
 use Rattle.cx_meaning.specs.declared.ports.PortRef.TheVariants as ports
 use Rattle.cx_meaning.specs.declared.sights.Seen.{Seen}
 use Rattle.cx_meaning.specs.Designs.{PlainComponent, group_at}
 use Rattle.cx_meaning.specs.Instances.{Instance, Node, Cells, OfInstance, cells_of, cell_at, State}
 use Rattle.cx_meaning.specs.Active.{Active, nothing, Owned, source_order, offset_of, drivers}
-use Rattle.cx_meaning.specs.Sights.{Held, In, Sees, seen}
+use Rattle.cx_meaning.specs.Sights.{Held, Sees, seen}
 use Rattle.cx_meaning.proofs.InstancesLemmas.{row_instance}
 use Rattle.cx_rules.specs.Circles.{IsAcyclic, AcyclicBelow}
 use Rattle.cx_rules.specs.Footprints.{AssignNames}

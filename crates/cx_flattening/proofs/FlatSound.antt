@@ -7,7 +7,7 @@ use Rattle.cx_meaning.specs.declared.ports.PortRef.TheVariants as ports
 use Rattle.cx_meaning.specs.Designs.{OfComponent, PlainAssign, PlainInvoke, PlainComponent, PlainDesign, component_at}
 use Rattle.cx_meaning.specs.Instances.{Instance, Node, Cells, OfInstance, cell_at, cells_for, tree_within}
 use Rattle.cx_meaning.specs.Active.{same_port}
-use Rattle.cx_meaning.specs.Sights.{In}
+use Rattle.cx_text.specs.Members.{In}
 use Rattle.cx_rules.specs.Accepted.{IsAccepted}
 use Rattle.cx_rules.specs.Flat.{ArePlainNames}
 use Rattle.cx_rules.specs.Footprints.{AssignNames}

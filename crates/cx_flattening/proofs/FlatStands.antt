@@ -1,14 +1,14 @@
 -- STATIC CONTROL of a flat component: nothing stands in it that may not, where nothing does in that of the tree.
 use Rattle.std.proofs.Common.{◌≡◌, ℕ, zero, suc, ◌<◌, inl, inr, ⊎_elim, Bool, true, false, List, ◌++◌, length, get_or, Option, Some, None, refl, sym, ap, ◌∙◌, subst}
 use Rattle.std.specs.Prelude.{is_some, slice_get}
+use Rattle.cx_text.proofs.MemberLaws.{in_either, in_left, in_right}
 use Rattle.cx_text.specs.declared.places.Place.{Place}
 use Rattle.cx_meaning.specs.declared.ports.PortRef.{PortRef}
 use Rattle.cx_meaning.specs.Designs.{PlainForm, Empty, Enable, Seq, Par, If, While, Repeat, StaticSeq, StaticPar, StaticIf, StaticRepeat, Timed, PlainStatement, Placed, PlainStatements, no_statements, a_statement, PlainComponent, PlainDesign, component_at, PlainGroup, no_group, form_of, no_place}
 use Rattle.cx_meaning.specs.Instances.{Instance, Node, Cells, no_cells, a_primitive, an_instance, OfInstance, part_of, cell_at}
 use Rattle.cx_meaning.specs.Control.{with_comb, groups_in, groups_of, groups_in_all}
 use Rattle.cx_meaning.specs.Islands.{kind_length, group_length}
-use Rattle.cx_meaning.specs.Sights.{In}
-use Rattle.cx_meaning.proofs.SightsLaws.{in_either, in_left, in_right}
+use Rattle.cx_text.specs.Members.{In}
 use Rattle.cx_meaning.proofs.DesignsLemmas.{same_part}
 use Rattle.cx_rules.specs.Accepted.{IsAccepted}
 use Rattle.cx_rules.specs.Items.{Context, Dynamic, InStatic, Branch, below_dynamic, Visited, visit, visit_parts, visit_all, statements_in}

@@ -2,6 +2,8 @@
 use Rattle.std.proofs.Common.{◌≡◌, ℕ, zero, suc, ◌+◌, ◌-◌, ◌<◌, inl, inr, Bool, true, false, ◌||◌, List, [], ◌∷◌, ◌++◌, length, map, get_or, Option, Some, None, refl, sym, ap, ◌∙◌, subst, arith}
 use Rattle.std.specs.Prelude.{flat_map}
 use Rattle.std.proofs.lemmas.List.{get_or_append_left, get_or-map, length-map}
+use Rattle.cx_text.proofs.MemberLaws.{in_at}
+use Rattle.cx_text.specs.Members.{In}
 use Rattle.cx_prim.specs.Rows.{Row}
 use Rattle.cx_meaning.specs.declared.kinds.GroupKind.{GroupKind}
 use Rattle.cx_meaning.specs.declared.kinds.GroupKind.TheVariants as kinds
@@ -9,7 +11,7 @@ use Rattle.cx_meaning.specs.declared.ports.PortRef.{PortRef}
 use Rattle.cx_meaning.specs.declared.ports.PortRef.TheVariants as ports
 use Rattle.cx_meaning.specs.Designs.{PlainAssign, PlainComponent, group_at, no_group, no_place, PlainForm, Empty, Enable, Seq, Par, If, While, Repeat, StaticSeq, StaticPar, StaticIf, StaticRepeat, Timed, PlainStatement, Placed, PlainStatements, no_statements, a_statement}
 use Rattle.cx_meaning.specs.Instances.{Instance, Node, Cells, At, Nothing, OfRow, OfInstance, cell_at, Path, State, under, merge, idle, IsSettled}
-use Rattle.cx_meaning.specs.Sights.{Held, In}
+use Rattle.cx_meaning.specs.Sights.{Held}
 use Rattle.cx_meaning.specs.Cycles.{Fault}
 use Rattle.cx_meaning.specs.Answers.{Answer, End, More, Meaning, after_turns, then_do, stay, idle_turn, Test, Holds, Fails, Unclear, chosen, test_turn, loop, rounds}
 use Rattle.cx_meaning.specs.Answers as answers
@@ -20,7 +22,6 @@ use Rattle.cx_meaning.specs.Calls as calls
 use Rattle.cx_meaning.specs.Running.{Children, leaves, control_below}
 use Rattle.cx_meaning.specs.Budgets as budgets
 use Rattle.cx_meaning.proofs.RunningLemmas.{idle_settles, settles_statement}
-use Rattle.cx_meaning.proofs.SightsLaws.{in_at}
 use Rattle.cx_meaning.proofs.DesignsLemmas.{there_below}
 use Rattle.cx_frames.proofs.RunLemmas.{run_stays}
 use Rattle.cx_rewrites.specs.Moving.{moved_assign, moved_group}

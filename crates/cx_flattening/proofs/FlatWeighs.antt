@@ -1,10 +1,11 @@
 -- PARTS OF THE FLAT DESIGN: each of its components stands in its tree, so its size is at most its weight.
-use Rattle.std.proofs.Common.{◌≡◌, ◌≢◌, ℕ, zero, suc, ◌+◌, ◌-◌, ◌<◌, ◌≤◌, ◌⊎◌, inl, inr, ⊎_elim, Bool, true, false, ◌||◌, nat_eq, List, [], ◌∷◌, ◌++◌, length, map, get_or, refl, sym, ap, ◌∙◌, subst, arith}
+use Rattle.std.proofs.Common.{◌≡◌, ◌≢◌, ℕ, zero, suc, ◌+◌, ◌-◌, ◌<◌, ◌≤◌, inl, inr, ⊎_elim, true, nat_eq, List, [], ◌∷◌, ◌++◌, length, map, get_or, refl, sym, ap, ◌∙◌, subst, arith}
 use Rattle.std.proofs.lemmas.Bool.{eqb-true}
+use Rattle.cx_text.proofs.BoolLaws.{either_true}
+use Rattle.cx_text.proofs.MemberLaws.{in_image, in_left, in_right}
 use Rattle.cx_meaning.specs.Designs.{PlainKind, OfPrimitive, OfComponent, PlainCell, PlainComponent, PlainDesign, component_at, no_component}
 use Rattle.cx_meaning.specs.Instances.{Instance, add_cell, cells_for, tree_within, tree_of}
-use Rattle.cx_meaning.specs.Sights.{In}
-use Rattle.cx_meaning.proofs.SightsLaws.{in_left, in_right, in_image}
+use Rattle.cx_text.specs.Members.{In}
 use Rattle.cx_rules.specs.Sizes.{size_of, weight_below, weight_in, sizes_of, design_size}
 use Rattle.cx_rules.specs.Wellformed.{IsDesign}
 use Rattle.cx_flattening.specs.FlatDesign.{any_of, flat_of, leads_within, is_reached, reached_below, renumbered_kind, renumbered_cell, flat_design}
@@ -102,10 +103,6 @@ module _ (d : PlainDesign) (design : IsDesign d) where
   abbrev flat : PlainDesign
   flat = flat_design d
 
-  either : (a b : Bool) → a || b ≡ true → (a ≡ true) ⊎ (b ≡ true)
-  either true b e = inl refl
-  either false b e = inr e
-
   -- what leads to a component has it in its tree
   in_numbers : (n k j : ℕ) → j < length d.components → is_reached d j ≡ true → leads_within d n k j ≡ true → In (numbers_within flat n (reached_below d j)) (reached_below d k)
   in_numbers zero k j less reached leads = inl (ap (reached_below d) (eqb-true j k leads))
@@ -119,7 +116,7 @@ module _ (d : PlainDesign) (design : IsDesign d) where
       inr (subst (λ (p : PlainComponent). In (cells_numbers (numbers_within flat n) p.cells) (reached_below d k)) (sym (flat_component_is d j less reached))
       (in_cells (numbers_within flat n) (map (renumbered_cell d) (flat_of d j).cells) (renumbered_cell d c.0) (reached_below d r.1) (reached_below d k) (in_image (renumbered_cell d) (flat_of d j).cells c.0 c.1)
       (renumbered_is c.0.kind r.1 c.2) (in_numbers n k r.1 x.0 x.1 r.3))))
-      (either (nat_eq j k) (any_of (leads_within d n k) (flat_of d j).cells) leads)
+      (either_true (nat_eq j k) (any_of (leads_within d n k) (flat_of d j).cells) leads)
     where
       renumbered_is : (kind : PlainKind) (x : ℕ) → kind ≡ OfComponent x → renumbered_kind d kind ≡ OfComponent (reached_below d x)
       renumbered_is kind x e = ap (renumbered_kind d) e

@@ -3,6 +3,7 @@
 use Rattle.std.proofs.Common.{◌≡◌, ℕ, ◌<◌, inl, inr, ⊎_elim, true, false, List, [], ◌++◌, length, map, Option, Some, None, refl, sym, ap, ◌∙◌, subst, arith}
 use Rattle.std.specs.Prelude.{flat_map}
 use Rattle.std.proofs.lemmas.List.{get_or_append_left, get_or-map, length-map}
+use Rattle.cx_text.proofs.MemberLaws.{in_either, in_left, in_right}
 use Rattle.cx_meaning.specs.declared.ports.PortRef.{PortRef}
 use Rattle.cx_meaning.specs.declared.kinds.GroupKind.{GroupKind}
 use Rattle.cx_meaning.specs.declared.kinds.GroupKind.TheVariants as kinds
@@ -10,8 +11,7 @@ use Rattle.cx_meaning.specs.Designs.{PlainForm, Empty, Enable, Seq, Par, If, Whi
 use Rattle.cx_meaning.specs.Instances.{Instance, Node, Cells, OfInstance, cell_at}
 use Rattle.cx_meaning.specs.Control.{with_comb, groups_in, groups_of, groups_in_all}
 use Rattle.cx_meaning.specs.Islands.{kind_length}
-use Rattle.cx_meaning.specs.Sights.{In}
-use Rattle.cx_meaning.proofs.SightsLaws.{in_either, in_left, in_right}
+use Rattle.cx_text.specs.Members.{In}
 use Rattle.cx_rules.specs.Items.{is_comb, Context, Dynamic, InStatic, Branch, below_dynamic, Visited, visit, visit_parts, visit_all}
 use Rattle.cx_rules.specs.Wellformed.{IsEnable, IsWith, IsForm}
 use Rattle.cx_rewrites.specs.Moving.{moved_group}

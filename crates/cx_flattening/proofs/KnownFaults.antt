@@ -1,6 +1,8 @@
 -- WHERE A RUN FAULTS: at a port of an instance of the tree that may be looked at.
 use Rattle.std.proofs.Common.{◌≡◌, ℕ, zero, suc, ◌+◌, ◌<◌, inl, inr, ◌⊎◌, Bool, true, false, ◌&&◌, nat_eq, List, [], ◌∷◌, ◌++◌, length, Option, Some, None, refl, sym, ap, ◌∙◌, subst, arith}
 use Rattle.std.proofs.lemmas.List.{append_assoc}
+use Rattle.cx_text.proofs.MemberLaws.{in_left, in_right}
+use Rattle.cx_text.specs.Members.{In}
 use Rattle.cx_bits.specs.BitVector.{BitVector}
 use Rattle.cx_meaning.specs.declared.ports.PortRef.{PortRef}
 use Rattle.cx_meaning.specs.declared.ports.PortRef.TheVariants as ports
@@ -10,12 +12,11 @@ use Rattle.cx_meaning.specs.declared.sights.Seen.TheVariants as sights
 use Rattle.cx_meaning.specs.Designs.{PlainInvoke, PlainComponent, PlainForm, Empty, Enable, Seq, Par, If, While, Repeat, StaticSeq, StaticPar, StaticIf, StaticRepeat, Timed, PlainStatement, Placed, PlainStatements, no_statements, a_statement}
 use Rattle.cx_meaning.specs.Instances.{Instance, Node, Cells, no_cells, a_primitive, an_instance, At, Nothing, OfRow, OfInstance, cells_of, cell_at, cell_count, Path, State, under, idle}
 use Rattle.cx_meaning.specs.Active.{Active, nothing, entries}
-use Rattle.cx_meaning.specs.Sights.{Look, Held, unheld, In, seen}
+use Rattle.cx_meaning.specs.Sights.{Look, Held, unheld, seen}
 use Rattle.cx_meaning.specs.Cycles.{Fault, fault_at, Outcome, Next, Stops, outcome_at, outcome_of, every_cell, first_of, first_fault, state_after, unless_fault, Ended, Goes, Faults, cycle}
 use Rattle.cx_meaning.specs.Islands.{group_length, fault_of, turn_of, unless_unclear}
 use Rattle.cx_meaning.specs.Calls.{test, fault_below}
 use Rattle.cx_meaning.proofs.InstancesLemmas.{row_instance, literal_is}
-use Rattle.cx_meaning.proofs.SightsLaws.{in_left, in_right}
 use Rattle.cx_rules.specs.Invokes.{form_lasts, lasts}
 use Rattle.cx_flattening.specs.Events.{the_invoke, Spot, spot, Event, Runs, Feeds, Looks, Beginning, Events, later_by, also_if, group_events, capture_events, rounds_events, source_to, bound_below, invoke_events, form_events, events, seq_events, par_events, control_events, events_below}
 use Rattle.cx_flattening.specs.Deeds.{History, no_history, hold, Deed, deeds_in, spot_if, looked_in, own_entries, deeds_below, held_below, and_now, fault_in, or_later, first_unclear}

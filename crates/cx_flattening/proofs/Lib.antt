@@ -3,7 +3,6 @@ pub mod BareRuns
 pub mod BareDesigns
 pub mod KnownInvokes
 pub mod KnownNested
-pub mod KnownRules
 mod Sorting
 mod MovedDrivers
 mod CopiedAssigns
@@ -46,11 +45,10 @@ mod FlatStarts
 mod FlatArms
 pub mod FlatStatements
 pub mod FlatRuns
-mod RowReads
 pub mod Ruled
 mod Statements
 mod FairParts
-mod FlatOrigins
+pub mod FlatOrigins
 mod FlatBlocks
 pub mod AcceptedTrees
 mod Safe
@@ -65,7 +63,6 @@ pub mod DeedsOnce
 mod FlatDrives
 mod ArmsAlike
 mod FlatBare
-mod MovedCalls
 mod FlatCaptures
 mod FlatDepends
 mod FlatCallees

@@ -4,8 +4,8 @@ use Rattle.cx_meaning.specs.declared.ports.PortRef.{PortRef}
 use Rattle.cx_meaning.specs.declared.ports.PortRef.TheVariants as ports
 use Rattle.cx_meaning.specs.Designs.{PlainComponent}
 use Rattle.cx_meaning.specs.Active.{same_port}
-use Rattle.cx_meaning.proofs.PortsLemmas.{same_self}
 use Rattle.cx_rules.proofs.FoundLemmas.{same_is}
+use Rattle.cx_rewrites.proofs.MovedCalls.{same_both}
 use Rattle.cx_flattening.specs.Flattened.{Kids, kid_at, kept_at, block_size, start_of, wire_at, port_if, own_port, child_port}
 use Rattle.cx_flattening.specs.Targets.{OwnTarget, BlockTarget}
 use Rattle.cx_flattening.proofs.Placing.{kept_less, kept_apart, blocks_apart}
@@ -16,13 +16,6 @@ not_same x y apart = choice (same_port x y) refl
     choice : (b : Bool) → same_port x y ≡ b → b ≡ false
     choice true e = absurd (apart (same_is x y e))
     choice false e = refl
-
-pub same_both : (x y a b : PortRef) → (x ≡ y → a ≡ b) → (a ≡ b → x ≡ y) → same_port x y ≡ same_port a b
-same_both x y a b there back = choice (same_port a b) refl
-  where
-    choice : (t : Bool) → same_port a b ≡ t → same_port x y ≡ t
-    choice true e = ap (same_port x) (sym (back (same_is a b e))) ∙ same_self x
-    choice false e = not_same x y (λ f. let none : true ≡ false = sym (same_self a) ∙ ap (same_port a) (there f) ∙ e in cc)
 
 abbrev cell_of : PortRef → ℕ
 cell_of (ports.Cell c p) = c

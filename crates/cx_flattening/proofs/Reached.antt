@@ -1,5 +1,5 @@
 -- Which components the flat main reaches, and where each of them stands in the flat design.
-use Rattle.std.proofs.Common.{◌≡◌, ℕ, zero, suc, ◌+◌, ◌<◌, ◌⊎◌, ⊎_elim, Bool, true, false, ◌||◌, nat_eq, List, [], ◌∷◌, ◌++◌, length, get_or, Some, refl, sym, ap, ◌∙◌, subst, arith}
+use Rattle.std.proofs.Common.{◌≡◌, ℕ, zero, suc, ◌+◌, ◌<◌, ⊎_elim, Bool, true, false, nat_eq, List, [], ◌∷◌, ◌++◌, length, get_or, Some, refl, sym, ap, ◌∙◌, subst, arith}
 use Rattle.std.specs.Prelude.{if◌then◌else◌}
 use Rattle.std.proofs.lemmas.Bool.{eq-eqb, eqb-true}
 use Rattle.std.proofs.lemmas.List.{length-append, length-map, get_or-map}
@@ -8,7 +8,7 @@ use Rattle.cx_meaning.specs.Designs.{PlainKind, OfPrimitive, OfComponent, PlainC
 use Rattle.cx_flattening.specs.Copies.{count_if}
 use Rattle.cx_flattening.specs.FlatDesign.{kind_of, any_of, flat_of, leads_within, is_reached, reached_from, reached_below, renumbered_part, flat_design}
 use Rattle.cx_flattening.proofs.CellLayout.{kind_at}
-use Rattle.cx_text.proofs.BoolLaws.{either_true}
+use Rattle.cx_text.proofs.BoolLaws.{either_true, or_left, or_right}
 
 zero_plus : (a : ℕ) → 0 + a ≡ a
 zero_plus a = omega arith
@@ -16,19 +16,11 @@ zero_plus a = omega arith
 plus_zero : (a : ℕ) → a ≡ a + 0
 plus_zero a = omega arith
 
-left : (a b : Bool) → a ≡ true → a || b ≡ true
-left true b e = refl
-left false b e = absurd (cc)
-
-right : (a b : Bool) → b ≡ true → a || b ≡ true
-right true b e = refl
-right false b e = e
-
 -- a cell of a component that has the property
 pub any_here : (property : ℕ → Bool) (cs : List PlainCell) (e j : ℕ) → kind_at cs e ≡ Some (OfComponent j) → property j ≡ true → any_of property cs ≡ true
 any_here property [] e j is holds = absurd (cc)
-any_here property (c ∷ cs) zero j is holds = left (kind_of property c.kind) (any_of property cs) (let same : c.kind ≡ OfComponent j = cc in ap (kind_of property) same ∙ holds)
-any_here property (c ∷ cs) (suc e) j is holds = right (kind_of property c.kind) (any_of property cs) (any_here property cs e j is holds)
+any_here property (c ∷ cs) zero j is holds = or_left (kind_of property c.kind) (any_of property cs) (let same : c.kind ≡ OfComponent j = cc in ap (kind_of property) same ∙ holds)
+any_here property (c ∷ cs) (suc e) j is holds = or_right (kind_of property c.kind) (any_of property cs) (any_here property cs e j is holds)
 
 -- what implies another property
 kind_more : (one other : ℕ → Bool) → ((j : ℕ) → one j ≡ true → other j ≡ true) → (kind : PlainKind) → kind_of one kind ≡ true → kind_of other kind ≡ true
@@ -39,18 +31,18 @@ any_more : (one other : ℕ → Bool) → ((j : ℕ) → one j ≡ true → othe
 any_more one other more [] e = absurd (cc)
 any_more one other more (c ∷ cs) e =
     ⊎_elim
-    (λ f. left (kind_of other c.kind) (any_of other cs) (kind_more one other more c.kind f))
-    (λ f. right (kind_of other c.kind) (any_of other cs) (any_more one other more cs f))
+    (λ f. or_left (kind_of other c.kind) (any_of other cs) (kind_more one other more c.kind f))
+    (λ f. or_right (kind_of other c.kind) (any_of other cs) (any_more one other more cs f))
     (either_true (kind_of one c.kind) (any_of one cs) e)
 
 module _ (d : PlainDesign) where
   -- with a step more
   leads_more : (n k j : ℕ) → leads_within d n k j ≡ true → leads_within d (suc n) k j ≡ true
-  leads_more zero k j e = left (nat_eq j k) (any_of (leads_within d zero k) (flat_of d j).cells) e
+  leads_more zero k j e = or_left (nat_eq j k) (any_of (leads_within d zero k) (flat_of d j).cells) e
   leads_more (suc n) k j e =
       ⊎_elim
-      (λ f. left (nat_eq j k) (any_of (leads_within d (suc n) k) (flat_of d j).cells) f)
-      (λ f. right (nat_eq j k) (any_of (leads_within d (suc n) k) (flat_of d j).cells) (any_more (leads_within d n k) (leads_within d (suc n) k) (leads_more n k) (flat_of d j).cells f))
+      (λ f. or_left (nat_eq j k) (any_of (leads_within d (suc n) k) (flat_of d j).cells) f)
+      (λ f. or_right (nat_eq j k) (any_of (leads_within d (suc n) k) (flat_of d j).cells) (any_more (leads_within d n k) (leads_within d (suc n) k) (leads_more n k) (flat_of d j).cells f))
       (either_true (nat_eq j k) (any_of (leads_within d n k) (flat_of d j).cells) e)
 
   pub leads_far : (more n k j : ℕ) → leads_within d n k j ≡ true → leads_within d (more + n) k j ≡ true
@@ -62,19 +54,19 @@ module _ (d : PlainDesign) where
 
   pub itself : (n k : ℕ) → leads_within d n k k ≡ true
   itself zero k = eq-eqb k k refl
-  itself (suc n) k = left (nat_eq k k) (any_of (leads_within d n k) (flat_of d k).cells) (eq-eqb k k refl)
+  itself (suc n) k = or_left (nat_eq k k) (any_of (leads_within d n k) (flat_of d k).cells) (eq-eqb k k refl)
 
   -- what a component leads to leads to its cells' components
   begins_here : (m a k j e : ℕ) → kind_at (flat_of d k).cells e ≡ Some (OfComponent j) → nat_eq a k ≡ true → leads_within d (suc m) j a ≡ true
   begins_here m a k j e is same =
-      right (nat_eq a j) (any_of (leads_within d m j) (flat_of d a).cells)
+      or_right (nat_eq a j) (any_of (leads_within d m j) (flat_of d a).cells)
       (any_here (leads_within d m j) (flat_of d a).cells e j (ap (λ x. kind_at (flat_of d x).cells e) (eqb-true a k same) ∙ is) (itself m j))
 
   pub leads_further : (n a k j e : ℕ) → leads_within d n k a ≡ true → kind_at (flat_of d k).cells e ≡ Some (OfComponent j) → leads_within d (suc n) j a ≡ true
   leads_further zero a k j e h is = begins_here 0 a k j e is h
   leads_further (suc n) a k j e h is =
       ⊎_elim (begins_here (suc n) a k j e is)
-      (λ g. right (nat_eq a j) (any_of (leads_within d (suc n) j) (flat_of d a).cells)
+      (λ g. or_right (nat_eq a j) (any_of (leads_within d (suc n) j) (flat_of d a).cells)
       (any_more (leads_within d n k) (leads_within d (suc n) j) (λ x l. leads_further n x k j e l is) (flat_of d a).cells g))
       (either_true (nat_eq a k) (any_of (leads_within d n k) (flat_of d a).cells) h)
 

@@ -1,5 +1,7 @@
 -- THE PORTS ON WHICH OUTPUTS REST: what they depend on is among them, and no group drives one of them.
 use Rattle.std.proofs.Common.{◌≡◌, ℕ, suc, ◌+◌, ◌<◌, ◌⊎◌, inl, inr, ⊎_elim, true, false, List, [], ◌∷◌, ◌++◌, length, get_or, Some, None, refl, sym, ap, ◌∙◌, subst, arith}
+use Rattle.cx_text.proofs.MemberLaws.{in_at}
+use Rattle.cx_text.specs.Members.{In}
 use Rattle.cx_prim.specs.declared.ports.Side.{Side}
 use Rattle.cx_prim.specs.declared.ports.Side.TheVariants as sides
 use Rattle.cx_prim.specs.Rows.{Row}
@@ -9,8 +11,7 @@ use Rattle.cx_meaning.specs.Rows.{side_of}
 use Rattle.cx_meaning.specs.Designs.{PlainAssign, PlainGroup, PlainComponent, group_at, no_group}
 use Rattle.cx_meaning.specs.Instances.{Instance, At, Nothing, OfRow, OfInstance, part_of, cells_of, cell_at}
 use Rattle.cx_meaning.specs.Active.{Active, nothing, Owned, owned, owned_by_groups, source_order, offset_of, same_port, drivers}
-use Rattle.cx_meaning.specs.Sights.{In, IsWanted, PartPort, Go, AnInput, AnOutput, ItsDone, part_port}
-use Rattle.cx_meaning.proofs.SightsLaws.{in_at}
+use Rattle.cx_meaning.specs.Sights.{IsWanted, PartPort, Go, AnInput, AnOutput, ItsDone, part_port}
 use Rattle.cx_meaning.proofs.DesignsLemmas.{group_there, there_below}
 use Rattle.cx_meaning.proofs.ActiveLemmas.{acting_has}
 use Rattle.cx_meaning.proofs.PortsLemmas.{same_self}

@@ -1,6 +1,8 @@
 -- WHAT THE RULES KEEP OF A COMPONENT with what is below it, as far as flattening asks for it.
-use Rattle.std.proofs.Common.{◌≡◌, ℕ, zero, suc, ◌+◌, ◌<◌, ◌⊎◌, inl, inr, ⊎_elim, Bool, true, false, List, [], ◌∷◌, ◌++◌, length, get_or, Option, Some, None, refl, sym, ap, ◌∙◌, subst, arith}
+use Rattle.std.proofs.Common.{◌≡◌, ℕ, zero, suc, ◌+◌, ◌<◌, ◌⊎◌, inl, inr, ⊎_elim, true, false, List, [], ◌∷◌, ◌++◌, length, get_or, Option, Some, None, refl, sym, ap, ◌∙◌, subst, arith}
+use Rattle.std.proofs.lemmas.Bool.{false_from_ne_true}
 use Rattle.std.specs.Prelude.{flat_map, nat_eq, slice_get}
+use Rattle.cx_text.proofs.MemberLaws.{in_either, in_left, in_right, number_in}
 use Rattle.cx_text.specs.declared.rules.Rule.TheVariants.{NotATarget, NotASource, AlwaysEnable, StaticShape, CallShape, OutputNotState}
 use Rattle.cx_meaning.specs.declared.ports.PortRef.{PortRef}
 use Rattle.cx_meaning.specs.declared.ports.PortRef.TheVariants as ports
@@ -9,14 +11,13 @@ use Rattle.cx_meaning.specs.Designs.{PlainAssign, PlainGroup, PlainInvoke, Plain
 use Rattle.cx_meaning.specs.Instances.{Instance, Node, Cells, no_cells, a_primitive, an_instance, part_of}
 use Rattle.cx_meaning.specs.Active.{nothing, group, Owned, owned, owned_by_groups, source_order}
 use Rattle.cx_meaning.specs.Islands.{group_length}
-use Rattle.cx_meaning.specs.Sights.{In}
-use Rattle.cx_meaning.proofs.SightsLaws.{number_in, in_either, in_left, in_right}
+use Rattle.cx_text.specs.Members.{In}
 use Rattle.cx_meaning.proofs.DesignsLemmas.{same_part, owned_has}
 use Rattle.cx_meaning.proofs.ActiveLemmas.{sorted_has}
 use Rattle.cx_rules.specs.Ports.{component_of, path_of, is_source_only, is_target_only, is_primitive_enable, cell_name}
 use Rattle.cx_rules.specs.Items.{Visited, statements_in, test_in, sources_of}
 use Rattle.cx_rules.specs.Footprints.{AssignNames, Rests}
-use Rattle.cx_rules.specs.ShapeRules.{is_hole, some_target, LeadsToInput, IsWrongControl, enabled_name}
+use Rattle.cx_rules.specs.ShapeRules.{is_hole, some_target, LeadsToInput, IsWrongControl}
 use Rattle.cx_rules.specs.StaticControl.{may_stand, is_in_static}
 use Rattle.cx_rules.specs.Invokes.{invoke_at, invoke_in}
 use Rattle.cx_rules.specs.InvokeShape.{is_static_port, InvokeBreak}
@@ -30,14 +31,11 @@ use Rattle.cx_rules.proofs.CircleLemmas.{within_acyclic, within_group}
 use Rattle.cx_laws.proofs.EdgeLemmas.{IsFit}
 use Rattle.cx_laws.proofs.RaceLemmas.{unshared}
 use Rattle.cx_laws.proofs.SourceLemmas.{fit_source}
+use Rattle.cx_laws.proofs.StaticLemmas.{all_may}
 use Rattle.cx_text.proofs.BoolLaws.{or_left}
 use Rattle.cx_flattening.specs.Fair.{IsAssignOf}
 use Rattle.cx_flattening.specs.Ends.{is_static_done, NoneNamesDone}
 use Rattle.cx_rules.proofs.FoundLemmas.{source_in}
-
-pub not_so : (b : Bool) → (b ≡ true → ⊥) → b ≡ false
-not_so true none = absurd (none refl)
-not_so false none = refl
 
 groups_have : (k : ℕ) (groups : List PlainGroup) (g : ℕ) (a : PlainAssign) → g < length groups → In (get_or groups g no_group).assigns a → In (owned_by_groups k groups) (record { owner = Some (k + g); assign = a })
 groups_have k [] g a few i = absurd (omega (arith, few))
@@ -186,7 +184,7 @@ module _ (d : PlainDesign) (design : IsDesign d) (accepted : IsAccepted d) (undo
         record {
           there = subst (IsThere i) r.2 (is.sources r.0 r.1);
           no_hole = ap is_hole (sym r.2) ∙ is.no_hole r.0 r.1;
-          no_target = ap (is_target_only i) (sym r.2) ∙ not_so (is_target_only i r.0.port) (no_target_only r.0 r.1);
+          no_target = ap (is_target_only i) (sym r.2) ∙ false_from_ne_true (is_target_only i r.0.port) (no_target_only r.0 r.1);
           no_done = (undone k within).assigns a q (of_part a owner s) names;
         }
 
@@ -217,7 +215,7 @@ module _ (d : PlainDesign) (design : IsDesign d) (accepted : IsAccepted d) (undo
         record {
           there = is.test p e;
           no_hole = is.no_hole p e;
-          no_target = not_so (is_target_only i p.port) (test_source p e);
+          no_target = false_from_ne_true (is_target_only i p.port) (test_source p e);
           no_done = (undone k within).tests v p (subst (λ x. In (statements_in x) v) (sym part_is) s) e;
         }
 
@@ -225,15 +223,6 @@ module _ (d : PlainDesign) (design : IsDesign d) (accepted : IsAccepted d) (undo
     test_rests written p a b e never =
         accepted.shapes StaticShape (record { component = k; part = AStatement at.0 }) v.place [] refl
         (inr (inr (inr (inl (record { within = within; number = at.0; is = refl; statement = v; stands = at.1; breaks = (written, p, a, b, e, never, (refl, refl)) })))))
-
-    stands_there : is_in_static v.context ≡ true → may_stand part v.context v.form ≡ true
-    stands_there static = by (may_stand part v.context v.form) refl
-      where
-        by : (b : Bool) → may_stand part v.context v.form ≡ b → b ≡ true
-        by true e = refl
-        by false e =
-            absurd (accepted.shapes StaticShape (record { component = k; part = AStatement at.0 }) v.place (enabled_name (part_of i) v.form) refl
-            (inr (inl (record { within = within; number = at.0; is = refl; statement = v; stands = at.1; breaks = (static, ap (λ x. may_stand x v.context v.form) part_is ∙ e, (refl, refl)) }))))
 
     no_break : (n : ℕ) (w : PlainInvoke) → v.form ≡ Timed n → invoke_at part n ≡ Some w → InvokeBreak i w → ⊥
     no_break n w e is broken =
@@ -252,7 +241,7 @@ module _ (d : PlainDesign) (design : IsDesign d) (accepted : IsAccepted d) (undo
       record {
         there = is.source;
         no_hole = is.no_hole;
-        no_target = not_so (is_target_only i a.source.port) (bind_source v a j m);
+        no_target = false_from_ne_true (is_target_only i a.source.port) (bind_source v a j m);
         no_done = (undone k within).inputs v a (subst (λ x. In x.invokes v) (sym part_is) j) m;
       }
 
@@ -276,18 +265,18 @@ module _ (d : PlainDesign) (design : IsDesign d) (accepted : IsAccepted d) (undo
   pub ruled : IsRuled part i
   ruled = record {
     assigns = λ owner a s. (design.components k within).assigns owner a s;
-    target = λ owner a s. not_so (is_source_only i a.target) (no_source_only owner a s);
-    dynamic = λ owner a s. not_so (is_static_port i a.target) (no_static_port owner a s);
+    target = λ owner a s. false_from_ne_true (is_source_only i a.target) (no_source_only owner a s);
+    dynamic = λ owner a s. false_from_ne_true (is_static_port i a.target) (no_static_port owner a s);
     sources = λ owner a q s names. source owner a s q names;
-    bare = λ a j. not_so (is_primitive_enable i a.target) (no_enable a j);
+    bare = λ a j. false_from_ne_true (is_primitive_enable i a.target) (no_enable a j);
     kept = kept_input;
     outputs_rest = λ owner a n q s e names never. output_kept owner a s n q e names (inl never);
     outputs_lead = λ owner a n q s e names leads. output_kept owner a s n q e names (inr leads);
     statements = λ v s. (design.components k within).statements v s;
     tests = λ v p s e. test_is v s p e;
     tests_rest = λ v written p a b s e never. test_rests v s written p a b e never;
-    stands = λ v s static. stands_there v s static;
-    timed = λ g n less e. not_so (some_target is_hole (group_at part g).assigns) (no_hole_driven g n less e);
+    stands = all_may d accepted k within;
+    timed = λ g n less e. false_from_ne_true (some_target is_hole (group_at part g).assigns) (no_hole_driven g n less e);
     invokes = λ v j. (design.components k within).invokes v j;
     enabled = λ n less. invoke_found (statements_in part) n ((design.components k within).invoked n less);
     inputs = bind_is;

@@ -1,11 +1,11 @@
 -- The groups, the static invokes and the conditions of a statement stand in statements inside it.
 use Rattle.std.proofs.Common.{◌≡◌, ℕ, inl, inr, ⊎_elim, ◌⊎◌, List, ◌++◌, Option, Some, None, refl, ap}
+use Rattle.cx_text.proofs.MemberLaws.{in_either, in_left, in_right}
 use Rattle.cx_meaning.specs.declared.ports.PortRef.{PortRef}
 use Rattle.cx_meaning.specs.declared.ports.PlacedPort.{PlacedPort}
 use Rattle.cx_meaning.specs.Designs.{PlainForm, Empty, Enable, Seq, Par, If, While, Repeat, StaticSeq, StaticPar, StaticIf, StaticRepeat, Timed, PlainStatement, Placed, PlainStatements, no_statements, a_statement}
 use Rattle.cx_meaning.specs.Control.{with_comb, groups_in, groups_of, groups_in_all}
-use Rattle.cx_meaning.specs.Sights.{In}
-use Rattle.cx_meaning.proofs.SightsLaws.{in_either, in_left, in_right}
+use Rattle.cx_text.specs.Members.{In}
 use Rattle.cx_rules.specs.Items.{Context, InStatic, Branch, below_dynamic, Visited, visit, visit_parts, visit_all, test_in}
 use Rattle.cx_flattening.specs.Controlled.{timed_in, timed_of, timed_all, tested_in, tested_of, tested_all}
 

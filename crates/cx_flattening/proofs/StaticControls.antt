@@ -8,7 +8,7 @@ use Rattle.cx_meaning.specs.Designs.{PlainComponent, group_at, PlainForm, Empty,
 use Rattle.cx_meaning.specs.Instances.{Instance, Node, Cells, no_cells, a_primitive, an_instance, OfInstance, cell_at}
 use Rattle.cx_meaning.specs.Control.{groups_in, groups_of}
 use Rattle.cx_meaning.specs.Islands.{kind_length, group_length}
-use Rattle.cx_meaning.specs.Sights.{In}
+use Rattle.cx_text.specs.Members.{In}
 use Rattle.cx_rules.specs.Items.{InStatic}
 use Rattle.cx_rules.specs.StaticControl.{may_stand}
 use Rattle.cx_flattening.specs.Events.{the_invoke}

@@ -1,6 +1,8 @@
 -- A RUN OF A TREE THAT KEEPS THE RULES faults at ports that may be looked at.
 use Rattle.std.proofs.Common.{◌≡◌, ℕ, zero, suc, ◌<◌, inl, inr, Bool, true, false, [], length, Option, Some, None, refl, sym, ap, ◌∙◌, subst}
 use Rattle.std.specs.Prelude.{is_some}
+use Rattle.cx_text.proofs.MemberLaws.{in_left, in_right}
+use Rattle.cx_text.specs.Members.{In}
 use Rattle.cx_text.specs.declared.places.Place.{Place}
 use Rattle.cx_meaning.specs.declared.ports.PortRef.{PortRef}
 use Rattle.cx_meaning.specs.declared.ports.PortRef.TheVariants as ports
@@ -11,7 +13,7 @@ use Rattle.cx_meaning.specs.Instances.{Instance, Node, Cells, no_cells, a_primit
 use Rattle.cx_meaning.specs.Truths.{Truth, truth_of}
 use Rattle.cx_meaning.specs.Truths as truths
 use Rattle.cx_meaning.specs.Active.{group, capture, comb}
-use Rattle.cx_meaning.specs.Sights.{Held, In, seen}
+use Rattle.cx_meaning.specs.Sights.{Held, seen}
 use Rattle.cx_meaning.specs.Cycles.{Fault, Ended}
 use Rattle.cx_meaning.specs.Answers.{Answer, End, More, turns_of, idle_turn, one_turn}
 use Rattle.cx_meaning.specs.Answers as answers
@@ -19,7 +21,6 @@ use Rattle.cx_meaning.specs.Control.{run}
 use Rattle.cx_meaning.specs.Islands.{turn_of}
 use Rattle.cx_meaning.specs.Calls.{hole_turn, test, test_of, called, captures, lift_answer, inputs_of_call}
 use Rattle.cx_meaning.specs.Running.{Children}
-use Rattle.cx_meaning.proofs.SightsLaws.{in_left, in_right}
 use Rattle.cx_rules.specs.Items.{Dynamic, Visited, visit, visit_all, statements_in}
 use Rattle.cx_rules.specs.InvokeShape.{latency_at, is_static_port}
 use Rattle.cx_rules.specs.Wellformed.{IsForm}

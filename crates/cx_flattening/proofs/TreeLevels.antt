@@ -4,7 +4,7 @@ use Rattle.std.specs.List.{range_with_len}
 use Rattle.std.proofs.lemmas.List.FromFn.{length-range_with_len}
 use Rattle.cx_meaning.specs.Designs.{OfComponent, PlainCell, PlainDesign, component_at}
 use Rattle.cx_meaning.specs.Instances.{Node, tree_within}
-use Rattle.cx_meaning.specs.Sights.{In}
+use Rattle.cx_text.specs.Members.{In}
 use Rattle.cx_rules.specs.Wellformed.{LeadsTo, by_cell, by_way_of, IsDesign, IsKind}
 use Rattle.cx_rules.proofs.Finite.{Distinct, distinct_few}
 use Rattle.cx_meaning.proofs.InstancesLemmas.{cells_same}

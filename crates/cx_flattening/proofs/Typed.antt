@@ -1,19 +1,20 @@
 -- WIDTHS AND SIDES of an assignment's ports, in one claim that moves with the ports; from it the rules of stage 3.
-use Rattle.std.proofs.Common.{◌≡◌, ℕ, inl, inr, ⊎_elim, Bool, true, false, nat_eq, List, [], ◌∷◌, ◌++◌, Option, Some, None, refl, sym, ap, ◌∙◌, subst}
+use Rattle.std.proofs.Common.{◌≡◌, ℕ, inl, inr, ⊎_elim, Bool, true, false, List, [], ◌∷◌, ◌++◌, Option, Some, None, refl, sym, ap, ◌∙◌, subst}
 use Rattle.std.specs.Prelude.{if◌then◌else◌, not}
-use Rattle.std.proofs.lemmas.Bool.{eq-eqb, eqb-true}
+use Rattle.std.proofs.lemmas.Bool.{eq-eqb}
+use Rattle.cx_text.proofs.MemberLaws.{in_either}
+use Rattle.cx_text.specs.Members.{In}
 use Rattle.cx_meaning.specs.declared.ports.PortRef.{PortRef}
 use Rattle.cx_meaning.specs.declared.ports.PlacedPort.{PlacedPort}
 use Rattle.cx_meaning.specs.Designs.{PlainGuard, Always, Atom, Negation, All, Any, Compared, Within, PlainGuards, no_guards, a_guard, PlainAssign}
 use Rattle.cx_meaning.specs.Instances.{Instance}
-use Rattle.cx_meaning.specs.Sights.{In, GuardNames, AnyNames}
-use Rattle.cx_meaning.proofs.SightsLaws.{in_either}
+use Rattle.cx_meaning.specs.Sights.{GuardNames, AnyNames}
 use Rattle.cx_rules.specs.Ports.{width_of, written_width, is_source_only, is_target_only}
 use Rattle.cx_rules.specs.Footprints.{AssignNames}
 use Rattle.cx_rules.specs.Items.{Pair, atoms_of, atoms_in, comparisons_of, comparisons_in, operands_of, operands_in, sources_of}
 use Rattle.cx_rules.specs.WidthRules.{differ, pairs_of, first_unequal, is_wide, first_wide, IsBadLiteral}
 use Rattle.cx_rewrites.specs.Moving.{moved_guard, moved_guards, moved_assign}
-use Rattle.cx_rules.proofs.WidthRulesLemmas.{written_is}
+use Rattle.cx_rules.proofs.WidthRulesLemmas.{written_is, not_differ}
 
 -- by what a port of a width is that is looked at, and one that is driven
 module _ (S T : ℕ → PortRef → Type 0) where
@@ -177,13 +178,6 @@ left_bits i (x ∷ xs) ys e = by (is_wide i x.port) e (left_bits i xs ys)
         → ((if b then Some x.port else first_wide i xs) ≡ None) × (first_wide i ys ≡ None)
     by true f later = absurd (cc)
     by false f later = later f
-
-not_differ : (a b : ℕ) → differ (Some a) (Some b) ≡ false → a ≡ b
-not_differ a b e = by (nat_eq a b) refl e
-  where
-    by : (t : Bool) → nat_eq a b ≡ t → not t ≡ false → a ≡ b
-    by true f g = eqb-true a b f
-    by false f g = absurd (let clash : true ≡ false = g in cc)
 
 pub equal_widths : (i : Instance) (p q : PortRef) (w v : ℕ) → width_of i p ≡ Some w → width_of i q ≡ Some v → differ (width_of i p) (width_of i q) ≡ false → w ≡ v
 equal_widths i p q w v e f same = not_differ w v (sym (ap (λ o. differ o (width_of i q)) e ∙ ap (differ (Some w)) f) ∙ same)

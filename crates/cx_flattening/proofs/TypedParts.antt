@@ -1,5 +1,7 @@
 -- TYPED COMPONENTS: each assignment and each bound input of an accepted design is.
 use Rattle.std.proofs.Common.{◌≡◌, ℕ, zero, suc, ◌+◌, ◌<◌, ◌≤◌, inl, inr, ⊎_elim, Bool, true, false, List, [], ◌∷◌, length, get_or, Option, Some, None, if◌then◌else◌, refl, sym, ap, ◌∙◌, subst, arith}
+use Rattle.std.proofs.lemmas.Bool.{false_from_ne_true}
+use Rattle.cx_text.proofs.MemberLaws.{number_in}
 use Rattle.cx_text.specs.declared.rules.Rule.TheVariants as rules
 use Rattle.cx_text.proofs.BoolLaws.{or_either}
 use Rattle.cx_meaning.specs.declared.ports.PortRef.{PortRef}
@@ -8,8 +10,8 @@ use Rattle.cx_meaning.specs.declared.ports.PlacedPort.{PlacedPort}
 use Rattle.cx_meaning.specs.Designs.{OfComponent, PlainAssign, PlainInvoke, PlainComponent, PlainDesign, component_at}
 use Rattle.cx_meaning.specs.Instances.{Instance, Node, Cells, no_cells, a_primitive, an_instance, OfInstance, part_of, cells_of, cell_at, cells_for, tree_within}
 use Rattle.cx_meaning.specs.Active.{same_port, source_order}
-use Rattle.cx_meaning.specs.Sights.{In}
-use Rattle.cx_meaning.proofs.SightsLaws.{number_in, input_at}
+use Rattle.cx_text.specs.Members.{In}
+use Rattle.cx_meaning.proofs.SightsLaws.{input_at}
 use Rattle.cx_meaning.proofs.PortsLemmas.{same_self}
 use Rattle.cx_laws.proofs.TreeLemmas.{cell_there, declared_there}
 use Rattle.cx_rules.specs.Accepted.{IsAccepted}
@@ -28,7 +30,7 @@ use Rattle.cx_flattening.specs.Ends.{NoneNamesDone}
 use Rattle.cx_flattening.specs.Fair.{IsFair}
 use Rattle.cx_flattening.proofs.CellLayout.{kind_at, cell_for, kind_in}
 use Rattle.cx_flattening.proofs.TreeLevels.{IsWay, further, way_is_short, levels}
-use Rattle.cx_flattening.proofs.Ruled.{not_so, owner_is, in_order, bind_in, IsSource, IsRuled}
+use Rattle.cx_flattening.proofs.Ruled.{owner_is, in_order, bind_in, IsSource, IsRuled}
 use Rattle.cx_flattening.proofs.FairParts.{HasCells, named, drives_own, input_bound}
 use Rattle.cx_flattening.proofs.AcceptedTrees.{child_kind, has_cells, ruled_tree, good_tree}
 use Rattle.cx_flattening.proofs.Typed.{Typed, equal_widths, unequal_head, assign_typed}
@@ -80,7 +82,7 @@ module _ (d : PlainDesign) (accepted : IsAccepted d) (k : ℕ) (within : k < len
         let n = number_in (binds_in the_part) a (bind_in the_part.invokes v a j m) in
         accepted.widths rules.Literal (record { component = k; part = ABind n.0 }) a.source.place [] refl
         (inr (inr (record { within = within; number = n.0; is = refl; assign = a; stands = n.1; breaks = (a.source, inl refl, bad, (refl, refl)) })));
-    tests = λ v p j e. not_so (is_wide whole p.port) (λ bad.
+    tests = λ v p j e. false_from_ne_true (is_wide whole p.port) (λ bad.
         let n = number_in (statements_in the_part) v j in
         accepted.widths rules.GuardWidth (record { component = k; part = AStatement n.0 }) v.place (path_of whole p.port) refl
         (inr (inl (record { within = within; number = n.0; is = refl; statement = v; stands = n.1; breaks = (p, e, bad, (refl, refl)) }))));

@@ -1,27 +1,22 @@
 -- The done of a cell of a static component: no text names it, since nothing calls the cell.
-use Rattle.std.specs.Prelude.{◌≡◌, ℕ, ◌<◌, Bool, true, false, ◌&&◌, Some, length}
+use Rattle.std.specs.Prelude.{◌≡◌, ℕ, ◌<◌, Bool, false, ◌&&◌, Some, length}
+use Rattle.cx_text.specs.Members.{In}
 use Rattle.cx_meaning.specs.declared.ports.PortRef.{PortRef}
 use Rattle.cx_meaning.specs.declared.ports.PortRef.TheVariants as ports
 use Rattle.cx_meaning.specs.declared.ports.PlacedPort.{PlacedPort}
 use Rattle.cx_meaning.specs.Designs.{PlainAssign, PlainInvoke, PlainDesign}
 use Rattle.cx_meaning.specs.Instances.{Instance, At, Nothing, OfRow, OfInstance, part_of, cells_of, cell_at}
-use Rattle.cx_meaning.specs.Sights.{In, PartPort, Go, AnInput, AnOutput, ItsDone, part_port}
-use Rattle.cx_rules.specs.Ports.{component_of}
+use Rattle.cx_meaning.specs.Sights.{part_port}
+use Rattle.cx_rules.specs.Ports.{component_of, is_part_done}
 use Rattle.cx_rules.specs.Items.{Visited, statements_in, test_in}
 use Rattle.cx_rules.specs.Footprints.{AssignNames}
 use Rattle.cx_flattening.specs.Whole.{is_static}
 use Rattle.cx_flattening.specs.Fair.{IsAssignOf}
 
-abbrev pub is_done : PartPort → Bool
-is_done Go = false
-is_done (AnInput n) = false
-is_done (AnOutput n) = false
-is_done ItsDone = true
-
 abbrev pub is_done_at : At → ℕ → Bool
 is_done_at Nothing p = false
 is_done_at (OfRow row) p = false
-is_done_at (OfInstance child) p = is_static child && is_done (part_port (part_of child) p)
+is_done_at (OfInstance child) p = is_static child && is_part_done (part_port (part_of child) p)
 
 abbrev pub is_static_done : Instance → PortRef → Bool
 is_static_done i (ports.Cell c p) = is_done_at (cell_at (cells_of i) c) p

@@ -1,5 +1,6 @@
 -- An instance whose ports stand for ports of a host: what is asked of both so that each port is seen in the host as in the instance.
 use Rattle.std.specs.Prelude.{◌≡◌, ℕ, ◌+◌, ◌<◌, true, false, [], ◌∷◌, Some, map, length}
+use Rattle.cx_text.specs.Members.{In}
 use Rattle.cx_prim.specs.Rows.{Row}
 use Rattle.cx_meaning.specs.declared.ports.PortRef.{PortRef}
 use Rattle.cx_meaning.specs.declared.ports.PortRef.TheVariants as ports
@@ -8,7 +9,7 @@ use Rattle.cx_meaning.specs.declared.sights.Seen.TheVariants.{Undefined}
 use Rattle.cx_meaning.specs.Designs.{PlainAssign, PlainGroup, PlainComponent}
 use Rattle.cx_meaning.specs.Instances.{Instance, Nothing, OfRow, OfInstance, part_of, cells_of, cell_at, State, under}
 use Rattle.cx_meaning.specs.Active.{Active, nothing, Owned, source_order, offset_of, drivers}
-use Rattle.cx_meaning.specs.Sights.{Held, unheld, AnOutput, part_port, is_done_cell, bit_of, target_seen, In, Sees, seen, outputs_below}
+use Rattle.cx_meaning.specs.Sights.{Held, unheld, AnOutput, part_port, is_done_cell, bit_of, target_seen, Sees, seen, outputs_below}
 use Rattle.cx_rules.specs.Circles.{IsAcyclic, AcyclicBelow}
 use Rattle.cx_rules.specs.Footprints.{AssignNames, Leads}
 use Rattle.cx_rewrites.specs.Moving.{moved_acting}

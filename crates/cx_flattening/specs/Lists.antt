@@ -5,7 +5,7 @@ use Rattle.cx_meaning.specs.Designs.{PlainForm}
 use Rattle.cx_meaning.specs.Instances.{Instance, part_of, cells_of}
 use Rattle.cx_meaning.specs.Active.{nothing, entries}
 use Rattle.cx_meaning.specs.Control.{groups_in}
-use Rattle.cx_meaning.specs.Sights.{In}
+use Rattle.cx_text.specs.Members.{In}
 use Rattle.cx_flattening.specs.Events.{Event, spot, form_events, events_below}
 use Rattle.cx_flattening.specs.Deeds.{History, deeds_in, own_entries}
 use Rattle.cx_flattening.specs.Embedded.{IsFlattened}

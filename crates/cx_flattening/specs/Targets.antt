@@ -4,7 +4,7 @@ use Rattle.cx_meaning.specs.declared.ports.PortRef.{PortRef}
 use Rattle.cx_meaning.specs.declared.ports.PortRef.TheVariants as ports
 use Rattle.cx_meaning.specs.Designs.{PlainAssign, PlainGroup, PlainComponent}
 use Rattle.cx_meaning.specs.Control.{groups_of}
-use Rattle.cx_meaning.specs.Sights.{In}
+use Rattle.cx_text.specs.Members.{In}
 use Rattle.cx_rules.specs.Footprints.{AssignNames}
 use Rattle.cx_rules.specs.Counts.{is_one_of}
 use Rattle.cx_flattening.specs.Flattened.{Kids, kid_at}

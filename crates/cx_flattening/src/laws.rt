@@ -19,12 +19,12 @@ ghost use Rattle.cx_rules.specs.Sizes.{depth_below, design_size, instances_below
 ghost use Rattle.cx_rules.specs.ShapeRules.{BreaksAlwaysEnable, BreaksCombEnable, BreaksDoneNotState, BreaksInvokeLength, BreaksKept};
 ghost use Rattle.cx_rules.specs.ShapeRules.{BreaksLength, BreaksNoDone, BreaksOutputNotState, BreaksStaticTest};
 ghost use Rattle.cx_rules.specs.ShapeRules.{BreaksPartLength, BreaksStaticControl, BreaksStaticGuard, GroupBreaksStaticShape};
-ghost use Rattle.cx_rules.specs.LimitRule.{count_in, is_too_many};
+ghost use Rattle.cx_rules.specs.LimitRule.{BreaksWords, count_in, is_too_many};
 ghost use Rattle.cx_rules.specs.CallShape.{BreaksCallShape, GroupBreaksCallShape};
 ghost use Rattle.cx_rules.specs.InvokeShape.{BreaksInvoke, BreaksStaticCell};
 ghost use Rattle.cx_rules.specs.Spots.{OnAssign, OnGroup, OnStatement, Spot};
 ghost use Rattle.cx_rules.specs.Externals.{external_rows};
-ghost use Rattle.cx_rewrites.specs.FlatRules.{BreaksCells, BreaksDepth, BreaksGroups, BreaksInstances, BreaksWords};
+ghost use Rattle.cx_rewrites.specs.FlatRules.{BreaksCells, BreaksDepth, BreaksGroups, BreaksInstances};
 ghost use Rattle.cx_rewrites.specs.FlatRules.{BreaksStatement, BreaksWeight};
 ghost use Rattle.cx_rewrites.specs.FlatRules as flat_rules;
 ghost use Rattle.cx_rules.specs.Flat.{ArePlainNames, IsFlat};

@@ -3,6 +3,8 @@ use Rattle.std.proofs.Common.{◌≡◌, ℕ, zero, suc, ◌+◌, ◌-◌, ◌*�
 use Rattle.std.proofs.lemmas.Bool.{cases_lt, ltb-true}
 use Rattle.std.proofs.lemmas.Option.{slice_get_past}
 use Rattle.std.proofs.lemmas.List.{length-append}
+use Rattle.cx_text.proofs.MemberLaws.{in_at, in_left, in_right}
+use Rattle.cx_text.specs.Members.{In}
 use Rattle.cx_text.specs.declared.places.Place.{Place}
 use Rattle.cx_text.proofs.ListLaws.{there_at}
 use Rattle.cx_prim.specs.declared.ports.Side.TheVariants as sides
@@ -13,10 +15,9 @@ use Rattle.cx_meaning.specs.Rows.{side_of}
 use Rattle.cx_meaning.specs.Designs.{PlainCell, PlainGroup, PlainComponent, PlainDesign, component_at}
 use Rattle.cx_meaning.specs.Instances.{Instance, Cells, OfRow, OfInstance, cell_at, cells_of, cells_for, part_of, tree_within}
 use Rattle.cx_meaning.specs.Active.{Active, Acting, Owned, owned, owned_by_groups, if_acting, drivers}
-use Rattle.cx_meaning.specs.Sights.{In, GuardNames, PartPort, part_port}
+use Rattle.cx_meaning.specs.Sights.{GuardNames, PartPort, part_port}
 use Rattle.cx_meaning.proofs.DesignsLemmas.{same_part}
 use Rattle.cx_meaning.proofs.InstancesLemmas.{instance_is, row_instance, nothing_instance}
-use Rattle.cx_meaning.proofs.SightsLaws.{in_left, in_right, in_at}
 use Rattle.cx_rules.specs.Footprints.{Mentions, SideLeads, PartLeads, CellLeads, Leads}
 use Rattle.cx_rules.specs.Circles.{IsAcyclic}
 use Rattle.cx_rules.specs.Ports.{component_of}

@@ -1,6 +1,7 @@
 -- TWO ARMS have counted apart, by the rule of races: what they leave together has the counts of both.
 use Rattle.std.proofs.Common.{◌≡◌, ℕ, suc, ◌+◌, ◌<◌, ◌≤◌, inl, inr, ⊎_elim, Bool, true, false, ◌||◌, List, [], ◌∷◌, ◌++◌, length, Some, slice_get, refl, sym, ap, ◌∙◌, subst, arith}
 use Rattle.std.proofs.lemmas.Bool.{both_ways, or_cases, and_parts}
+use Rattle.cx_text.specs.Members.{In}
 use Rattle.cx_text.proofs.ListLaws.{behind}
 use Rattle.cx_meaning.specs.declared.kinds.GroupKind.{GroupKind}
 use Rattle.cx_meaning.specs.declared.kinds.GroupKind.TheVariants as kinds
@@ -8,7 +9,7 @@ use Rattle.cx_meaning.specs.declared.ports.PortRef.{PortRef}
 use Rattle.cx_meaning.specs.declared.ports.PortRef.TheVariants as ports
 use Rattle.cx_meaning.specs.Designs.{PlainAssign, PlainGroup, PlainComponent, PlainDesign, PlainForm, Empty, Enable, Seq, Par, If, While, Repeat, StaticSeq, StaticPar, StaticIf, StaticRepeat, Timed, PlainStatement, Placed, PlainStatements, no_statements, a_statement, component_at, group_at, list_of}
 use Rattle.cx_meaning.specs.Instances.{Instance, Cells, cells_of, State, tree_within}
-use Rattle.cx_meaning.specs.Sights.{Held, In}
+use Rattle.cx_meaning.specs.Sights.{Held}
 use Rattle.cx_meaning.specs.Cycles.{Fault}
 use Rattle.cx_meaning.specs.Control.{Leaves, with_comb, targets_cell, assigns_drive, groups_in, groups_of, groups_in_all, group_drives, groups_drive, drives}
 use Rattle.cx_meaning.specs.Running.{Children, leaves}

@@ -1,5 +1,5 @@
 -- WHAT IS COUNTED IS AS IT WAS where nothing is static.
-use Rattle.std.proofs.Common.{◌≡◌, ℕ, zero, suc, ◌-◌, Bool, true, false, ◌&&◌, nat_le, nat_lt, nat_eq, cond, List, [], ◌∷◌, map, Option, Some, None, refl, ap, ◌∙◌}
+use Rattle.std.proofs.Common.{◌≡◌, ℕ, zero, suc, ◌-◌, Bool, true, false, ◌&&◌, nat_le, nat_lt, List, [], ◌∷◌, map, Option, Some, None, refl, ap, ◌∙◌}
 use Rattle.std.proofs.Math.Path.{fun_ext}
 use Rattle.cx_meaning.specs.declared.ports.PortRef.TheVariants as ports
 use Rattle.cx_meaning.specs.declared.kinds.GroupKind.{GroupKind}
@@ -9,7 +9,7 @@ use Rattle.cx_meaning.specs.Instances.{Instance, Node, Cells, no_cells, a_primit
 use Rattle.cx_meaning.specs.Truths.{truth_of}
 use Rattle.cx_meaning.specs.Active.{nothing, entries, group}
 use Rattle.cx_meaning.specs.Sights.{Held, unheld, seen}
-use Rattle.cx_meaning.specs.Cycles.{Fault, cycle}
+use Rattle.cx_meaning.specs.Cycles.{Fault}
 use Rattle.cx_meaning.specs.Control.{Leaves, run}
 use Rattle.cx_meaning.specs.Islands.{Occurrence, form_flat, form_length, looked_at, active_in, is_one, unless_unclear, island_turn}
 use Rattle.cx_meaning.specs.Islands as islands
@@ -21,10 +21,10 @@ use Rattle.cx_rules.specs.Wellformed.{IsDesign}
 use Rattle.cx_rewrites.specs.Tallies.{plus, below, then_count, turn_count, turns_count, test_count, loop_count, rounds_count, Counting, count_form, count, count_parts, count_arms, island_count_from}
 use Rattle.cx_rewrites.proofs.TallyLemmas.{same_numbers}
 use Rattle.cx_flattening.specs.Events.{events_below}
-use Rattle.cx_flattening.specs.Deeds.{History, no_history, hold, and_now, Acts, deed_if, deeds_in, own_entries, deeds_below, first_unclear}
-use Rattle.cx_flattening.specs.Whole.{look_below, whole_cycle, whole_turn, whole_leaves, whole_below}
-use Rattle.cx_flattening.proofs.BareIslands.{Bare, BareOne, BareAll, sample_of, event_of, bare_form, bare_form_lasts, Says, acts_same, looks_same, unclear_same, NoStatic, whole_is_cycle}
-use Rattle.cx_flattening.proofs.BareRuns.{run_same, BareTree, BareCells, control_same}
+use Rattle.cx_flattening.specs.Deeds.{History, no_history, hold, and_now, Acts, deed_if, deeds_in, deeds_below}
+use Rattle.cx_flattening.specs.Whole.{look_below, whole_leaves, whole_below}
+use Rattle.cx_flattening.proofs.BareIslands.{Bare, BareOne, BareAll, sample_of, event_of, bare_form, bare_form_lasts, Says, acts_same, NoStatic, whole_is_cycle}
+use Rattle.cx_flattening.proofs.BareRuns.{run_same, BareTree, BareCells, says_now, turn_same, below_same}
 use Rattle.cx_flattening.proofs.BareDesigns.{bare_design}
 use Rattle.cx_profiling.specs.Counting.{made_with, ChildrenCount, count_island, count_call_or_turns, count_enable, counting, count_control, count_below, tally_of}
 use Rattle.cx_profiling.specs.WholeCounting.{whole_count_form, whole_count, whole_count_parts, whole_count_arms, done_with, whole_count_from, count_whole_island, count_whole_call_or_turns, count_whole_enable, whole_counting, count_whole_control, count_whole_below, whole_tally_of}
@@ -52,30 +52,19 @@ module _ (part : PlainComponent) (cells : Cells) (no_invoke : part.invokes ≡ [
       by [] g = ap (λ es. made_with (entries es) [] g) (acts_same h k says t list)
       by (c ∷ path) g = ap (λ ds. done_with ds path g) (none_below h t c list) ∙ nothing_done path g
 
-  says_now : (h : History) (k : islands.History) → Says h k → (t : ℕ) (s : State) → Says (and_now h t (look_below (Node part cells) held s)) (islands.and_now k t (seen (Node part cells) held nothing s))
-  says_now h k says t s p at = ap (λ b. cond (nat_eq t at) (is_one (truth_of (seen (Node part cells) held nothing s p))) b) (says p at)
-
-  turn_same : (list : List Occurrence) (t : ℕ) (h : History) (k : islands.History) → Says h k → (s : State) → whole_turn (Node part cells) held (map event_of list) t h s ≡ island_turn (Node part cells) held list t k s
-  turn_same list t h k says s =
-      ap (λ x. unless_unclear x (whole_cycle (Node part cells) held (entries (own_entries (deeds_in h t (map event_of list)))) (deeds_in h t (map event_of list)) s))
-      (ap (first_unclear (look_below (Node part cells) held s)) (looks_same h k says t list) ∙ unclear_same (look_below (Node part cells) held s) (looked_at k t list))
-      ∙ ap (unless_unclear (islands.first_unclear (seen (Node part cells) held nothing s) (looked_at k t list)))
-      (whole_is_cycle (Node part cells) u held (entries (own_entries (deeds_in h t (map event_of list)))) (deeds_in h t (map event_of list)) s
-      ∙ ap (λ es. cycle (Node part cells) held (entries es) s) (acts_same h k says t list))
-
   from_same : (list : List Occurrence) (left t : ℕ) (h : History) (k : islands.History) → Says h k → (s : State) (n : ℕ)
       → whole_count_from (Node part cells) held (map event_of list) left t h s n ≡ island_count_from (λ es. made_with (entries es)) (Node part cells) held list left t k s n
   from_same list zero t h k says s n = refl
   from_same list (suc left) t h k says s zero = refl
   from_same list (suc left) t h k says s (suc n) =
       ap (λ turn. turn_count turn (λ after. plus (done_with (deeds_in (and_now h t (look_below (Node part cells) held s)) t (map event_of list))) (whole_count_from (Node part cells) held (map event_of list) left (suc t) (and_now h t (look_below (Node part cells) held s)) after n)))
-      (turn_same list t (and_now h t (look_below (Node part cells) held s)) (islands.and_now k t (seen (Node part cells) held nothing s)) (says_now h k says t s) s)
+      (turn_same part cells no_invoke u held list t (and_now h t (look_below (Node part cells) held s)) (islands.and_now k t (seen (Node part cells) held nothing s)) (says_now part cells no_invoke u held h k says t s) s)
       ∙ ap (turn_count (island_turn (Node part cells) held list t (islands.and_now k t (seen (Node part cells) held nothing s)) s))
       (fun_ext (λ after.
       ap (λ made. plus made (whole_count_from (Node part cells) held (map event_of list) left (suc t) (and_now h t (look_below (Node part cells) held s)) after n))
-      (done_same (and_now h t (look_below (Node part cells) held s)) (islands.and_now k t (seen (Node part cells) held nothing s)) (says_now h k says t s) t list)
+      (done_same (and_now h t (look_below (Node part cells) held s)) (islands.and_now k t (seen (Node part cells) held nothing s)) (says_now part cells no_invoke u held h k says t s) t list)
       ∙ ap (plus (made_with (entries (active_in (islands.and_now k t (seen (Node part cells) held nothing s)) t list))))
-      (from_same list left (suc t) (and_now h t (look_below (Node part cells) held s)) (islands.and_now k t (seen (Node part cells) held nothing s)) (says_now h k says t s) after n)))
+      (from_same list left (suc t) (and_now h t (look_below (Node part cells) held s)) (islands.and_now k t (seen (Node part cells) held nothing s)) (says_now part cells no_invoke u held h k says t s) after n)))
 
   -- AN ISLAND counts as it did
   island_same : (form : PlainForm) → Bare form → (s : State) (n : ℕ) → count_whole_island (Node part cells) held form s n ≡ count_island (Node part cells) held form s n
@@ -147,13 +136,6 @@ module _ (part : PlainComponent) (cells : Cells) (no_invoke : part.invokes ≡ [
       arms_same no_statements b s n = refl
       arms_same (a_statement first later) b s n =
           ap (λ k. plus k (whole_count_arms new counted later s n)) (count_same first b.0 s n) ∙ ap (plus (count old before first s n)) (arms_same later b.1 s n)
-
-below_same : (cells : Cells) → BareCells cells → (c : ℕ) (held : Held) (s : State) (n : ℕ) → whole_below cells c held s n ≡ control_below cells c held s n
-below_same no_cells b c held s n = refl
-below_same (a_primitive row rest) b zero held s n = refl
-below_same (a_primitive row rest) b (suc c) held s n = below_same rest b c held s n
-below_same (an_instance child rest) b zero held s n = control_same child b.0 held s n
-below_same (an_instance child rest) b (suc c) held s n = below_same rest b.1 c held s n
 
 mutual
   control_counts : (i : Instance) → BareTree i → (held : Held) (s : State) (n : ℕ) → count_whole_control i held s n ≡ count_control i held s n

@@ -1,5 +1,5 @@
 -- A CALL carries a call, where the inputs that the component has are seen alike and the children's runs carry for such inputs.
-use Rattle.std.proofs.Common.{◌≡◌, ℕ, zero, suc, ◌<◌, Bool, true, false, refl, sym, ap, ◌∙◌, subst}
+use Rattle.std.proofs.Common.{◌≡◌, ℕ, suc, ◌<◌, Bool, true, false, refl, sym, ap, ◌∙◌, subst}
 use Rattle.cx_meaning.specs.declared.ports.PortRef.TheVariants as ports
 use Rattle.cx_meaning.specs.Instances.{Instance, State, under, put, idle}
 use Rattle.cx_meaning.specs.Active.{group, capture}
@@ -10,10 +10,10 @@ use Rattle.cx_meaning.specs.Answers as answers
 use Rattle.cx_meaning.specs.Islands.{turn_of}
 use Rattle.cx_meaning.specs.Calls.{captures, lift_answer, inputs_of_call, after_child, call}
 use Rattle.cx_meaning.specs.Running.{Children}
-use Rattle.cx_rewrites.specs.Tallies.{Tally, none, plus, at_cell, below, Counted, then_count, turn_count, one_count}
+use Rattle.cx_rewrites.specs.Tallies.{Tally, none, plus, at_cell, below, Counted}
 use Rattle.cx_rewrites.specs.Carrying.{Exact, Rests, Carried, Carries}
 use Rattle.cx_rewrites.specs.Turns.{IsSeenAlike, CycleCarries}
-use Rattle.cx_rewrites.proofs.TallyLemmas.{plus-none}
+use Rattle.cx_rewrites.proofs.TallyLemmas.{plus-none, one_none, then_none}
 use Rattle.cx_rewrites.proofs.CarryLemmas.{then_carried, idle_carries, one_carries}
 
 pub record CallGrows (R Q : Tally → State → State → Type 0) (i j : Instance) (held twin : Held) (g c width : ℕ) : Type 0 where
@@ -25,19 +25,10 @@ pub record CallGrows (R Q : Tally → State → State → Type 0) (i j : Instanc
   pub capture_cycle : captures i g ≡ true → CycleCarries Exact R (λ f. f) none i j held twin (capture g c) (capture g c)
 
 module _ (R Q : Tally → State → State → Type 0) (i j : Instance) (held twin : Held) (g c width : ℕ) (carries : CallGrows R Q i j held twin g c width) where
-  capture_none : (turn : State → Turn State Fault) (s : State) (n : ℕ) → one_count turn none (λ a k. none) s n ≡ none
-  capture_none turn s zero = refl
-  capture_none turn s (suc n) = one (turn s)
-    where
-      one : (t : Turn State Fault) → turn_count t (λ after. plus none none) ≡ none
-      one Ends = refl
-      one (Goes a) = plus-none none
-      one (Faults f) = refl
-
   after_carries : (capturing : Bool) → captures i g ≡ capturing → Carries Exact R (λ f. f) (λ s n. none) (after_child i held g c capturing) (after_child j twin g c capturing)
   after_carries false is before s z n m room r = idle_carries Exact R (λ f. f) (idle i) (idle j) carries.rests before s z n m room r
   after_carries true is before s z n m room r =
-      subst (λ k. Carried Exact R (λ f. f) before k (after_child i held g c true s n) (after_child j twin g c true z m)) (capture_none (λ s1. turn_of (cycle i held (capture g c) s1)) s n)
+      subst (λ k. Carried Exact R (λ f. f) before k (after_child i held g c true s n) (after_child j twin g c true z m)) (one_none (λ s1. turn_of (cycle i held (capture g c) s1)) s n)
       (one_carries Exact R (λ f. f) (idle i) (idle j) carries.rests (λ s1. turn_of (cycle i held (capture g c) s1)) (λ z1. turn_of (cycle j twin (capture g c) z1)) none (carries.capture_cycle is)
       (λ s1 k. none) (idle_turn (idle i)) (idle_turn (idle j)) (idle_carries Exact R (λ f. f) (idle i) (idle j) carries.rests) before s z n m room r)
 
@@ -46,11 +37,6 @@ module _ (R Q : Tally → State → State → Type 0) (i j : Instance) (held twi
   lift_carried before counted s z (End own t) x r (other, u, is, keeps, q) = (put c other z, u, ap (lift_answer c z) is, keeps, carries.ends before counted s z own other r q)
   lift_carried before counted s z (answers.Fault f t) x r told = ap (lift_answer c z) told
   lift_carried before counted s z More x r told = ap (lift_answer c z) told
-
-  then_none : (o : Answer State Fault) (n : ℕ) → then_count o n (λ s k. none) ≡ none
-  then_none (End s t) n = refl
-  then_none (answers.Fault f t) n = refl
-  then_none More n = refl
 
   pub call_grows : (children others : Children) (counts : Held → Counted State)
       → ((own other : Held) → ((n : ℕ) → n < width → other n ≡ own n) → Carries Exact Q (λ f. f) (counts own) (children c own) (others c other))

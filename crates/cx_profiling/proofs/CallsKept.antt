@@ -1,7 +1,9 @@
 -- An instrumented design keeps the rule on calls: a group that calls is not counted, so it has its old assignments, moved, alone.
 use Rattle.std.proofs.Common.{◌≡◌, ℕ, suc, ◌+◌, ◌*◌, ◌<◌, ◌≤◌, inl, inr, ◌⊎◌, ⊎_elim, Bool, true, false, ◌&&◌, if◌then◌else◌, List, [], ◌∷◌, ◌++◌, length, map, Option, Some, None, slice_get, refl, sym, ap, ap₂, ◌∙◌, subst, arith}
 use Rattle.std.specs.Prelude.{nat_eq, is_none}
-use Rattle.std.proofs.lemmas.Bool.{and_parts, both_ways, cases_lt, eq-eqb, eqb-true, ne_eqb}
+use Rattle.std.proofs.lemmas.Bool.{and_parts, both_ways, cases_lt, eq-eqb, ne_eqb}
+use Rattle.cx_text.proofs.MemberLaws.{image_in}
+use Rattle.cx_text.specs.Members.{In}
 use Rattle.cx_text.specs.declared.places.Place.{Place}
 use Rattle.cx_text.specs.declared.rules.Rule.TheVariants as rules
 use Rattle.cx_text.proofs.ListLaws.{there_at, there_below, nothing_more}
@@ -15,19 +17,20 @@ use Rattle.cx_meaning.specs.Designs.{PlainAssign, PlainGroup, PlainCell, PlainKi
 use Rattle.cx_meaning.specs.Instances.{Instance, Cells, At, Nothing, OfRow, OfInstance, cell_at, cells_of, part_of, tree_within}
 use Rattle.cx_meaning.specs.Active.{group, Owned, same_port, source_order}
 use Rattle.cx_meaning.specs.Calls.{if_instance, called_by, called_in}
-use Rattle.cx_meaning.specs.Sights.{In, PartPort, AnInput, part_port}
+use Rattle.cx_meaning.specs.Sights.{PartPort, AnInput, part_port}
 use Rattle.cx_meaning.proofs.DesignsLemmas.{same_part}
 use Rattle.cx_meaning.proofs.InstancesLemmas.{instance_is, row_instance}
-use Rattle.cx_meaning.proofs.SightsLaws.{image_in}
 use Rattle.cx_rules.specs.Accepted.{IsAccepted}
 use Rattle.cx_rules.specs.Footprints.{Depends}
 use Rattle.cx_rules.specs.Items.{is_plain}
 use Rattle.cx_rules.specs.Ports.{component_of, is_primitive_enable, is_instance, is_part_port, path_of}
 use Rattle.cx_rules.specs.ShapeRules.{is_hole_of, some_target}
-use Rattle.cx_rules.specs.CallShape.{is_port_of, Calls, go_port, done_port, write_en_of, register_done, is_reg_kind, is_register_cell, is_register_enable, is_right_go, is_right_enable, is_right_done, with_target, captured_from, captured, wanted_dones, assigns_of, IsOutputOrDone, has_right_go, IsFedBack, has_right_enable, has_right_done, CallBreak, another_cell, wrong_go, input_by_output, wrong_enable, wrong_done, IsOutside, IsMisshapen, BreaksCallShape, GroupBreaksCallShape}
+use Rattle.cx_rules.specs.CallShape.{is_port_of, Calls, go_port, done_port, write_en_of, register_done, is_reg_kind, is_register_cell, is_register_enable, is_right_go, is_right_enable, is_right_done, with_target, added, captured_from, captured, wanted_dones, assigns_of, IsOutputOrDone, has_right_go, IsFedBack, has_right_enable, has_right_done, CallBreak, another_cell, wrong_go, input_by_output, wrong_enable, wrong_done, IsOutside, IsMisshapen, BreaksCallShape, GroupBreaksCallShape}
 use Rattle.cx_rules.specs.Wellformed.{IsDesign}
 use Rattle.cx_rules.proofs.FoundLemmas.{same_is}
 use Rattle.cx_rewrites.specs.Moving.{moved_assign}
+use Rattle.cx_rewrites.proofs.MovedLists.{some_moved}
+use Rattle.cx_rewrites.proofs.MovedCalls.{AllInside, with_target-moved, is_right_go-moved, is_right_enable-moved, is_right_done-moved}
 use Rattle.cx_profiling.specs.Counters.{has_name, is_counted_kind, is_counted, counters, shown_in, first_gained}
 use Rattle.cx_profiling.specs.Instrumented.{gained, moved_number, moved_in, moved_assigns, address_width, with_counts}
 use Rattle.cx_profiling.proofs.CellPorts.{IsGiven, given_output, given_done, part_given}
@@ -36,22 +39,15 @@ use Rattle.cx_profiling.proofs.GainedLemmas.{grown_at}
 use Rattle.cx_profiling.proofs.InvokesKept.{keeps_at}
 use Rattle.cx_profiling.proofs.ListedCells.{CellIs, is_primitive, is_component, cell_is}
 use Rattle.cx_profiling.proofs.ListedCells as listed
-use Rattle.cx_profiling.proofs.MovedCalls.{some_moved, same_moved, AllInside, with_target-moved, target_inside, is_right_go-moved, is_right_enable-moved, is_right_done-moved}
+use Rattle.cx_profiling.proofs.MovedCalls.{same_moved, target_inside, one_kept, stands_alone}
 use Rattle.cx_profiling.proofs.PairLemmas.{CellPair, row_pair, child_pair, pair_at, child_ports}
 use Rattle.cx_profiling.proofs.PartTable.{GroupMade, bare_group, counting_group, storing_group, no_group_there, group_made, kind_kept, InGroup, old_in, counting_in, storing_in, in_group, OwnedMade, old_owned, showing, counting, storing, owned_made}
 use Rattle.cx_profiling.proofs.PortLemmas.{IsInside, grown_number, moved-primitive, moved_apart}
 use Rattle.cx_profiling.proofs.PortsKept.{counter_target, StoreTarget, to_memory, to_hole, store_target, enable_kept, part_port_kept, hole_of_kept, cell_back, done_back, counter_row_there, counts_row, memory_there}
 use Rattle.cx_profiling.proofs.RoleLemmas.{more_cells}
 use Rattle.cx_profiling.proofs.ShapesKept as shapes
-use Rattle.cx_rules.proofs.ShapeRulesLemmas.{some_in, a_target}
+use Rattle.cx_rules.proofs.ShapeRulesLemmas.{some_in, a_target, port_of_is}
 use Rattle.cx_flattening.proofs.Ruled.{in_order}
-
-port_of_is : (e : ℕ) (t : PortRef) → is_port_of e t ≡ true → (n : ℕ) × (t ≡ ports.Cell e n)
-port_of_is e (ports.Cell c n) h = (n, ap (λ x. ports.Cell x n) (eqb-true c e h))
-port_of_is e (ports.Input n) h = absurd (cc)
-port_of_is e (ports.Output n) h = absurd (cc)
-port_of_is e (ports.Done g) h = absurd (cc)
-port_of_is e (ports.Literal w v) h = absurd (cc)
 
 -- a group that drives a port of a component's cell calls
 calls_one : (cells : Cells) (list : List PlainAssign) (b : PlainAssign) (c q : ℕ) (child : Instance) → In list b → b.target ≡ ports.Cell c q → cell_at cells c ≡ OfInstance child → called_in cells list ≡ None → ⊥
@@ -94,10 +90,6 @@ input_before part new p n same e =
     no_given port (given_output m) h = absurd (cc)
     no_given port given_done h = absurd (cc)
 
-abbrev added : ℕ → Bool → List ℕ → List ℕ
-added r true rest = r ∷ rest
-added r false rest = rest
-
 module _ (d : PlainDesign) (design : IsDesign d) (accepted : IsAccepted d) (m k : ℕ) (count : length d.components ≡ suc m) (within : k < length d.components) where
   abbrev part : PlainComponent
   part = component_at d k
@@ -118,7 +110,7 @@ module _ (d : PlainDesign) (design : IsDesign d) (accepted : IsAccepted d) (m k 
   memory = length part.cells + 2 * length (counters (component_of d k))
 
   -- what a group names
-  pub group_inside : (g : ℕ) → g < length part.groups → AllInside d part (group_at part g).assigns
+  pub group_inside : (g : ℕ) → g < length part.groups → AllInside (IsInside d part) (group_at part g).assigns
   group_inside g few a stands = record {
     target = shapes.target_inside d design accepted m k count within (record { owner = Some g; assign = a }) (in_order part (Some g) a (few, stands));
     names = λ q names. shapes.named_inside d design accepted m k count within (record { owner = Some g; assign = a }) (in_order part (Some g) a (few, stands)) q names;
@@ -225,7 +217,7 @@ module _ (d : PlainDesign) (design : IsDesign d) (accepted : IsAccepted d) (m k 
         by (storing_group n x name main at number e) = let few : g < length part.groups = b.few in absurd (omega (arith, few, number))
         by (no_group_there past gone e) = let few : g < length part.groups = b.few in absurd (omega (arith, few, past))
 
-    all_inside : AllInside d part (assigns_of i g)
+    all_inside : AllInside (IsInside d part) (assigns_of i g)
     all_inside = group_inside g b.few
 
     cell_few : c < length part.cells
@@ -281,13 +273,13 @@ module _ (d : PlainDesign) (design : IsDesign d) (accepted : IsAccepted d) (m k 
             omega (arith, inputs, outputs)
 
     of_target : (q : PortRef) → IsInside d part q → with_target (mv q) (assigns_of j g) ≡ map (moved_assign mv) (with_target q (assigns_of i g))
-    of_target q here = ap (with_target (mv q)) assigns_are ∙ with_target-moved d part q here (assigns_of i g) all_inside
+    of_target q here = ap (with_target (mv q)) assigns_are ∙ with_target-moved mv (one_kept d part) (IsInside d part) q (stands_alone d part q here) (assigns_of i g) all_inside
 
     go_kept : has_right_go j g c kid ≡ has_right_go i g c child
     go_kept =
         ap₂ (λ x p. is_right_go x (with_target p (assigns_of j g))) (sym done_is) (sym go_stays)
         ∙ ap (is_right_go (mv (done_port c child))) (of_target (go_port c) go_inside)
-        ∙ is_right_go-moved d part (done_port c child) done_inside (with_target (go_port c) (assigns_of i g)) (target_inside d part (go_port c) (assigns_of i g) all_inside)
+        ∙ is_right_go-moved mv (one_kept d part) (IsInside d part) (done_port c child) (stands_alone d part (done_port c child) done_inside) (with_target (go_port c) (assigns_of i g)) (target_inside d part (go_port c) (assigns_of i g) all_inside)
 
     register_kept : (r p : ℕ) → IsInside d part (ports.Cell r p) → is_register_enable other (mv (ports.Cell r p)) ≡ is_register_enable part (ports.Cell r p)
     register_kept r p here = by (cell_is part.cells r)
@@ -311,7 +303,7 @@ module _ (d : PlainDesign) (design : IsDesign d) (accepted : IsAccepted d) (m k 
         ap₂ ◌&&◌ (enables q here)
         (ap (λ x. is_right_enable x (with_target (mv q) (assigns_of j g))) (sym done_is)
         ∙ ap (is_right_enable (mv (done_port c child))) (of_target q here)
-        ∙ is_right_enable-moved d part (done_port c child) done_inside (with_target q (assigns_of i g)) (target_inside d part q (assigns_of i g) all_inside))
+        ∙ is_right_enable-moved mv (one_kept d part) (IsInside d part) (done_port c child) (stands_alone d part (done_port c child) done_inside) (with_target q (assigns_of i g)) (target_inside d part q (assigns_of i g) all_inside))
       where
         enables : (q : PortRef) → IsInside d part q → is_register_enable other (mv q) ≡ is_register_enable part q
         enables (ports.Cell r p) here = register_kept r p here
@@ -436,7 +428,7 @@ module _ (d : PlainDesign) (design : IsDesign d) (accepted : IsAccepted d) (m k 
         let w = done_ports (captured part (assigns_of i g)) each in
         ap₂ (λ x rs. is_right_done (wanted_dones x rs) (with_target (ports.Done g) (assigns_of j g))) (sym done_is) captured_kept
         ∙ ap₂ is_right_done w.0 (of_target (ports.Done g) b.few)
-        ∙ is_right_done-moved d part (wanted_dones (done_port c child) (captured part (assigns_of i g))) w.1 (with_target (ports.Done g) (assigns_of i g)) (target_inside d part (ports.Done g) (assigns_of i g) all_inside)
+        ∙ is_right_done-moved mv (one_kept d part) (IsInside d part) (wanted_dones (done_port c child) (captured part (assigns_of i g))) (λ x h. stands_alone d part x (w.1 x h)) (with_target (ports.Done g) (assigns_of i g)) (target_inside d part (ports.Done g) (assigns_of i g) all_inside)
 
     early_port : (p : ℕ) → p < first_gained (component_at d b.component) → (t : PortRef) → IsInside d part t → mv t ≡ ports.Cell c p → t ≡ ports.Cell c p
     early_port p less t here e =

@@ -12,7 +12,7 @@ use Rattle.cx_prim.specs.RegisterRow.{register_row}
 use Rattle.cx_prim.specs.MemoryRows.{are_sizes, is_address_width, memory_row}
 use Rattle.cx_prim.specs.Table.{row_at, row_of, no_row}
 use Rattle.cx_meaning.specs.Designs.{OfPrimitive, PlainCell, PlainDesign}
-use Rattle.cx_meaning.specs.Sights.{In}
+use Rattle.cx_text.specs.Members.{In}
 use Rattle.cx_rules.specs.Wellformed.{IsCell, IsKind, is_memory}
 use Rattle.cx_profiling.specs.Instrumented.{new_cell, name_at, counter_cells, width_from, address_width, memory_cell}
 use Rattle.cx_profiling.proofs.ThereLemmas.{kind_ports}

@@ -4,6 +4,7 @@ use Rattle.std.specs.Prelude.{if◌then◌else◌}
 use Rattle.std.specs.List.{slice_get}
 use Rattle.std.proofs.lemmas.Bool.{cases_lt}
 use Rattle.std.proofs.lemmas.List.{map-append, length-append, append_assoc}
+use Rattle.cx_text.proofs.MemberLaws.{image_in, in_either, in_left, in_right}
 use Rattle.cx_text.proofs.ListLaws.{front, behind, there_at, append-front, there_below as below_there}
 use Rattle.cx_text.proofs.OptionLaws.{same_some}
 use Rattle.cx_text.specs.declared.places.Place.{Place}
@@ -14,9 +15,8 @@ use Rattle.cx_meaning.specs.declared.ports.PortRef.TheVariants as ports
 use Rattle.cx_meaning.specs.declared.kinds.PortDecl.{PortDecl}
 use Rattle.cx_meaning.specs.Designs.{PlainAssign, PlainGroup, group_at, PlainKind, OfPrimitive, OfComponent, PlainCell, PlainComponent, PlainDesign, component_at}
 use Rattle.cx_meaning.specs.Instances.{Cells, cells_of}
-use Rattle.cx_meaning.specs.Sights.{In}
+use Rattle.cx_text.specs.Members.{In}
 use Rattle.cx_meaning.proofs.DesignsLemmas.{there_below}
-use Rattle.cx_meaning.proofs.SightsLaws.{in_either, in_left, in_right, image_in}
 use Rattle.cx_rules.specs.Ports.{component_of}
 use Rattle.cx_rules.proofs.PortsLemmas.{part_is}
 use Rattle.cx_rules.specs.Wellformed.{AreApart, IsCell, IsKind, IsExternal, IsDesign, IsPort, IsSignature, StandsIn}

@@ -2,10 +2,11 @@
 -- arms before it left what it counts from the first state, and what the arms count is added up.
 use Rattle.std.proofs.Common.{◌≡◌, ℕ, suc, ◌+◌, ◌<◌, inl, inr, Bool, true, false, Some, List, [], ◌∷◌, ◌++◌, length, take, drop, refl, sym, ap, ◌∙◌, subst, arith}
 use Rattle.std.specs.Prelude.{slice_get}
+use Rattle.cx_text.specs.Members.{In}
 use Rattle.cx_meaning.specs.Designs.{PlainDesign, PlainForm, Enable, Par, PlainStatement, Placed, statements_of, group_at}
 use Rattle.cx_meaning.specs.Instances.{Instance, cells_of, part_of, tree_of, Path, State, instance_at}
 use Rattle.cx_meaning.specs.Active.{group, entries}
-use Rattle.cx_meaning.specs.Sights.{Held, In}
+use Rattle.cx_meaning.specs.Sights.{Held}
 use Rattle.cx_meaning.specs.Control.{Leaves, groups_in, groups_of, drives}
 use Rattle.cx_meaning.specs.Islands.{History, form_flat, active_in, island}
 use Rattle.cx_meaning.specs.Running.{Children, leaves, control_below}

@@ -1,12 +1,13 @@
 -- What is counted in a run over any leaves hangs on a set of cells alone, where what the leaves do and count does.
 use Rattle.std.proofs.Common.{◌≡◌, ℕ, zero, suc, ◌-◌, inl, inr, ◌++◌, refl, sym, ap, ◌∙◌}
+use Rattle.cx_text.proofs.MemberLaws.{in_left, in_right}
 use Rattle.cx_meaning.specs.Designs.{PlainForm, Empty, Enable, Seq, Par, If, While, Repeat, StaticSeq, StaticPar, StaticIf, StaticRepeat, Timed, PlainStatement, Placed, PlainStatements, no_statements, a_statement}
 use Rattle.cx_meaning.specs.Instances.{State}
 use Rattle.cx_meaning.specs.Cycles.{Fault}
 use Rattle.cx_meaning.specs.Answers.{Answer, End, More, Meaning, Turn, Ends, Goes, Faults, Test}
 use Rattle.cx_meaning.specs.Answers as answers
 use Rattle.cx_meaning.specs.Control.{Leaves, groups_in, groups_of, groups_in_all, run}
-use Rattle.cx_meaning.proofs.SightsLaws.{behind_comb, in_comb, in_left, in_right}
+use Rattle.cx_meaning.proofs.SightsLaws.{behind_comb, in_comb}
 use Rattle.cx_rules.specs.Items.{Context, below_dynamic, visit, visit_parts, visit_all}
 use Rattle.cx_frames.specs.Agreeing.{Agree, Alike}
 use Rattle.cx_frames.proofs.AlikeLemmas.{Frames, AlikeTurn}

@@ -2,6 +2,8 @@
 use Rattle.std.proofs.Common.{◌≡◌, ℕ, zero, suc, ◌<◌, inl, inr, Bool, true, false, List, [], length, Option, Some, None, refl, ap, ◌∙◌}
 use Rattle.std.specs.Prelude.{if◌then◌else◌, nat_eq}
 use Rattle.std.proofs.Math.Path.{fun_ext}
+use Rattle.cx_text.proofs.MemberLaws.{in_left, in_right}
+use Rattle.cx_text.specs.Members.{In}
 use Rattle.cx_meaning.specs.declared.ports.PortRef.{PortRef}
 use Rattle.cx_meaning.specs.declared.ports.PortRef.TheVariants as ports
 use Rattle.cx_meaning.specs.declared.ports.PlacedPort.{PlacedPort}
@@ -11,13 +13,12 @@ use Rattle.cx_meaning.specs.Designs.{PlainForm, Empty, Enable, Seq, Par, If, Whi
 use Rattle.cx_meaning.specs.Instances.{Instance, Node, State, cells_of, part_of, idle, under}
 use Rattle.cx_meaning.specs.Active.{Entry, nothing, group, entries, Owned, source_order}
 use Rattle.cx_meaning.specs.Truths.{truth_of}
-use Rattle.cx_meaning.specs.Sights.{Held, In, seen}
+use Rattle.cx_meaning.specs.Sights.{Held, seen}
 use Rattle.cx_meaning.specs.Cycles.{Fault, cycle}
 use Rattle.cx_meaning.specs.Control.{Leaves, run}
 use Rattle.cx_meaning.specs.Islands.{Occurrence, History, no_history, and_now, is_one, form_flat, form_length, active_in, looked_at, first_unclear, unless_unclear, island_turn}
 use Rattle.cx_meaning.specs.Calls.{group_turn, called, inputs_of_call}
 use Rattle.cx_meaning.specs.Running.{Children, leaves, control_below}
-use Rattle.cx_meaning.proofs.SightsLaws.{in_left, in_right}
 use Rattle.cx_rules.specs.Circles.{IsAcyclic, AcyclicBelow}
 use Rattle.cx_rules.specs.Footprints.{AssignNames}
 use Rattle.cx_rules.specs.Items.{Context, Dynamic, below_dynamic, Visited, visit, visit_parts, visit_all, test_in}

@@ -2,6 +2,8 @@
 use Rattle.std.proofs.Common.{◌≡◌, ℕ, zero, suc, ◌-◌, inl, inr, Bool, true, false, ◌||◌, ◌&&◌, nat_le, List, [], ◌∷◌, ◌++◌, Option, Some, None, refl, ap, ◌∙◌, subst, arith}
 use Rattle.std.specs.Prelude.{if◌then◌else◌, nat_lt}
 use Rattle.std.proofs.lemmas.Bool.{ne_eqb, both_ways}
+use Rattle.cx_text.proofs.MemberLaws.{in_left, in_right}
+use Rattle.cx_text.specs.Members.{In}
 use Rattle.cx_meaning.specs.declared.kinds.GroupKind.{GroupKind}
 use Rattle.cx_meaning.specs.declared.kinds.GroupKind.TheVariants as kinds
 use Rattle.cx_meaning.specs.declared.ports.PortRef.{PortRef}
@@ -9,7 +11,7 @@ use Rattle.cx_meaning.specs.declared.ports.PortRef.TheVariants as ports
 use Rattle.cx_meaning.specs.Designs.{PlainAssign, PlainForm, Empty, Enable, Seq, Par, If, While, Repeat, StaticSeq, StaticPar, StaticIf, StaticRepeat, Timed, PlainStatement, Placed, PlainStatements, no_statements, a_statement, group_at}
 use Rattle.cx_meaning.specs.Instances.{Instance, Cells, At, Nothing, OfRow, OfInstance, cell_at, cells_of, part_of, Path, State, under}
 use Rattle.cx_meaning.specs.Active.{Entry, group, offset_in, entries, nothing}
-use Rattle.cx_meaning.specs.Sights.{Held, In, seen}
+use Rattle.cx_meaning.specs.Sights.{Held, seen}
 use Rattle.cx_meaning.specs.Cycles.{Fault}
 use Rattle.cx_meaning.specs.Answers.{Answer, End, More, Meaning, Turn, Ends, Goes, Test, Holds, Fails, Unclear}
 use Rattle.cx_meaning.specs.Answers as answers
@@ -19,7 +21,7 @@ use Rattle.cx_meaning.specs.Calls.{group_turn, inputs_of_call, called, called_in
 use Rattle.cx_meaning.specs.Running.{Children, leaves}
 use Rattle.cx_meaning.proofs.ControlLaws.{groups_drive_in}
 use Rattle.cx_meaning.proofs.InstancesLemmas.{just_same}
-use Rattle.cx_meaning.proofs.SightsLaws.{in_left, in_right, behind_comb}
+use Rattle.cx_meaning.proofs.SightsLaws.{behind_comb}
 use Rattle.cx_rules.specs.Items.{Dynamic}
 use Rattle.cx_frames.proofs.IslandFrames.{AllFine, form_fine}
 use Rattle.cx_rewrites.specs.Tallies.{Tally, none, plus, Counted, chosen_count, then_count, turn_count, turns_count, test_count, loop_count, rounds_count, Counting, count_form, count, count_parts, count_arms, island_count_from}

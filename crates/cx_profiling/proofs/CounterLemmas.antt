@@ -2,13 +2,13 @@
 use Rattle.std.proofs.Common.{◌≡◌, ℕ, zero, suc, ◌+◌, ◌*◌, ◌<◌, Bool, true, false, inl, inr, ◌⊎◌, List, [], ◌∷◌, length, Some, refl, sym, ap, ◌∙◌, arith}
 use Rattle.std.specs.Prelude.{if◌then◌else◌}
 use Rattle.std.specs.List.{slice_get}
+use Rattle.cx_text.proofs.MemberLaws.{in_either}
 use Rattle.cx_text.specs.declared.places.Place.{Place}
 use Rattle.cx_prim.specs.declared.names.PrimitiveName.TheVariants as primitives
 use Rattle.cx_meaning.specs.declared.ports.PortRef.TheVariants as ports
 use Rattle.cx_meaning.specs.Designs.{PlainGroup, PlainKind, OfPrimitive, OfComponent, PlainCell}
 use Rattle.cx_meaning.specs.Instances.{Instance, Cells, cells_for, add_cell, part_of}
-use Rattle.cx_meaning.specs.Sights.{In}
-use Rattle.cx_meaning.proofs.SightsLaws.{in_either}
+use Rattle.cx_text.specs.Members.{In}
 use Rattle.cx_profiling.specs.Counters.{is_counted, Counter, counters_from, Shown, shown_at_cell, shown_in, shown_below, first_gained}
 use Rattle.cx_profiling.specs.Instrumented.{new_cell, name_at, counter_cells}
 

@@ -1,5 +1,6 @@
 -- WHAT A COUNTER'S PORTS ARE SEEN AS: the register shows what it holds, and where its group acts it is enabled with one more at its input.
 use Rattle.std.proofs.Common.{◌≡◌, ℕ, suc, ◌+◌, ◌^◌, ◌%◌, Bool, true, false, [], ◌∷◌, Some, None, ap, ◌∙◌}
+use Rattle.cx_text.specs.Members.{In}
 use Rattle.cx_prim.specs.declared.names.PrimitiveName.TheVariants as primitives
 use Rattle.cx_prim.specs.CellStates.{Register}
 use Rattle.cx_meaning.specs.declared.ports.PortRef.TheVariants as ports
@@ -8,7 +9,7 @@ use Rattle.cx_meaning.specs.declared.sights.Seen.TheVariants.{Undefined}
 use Rattle.cx_meaning.specs.Designs.{PlainComponent, PlainDesign, component_at}
 use Rattle.cx_meaning.specs.Instances.{Instance, OfRow, cell_at, cells_of, State, under, tree_within}
 use Rattle.cx_meaning.specs.Active.{Active, if_acting, drivers}
-use Rattle.cx_meaning.specs.Sights.{Look, Held, In, bit_of, of_option, target_seen, cell_step, seen, outputs_below}
+use Rattle.cx_meaning.specs.Sights.{Look, Held, bit_of, of_option, target_seen, cell_step, seen, outputs_below}
 use Rattle.cx_meaning.specs.Cycles.{Next, outcome_at, cell_outcome}
 use Rattle.cx_meaning.proofs.InstancesLemmas.{literal_is}
 use Rattle.cx_rules.specs.Circles.{IsAcyclic, AcyclicBelow}

@@ -2,11 +2,11 @@
 use Rattle.std.proofs.Common.{◌≡◌, ℕ, zero, suc, ◌+◌, ◌-◌, ◌<◌, ◌≤◌, List, [], ◌∷◌, length, refl, ap, ◌∙◌, subst, arith}
 use Rattle.cx_meaning.specs.Designs.{OfComponent, PlainCell, PlainDesign, component_at}
 use Rattle.cx_meaning.specs.Instances.{Node, tree_within}
-use Rattle.cx_meaning.specs.Sights.{In}
+use Rattle.cx_text.specs.Members.{In}
 use Rattle.cx_rules.specs.Ports.{component_of}
 use Rattle.cx_rules.specs.Wellformed.{IsDesign}
-use Rattle.cx_profiling.proofs.TreeLemmas.{IsWay, no_way, further, way_is_short}
 use Rattle.cx_meaning.proofs.InstancesLemmas.{cells_same}
+use Rattle.cx_flattening.proofs.TreeLevels.{IsWay, no_way, further, way_is_short}
 
 module _ (d : PlainDesign) where
   -- no chain of cells from component k is longer than so many levels

@@ -4,26 +4,26 @@ use Rattle.std.specs.Prelude.{nat_eq, if◌then◌else◌}
 use Rattle.std.specs.List.{slice_get}
 use Rattle.std.proofs.lemmas.Bool.{cases_lt, eqb-true, eqb-false, eq-eqb}
 use Rattle.std.proofs.lemmas.List.{length-append}
+use Rattle.cx_text.proofs.MemberLaws.{image_in, in_either}
 use Rattle.cx_text.proofs.ListLaws.{behind, length-map, there_below as below_there}
 use Rattle.cx_text.proofs.OptionLaws.{same_some, none_is_some}
 use Rattle.cx_text.specs.declared.places.Place.{Place}
 use Rattle.cx_prim.specs.declared.names.PrimitiveName.TheVariants as primitives
 use Rattle.cx_meaning.specs.Designs.{PlainGroup, group_at, OfPrimitive, OfComponent, PlainCell, PlainForm, Empty, Enable, Seq, Par, If, While, Repeat, StaticSeq, StaticPar, StaticIf, StaticRepeat, Timed, statements_of, PlainComponent, no_component, PlainDesign, component_at}
 use Rattle.cx_meaning.specs.Instances.{cells_of}
-use Rattle.cx_meaning.specs.Sights.{In}
+use Rattle.cx_text.specs.Members.{In}
 use Rattle.cx_meaning.proofs.DesignsLemmas.{there_below}
-use Rattle.cx_meaning.proofs.SightsLaws.{in_either, image_in}
 use Rattle.cx_rules.specs.Items.{Dynamic, Visited, visit, visit_all, statements_in, test_in, is_comb}
 use Rattle.cx_rules.specs.Ports.{component_of}
 use Rattle.cx_rules.specs.Sizes.{size_of, groups_size, sizes_of, design_size}
 use Rattle.cx_rules.specs.Wellformed.{IsComponent, IsDesign, IsEnable, IsForm, IsPort, IsWith, LeadsTo, by_cell, by_way_of}
 use Rattle.cx_rewrites.specs.Moving.{moved_form, moved_statement}
+use Rattle.cx_rewrites.proofs.MovedLists.{moved_visited, visit-moved}
 use Rattle.cx_profiling.specs.Counters.{counters, Shown, shown_in, entry_count}
 use Rattle.cx_profiling.specs.FreeNames.{profile_name, free_names, names_of}
 use Rattle.cx_profiling.specs.Instrumented.{is_reached, counter_cells, count_outputs, address_width, memory_cell, name_at, store_groups, store_enables, moved_in, counted_groups, kept_component, child_component, main_component, instrumented_component, with_counts, gained, instrumented}
 use Rattle.cx_profiling.proofs.ReachedLemmas.{is_reached-from}
 use Rattle.cx_profiling.proofs.NameLemmas.{free_names-length, free_names-free, free_names-apart, free_names-numbered}
-use Rattle.cx_profiling.proofs.MovedParts.{visit-moved, moved_visited}
 use Rattle.cx_profiling.proofs.CounterLemmas.{counter_cells-length}
 use Rattle.cx_profiling.proofs.GainedLemmas.{IsGrown, grown_at, by_kind, components-length, component_at-with_counts, counted_groups-length, count_outputs-length, store_groups-length, gained_main, kept_grown, child_grown, main_grown}
 use Rattle.cx_profiling.proofs.FitLemmas.{FitsStatement, fits_statement, is_statement, moved_statement_fits, is_assign}

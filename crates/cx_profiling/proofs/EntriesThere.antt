@@ -1,10 +1,10 @@
 -- THE ENTRIES OF A PROFILE are of groups that are there.
 use Rattle.std.proofs.Common.{◌≡◌, ℕ, suc, ◌+◌, ◌<◌, inl, inr, ⊎_elim, Bool, true, false, List, [], ◌∷◌, length, map, refl, sym, ap, ◌∙◌, subst, arith}
 use Rattle.std.specs.Prelude.{if◌then◌else◌}
+use Rattle.cx_text.proofs.MemberLaws.{image_in, in_either}
 use Rattle.cx_meaning.specs.Designs.{PlainGroup, PlainDesign}
 use Rattle.cx_meaning.specs.Instances.{Instance, Node, Cells, no_cells, a_primitive, an_instance, part_of, child_at, Path, tree_of}
-use Rattle.cx_meaning.specs.Sights.{In}
-use Rattle.cx_meaning.proofs.SightsLaws.{in_either, image_in}
+use Rattle.cx_text.specs.Members.{In}
 use Rattle.cx_profiling.specs.Counters.{Counter, ProfileEntry, Shown, is_counted, counters_from, behind_cell, first_gained, shown_here, shown_at_cell, shown_in, shown_below, entries_of}
 use Rattle.cx_profiling.specs.FlatEntries.{entry_at}
 use Rattle.cx_profiling.proofs.FlatTotals.{IsThere}

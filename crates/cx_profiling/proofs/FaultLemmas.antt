@@ -1,5 +1,6 @@
 -- The faults of an island are at ports that a map leaves, where the ports that it moves are always values.
 use Rattle.std.proofs.Common.{◌≡◌, ℕ, zero, suc, inl, inr, ◌⊎◌, Bool, true, false, List, [], ◌∷◌, Option, Some, None, refl, sym, ap, ◌∙◌, subst}
+use Rattle.cx_text.specs.Members.{In}
 use Rattle.cx_meaning.specs.declared.ports.PortRef.{PortRef}
 use Rattle.cx_meaning.specs.declared.sights.Seen.{Seen}
 use Rattle.cx_meaning.specs.declared.sights.Seen.TheVariants as sights
@@ -7,7 +8,7 @@ use Rattle.cx_meaning.specs.declared.sights.FaultKind.{FaultKind}
 use Rattle.cx_meaning.specs.declared.sights.FaultKind.TheVariants as kinds
 use Rattle.cx_meaning.specs.Instances.{Instance, State, idle}
 use Rattle.cx_meaning.specs.Active.{Active, nothing, entries}
-use Rattle.cx_meaning.specs.Sights.{Look, Held, In, bit_of, seen}
+use Rattle.cx_meaning.specs.Sights.{Look, Held, bit_of, seen}
 use Rattle.cx_meaning.specs.Cycles.{Fault, fault_at, Ended, Goes, Faults, cycle}
 use Rattle.cx_meaning.specs.Answers.{Answer, End, More, Turn, Ends, after_turns, turn_then, idle_turn}
 use Rattle.cx_meaning.specs.Answers as answers

@@ -1,21 +1,21 @@
 -- Assignments and statements that fit a component of a design: old ones, moved, and new ones.
 use Rattle.std.proofs.Common.{◌≡◌, ◌≢◌, ℕ, ◌<◌, false, inl, inr, length, Option, Some, None, refl, sym, ap, ◌∙◌, subst}
+use Rattle.cx_text.proofs.MemberLaws.{image_in}
 use Rattle.cx_text.proofs.OptionLaws.{map_some}
 use Rattle.cx_text.specs.declared.places.Place.{Place}
 use Rattle.cx_meaning.specs.declared.ports.PortRef.{PortRef}
 use Rattle.cx_meaning.specs.declared.ports.PortRef.TheVariants as ports
 use Rattle.cx_meaning.specs.declared.ports.PlacedPort.{PlacedPort}
 use Rattle.cx_meaning.specs.Designs.{PlainGuard, Always, Atom, Negation, All, Any, Compared, Within, PlainAssign, PlainComponent, PlainDesign, component_at}
-use Rattle.cx_meaning.specs.Sights.{In}
-use Rattle.cx_meaning.proofs.SightsLaws.{image_in}
+use Rattle.cx_text.specs.Members.{In}
 use Rattle.cx_rules.specs.Items.{sources_of, Visited, test_in}
 use Rattle.cx_rules.specs.ShapeRules.{is_hole}
 use Rattle.cx_rules.specs.Ports.{component_of}
 use Rattle.cx_rules.proofs.PortsLemmas.{part_is}
 use Rattle.cx_rules.specs.Wellformed.{IsAssign, IsForm, IsStatement, IsDesign}
 use Rattle.cx_rewrites.specs.Moving.{moved_port, moved_guard, moved_assign, moved_form}
+use Rattle.cx_rewrites.proofs.MovedLists.{sources_of-moved, moved_visited, test_in-moved}
 use Rattle.cx_profiling.specs.Instrumented.{drive, moved_in, with_counts}
-use Rattle.cx_profiling.proofs.MovedParts.{sources_of-moved, test_in-moved, moved_visited}
 use Rattle.cx_profiling.proofs.ThereLemmas.{Names, is_there, from_there}
 use Rattle.cx_profiling.proofs.GainedLemmas.{IsGrown, moved_names}
 

@@ -1,8 +1,9 @@
 -- WHAT THE RUN OF A DESIGN COUNTS, by that of its flat design, and of the design that is run.
 use Rattle.std.proofs.Common.{◌≡◌, ℕ, zero, suc, false, inl, inr, List, [], ◌∷◌, ◌++◌, refl, sym, ap, ◌∙◌, subst}
+use Rattle.cx_text.specs.Members.{In}
 use Rattle.cx_meaning.specs.Designs.{PlainDesign}
 use Rattle.cx_meaning.specs.Instances.{Instance, Node, Cells, no_cells, a_primitive, an_instance, OfInstance, cell_at, Path, start, tree_of}
-use Rattle.cx_meaning.specs.Sights.{In, unheld}
+use Rattle.cx_meaning.specs.Sights.{unheld}
 use Rattle.cx_meaning.proofs.InstancesLemmas.{instance_is}
 use Rattle.cx_rules.specs.Accepted.{IsAccepted}
 use Rattle.cx_rules.specs.Wellformed.{IsDesign}

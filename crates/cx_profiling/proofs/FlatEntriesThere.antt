@@ -4,12 +4,12 @@ use Rattle.std.specs.Prelude.{flat_map, if◌then◌else◌}
 use Rattle.std.proofs.lemmas.Bool.{eqb-true}
 use Rattle.std.proofs.lemmas.List.{length-append, length-map}
 use Rattle.std.proofs.lemmas.List.Folds.{length-flat_map-take}
+use Rattle.cx_text.proofs.MemberLaws.{image_in}
 use Rattle.cx_meaning.specs.Designs.{PlainInvoke, PlainComponent, PlainDesign}
 use Rattle.cx_meaning.specs.Instances.{Instance, Node, Cells, OfInstance, part_of, cells_of, cell_at, child_at, instance_at, Path, tree_of}
 use Rattle.cx_meaning.specs.Control.{groups_of}
-use Rattle.cx_meaning.specs.Sights.{In}
+use Rattle.cx_text.specs.Members.{In}
 use Rattle.cx_meaning.proofs.InstancesLemmas.{child_is}
-use Rattle.cx_meaning.proofs.SightsLaws.{image_in}
 use Rattle.cx_rewrites.specs.Moving.{moved_group}
 use Rattle.cx_rules.specs.Counts.{is_one_of}
 use Rattle.cx_flattening.specs.Events.{no_invoke, the_invoke}
@@ -23,6 +23,7 @@ use Rattle.cx_flattening.proofs.Standing.{embedded_static, embedded_dynamic}
 use Rattle.cx_flattening.proofs.FlatActs.{copy_within}
 use Rattle.cx_flattening.proofs.FlatCounts.{from_flat}
 use Rattle.cx_flattening.proofs.FlatLimits.{zero_plus}
+use Rattle.cx_flattening.proofs.FlatOrigins.{own_there}
 use Rattle.cx_profiling.specs.Counters.{ProfileEntry}
 use Rattle.cx_profiling.specs.FlatEntries.{entry_at, invokes_of, placed_entry, entries_in_flat, entries_below, flat_entries}
 use Rattle.cx_profiling.proofs.FlatTotals.{entries-child, IsThere, child_there}
@@ -38,9 +39,6 @@ module _ (kids : Kids) (part : PlainComponent) where
   all_groups =
       length-append (map (moved_group (own_port kids part)) part.groups) (flat_map (copies kids part) part.invokes)
       ∙ ap (λ n. n + length (flat_map (copies kids part) part.invokes)) (length-map part.groups (moved_group (own_port kids part)))
-
-  own_there : (g : ℕ) → g < length part.groups → g < length (flat_groups kids part)
-  own_there g less = let all = all_groups in omega (arith, less, all)
 
   copy_there : (j g : ℕ) (kid : PlainComponent) → j < length part.invokes → kid_at kids (the_invoke part j).cell ≡ Some kid → IsUsed kid g → g < length kid.groups
       → copy_of kids part kid j g < length (flat_groups kids part)

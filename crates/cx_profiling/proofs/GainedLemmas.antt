@@ -4,6 +4,7 @@ use Rattle.std.specs.Prelude.{nat_eq, if◌then◌else◌}
 use Rattle.std.specs.List.{slice_get}
 use Rattle.std.proofs.lemmas.List.{length-append}
 use Rattle.std.proofs.lemmas.List.FromFn.{get_or-map-range_with_len, length-map-range_with_len}
+use Rattle.cx_text.proofs.MemberLaws.{in_at}
 use Rattle.cx_text.proofs.ListLaws.{front, there_below, length-map}
 use Rattle.cx_text.proofs.BoolLaws.{by_test}
 use Rattle.cx_text.specs.declared.places.Place.{Place}
@@ -13,8 +14,7 @@ use Rattle.cx_meaning.specs.declared.ports.PortRef.TheVariants as ports
 use Rattle.cx_meaning.specs.declared.kinds.PortDecl.{PortDecl}
 use Rattle.cx_meaning.specs.Designs.{PlainAssign, PlainGroup, PlainKind, OfPrimitive, OfComponent, PlainCell, PlainComponent, no_component, PlainDesign, component_at}
 use Rattle.cx_meaning.specs.Instances.{Cells, cells_of}
-use Rattle.cx_meaning.specs.Sights.{In}
-use Rattle.cx_meaning.proofs.SightsLaws.{in_at}
+use Rattle.cx_text.specs.Members.{In}
 use Rattle.cx_rules.specs.Ports.{component_of}
 use Rattle.cx_rules.specs.Wellformed.{IsDesign, IsKind}
 use Rattle.cx_profiling.specs.Counters.{is_counted, counters, counters_from, Shown, shown_in, first_gained}

@@ -2,10 +2,11 @@
 -- at which static ifs look are moved.
 use Rattle.std.proofs.Common.{◌≡◌, ℕ, ◌-◌, inl, inr, Bool, true, false, ◌&&◌, nat_eq, nat_le, nat_lt, List, [], ◌∷◌, map, refl, ap, ◌∙◌, subst}
 use Rattle.std.proofs.lemmas.Bool.{eqb-true}
+use Rattle.cx_text.specs.Members.{In}
 use Rattle.cx_meaning.specs.declared.ports.PortRef.{PortRef}
 use Rattle.cx_meaning.specs.Designs.{PlainAssign}
 use Rattle.cx_meaning.specs.Instances.{Path}
-use Rattle.cx_meaning.specs.Sights.{Look, In}
+use Rattle.cx_meaning.specs.Sights.{Look}
 use Rattle.cx_meaning.specs.Islands.{is_wanted}
 use Rattle.cx_rewrites.specs.Moving.{moved_assign}
 use Rattle.cx_flattening.specs.Events.{Spot, spot, Sample, Event, Runs, Feeds, Looks, source_to}

@@ -2,7 +2,7 @@
 use Rattle.std.proofs.Common.{◌≡◌, ℕ, suc, ◌+◌, ◌^◌, ◌%◌, ◌<◌, ◌≤◌, Bool, true, false, if◌then◌else◌, List, [], ◌∷◌, refl, sym, ap, ◌∙◌, arith, true≢false}
 use Rattle.cx_prim.specs.CellStates.{Register}
 use Rattle.cx_meaning.specs.Instances.{Instance, Node, Cells, no_cells, a_primitive, an_instance, cell_count, cells_of, State, Set, under, merge}
-use Rattle.cx_meaning.specs.Sights.{In}
+use Rattle.cx_text.specs.Members.{In}
 use Rattle.cx_rewrites.specs.Tallies.{Tally, plus, at_cell}
 use Rattle.cx_profiling.specs.Counters.{Counter, counters}
 use Rattle.cx_profiling.specs.Growing.{Grown, GrownCells}

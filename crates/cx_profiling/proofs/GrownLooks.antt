@@ -1,20 +1,22 @@
 -- THE PORTS AT WHICH STATIC IFS LOOK are seen alike at every level; what is moved of them is one bit, so the fault is the same.
 use Rattle.std.proofs.Common.{◌≡◌, ℕ, zero, suc, ◌+◌, ◌*◌, ◌<◌, ◌≤◌, inl, inr, ◌⊎◌, Bool, true, false, List, [], ◌∷◌, length, map, None, refl, sym, ap, ◌∙◌, subst}
+use Rattle.cx_text.proofs.MemberLaws.{in_at}
+use Rattle.cx_text.specs.Members.{In}
 use Rattle.cx_prim.specs.CellStates.{CellState}
 use Rattle.cx_meaning.specs.declared.ports.PortRef.{PortRef}
 use Rattle.cx_meaning.specs.declared.sights.Seen.{Seen}
 use Rattle.cx_meaning.specs.Designs.{PlainComponent, PlainDesign, component_at}
 use Rattle.cx_meaning.specs.Instances.{Instance, Cells, no_cells, a_primitive, an_instance, OfInstance, cell_at, cells_of, part_of, Path, State, under, tree_within}
 use Rattle.cx_meaning.specs.Active.{Active, nothing}
-use Rattle.cx_meaning.specs.Sights.{Held, unheld, In, bit_of}
+use Rattle.cx_meaning.specs.Sights.{Held, unheld, bit_of}
 use Rattle.cx_meaning.specs.Cycles.{Next}
 use Rattle.cx_meaning.specs.Islands.{fault_of}
 use Rattle.cx_meaning.proofs.InstancesLemmas.{instance_is, row_instance, nothing_instance}
-use Rattle.cx_meaning.proofs.SightsLaws.{in_at}
 use Rattle.cx_rules.specs.Circles.{IsAcyclic}
 use Rattle.cx_rules.specs.Ports.{component_of}
 use Rattle.cx_rules.specs.Accepted.{IsAccepted}
 use Rattle.cx_rules.specs.Wellformed.{IsDesign}
+use Rattle.cx_rules.proofs.CircleLemmas.{node_acyclic}
 use Rattle.cx_rewrites.specs.Tallies.{Tally, at_cell}
 use Rattle.cx_rewrites.specs.Cells.{comes_to}
 use Rattle.cx_flattening.specs.Events.{Spot}
@@ -29,7 +31,6 @@ use Rattle.cx_profiling.proofs.GrownTrees.{InTree, in_reach, child_in_tree, no_m
 use Rattle.cx_profiling.proofs.PairLemmas.{CellPair, row_pair, child_pair, pair_at}
 use Rattle.cx_profiling.proofs.AcyclicLemmas.{ActsWithin, child_few, child_acyclic}
 use Rattle.cx_profiling.proofs.GrownCycles.{grown_kid}
-use Rattle.cx_profiling.proofs.SeenOutputs.{bare_here}
 use Rattle.cx_profiling.proofs.LeafLemmas.{found, left_or_bit}
 use Rattle.cx_profiling.proofs.GrownDeeds.{moved_spot}
 use Rattle.cx_profiling.proofs.GrownEvents.{StandsAt, moved_at, moved-child, SpotIn}
@@ -72,8 +73,8 @@ module _ (d : PlainDesign) (design : IsDesign d) (accepted : IsAccepted d) (grow
           → IsAlike p (moved_at d i path p) (look_below i held s path p) (look_below j twin t path (moved_at d i path p))
       looks_alike [] x stands p inside =
           let here : IsInside d node p = subst (λ y. IsInside d (part_of y) p) (sym stands) inside in (
-            found d design accepted grown_accepted m k at entries_there further held twin same nothing (λ g past. refl) (bare_here d design accepted grown_accepted (suc m) k) τ s t grown p here,
-            left_or_bit d design accepted grown_accepted m k at entries_there further held twin same nothing (bare_here d design accepted grown_accepted (suc m) k) s p here,
+            found d design accepted grown_accepted m k at entries_there further held twin same nothing (λ g past. refl) (node_acyclic d accepted (suc m) k) τ s t grown p here,
+            left_or_bit d design accepted grown_accepted m k at entries_there further held twin same nothing (node_acyclic d accepted (suc m) k) s p here,
           )
       looks_alike (c ∷ path) x (child, here, static, rest) p inside = by (pair_at d design m k at.within c (child_few (tree_within d m) node.cells c child here))
         where

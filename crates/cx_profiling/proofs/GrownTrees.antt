@@ -4,15 +4,15 @@ use Rattle.std.proofs.lemmas.Bool.{eqb-false}
 use Rattle.cx_prim.specs.declared.names.PrimitiveName.TheVariants as primitives
 use Rattle.cx_meaning.specs.Designs.{PlainKind, OfPrimitive, OfComponent, PlainCell, PlainDesign, component_at}
 use Rattle.cx_meaning.specs.Instances.{Cells, add_cell, cells_for, tree_within}
-use Rattle.cx_meaning.specs.Sights.{In}
+use Rattle.cx_text.specs.Members.{In}
 use Rattle.cx_rules.specs.Ports.{component_of}
 use Rattle.cx_rules.specs.Wellformed.{IsDesign}
+use Rattle.cx_flattening.proofs.TreeLevels.{child_there}
 use Rattle.cx_profiling.specs.Counters.{counters}
 use Rattle.cx_profiling.specs.Instrumented.{is_reached, with_counts}
 use Rattle.cx_profiling.proofs.DepthLemmas.{Deep, deep, whole_tree}
 use Rattle.cx_profiling.proofs.ListedCells.{at_row}
 use Rattle.cx_profiling.proofs.ReachedLemmas.{is_reached-from, child_reached}
-use Rattle.cx_profiling.proofs.TreeLemmas.{child_there}
 use Rattle.cx_profiling.proofs.RestLemmas.{GrewInto, CellsGrew}
 use Rattle.cx_profiling.proofs.RoleLemmas.{more_cells, register_there}
 

@@ -4,7 +4,7 @@ use Rattle.cx_meaning.specs.declared.ports.PortRef.{PortRef}
 use Rattle.cx_meaning.specs.Designs.{PlainComponent, PlainDesign, component_at}
 use Rattle.cx_meaning.specs.Instances.{tree_within}
 use Rattle.cx_meaning.specs.Active.{Active, Owned, owned, owned_by_groups}
-use Rattle.cx_meaning.specs.Sights.{In}
+use Rattle.cx_text.specs.Members.{In}
 use Rattle.cx_meaning.proofs.DesignsLemmas.{group_there}
 use Rattle.cx_meaning.proofs.InstancesLemmas.{instance_row}
 use Rattle.cx_rules.specs.Footprints.{AssignNames, Leads}

@@ -4,6 +4,8 @@ use Rattle.std.proofs.Common.{◌≡◌, ℕ, zero, suc, ◌+◌, ◌-◌, ◌<�
 use Rattle.std.specs.Prelude.{nat_eq, nat_lt}
 use Rattle.std.specs.List.{slice_get}
 use Rattle.std.proofs.lemmas.Bool.{eqb-true, ltb-true}
+use Rattle.cx_text.proofs.MemberLaws.{flat_in, image_in, in_at, in_either, in_image, in_left}
+use Rattle.cx_text.specs.Members.{In}
 use Rattle.cx_text.proofs.ListLaws.{front, there_at, there_below as below_there}
 use Rattle.cx_text.proofs.OptionLaws.{map_some, same_some}
 use Rattle.cx_text.specs.declared.places.Place.{Place}
@@ -12,9 +14,10 @@ use Rattle.cx_meaning.specs.declared.ports.PortRef.TheVariants as ports
 use Rattle.cx_meaning.specs.Designs.{PlainAssign, PlainGroup, group_at, PlainKind, OfPrimitive, OfComponent, PlainCell, PlainForm, Empty, Enable, Seq, Par, If, While, Repeat, StaticSeq, StaticPar, StaticIf, StaticRepeat, Timed, PlainStatement, statements_of, PlainInvoke, PlainComponent, PlainDesign, component_at}
 use Rattle.cx_meaning.specs.Control.{groups_of, groups_in_all}
 use Rattle.cx_meaning.specs.Instances.{Instance, Node, At, OfInstance, Cells, cells_for, cells_of, cell_at, part_of, tree_within}
-use Rattle.cx_meaning.specs.Sights.{In, AnInput, output_port, part_port}
+use Rattle.cx_meaning.specs.Sights.{AnInput, output_port, part_port}
 use Rattle.cx_meaning.proofs.DesignsLemmas.{same_part, there_below}
-use Rattle.cx_meaning.proofs.SightsLaws.{in_at, in_either, in_image, in_left, image_in, input_at, not_input, flat_in}
+use Rattle.cx_meaning.proofs.SightsLaws.{input_at, not_input}
+use Rattle.cx_meaning.proofs.InstancesLemmas.{at_kind, cell_stands}
 use Rattle.cx_rules.specs.CallShape.{IsInput, is_reg_kind, is_register_cell, is_register, one}
 use Rattle.cx_rules.specs.InvokeShape.{latency_at}
 use Rattle.cx_rules.specs.Invokes.{invoke_in, invokes_of}
@@ -24,11 +27,10 @@ use Rattle.cx_rules.specs.Wellformed.{IsBind, IsCapture, takes, enables, IsCaptu
 use Rattle.cx_rules.proofs.PortsLemmas.{part_is}
 use Rattle.cx_laws.proofs.TogetherLemmas.{in_flat}
 use Rattle.cx_rewrites.specs.Moving.{moved_guard, moved_assign, moved_form, moved_statement}
-use Rattle.cx_rewrites.proofs.MovedLists.{groups_of-moved}
+use Rattle.cx_rewrites.proofs.MovedLists.{groups_of-moved, moved_visited, visit-moved}
 use Rattle.cx_profiling.specs.Counters.{has_name, is_counted, is_counted_kind, first_gained, Shown, shown_in}
 use Rattle.cx_profiling.specs.Instrumented.{counter_assigns, store_enables, moved_by, moved_number, moved_in, moved_assigns, moved_invoke, gained, group_with, counted_groups, main_component, with_counts}
-use Rattle.cx_profiling.proofs.MovedParts.{visit-moved, moved_visited}
-use Rattle.cx_profiling.proofs.ThereLemmas.{of_kind, cell_at-cells_for, tree_on, is_there, from_there}
+use Rattle.cx_profiling.proofs.ThereLemmas.{tree_on, is_there, from_there}
 use Rattle.cx_profiling.proofs.GainedLemmas.{IsGrown, components-length, grown_at, moved_names}
 use Rattle.cx_profiling.proofs.FitLemmas.{moved_hole}
 use Rattle.cx_profiling.proofs.RoleLemmas.{Role, as_main, as_child, as_kept, role}
@@ -50,17 +52,17 @@ input_is part (suc p) x e = by (nat_lt p (length part.inputs)) refl e
 
 -- what stands at a cell, by the kind of the cell
 module _ (d : PlainDesign) (some : 0 < length d.components) (k : ℕ) where
-  kind_at : (c : ℕ) (cell : PlainCell) → slice_get (component_at d k).cells c ≡ Some cell → (n : ℕ) × (cell_at (cells_of (component_of d k)) c ≡ of_kind (tree_within d n) cell.kind)
+  kind_at : (c : ℕ) (cell : PlainCell) → slice_get (component_at d k).cells c ≡ Some cell → (n : ℕ) × (cell_at (cells_of (component_of d k)) c ≡ at_kind (tree_within d n) cell.kind)
   kind_at c cell e = by (tree_on d some (length d.components) k some)
     where
-      by : (n : ℕ) × (component_of d k ≡ Node (component_at d k) (cells_for (tree_within d n) (component_at d k).cells)) → (n : ℕ) × (cell_at (cells_of (component_of d k)) c ≡ of_kind (tree_within d n) cell.kind)
-      by (n, is) = (n, ap (λ i. cell_at (cells_of i) c) is ∙ cell_at-cells_for (tree_within d n) (component_at d k).cells c cell e)
+      by : (n : ℕ) × (component_of d k ≡ Node (component_at d k) (cells_for (tree_within d n) (component_at d k).cells)) → (n : ℕ) × (cell_at (cells_of (component_of d k)) c ≡ at_kind (tree_within d n) cell.kind)
+      by (n, is) = (n, ap (λ i. cell_at (cells_of i) c) is ∙ cell_stands (tree_within d n) (component_at d k).cells c cell e)
 
 abbrev kind_latency : PlainDesign → PlainKind → Option ℕ
 kind_latency d (OfPrimitive p) = None
 kind_latency d (OfComponent j) = (component_at d j).latency
 
-latency_of_kind : (d : PlainDesign) (n : ℕ) (kind : PlainKind) → latency_at (of_kind (tree_within d n) kind) ≡ kind_latency d kind
+latency_of_kind : (d : PlainDesign) (n : ℕ) (kind : PlainKind) → latency_at (at_kind (tree_within d n) kind) ≡ kind_latency d kind
 latency_of_kind d n (OfPrimitive p) = refl
 latency_of_kind d n (OfComponent j) = ap (λ (part : PlainComponent). part.latency) (same_part d n j)
 
@@ -217,7 +219,7 @@ module _ (d : PlainDesign) (rules : IsDesign d) (k : ℕ) (there : k < length d.
       by true f = let same : p ≡ suc (length (component_at d h).inputs + length (component_at d h).outputs) = eqb-true p (first_gained (component_at d h)) f in absurd (omega (arith, same, e, less))
       by false f = refl
 
-  kind_stays : (c p : ℕ) (kind : PlainKind) (at : At) → ((n : ℕ) × (at ≡ of_kind (tree_within d n) kind)) → ((child : Instance) → at ≡ OfInstance child → IsInput child p) → moved_by d kind p ≡ p
+  kind_stays : (c p : ℕ) (kind : PlainKind) (at : At) → ((n : ℕ) × (at ≡ at_kind (tree_within d n) kind)) → ((child : Instance) → at ≡ OfInstance child → IsInput child p) → moved_by d kind p ≡ p
   kind_stays c p (OfPrimitive q) at (n, is) input = refl
   kind_stays c p (OfComponent j) at (n, is) input = by (input (tree_within d n j) is)
     where
@@ -230,8 +232,8 @@ module _ (d : PlainDesign) (rules : IsDesign d) (k : ℕ) (there : k < length d.
         ap (λ o. ports.Cell c (moved_number d o p)) at
         ∙ ap (ports.Cell c) (kind_stays c p cell.kind (cell_at (cells_of (component_of d k)) c) (kind_at d some k c cell at) input)
 
-    child_is : (m : ℕ) (kind : PlainKind) → IsKind d kind → (child : Instance) (p : ℕ) → of_kind (tree_within (with_counts d) m) kind ≡ OfInstance child
-        → ((n : ℕ) × (cell_at (cells_of (component_of d k)) c ≡ of_kind (tree_within d n) kind)) → ((x : Instance) → cell_at (cells_of (component_of d k)) c ≡ OfInstance x → IsInput x p) → IsInput child p
+    child_is : (m : ℕ) (kind : PlainKind) → IsKind d kind → (child : Instance) (p : ℕ) → at_kind (tree_within (with_counts d) m) kind ≡ OfInstance child
+        → ((n : ℕ) × (cell_at (cells_of (component_of d k)) c ≡ at_kind (tree_within d n) kind)) → ((x : Instance) → cell_at (cells_of (component_of d k)) c ≡ OfInstance x → IsInput x p) → IsInput child p
     child_is m (OfPrimitive q) h child p e old_at input = absurd cc
     child_is m (OfComponent j) less child p e (n, is) input = subst (λ i. IsInput i p) (same (tree_within (with_counts d) m j) child e) (input_kept n m j less p (input (tree_within d n j) is))
       where

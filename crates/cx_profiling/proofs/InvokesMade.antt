@@ -5,13 +5,13 @@ use Rattle.std.specs.Prelude.{flat_map}
 use Rattle.std.specs.List.{slice_get}
 use Rattle.std.proofs.lemmas.Bool.{eqb-true, or_cases}
 use Rattle.std.proofs.lemmas.List.{map-append}
+use Rattle.cx_text.proofs.MemberLaws.{flat_in, in_at}
 use Rattle.cx_text.proofs.OptionLaws.{map_some}
 use Rattle.cx_meaning.specs.declared.ports.PortRef.{PortRef}
 use Rattle.cx_meaning.specs.declared.ports.PlacedPort.{PlacedPort}
 use Rattle.cx_meaning.specs.Designs.{PlainAssign, PlainForm, Empty, Enable, Seq, Par, If, While, Repeat, StaticSeq, StaticPar, StaticIf, StaticRepeat, Timed, PlainStatement, Placed, PlainStatements, no_statements, a_statement, PlainInvoke, PlainComponent, PlainDesign, component_at, group_at}
 use Rattle.cx_meaning.specs.Islands.{or_zero}
-use Rattle.cx_meaning.specs.Sights.{In}
-use Rattle.cx_meaning.proofs.SightsLaws.{in_at, flat_in}
+use Rattle.cx_text.specs.Members.{In}
 use Rattle.cx_rules.specs.Invokes.{invoke_at, invoke_length, form_lasts, lasts, sum_lasts, max_lasts, invoke_in, invokes_of, capture_of, captures_of, is_cell_of, invokes_cell}
 use Rattle.cx_rules.specs.Items.{Dynamic, Visited, visit, operands_of, option_list, sources_of}
 use Rattle.cx_rules.specs.Ports.{component_of}
@@ -20,9 +20,9 @@ use Rattle.cx_rules.specs.StaticControl.{is_written, is_timed}
 use Rattle.cx_rules.specs.Wellformed.{IsBind, IsCapturing, IsDesign, IsInvoke}
 use Rattle.cx_rules.proofs.PortsLemmas.{part_is}
 use Rattle.cx_rewrites.specs.Moving.{moved_assign, moved_form, moved_statement, moved_statements}
+use Rattle.cx_rewrites.proofs.MovedLists.{moved_visited, visit-moved}
 use Rattle.cx_profiling.specs.Instrumented.{moved_in, moved_invoke, with_counts}
 use Rattle.cx_profiling.proofs.InvokesKept.{get_mapped, form_invokes, keeps_at}
-use Rattle.cx_profiling.proofs.MovedParts.{moved_visited, visit-moved}
 use Rattle.cx_profiling.proofs.PartTable.{length_kept}
 use Rattle.cx_profiling.proofs.ThereLemmas.{Names, from_there}
 

@@ -1,6 +1,7 @@
 -- THE LEAVES OF CONTROL of an instrumented instance carry those of the instance: groups, tests, calls and islands.
 use Rattle.std.proofs.Common.{◌≡◌, ℕ, suc, ◌+◌, ◌*◌, ◌^◌, ◌%◌, ◌<◌, ◌≤◌, inl, inr, ◌⊎◌, ⊎_elim, Bool, true, false, ◌||◌, ◌&&◌, if◌then◌else◌, List, [], ◌∷◌, ◌++◌, length, Option, Some, None, slice_get, nat_eq, is_none, refl, sym, ap, ◌∙◌, subst, arith}
 use Rattle.std.proofs.lemmas.Bool.{ne_eqb, eq-eqb, cases_eq, cases_lt}
+use Rattle.cx_text.specs.Members.{In}
 use Rattle.cx_prim.specs.CellStates.{CellState, Register}
 use Rattle.cx_prim.specs.Rows.{Row}
 use Rattle.cx_prim.specs.Table.{row_of}
@@ -16,7 +17,7 @@ use Rattle.cx_meaning.specs.Instances.{Instance, Cells, At, Nothing, OfRow, OfIn
 use Rattle.cx_meaning.specs.Active.{Active, nothing, group, capture, entries, only_at}
 use Rattle.cx_meaning.specs.Truths.{Truth, One, Zero, truth_of}
 use Rattle.cx_meaning.specs.Truths as truths
-use Rattle.cx_meaning.specs.Sights.{Held, In, bit_of, seen, part_port, part_step, cell_step, outputs_below, is_done_cell}
+use Rattle.cx_meaning.specs.Sights.{Held, bit_of, seen, part_port, part_step, cell_step, outputs_below, is_done_cell}
 use Rattle.cx_meaning.specs.Cycles.{Fault, fault_at, Next, Stops, outcome_at, first_fault, state_after, Faults, cycle}
 use Rattle.cx_meaning.specs.Answers.{Turn, Test, Holds, Fails, Unclear, turns_of}
 use Rattle.cx_meaning.specs.Answers as answers
@@ -31,7 +32,7 @@ use Rattle.cx_rules.specs.Ports.{component_of}
 use Rattle.cx_rules.specs.Items.{Visited, statements_in}
 use Rattle.cx_rules.specs.Accepted.{IsAccepted}
 use Rattle.cx_rules.specs.Wellformed.{IsDesign}
-use Rattle.cx_rules.proofs.CircleLemmas.{within_group}
+use Rattle.cx_rules.proofs.CircleLemmas.{within_group, node_acyclic}
 use Rattle.cx_rules.proofs.FoundLemmas.{seen_solves}
 use Rattle.cx_frames.proofs.CircleFrames.{capture_acyclic}
 use Rattle.cx_frames.proofs.IslandFrames.{AllFine, looked_good}
@@ -57,7 +58,7 @@ use Rattle.cx_profiling.proofs.PairLemmas.{CellPair, row_pair, child_pair, pair_
 use Rattle.cx_profiling.proofs.SightLemmas.{found_grows}
 use Rattle.cx_profiling.proofs.AcyclicLemmas.{ActsWithin, child_few}
 use Rattle.cx_profiling.proofs.GrownCycles.{grown_rows, grown_kid, make_grown, cycle_grows}
-use Rattle.cx_profiling.proofs.SeenOutputs.{bare_here, below_here, below_there, entries_here, kids_seen}
+use Rattle.cx_profiling.proofs.SeenOutputs.{below_here, below_there, entries_here, kids_seen}
 use Rattle.cx_profiling.proofs.CountWithin.{none_active}
 use Rattle.cx_profiling.proofs.GroupLemmas.{GroupOf, counted_group, plain_group, group_is, counted_there, register_past, new_length}
 use Rattle.cx_profiling.proofs.FaultLemmas.{IsLeft, carried_fixed, island_fixed}
@@ -351,7 +352,7 @@ module _ (d : PlainDesign) (design : IsDesign d) (accepted : IsAccepted d) (grow
             (λ b. subst (λ x. TestCarried Exact (λ f. f) (test_of p (truth_of x)) (test_of (mv p) (truth_of x))) (sym b.1) (bit b.0)) (left_or_bit act acyclic s p here))
 
         of_comb : (c : Option ℕ) → ((g : ℕ) → c ≡ Some g → g < length node.groups) → TestCarried Exact (λ f. f) (test i held p c s) (test j twin (mv p) c t)
-        of_comb None there = under_act nothing (λ g past. refl) (bare_here d design accepted grown_accepted (suc m) k)
+        of_comb None there = under_act nothing (λ g past. refl) (node_acyclic d accepted (suc m) k)
         of_comb (Some g) there = under_act (group g) (group_within node g (there g refl)) (within_group d accepted (suc m) k g (there g refl))
 
     -- A CALL
@@ -419,12 +420,12 @@ module _ (d : PlainDesign) (design : IsDesign d) (accepted : IsAccepted d) (grow
         (island_fixed (moved_fault mv) i held (form_flat node v.form 0 []) cycle_stays
         (λ s h x p kind inside no_bit.
         ⊎_elim (λ e. ap (λ q. fault_at kind q) e) (λ b. absurd (no_bit b.0 b.1))
-        (left_or_bit nothing (bare_here d design accepted grown_accepted (suc m) k) s p (looked_good (λ g. g < length node.groups) (IsInside d node) h x (form_flat node v.form 0 []) fine p inside)))
+        (left_or_bit nothing (node_acyclic d accepted (suc m) k) s p (looked_good (λ g. g < length node.groups) (IsInside d node) h x (form_flat node v.form 0 []) fine p inside)))
         (form_length node v.form) 0 no_history s n)
         (island_carries mv Exact (Grown i) (moved_fault mv) (λ es. made_with (entries es)) (λ g. g < length node.groups) (IsInside d node) i j held twin v.form lengths fine
         (record {
           rests = rests;
-          samples = λ p here τ s t grown. found nothing (λ g past. refl) (bare_here d design accepted grown_accepted (suc m) k) τ s t grown p here;
+          samples = λ p here τ s t grown. found nothing (λ g past. refl) (node_acyclic d accepted (suc m) k) τ s t grown p here;
           told = λ p here kind. refl;
           cycles = λ h x. cycles (entries (active_in h x (form_flat node v.form 0 []))) (acts_within h x) (entries_here d design accepted grown_accepted m k at.within v stands h x) (moved_fault mv) fault_stays;
         }) τ s t n u room grown)

@@ -1,7 +1,7 @@
 pub mod TreeLemmas
 pub mod ReachedLemmas
 pub mod NameLemmas
-pub mod MovedParts
+mod OperandLemmas
 pub mod ThereLemmas
 pub mod CounterLemmas
 pub mod GainedLemmas

@@ -1,36 +1,18 @@
 -- The cells of an instance by the cells of its component.
-use Rattle.std.proofs.Common.{◌≡◌, ℕ, zero, suc, ◌<◌, List, [], ◌∷◌, Option, Some, None, slice_get, refl, ap, ◌∙◌, arith}
+use Rattle.std.proofs.Common.{◌≡◌, ℕ, zero, suc, ◌<◌, List, Option, Some, None, slice_get, refl, ap, ◌∙◌, arith}
 use Rattle.cx_prim.specs.Table.{PrimitiveRow, row_of}
 use Rattle.cx_meaning.specs.Designs.{PlainKind, OfPrimitive, OfComponent, PlainCell, PlainDesign, component_at}
-use Rattle.cx_meaning.specs.Instances.{Instance, Cells, At, Nothing, OfRow, OfInstance, cell_at, cells_of, part_of, add_cell, cells_for, tree_within}
+use Rattle.cx_meaning.specs.Instances.{Instance, Nothing, OfRow, OfInstance, cell_at, cells_of, part_of, cells_for, tree_within}
 use Rattle.cx_meaning.proofs.DesignsLemmas.{same_part}
-use Rattle.cx_profiling.proofs.ThereLemmas.{of_kind}
-
--- what stands at a cell
-abbrev pub cell_kind_at : (ℕ → Instance) → Option PlainCell → At
-cell_kind_at child None = Nothing
-cell_kind_at child (Some cell) = of_kind child cell.kind
-
-first_at : (child : ℕ → Instance) (kind : PlainKind) (rest : Cells) → cell_at (add_cell child kind rest) 0 ≡ of_kind child kind
-first_at child (OfPrimitive primitive) rest = refl
-first_at child (OfComponent k) rest = refl
-
-later_at : (child : ℕ → Instance) (kind : PlainKind) (rest : Cells) (c : ℕ) → cell_at (add_cell child kind rest) (suc c) ≡ cell_at rest c
-later_at child (OfPrimitive primitive) rest c = refl
-later_at child (OfComponent k) rest c = refl
-
-pub at_listed : (child : ℕ → Instance) (cells : List PlainCell) (c : ℕ) → cell_at (cells_for child cells) c ≡ cell_kind_at child (slice_get cells c)
-at_listed child [] c = refl
-at_listed child (cell ∷ cells) zero = first_at child cell.kind (cells_for child cells)
-at_listed child (cell ∷ cells) (suc c) = later_at child cell.kind (cells_for child cells) c ∙ at_listed child cells c
+use Rattle.cx_meaning.proofs.InstancesLemmas.{at_kind, at_cell, at_number}
 
 pub at_row : (child : ℕ → Instance) (cells : List PlainCell) (c : ℕ) (cell : PlainCell) (primitive : PrimitiveRow) → slice_get cells c ≡ Some cell → cell.kind ≡ OfPrimitive primitive
     → cell_at (cells_for child cells) c ≡ OfRow (row_of primitive)
-at_row child cells c cell primitive at is = at_listed child cells c ∙ ap (cell_kind_at child) at ∙ ap (of_kind child) is
+at_row child cells c cell primitive at is = at_number child cells c ∙ ap (at_cell child) at ∙ ap (at_kind child) is
 
 pub at_component : (child : ℕ → Instance) (cells : List PlainCell) (c : ℕ) (cell : PlainCell) (k : ℕ) → slice_get cells c ≡ Some cell → cell.kind ≡ OfComponent k
     → cell_at (cells_for child cells) c ≡ OfInstance (child k)
-at_component child cells c cell k at is = at_listed child cells c ∙ ap (cell_kind_at child) at ∙ ap (of_kind child) is
+at_component child cells c cell k at is = at_number child cells c ∙ ap (at_cell child) at ∙ ap (at_kind child) is
 
 -- WHAT A CELL IS: none, a primitive, or of a component
 pub data CellIs (cells : List PlainCell) (c : ℕ) : Type 0 where
@@ -50,7 +32,7 @@ cell_is cells c = by (slice_get cells c) refl
     by (Some cell) at = by_kind cell at cell.kind refl
 
 pub at_none : (child : ℕ → Instance) (cells : List PlainCell) (c : ℕ) → slice_get cells c ≡ None → cell_at (cells_for child cells) c ≡ Nothing
-at_none child cells c at = at_listed child cells c ∙ ap (cell_kind_at child) at
+at_none child cells c at = at_number child cells c ∙ ap (at_cell child) at
 
 -- a cell of a component of a tree
 pub row_in_tree : (d : PlainDesign) (n k c : ℕ) (cell : PlainCell) (primitive : PrimitiveRow) → 0 < n → slice_get (component_at d k).cells c ≡ Some cell → cell.kind ≡ OfPrimitive primitive

@@ -3,7 +3,7 @@ use Rattle.std.proofs.Common.{◌≡◌, ℕ, inl, inr, ◌⊎◌, Bool, true, f
 use Rattle.cx_meaning.specs.declared.ports.PortRef.{PortRef}
 use Rattle.cx_meaning.specs.Designs.{PlainAssign, PlainComponent}
 use Rattle.cx_meaning.specs.Active.{Active, Acting, Owned, owned, no_later, placed_in, by_place, offset_of, if_acting, if_target, acting, same_port, drivers}
-use Rattle.cx_meaning.specs.Sights.{In}
+use Rattle.cx_text.specs.Members.{In}
 use Rattle.cx_rules.proofs.FoundLemmas.{same_is}
 use Rattle.cx_rewrites.specs.Driving.{assigns_of}
 

@@ -1,9 +1,10 @@
 -- MAIN: the old control, and then the stores.
 use Rattle.std.proofs.Common.{◌≡◌, ℕ, zero, suc, ◌+◌, ◌-◌, ◌*◌, ◌<◌, ◌≤◌, inl, inr, Bool, true, false, ◌||◌, List, [], ◌∷◌, ◌++◌, length, map, Some, slice_get, refl, sym, ap, ◌∙◌, subst, arith}
 use Rattle.std.specs.Prelude.{slice_set}
-use Rattle.std.proofs.lemmas.List.{map-append}
-use Rattle.cx_text.proofs.ListLaws.{behind, length-map, nothing_more}
-use Rattle.cx_prim.specs.CellStates.{CellState, Memory, AreWords}
+use Rattle.std.proofs.lemmas.List.{map-append, nil_from_length}
+use Rattle.cx_text.specs.Members.{In}
+use Rattle.cx_text.proofs.ListLaws.{behind, length-map, nothing_more, snoc_length}
+use Rattle.cx_prim.specs.CellStates.{CellState, AreWords}
 use Rattle.cx_prim.specs.CellStates as cell_states
 use Rattle.cx_prim.specs.Rows.{Row}
 use Rattle.cx_prim.specs.MemoryRows.{memory_row}
@@ -11,7 +12,7 @@ use Rattle.cx_meaning.specs.declared.ports.PortRef.TheVariants as ports
 use Rattle.cx_meaning.specs.Designs.{PlainComponent, PlainDesign, PlainStatement, PlainStatements, statements_of, component_at}
 use Rattle.cx_meaning.specs.Instances.{Instance, OfRow, cell_at, cells_of, State, under, idle, IsSettled, start, externals_of, words_of, tree_within}
 use Rattle.cx_meaning.specs.Active.{Active, group}
-use Rattle.cx_meaning.specs.Sights.{Held, unheld, In, bit_of, target_seen, side_step, cell_step, seen, outputs_below}
+use Rattle.cx_meaning.specs.Sights.{Held, unheld, bit_of, target_seen, side_step, cell_step, seen, outputs_below}
 use Rattle.cx_meaning.specs.Cycles.{Fault, Next, outcome_at}
 use Rattle.cx_meaning.specs.Answers.{Answer, End, More, then_do, after_turns}
 use Rattle.cx_meaning.specs.Answers as answers
@@ -61,17 +62,9 @@ set_middle [] y v ys (suc n) e = absurd (omega (arith, e))
 set_middle (x ∷ xs) y v ys zero e = absurd (let wrong : zero ≡ suc (length xs) = e in omega (arith, wrong))
 set_middle (x ∷ xs) y v ys (suc n) e = ap (λ list. x ∷ list) (set_middle xs y v ys n (let same : suc n ≡ suc (length xs) = e in omega (arith, same)))
 
-pub none_left : (xs : List ℕ) → length xs ≡ 0 → xs ≡ []
-none_left [] e = refl
-none_left (x ∷ xs) e = absurd (let wrong : suc (length xs) ≡ 0 = e in omega (arith, wrong))
-
 pub more_after : {A : Type 0} (xs : List A) (x : A) (ys : List A) → (xs ++ x ∷ []) ++ ys ≡ xs ++ x ∷ ys
 more_after [] x ys = refl
 more_after (z ∷ xs) x ys = ap (λ list. z ∷ list) (more_after xs x ys)
-
-pub one_longer : {A : Type 0} (xs : List A) (x : A) → length (xs ++ x ∷ []) ≡ suc (length xs)
-one_longer [] x = refl
-one_longer (y ∷ xs) x = ap suc (one_longer xs x)
 
 module _ (d : PlainDesign) (design : IsDesign d) (accepted : IsAccepted d) (grown_accepted : IsAccepted (with_counts d)) (m k : ℕ) (at : InTree d (suc m) k)
     (names : List (List ℕ)) (is : component_at (with_counts d) k ≡ main_component d k names) (bare : BareEnablesNothing (tree_within (with_counts d) (suc m) k)) (some : 1 ≤ length (shown_in (component_of d k))) where
@@ -111,7 +104,7 @@ module _ (d : PlainDesign) (design : IsDesign d) (accepted : IsAccepted d) (grow
   stores_run τ s [] before n number all rest count u between b enough = (
     u,
     ap (End u) (omega arith),
-    subst (λ words. IsBetween words τ s u) (ap (λ list. map (counted_of τ) before ++ list) (none_left rest count) ∙ nothing_more (map (counted_of τ) before) ∙ ap (map (counted_of τ)) (sym (nothing_more before) ∙ sym all)) between,
+    subst (λ words. IsBetween words τ s u) (ap (λ list. map (counted_of τ) before ++ list) (nil_from_length rest count) ∙ nothing_more (map (counted_of τ) before) ∙ ap (map (counted_of τ)) (sym (nothing_more before) ∙ sym all)) between,
     λ c less. refl,
   )
   stores_run τ s (x ∷ xs) before n number all [] count u between b enough = absurd (let wrong : 0 ≡ suc (length xs) = count in omega (arith, wrong))
@@ -127,7 +120,7 @@ module _ (d : PlainDesign) (design : IsDesign d) (accepted : IsAccepted d) (grow
       two (suc (suc c)) h = (c, refl)
 
       longer : suc n ≡ length (before ++ x ∷ [])
-      longer = ap suc number ∙ sym (one_longer before x)
+      longer = ap suc number ∙ sym (snoc_length before x)
 
       listed : slice_get (shown_in (component_of d k)) n ≡ Some x
       listed = ap (λ list. slice_get list n) all ∙ behind before (x ∷ xs) n 0 (let same : n ≡ length before + 0 = omega (arith, number) in same)

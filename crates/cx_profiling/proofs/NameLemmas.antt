@@ -1,52 +1,28 @@
 -- Free names: there are as many as are asked for, none is taken, and no two are the same.
-use Rattle.std.proofs.Common.{◌≡◌, ℕ, zero, suc, ◌+◌, ◌<◌, ◌≤◌, ◌^◌, Bool, true, false, not, ◌||◌, ◌&&◌, inl, inr, ◌⊎◌, List, [], ◌∷◌, ◌++◌, length, map, Some, None, Option, refl, sym, ap, ◌∙◌, subst, arith}
-use Rattle.std.specs.Prelude.{nat_eq, is_some, filter, take, drop, if◌then◌else◌}
+use Rattle.std.proofs.Common.{◌≡◌, ℕ, zero, suc, ◌+◌, ◌<◌, ◌≤◌, ◌^◌, Bool, true, false, not, ◌||◌, inl, inr, ◌⊎◌, List, [], ◌∷◌, ◌++◌, length, map, Some, None, Option, refl, sym, ap, ◌∙◌, subst, arith}
+use Rattle.std.specs.Prelude.{filter, take, drop, if◌then◌else◌}
 use Rattle.std.specs.List.{range_with_len, slice_get}
-use Rattle.std.proofs.lemmas.Bool.{eq-eqb, eqb-true}
 use Rattle.std.proofs.lemmas.Fmt.{decimal_injective}
-use Rattle.cx_text.proofs.BoolLaws.{and_both, from_not}
-use Rattle.cx_meaning.specs.Sights.{In}
-use Rattle.cx_meaning.proofs.SightsLaws.{in_at, in_either, number_in}
-use Rattle.cx_numbering.specs.Names.{same_name, number_of, is_among, later}
+use Rattle.cx_text.proofs.MemberLaws.{in_at, in_either, number_in}
+use Rattle.cx_text.proofs.BoolLaws.{from_not}
+use Rattle.cx_text.specs.Members.{In}
+use Rattle.cx_numbering.specs.Names.{same_name, is_among}
+use Rattle.cx_numbering.proofs.NamesLemmas.{same_name-true, same_name-refl, is_among-cons}
 use Rattle.cx_rules.specs.Wellformed.{AreApart}
 use Rattle.cx_profiling.specs.FreeNames.{profile_name, free_names}
 use Rattle.cx_profiling.specs.Instrumented.{name_at}
 
-same_name-is : (xs ys : List ℕ) → same_name xs ys ≡ true → xs ≡ ys
-same_name-is [] [] e = refl
-same_name-is [] (y ∷ ys) e = absurd cc
-same_name-is (x ∷ xs) [] e = absurd cc
-same_name-is (x ∷ xs) (y ∷ ys) e = by (and_both (nat_eq x y) (same_name xs ys) e) (same_name-is xs ys)
-  where
-    by : (nat_eq x y ≡ true) × (same_name xs ys ≡ true) → (same_name xs ys ≡ true → xs ≡ ys) → x ∷ xs ≡ y ∷ ys
-    by (a, b) rest = ap (λ n. n ∷ xs) (eqb-true x y a) ∙ ap (λ l. y ∷ l) (rest b)
-
-same_name-self : (xs : List ℕ) → same_name xs xs ≡ true
-same_name-self [] = refl
-same_name-self (x ∷ xs) = ap (λ b. b && same_name xs xs) (eq-eqb x x refl) ∙ same_name-self xs
-
-some_later : (o : Option ℕ) → is_some (later o) ≡ is_some o
-some_later None = refl
-some_later (Some n) = refl
-
-is_among-more : (name x : List ℕ) (xs : List (List ℕ)) → is_among name (x ∷ xs) ≡ same_name x name || is_among name xs
-is_among-more name x xs = by (same_name x name)
-  where
-    by : (b : Bool) → is_some (if b then Some 0 else later (number_of name xs)) ≡ b || is_some (number_of name xs)
-    by true = refl
-    by false = some_later (number_of name xs)
-
 -- a name that is among no taken ones is none of them
 pub not_among : (name : List ℕ) (taken : List (List ℕ)) → is_among name taken ≡ false → In taken name → ⊥
 not_among name [] e i = absurd i
-not_among name (x ∷ xs) e i = by i (sym (is_among-more name x xs) ∙ e) (not_among name xs)
+not_among name (x ∷ xs) e i = by i (sym (is_among-cons name x xs) ∙ e) (not_among name xs)
   where
     neither : (a b : Bool) → a || b ≡ false → (a ≡ false) × (b ≡ false)
     neither true b e = absurd cc
     neither false b e = (refl, e)
 
     by : In (x ∷ xs) name → same_name x name || is_among name xs ≡ false → (is_among name xs ≡ false → In xs name → ⊥) → ⊥
-    by (inl same) e rest = absurd (let n = (neither (same_name x name) (is_among name xs) e).0 in let y : same_name x name ≡ true = ap (λ z. same_name x z) (sym same) ∙ same_name-self x in let f : true ≡ false = sym y ∙ n in cc)
+    by (inl same) e rest = absurd (let n = (neither (same_name x name) (is_among name xs) e).0 in let y : same_name x name ≡ true = ap (λ z. same_name x z) (sym same) ∙ same_name-refl x in let f : true ≡ false = sym y ∙ n in cc)
     by (inr i) e rest = rest (neither (same_name x name) (is_among name xs) e).1 i
 
 -- how many of a list pass a test
@@ -87,7 +63,7 @@ none_is x m a (suc n) e less few = by (same_name x (profile_name a)) refl (none_
     rest = how_many (λ name. same_name x name) (map profile_name (range_with_len (a + 1) n))
 
     by : (b : Bool) → same_name x (profile_name a) ≡ b → rest ≡ 0 → (if b then suc rest else rest) ≡ 0
-    by true same r = absurd (let one : m ≡ a = profile_names_apart m a (omega arith) (omega arith) (sym e ∙ same_name-is x (profile_name a) same) in omega arith)
+    by true same r = absurd (let one : m ≡ a = profile_names_apart m a (omega arith) (omega arith) (sym e ∙ same_name-true x (profile_name a) same) in omega arith)
     by false other r = r
 
 one_is : (x : List ℕ) (a n : ℕ) → a + n < 2 ^ 64 → how_many (λ name. same_name x name) (map profile_name (range_with_len a n)) ≤ 1
@@ -98,7 +74,7 @@ one_is x a (suc n) few = by (same_name x (profile_name a)) refl (λ e. none_is x
     rest = how_many (λ name. same_name x name) (map profile_name (range_with_len (a + 1) n))
 
     by : (b : Bool) → same_name x (profile_name a) ≡ b → (x ≡ profile_name a → rest ≡ 0) → rest ≤ 1 → (if b then suc rest else rest) ≤ 1
-    by true same none r = let z : rest ≡ 0 = none (same_name-is x (profile_name a) same) in omega arith
+    by true same none r = let z : rest ≡ 0 = none (same_name-true x (profile_name a) same) in omega arith
     by false other none r = r
 
 none_among : {A : Type 0} (xs : List A) → how_many (λ x. false) xs ≡ 0
@@ -109,7 +85,7 @@ few_taken : (taken : List (List ℕ)) (a n : ℕ) → a + n < 2 ^ 64 → how_man
 few_taken [] a n few = let z : how_many (λ name. is_among name []) (map profile_name (range_with_len a n)) ≡ 0 = none_among (map profile_name (range_with_len a n)) in omega arith
 few_taken (x ∷ xs) a n few =
     let both : how_many (λ name. is_among name (x ∷ xs)) (map profile_name (range_with_len a n)) ≤ how_many (λ name. same_name x name) (map profile_name (range_with_len a n)) + how_many (λ name. is_among name xs) (map profile_name (range_with_len a n)) =
-    how_many-either (λ name. same_name x name) (λ name. is_among name xs) (λ name. is_among name (x ∷ xs)) (map profile_name (range_with_len a n)) (λ name. is_among-more name x xs) in
+    how_many-either (λ name. same_name x name) (λ name. is_among name xs) (λ name. is_among name (x ∷ xs)) (map profile_name (range_with_len a n)) (λ name. is_among-cons name x xs) in
     let one : how_many (λ name. same_name x name) (map profile_name (range_with_len a n)) ≤ 1 = one_is x a n few in
     let rest : how_many (λ name. is_among name xs) (map profile_name (range_with_len a n)) ≤ length xs = few_taken xs a n few in
     omega arith

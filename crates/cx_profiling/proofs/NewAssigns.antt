@@ -1,6 +1,7 @@
 -- The assignments that an instrumented component gains fit it: of counters, of outputs, of stores.
 use Rattle.std.proofs.Common.{◌≡◌, ℕ, zero, suc, ◌+◌, ◌*◌, ◌<◌, ◌≤◌, true, false, inl, inr, ◌⊎◌, List, [], ◌∷◌, ◌++◌, length, map, Option, Some, None, refl, sym, ap, ◌∙◌, subst, arith}
 use Rattle.std.specs.List.{slice_get}
+use Rattle.cx_text.proofs.MemberLaws.{image_in, in_at, in_either}
 use Rattle.cx_text.specs.declared.places.Place.{Place}
 use Rattle.cx_text.proofs.OptionLaws.{same_some}
 use Rattle.cx_prim.specs.declared.names.PrimitiveName.TheVariants as primitives
@@ -9,15 +10,15 @@ use Rattle.cx_meaning.specs.declared.ports.PortRef.TheVariants as ports
 use Rattle.cx_meaning.specs.declared.kinds.GroupKind.TheVariants as kinds
 use Rattle.cx_meaning.specs.Designs.{PlainAssign, PlainGroup, OfComponent, PlainComponent, PlainDesign, component_at}
 use Rattle.cx_meaning.specs.Instances.{Instance, Node, cells_of, cells_for, part_of}
-use Rattle.cx_meaning.specs.Sights.{In}
-use Rattle.cx_meaning.proofs.SightsLaws.{in_at, in_either, image_in}
+use Rattle.cx_text.specs.Members.{In}
 use Rattle.cx_rules.specs.Ports.{component_of}
 use Rattle.cx_rules.specs.ShapeRules.{is_hole}
 use Rattle.cx_rules.proofs.PortsLemmas.{part_is}
 use Rattle.cx_rules.specs.Wellformed.{IsDesign}
+use Rattle.cx_flattening.proofs.TreeLevels.{child_there}
 use Rattle.cx_profiling.specs.Counters.{Counter, counters, counters_from, Shown, shown_here, shown_in, shown_below, first_gained}
 use Rattle.cx_profiling.specs.Instrumented.{is_reached, counter_assigns, new_cell, output_assigns, store_assigns, store_groups, name_at, gained, with_counts}
-use Rattle.cx_profiling.proofs.TreeLemmas.{component_of-is, child_there}
+use Rattle.cx_profiling.proofs.TreeLemmas.{component_of-is}
 use Rattle.cx_profiling.proofs.ReachedLemmas.{child_reached}
 use Rattle.cx_profiling.proofs.ThereLemmas.{Names, kind_ports}
 use Rattle.cx_profiling.proofs.CounterLemmas.{in_counters, IsShownBelow, in_shown_below}

@@ -5,6 +5,8 @@ use Rattle.std.specs.List.{slice_get}
 use Rattle.std.proofs.lemmas.Bool.{lt-ltb, le-ltb, le-leb, leb-true, eqb-true}
 use Rattle.std.proofs.lemmas.Nat.{pow_pos}
 use Rattle.std.proofs.Math.Nat.{pow-suc}
+use Rattle.cx_text.proofs.MemberLaws.{image_in, in_at, in_either}
+use Rattle.cx_text.specs.Members.{In}
 use Rattle.cx_text.proofs.ListLaws.{front, behind, there_below}
 use Rattle.cx_text.proofs.NumberLaws.{true_false, lt_true}
 use Rattle.cx_prim.specs.declared.names.PrimitiveName.TheVariants as primitives
@@ -15,14 +17,14 @@ use Rattle.cx_meaning.specs.declared.ports.PortRef.TheVariants as ports
 use Rattle.cx_meaning.specs.Rows.{side_of}
 use Rattle.cx_meaning.specs.Designs.{OfPrimitive, PlainCell, PlainComponent, PlainDesign, component_at}
 use Rattle.cx_meaning.specs.Instances.{Instance, cells_of, cells_for, part_of}
-use Rattle.cx_meaning.specs.Sights.{In, AnInput, AnOutput, ItsDone, part_port, output_port, later_port}
-use Rattle.cx_meaning.proofs.SightsLaws.{in_at, in_either, image_in}
+use Rattle.cx_meaning.specs.Sights.{AnInput, AnOutput, ItsDone, part_port, output_port, later_port}
 use Rattle.cx_rules.specs.Ports.{component_of, width_of, is_source_only, is_target_only, part_width, is_part_output}
 use Rattle.cx_rules.proofs.PortsLemmas.{part_is}
 use Rattle.cx_rules.specs.Wellformed.{IsDesign}
+use Rattle.cx_flattening.proofs.TreeLevels.{child_there}
 use Rattle.cx_profiling.specs.Counters.{counters, counters_from, Shown, shown_here, shown_in, shown_below, first_gained}
 use Rattle.cx_profiling.specs.Instrumented.{is_reached, new_cell, name_at, counter_cells, count_outputs, width_from, address_width, memory_cell, child_component, main_component, instrumented_component, with_counts}
-use Rattle.cx_profiling.proofs.TreeLemmas.{component_of-is, child_there}
+use Rattle.cx_profiling.proofs.TreeLemmas.{component_of-is}
 use Rattle.cx_profiling.proofs.ReachedLemmas.{child_reached, is_reached-from}
 use Rattle.cx_profiling.proofs.CounterLemmas.{register_at, adder_at, counter_cells-length, in_counters, IsShownBelow, in_shown_below}
 use Rattle.cx_profiling.proofs.GainedLemmas.{by_kind, components-length, component_at-with_counts, grown_at}

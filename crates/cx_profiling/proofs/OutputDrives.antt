@@ -1,13 +1,13 @@
 -- WHAT DRIVES A NEW OUTPUT: the one assignment that shows its count.
 use Rattle.std.proofs.Common.{◌≡◌, ℕ, zero, suc, ◌+◌, ◌<◌, ◌≤◌, inr, List, [], ◌∷◌, ◌++◌, length, Some, None, slice_get, refl, sym, ap, ◌∙◌, subst, arith}
+use Rattle.cx_text.proofs.MemberLaws.{in_left, in_right}
 use Rattle.cx_text.specs.declared.places.Place.{Place}
 use Rattle.cx_meaning.specs.declared.ports.PortRef.TheVariants as ports
 use Rattle.cx_meaning.specs.Designs.{PlainComponent, PlainDesign, component_at}
 use Rattle.cx_meaning.specs.Instances.{cells_of}
 use Rattle.cx_meaning.specs.Active.{Active, Owned, owned, owned_by_groups, drivers}
-use Rattle.cx_meaning.specs.Sights.{In}
+use Rattle.cx_text.specs.Members.{In}
 use Rattle.cx_meaning.proofs.PortsLemmas.{same_self}
-use Rattle.cx_meaning.proofs.SightsLaws.{in_left, in_right}
 use Rattle.cx_rules.specs.Ports.{component_of}
 use Rattle.cx_rewrites.specs.Driving.{assigns_of}
 use Rattle.cx_profiling.specs.Counters.{Shown, shown_in}

@@ -2,19 +2,21 @@
 use Rattle.std.proofs.Common.{◌≡◌, ℕ, zero, suc, ◌+◌, ◌^◌, ◌%◌, ◌<◌, Bool, true, false, [], ◌∷◌, length, Some, slice_get, sym, ap, ◌∙◌, subst, arith}
 use Rattle.std.proofs.lemmas.Bool.{ne_eqb}
 use Rattle.std.proofs.lemmas.Option.{slice_get_within}
+use Rattle.cx_text.proofs.MemberLaws.{in_at}
+use Rattle.cx_text.specs.Members.{In}
 use Rattle.cx_meaning.specs.declared.ports.PortRef.TheVariants as ports
 use Rattle.cx_meaning.specs.declared.sights.Seen.TheVariants.{Undefined}
 use Rattle.cx_meaning.specs.Designs.{PlainComponent, PlainDesign, component_at}
 use Rattle.cx_meaning.specs.Instances.{Instance, cells_of, part_of, State, under, tree_within}
 use Rattle.cx_meaning.specs.Active.{Active, nothing}
-use Rattle.cx_meaning.specs.Sights.{Look, Held, unheld, In, part_port, target_seen, part_step, cell_step, seen, outputs_below}
+use Rattle.cx_meaning.specs.Sights.{Look, Held, unheld, part_port, target_seen, part_step, cell_step, seen, outputs_below}
 use Rattle.cx_meaning.proofs.DesignsLemmas.{same_part}
 use Rattle.cx_meaning.proofs.InstancesLemmas.{instance_is, row_instance}
-use Rattle.cx_meaning.proofs.SightsLaws.{in_at}
 use Rattle.cx_rules.specs.Circles.{IsAcyclic}
 use Rattle.cx_rules.specs.Accepted.{IsAccepted}
 use Rattle.cx_rules.specs.Wellformed.{IsDesign}
 use Rattle.cx_rules.proofs.FoundLemmas.{seen_solves}
+use Rattle.cx_rules.proofs.CircleLemmas.{node_acyclic}
 use Rattle.cx_rewrites.specs.Tallies.{Tally, at_cell}
 use Rattle.cx_profiling.specs.Counters.{ProfileEntry, Counter, counters, Shown, shown_in, first_gained}
 use Rattle.cx_profiling.specs.Growing.{Grown}
@@ -31,7 +33,7 @@ use Rattle.cx_profiling.proofs.RowLemmas.{number}
 use Rattle.cx_profiling.proofs.AcyclicLemmas.{child_few}
 use Rattle.cx_profiling.proofs.CounterLooks.{register_shows}
 use Rattle.cx_profiling.proofs.GrownCycles.{grown_kid}
-use Rattle.cx_profiling.proofs.SeenOutputs.{bare_there, below_there}
+use Rattle.cx_profiling.proofs.SeenOutputs.{below_there}
 use Rattle.cx_meaning.proofs.SightsLemmas.{outputs_at}
 
 -- what was counted of an entry, modulo 2 to the 64
@@ -112,8 +114,8 @@ module _ (d : PlainDesign) (design : IsDesign d) (accepted : IsAccepted d) (grow
       by kids (as_main names main is) = absurd (other main)
       by kids (as_kept main r is) = absurd (both (is_reached d e) (in_reach d at) r)
       by kids (as_child names main r is) =
-          seen_solves (tree_within (with_counts d) (suc m) e) unheld nothing t (bare_there d design accepted grown_accepted (suc m) e) (below_there d design accepted grown_accepted (suc m) e)
+          seen_solves (tree_within (with_counts d) (suc m) e) unheld nothing t (node_acyclic (with_counts d) grown_accepted (suc m) e) (below_there d design accepted grown_accepted (suc m) e)
           (ports.Output (length (component_at d e).outputs + n))
           ∙ ap (target_seen Undefined (seen (tree_within (with_counts d) (suc m) e) unheld nothing t))
           (output_driven d e names is (λ o i. targets_inside d design e at.within o i) nothing n x (ap (λ tree. slice_get (shown_in tree) n) (sym (is_whole d at)) ∙ listed))
-          ∙ port_shows m e at kids nothing unheld (bare_there d design accepted grown_accepted (suc m) e) τ s t grown x (in_at (shown_in (tree_within d (suc m) e)) n x listed)
+          ∙ port_shows m e at kids nothing unheld (node_acyclic (with_counts d) grown_accepted (suc m) e) τ s t grown x (in_at (shown_in (tree_within d (suc m) e)) n x listed)

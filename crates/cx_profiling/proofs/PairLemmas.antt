@@ -1,5 +1,7 @@
 -- A component of the tree beside the instrumented one: what drives its moved ports, and each of its cells.
 use Rattle.std.proofs.Common.{◌≡◌, ℕ, suc, ◌+◌, ◌*◌, ◌<◌, ◌≤◌, List, [], ◌++◌, length, map, Option, Some, None, slice_get, sym, ap, ◌∙◌, subst, arith}
+use Rattle.cx_text.proofs.MemberLaws.{in_at, in_left, in_right}
+use Rattle.cx_text.specs.Members.{In}
 use Rattle.cx_text.proofs.ListLaws.{there_at}
 use Rattle.cx_prim.specs.Rows.{Row}
 use Rattle.cx_prim.specs.Table.{row_of}
@@ -8,13 +10,13 @@ use Rattle.cx_meaning.specs.declared.ports.PortRef.TheVariants as ports
 use Rattle.cx_meaning.specs.Designs.{PlainCell, PlainGroup, PlainComponent, PlainDesign, OfComponent, component_at}
 use Rattle.cx_meaning.specs.Instances.{OfRow, OfInstance, cell_at, cells_of, part_of, tree_within}
 use Rattle.cx_meaning.specs.Active.{Active, Owned, owned, owned_by_groups, drivers}
-use Rattle.cx_meaning.specs.Sights.{In, part_port}
+use Rattle.cx_meaning.specs.Sights.{part_port}
 use Rattle.cx_meaning.proofs.DesignsLemmas.{same_part}
-use Rattle.cx_meaning.proofs.SightsLaws.{in_at, in_left, in_right}
 use Rattle.cx_rules.specs.Ports.{component_of}
 use Rattle.cx_rules.specs.Wellformed.{IsDesign}
 use Rattle.cx_rewrites.specs.Moving.{moved_acting}
 use Rattle.cx_rewrites.specs.Driving.{assigns_of}
+use Rattle.cx_flattening.proofs.TreeLevels.{child_there}
 use Rattle.cx_profiling.specs.Counters.{counters, shown_in, first_gained}
 use Rattle.cx_profiling.specs.Instrumented.{gained, moved_number, moved_in, counted_groups, store_groups, address_width, with_counts}
 use Rattle.cx_profiling.proofs.ListedCells.{at_row, at_component, CellIs, is_none, is_primitive, is_component, cell_is}
@@ -24,7 +26,6 @@ use Rattle.cx_profiling.proofs.GainedLemmas.{grown_at, counted_groups-length}
 use Rattle.cx_profiling.proofs.RoleLemmas.{Role, as_main, as_child, as_kept, role}
 use Rattle.cx_profiling.proofs.CellPorts.{ports_alike}
 use Rattle.cx_profiling.proofs.InsideLemmas.{targets_inside}
-use Rattle.cx_profiling.proofs.TreeLemmas.{child_there}
 
 module _ (d : PlainDesign) (design : IsDesign d) (k : ℕ) (within : k < length d.components) where
   abbrev part : PlainComponent

@@ -3,6 +3,7 @@
 use Rattle.std.proofs.Common.{◌≡◌, ℕ, zero, suc, ◌+◌, ◌-◌, ◌*◌, ◌<◌, ◌≤◌, inl, inr, ◌⊎◌, ⊎_elim, true, false, List, [], ◌∷◌, ◌++◌, length, map, Some, None, slice_get, get_or, refl, sym, ap, ◌∙◌, subst, arith}
 use Rattle.std.proofs.lemmas.Bool.{cases_lt}
 use Rattle.std.proofs.lemmas.List.{get_or_past, length-append}
+use Rattle.cx_text.proofs.MemberLaws.{image_in, in_either}
 use Rattle.cx_text.specs.declared.places.Place.{Place}
 use Rattle.cx_text.proofs.ListLaws.{there_at, length-map}
 use Rattle.cx_meaning.specs.declared.kinds.GroupKind.TheVariants as kinds
@@ -12,8 +13,7 @@ use Rattle.cx_meaning.specs.Designs.{PlainAssign, PlainGroup, PlainComponent, Pl
 use Rattle.cx_meaning.specs.Instances.{Cells, cells_of}
 use Rattle.cx_meaning.specs.Active.{Owned, source_order}
 use Rattle.cx_meaning.specs.Islands.{kind_length, group_length}
-use Rattle.cx_meaning.specs.Sights.{In}
-use Rattle.cx_meaning.proofs.SightsLaws.{in_either, image_in}
+use Rattle.cx_text.specs.Members.{In}
 use Rattle.cx_rules.specs.Ports.{component_of}
 use Rattle.cx_rules.specs.Invokes.{invoke_in}
 use Rattle.cx_rules.specs.Items.{Dynamic, Visited, visit, visit_all, statements_in, test_in}
@@ -21,9 +21,9 @@ use Rattle.cx_rules.specs.RaceRule.{arms_of}
 use Rattle.cx_rules.specs.StaticControl.{is_static, is_in_static}
 use Rattle.cx_rules.specs.Wellformed.{IsDesign}
 use Rattle.cx_rewrites.specs.Moving.{moved_assign, moved_owned, moved_statement}
+use Rattle.cx_rewrites.proofs.MovedLists.{moved_visited, visit-moved}
 use Rattle.cx_profiling.specs.Counters.{is_counted, counters, Shown, shown_in}
 use Rattle.cx_profiling.specs.Instrumented.{is_reached, drive, counter_assigns, output_assigns, address_width, store_assigns, store_enables, moved_in, moved_assigns, group_with, counted_groups, main_component, with_counts}
-use Rattle.cx_profiling.proofs.MovedParts.{moved_visited, visit-moved}
 use Rattle.cx_profiling.proofs.ReachedLemmas.{is_reached-from}
 use Rattle.cx_profiling.proofs.GainedLemmas.{counted_groups-length, store_groups-length}
 use Rattle.cx_profiling.proofs.RoleLemmas.{Role, as_main, as_child, as_kept, role}

@@ -5,7 +5,7 @@ use Rattle.cx_text.specs.declared.places.Place.{Place}
 use Rattle.cx_prim.specs.Table.{PrimitiveRow}
 use Rattle.cx_meaning.specs.Designs.{PlainKind, OfPrimitive, OfComponent, PlainCell, PlainComponent, PlainDesign, component_at}
 use Rattle.cx_meaning.specs.Instances.{Instance, add_cell, cells_for, tree_within, tree_of, paths_of, paths_below, behind}
-use Rattle.cx_meaning.specs.Sights.{In}
+use Rattle.cx_text.specs.Members.{In}
 use Rattle.cx_rules.specs.Externals.{rows_of, external_rows}
 use Rattle.cx_rules.specs.Ports.{component_of}
 use Rattle.cx_rules.specs.Wellformed.{IsDesign}
@@ -13,8 +13,8 @@ use Rattle.cx_profiling.specs.Counters.{counters, shown_in, entry_count}
 use Rattle.cx_profiling.specs.Instrumented.{name_at, counter_cells, memory_cell, with_counts}
 use Rattle.cx_profiling.proofs.GainedLemmas.{components-length}
 use Rattle.cx_profiling.proofs.RoleLemmas.{Role, as_main, as_child, as_kept, role}
-use Rattle.cx_profiling.proofs.TreeLemmas.{child_there}
 use Rattle.cx_rules.proofs.SizesLemmas.{rows-both}
+use Rattle.cx_flattening.proofs.TreeLevels.{child_there}
 
 -- CELLS of primitives alone
 abbrev IsPlainCell : PlainCell → Type 0

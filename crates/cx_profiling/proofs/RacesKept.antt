@@ -2,6 +2,8 @@
 -- enable; static invokes drive and read what they did, for the groups that capture are not counted.
 use Rattle.std.proofs.Common.{◌≡◌, ℕ, suc, ◌+◌, ◌*◌, ◌<◌, ◌≤◌, inl, inr, ◌⊎◌, ⊎_elim, true, ◌||◌, List, [], ◌∷◌, length, Some, None, slice_get, refl, sym, ap, ◌∙◌, subst, arith}
 use Rattle.std.proofs.lemmas.Bool.{both_ways, or_cases, or_right}
+use Rattle.cx_text.proofs.MemberLaws.{image_in}
+use Rattle.cx_text.specs.Members.{In}
 use Rattle.cx_text.specs.declared.places.Place.{Place}
 use Rattle.cx_meaning.specs.declared.ports.PortRef.{PortRef}
 use Rattle.cx_meaning.specs.declared.ports.PortRef.TheVariants as ports
@@ -10,11 +12,10 @@ use Rattle.cx_meaning.specs.Designs.{Always, PlainAssign, PlainInvoke, PlainComp
 use Rattle.cx_meaning.specs.Instances.{Cells, cells_of, tree_within}
 use Rattle.cx_meaning.specs.Control.{targets_cell, assigns_drive, groups_drive, groups_of, drives}
 use Rattle.cx_meaning.specs.Active.{Owned, source_order}
-use Rattle.cx_meaning.specs.Sights.{In, GuardNames}
+use Rattle.cx_meaning.specs.Sights.{GuardNames}
 use Rattle.cx_meaning.proofs.ControlLaws.{groups_drive_in, driver}
 use Rattle.cx_meaning.proofs.DesignsLemmas.{same_part}
 use Rattle.cx_meaning.proofs.InstancesLemmas.{just_true}
-use Rattle.cx_meaning.proofs.SightsLaws.{image_in}
 use Rattle.cx_rules.specs.Accepted.{IsAccepted}
 use Rattle.cx_rules.specs.Footprints.{AssignNames}
 use Rattle.cx_rules.specs.Invokes.{invoke_at, invokes_of, captures_of, invokes_cell, drives_all, IsFed, ReadsAll, driven, named, captured, fed, tested, through}
@@ -27,7 +28,7 @@ use Rattle.cx_laws.proofs.RaceLemmas.{unshared, not_twice}
 use Rattle.cx_laws.proofs.VisitLemmas.{visited}
 use Rattle.cx_rewrites.specs.Moving.{moved_port, moved_assign, moved_form, moved_statement}
 use Rattle.cx_rewrites.proofs.ReflectLemmas.{names_back}
-use Rattle.cx_rewrites.proofs.MovedLists.{groups_of-moved, tests_of-moved, arms_of-moved, enabled_in-moved}
+use Rattle.cx_rewrites.proofs.MovedLists.{groups_of-moved, tests_of-moved, arms_of-moved, enabled_in-moved, moved_visited}
 use Rattle.cx_profiling.specs.Counters.{is_counted, counters, counters_from}
 use Rattle.cx_profiling.specs.Instrumented.{is_reached, counter_assigns, moved_in, moved_invoke, with_counts}
 use Rattle.cx_profiling.proofs.ArmLemmas.{counted_kind}
@@ -35,7 +36,6 @@ use Rattle.cx_profiling.proofs.EnabledLemmas.{AreForms, statement_known, is_enab
 use Rattle.cx_profiling.proofs.GroupLemmas.{register_past, same_register}
 use Rattle.cx_profiling.proofs.InvokesKept.{uncounted}
 use Rattle.cx_profiling.proofs.InvokesMade.{invoke_back, invokes_of-moved, captures_kept, cells_kept, captures_there, invoked_there, own_invoke}
-use Rattle.cx_profiling.proofs.MovedParts.{moved_visited}
 use Rattle.cx_profiling.proofs.PartTable.{AlwaysMade, old_always, showing_always, always_made, InGroup, old_in, counting_in, storing_in, in_group}
 use Rattle.cx_profiling.proofs.PortLemmas.{IsInside, there_inside}
 use Rattle.cx_profiling.proofs.PortsKept.{counter_target, counter_names, cell_back}

@@ -3,34 +3,35 @@ use Rattle.std.proofs.Common.{◌≡◌, ℕ, zero, suc, ◌+◌, ◌<◌, ◌�
 use Rattle.std.specs.Prelude.{nat_eq}
 use Rattle.std.proofs.lemmas.Bool.{eq-eqb, eqb-true}
 use Rattle.cx_text.proofs.BoolLaws.{or_either, or_right, or_left}
-use Rattle.cx_meaning.specs.Designs.{PlainKind, OfPrimitive, OfComponent, PlainCell, PlainDesign, component_at}
-use Rattle.cx_meaning.specs.Sights.{In}
+use Rattle.cx_meaning.specs.Designs.{PlainKind, OfPrimitive, OfComponent, PlainCell, PlainDesign, component_at, component_of_kind, components_of}
+use Rattle.cx_text.specs.Members.{In}
 use Rattle.cx_rules.specs.Wellformed.{LeadsTo, by_cell, by_way_of, IsDesign}
-use Rattle.cx_profiling.specs.Instrumented.{has_number, component_of_kind, components_of, reached_from, is_reached}
-use Rattle.cx_profiling.proofs.TreeLemmas.{IsWay, no_way, further, way_is_short}
+use Rattle.cx_profiling.specs.Instrumented.{reached_from, is_reached}
+use Rattle.cx_rules.specs.Counts.{is_one_of}
+use Rattle.cx_flattening.proofs.TreeLevels.{IsWay, no_way, further, way_is_short}
 
-has_number-append : (k : ℕ) (ms ns : List ℕ) → has_number k ms ≡ true → has_number k (ms ++ ns) ≡ true
-has_number-append k [] ns h = absurd cc
-has_number-append k (m ∷ ms) ns h = by (or_either (nat_eq k m) (has_number k ms) h) (has_number-append k ms ns)
+is_one_of-append : (k : ℕ) (ms ns : List ℕ) → is_one_of k ms ≡ true → is_one_of k (ms ++ ns) ≡ true
+is_one_of-append k [] ns h = absurd cc
+is_one_of-append k (m ∷ ms) ns h = by (or_either (nat_eq k m) (is_one_of k ms) h) (is_one_of-append k ms ns)
   where
-    by : (nat_eq k m ≡ true) ⊎ (has_number k ms ≡ true) → (has_number k ms ≡ true → has_number k (ms ++ ns) ≡ true) → has_number k (m ∷ ms ++ ns) ≡ true
-    by (inl e) more = or_left (nat_eq k m) (has_number k (ms ++ ns)) e
-    by (inr i) more = or_right (nat_eq k m) (has_number k (ms ++ ns)) (more i)
+    by : (nat_eq k m ≡ true) ⊎ (is_one_of k ms ≡ true) → (is_one_of k ms ≡ true → is_one_of k (ms ++ ns) ≡ true) → is_one_of k (m ∷ ms ++ ns) ≡ true
+    by (inl e) more = or_left (nat_eq k m) (is_one_of k (ms ++ ns)) e
+    by (inr i) more = or_right (nat_eq k m) (is_one_of k (ms ++ ns)) (more i)
 
-has_number-behind : (k : ℕ) (ms ns : List ℕ) → has_number k ns ≡ true → has_number k (ms ++ ns) ≡ true
-has_number-behind k [] ns h = h
-has_number-behind k (m ∷ ms) ns h = or_right (nat_eq k m) (has_number k (ms ++ ns)) (has_number-behind k ms ns h)
+is_one_of-behind : (k : ℕ) (ms ns : List ℕ) → is_one_of k ns ≡ true → is_one_of k (ms ++ ns) ≡ true
+is_one_of-behind k [] ns h = h
+is_one_of-behind k (m ∷ ms) ns h = or_right (nat_eq k m) (is_one_of k (ms ++ ns)) (is_one_of-behind k ms ns h)
 
-has_number-either : (k : ℕ) (ms ns : List ℕ) → has_number k (ms ++ ns) ≡ true → (has_number k ms ≡ true) ⊎ (has_number k ns ≡ true)
-has_number-either k [] ns h = inr h
-has_number-either k (m ∷ ms) ns h = by (or_either (nat_eq k m) (has_number k (ms ++ ns)) h) (has_number-either k ms ns)
+is_one_of-either : (k : ℕ) (ms ns : List ℕ) → is_one_of k (ms ++ ns) ≡ true → (is_one_of k ms ≡ true) ⊎ (is_one_of k ns ≡ true)
+is_one_of-either k [] ns h = inr h
+is_one_of-either k (m ∷ ms) ns h = by (or_either (nat_eq k m) (is_one_of k (ms ++ ns)) h) (is_one_of-either k ms ns)
   where
-    next : (has_number k ms ≡ true) ⊎ (has_number k ns ≡ true) → (has_number k (m ∷ ms) ≡ true) ⊎ (has_number k ns ≡ true)
-    next (inl i) = inl (or_right (nat_eq k m) (has_number k ms) i)
+    next : (is_one_of k ms ≡ true) ⊎ (is_one_of k ns ≡ true) → (is_one_of k (m ∷ ms) ≡ true) ⊎ (is_one_of k ns ≡ true)
+    next (inl i) = inl (or_right (nat_eq k m) (is_one_of k ms) i)
     next (inr j) = inr j
 
-    by : (nat_eq k m ≡ true) ⊎ (has_number k (ms ++ ns) ≡ true) → (has_number k (ms ++ ns) ≡ true → (has_number k ms ≡ true) ⊎ (has_number k ns ≡ true)) → (has_number k (m ∷ ms) ≡ true) ⊎ (has_number k ns ≡ true)
-    by (inl e) more = inl (or_left (nat_eq k m) (has_number k ms) e)
+    by : (nat_eq k m ≡ true) ⊎ (is_one_of k (ms ++ ns) ≡ true) → (is_one_of k (ms ++ ns) ≡ true → (is_one_of k ms ≡ true) ⊎ (is_one_of k ns ≡ true)) → (is_one_of k (m ∷ ms) ≡ true) ⊎ (is_one_of k ns ≡ true)
+    by (inl e) more = inl (or_left (nat_eq k m) (is_one_of k ms) e)
     by (inr i) more = next (more i)
 
 -- the component of a cell among those of cells, and what is had by way of it
@@ -66,19 +67,19 @@ cell_of (c ∷ cs) j i = first c.kind refl i (cell_of cs j)
     first (OfComponent m) e (inl same) more = (c, inl refl, e ∙ ap OfComponent same)
     first (OfComponent m) e (inr i) more = step (more i)
 
-by_one : (f : ℕ → List ℕ) (ms : List ℕ) (m k : ℕ) → In ms m → has_number k (f m) ≡ true → has_number k (flat_map f ms) ≡ true
+by_one : (f : ℕ → List ℕ) (ms : List ℕ) (m k : ℕ) → In ms m → is_one_of k (f m) ≡ true → is_one_of k (flat_map f ms) ≡ true
 by_one f [] m k i h = absurd i
-by_one f (x ∷ ms) m k (inl e) h = has_number-append k (f x) (flat_map f ms) (subst (λ y. has_number k (f y) ≡ true) (sym e) h)
-by_one f (x ∷ ms) m k (inr i) h = has_number-behind k (f x) (flat_map f ms) (by_one f ms m k i h)
+by_one f (x ∷ ms) m k (inl e) h = is_one_of-append k (f x) (flat_map f ms) (subst (λ y. is_one_of k (f y) ≡ true) (sym e) h)
+by_one f (x ∷ ms) m k (inr i) h = is_one_of-behind k (f x) (flat_map f ms) (by_one f ms m k i h)
 
-one_by : (f : ℕ → List ℕ) (ms : List ℕ) (k : ℕ) → has_number k (flat_map f ms) ≡ true → (m : ℕ) × In ms m × (has_number k (f m) ≡ true)
+one_by : (f : ℕ → List ℕ) (ms : List ℕ) (k : ℕ) → is_one_of k (flat_map f ms) ≡ true → (m : ℕ) × In ms m × (is_one_of k (f m) ≡ true)
 one_by f [] k h = absurd cc
-one_by f (x ∷ ms) k h = by (has_number-either k (f x) (flat_map f ms) h) (one_by f ms k)
+one_by f (x ∷ ms) k h = by (is_one_of-either k (f x) (flat_map f ms) h) (one_by f ms k)
   where
-    next : (m : ℕ) × In ms m × (has_number k (f m) ≡ true) → (m : ℕ) × In (x ∷ ms) m × (has_number k (f m) ≡ true)
+    next : (m : ℕ) × In ms m × (is_one_of k (f m) ≡ true) → (m : ℕ) × In (x ∷ ms) m × (is_one_of k (f m) ≡ true)
     next (m, i, h) = (m, inr i, h)
 
-    by : (has_number k (f x) ≡ true) ⊎ (has_number k (flat_map f ms) ≡ true) → (has_number k (flat_map f ms) ≡ true → (m : ℕ) × In ms m × (has_number k (f m) ≡ true)) → (m : ℕ) × In (x ∷ ms) m × (has_number k (f m) ≡ true)
+    by : (is_one_of k (f x) ≡ true) ⊎ (is_one_of k (flat_map f ms) ≡ true) → (is_one_of k (flat_map f ms) ≡ true → (m : ℕ) × In ms m × (is_one_of k (f m) ≡ true)) → (m : ℕ) × In (x ∷ ms) m × (is_one_of k (f m) ≡ true)
     by (inl h) more = (x, inl refl, h)
     by (inr i) more = next (more i)
 
@@ -102,33 +103,33 @@ module _ (d : PlainDesign) where
       on (inr l) = by_way_of n l b
 
   -- what is found from a component is it, or it leads there
-  found_from : (n m k : ℕ) → has_number k (reached_from d n m) ≡ true → (m ≡ k) ⊎ LeadsTo d m k
+  found_from : (n m k : ℕ) → is_one_of k (reached_from d n m) ≡ true → (m ≡ k) ⊎ LeadsTo d m k
   found_from zero m k h = by (or_either (nat_eq k m) false h)
     where
       by : (nat_eq k m ≡ true) ⊎ (false ≡ true) → (m ≡ k) ⊎ LeadsTo d m k
       by (inl e) = inl (sym (eqb-true k m e))
       by (inr f) = absurd cc
-  found_from (suc n) m k h = by (or_either (nat_eq k m) (has_number k (flat_map (reached_from d n) (components_of (component_at d m).cells))) h) (λ j. found_from n j k)
+  found_from (suc n) m k h = by (or_either (nat_eq k m) (is_one_of k (flat_map (reached_from d n) (components_of (component_at d m).cells))) h) (λ j. found_from n j k)
     where
-      down : (j : ℕ) × In (components_of (component_at d m).cells) j × (has_number k (reached_from d n j) ≡ true) → ((j : ℕ) → has_number k (reached_from d n j) ≡ true → (j ≡ k) ⊎ LeadsTo d j k) → LeadsTo d m k
+      down : (j : ℕ) × In (components_of (component_at d m).cells) j × (is_one_of k (reached_from d n j) ≡ true) → ((j : ℕ) → is_one_of k (reached_from d n j) ≡ true → (j ≡ k) ⊎ LeadsTo d j k) → LeadsTo d m k
       down (j, i, h) below = go (cell_of (component_at d m).cells j i) (below j h)
         where
           go : (cell : PlainCell) × In (component_at d m).cells cell × (cell.kind ≡ OfComponent j) → (j ≡ k) ⊎ LeadsTo d j k → LeadsTo d m k
           go (cell, i, e) (inl same) = by_cell k cell i (e ∙ ap OfComponent same)
           go (cell, i, e) (inr l) = by_way_of j (by_cell j cell i e) l
 
-      by : (nat_eq k m ≡ true) ⊎ (has_number k (flat_map (reached_from d n) (components_of (component_at d m).cells)) ≡ true) → ((j : ℕ) → has_number k (reached_from d n j) ≡ true → (j ≡ k) ⊎ LeadsTo d j k) → (m ≡ k) ⊎ LeadsTo d m k
+      by : (nat_eq k m ≡ true) ⊎ (is_one_of k (flat_map (reached_from d n) (components_of (component_at d m).cells)) ≡ true) → ((j : ℕ) → is_one_of k (reached_from d n j) ≡ true → (j ≡ k) ⊎ LeadsTo d j k) → (m ≡ k) ⊎ LeadsTo d m k
       by (inl e) below = inl (sym (eqb-true k m e))
       by (inr f) below = inr (down (one_by (reached_from d n) (components_of (component_at d m).cells) k f) below)
 
   module _ (rules : IsDesign d) where
     -- with levels enough all is found that a component leads to
-    finds : (n m k : ℕ) (path : List ℕ) → IsWay d rules path m → length d.components ≤ n + length path → (m ≡ k) ⊎ LeadsTo d m k → has_number k (reached_from d n m) ≡ true
+    finds : (n m k : ℕ) (path : List ℕ) → IsWay d rules path m → length d.components ≤ n + length path → (m ≡ k) ⊎ LeadsTo d m k → is_one_of k (reached_from d n m) ≡ true
     finds zero m k path way many l = absurd (let short : length path < length d.components = way_is_short d rules path m way in omega arith)
-    finds (suc n) m k path way many (inl e) = or_left (nat_eq k m) (has_number k (flat_map (reached_from d n) (components_of (component_at d m).cells))) (eq-eqb k m (sym e))
+    finds (suc n) m k path way many (inl e) = or_left (nat_eq k m) (is_one_of k (flat_map (reached_from d n) (components_of (component_at d m).cells))) (eq-eqb k m (sym e))
     finds (suc n) m k path way many (inr l) =
         let s : FirstStep m k = first_step m k l in
-        or_right (nat_eq k m) (has_number k (flat_map (reached_from d n) (components_of (component_at d m).cells)))
+        or_right (nat_eq k m) (is_one_of k (flat_map (reached_from d n) (components_of (component_at d m).cells)))
         (by_one (reached_from d n) (components_of (component_at d m).cells) s.j k (of_cell (component_at d m).cells s.cell s.j s.here s.kind)
         (finds n s.j k (m ∷ path) (further d rules path m s.j s.cell way s.here s.kind) (omega arith) s.rest))
 

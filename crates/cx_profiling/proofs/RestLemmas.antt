@@ -6,7 +6,7 @@ use Rattle.cx_prim.specs.Table.{row_of}
 use Rattle.cx_prim.specs.declared.names.PrimitiveName.TheVariants as primitives
 use Rattle.cx_meaning.specs.Designs.{PlainComponent}
 use Rattle.cx_meaning.specs.Instances.{Instance, Node, Cells, no_cells, a_primitive, an_instance, OfRow, cell_at, Path, State, under, idle, idle_below}
-use Rattle.cx_meaning.specs.Sights.{In}
+use Rattle.cx_text.specs.Members.{In}
 use Rattle.cx_meaning.proofs.InstancesLemmas.{idle_below-row}
 use Rattle.cx_rewrites.specs.Tallies.{Tally, at_cell}
 use Rattle.cx_profiling.specs.Counters.{Counter, counters}

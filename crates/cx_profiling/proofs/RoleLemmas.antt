@@ -5,7 +5,7 @@ use Rattle.cx_text.proofs.ListLaws.{front, behind}
 use Rattle.cx_prim.specs.declared.names.PrimitiveName.TheVariants as primitives
 use Rattle.cx_meaning.specs.Designs.{PlainCell, PlainComponent, PlainDesign, OfPrimitive, component_at}
 use Rattle.cx_meaning.specs.Instances.{cells_of}
-use Rattle.cx_meaning.specs.Sights.{In}
+use Rattle.cx_text.specs.Members.{In}
 use Rattle.cx_meaning.proofs.DesignsLemmas.{same_part}
 use Rattle.cx_rules.specs.Ports.{component_of}
 use Rattle.cx_profiling.specs.Counters.{Counter, counters_from, counters, shown_in}

@@ -3,6 +3,7 @@ use Rattle.std.proofs.Common.{◌≡◌, ℕ, suc, ◌+◌, ◌*◌, ◌^◌, �
 use Rattle.std.specs.Prelude.{nat_eq, ◌≢◌}
 use Rattle.std.proofs.lemmas.Bool.{both_ways, eq-eqb}
 use Rattle.std.proofs.lemmas.Option.{slice_get_within}
+use Rattle.cx_text.proofs.MemberLaws.{in_at, number_in}
 use Rattle.cx_text.specs.declared.places.Place.{Place}
 use Rattle.cx_text.specs.declared.rules.Rule.TheVariants as rules
 use Rattle.cx_text.proofs.OptionLaws.{none_some}
@@ -14,9 +15,8 @@ use Rattle.cx_meaning.specs.declared.ports.PlacedPort.{PlacedPort}
 use Rattle.cx_meaning.specs.Designs.{Always, PlainAssign, PlainGroup, PlainComponent, PlainDesign, component_at, group_at, PlainForm, Empty, Enable, Seq, Par, If, While, Repeat, StaticSeq, StaticPar, StaticIf, StaticRepeat, Timed, PlainStatement}
 use Rattle.cx_meaning.specs.Instances.{Instance, tree_within}
 use Rattle.cx_meaning.specs.Active.{nothing, Owned, source_order}
-use Rattle.cx_meaning.specs.Sights.{In}
+use Rattle.cx_text.specs.Members.{In}
 use Rattle.cx_meaning.specs.Islands.{kind_length, group_length}
-use Rattle.cx_meaning.proofs.SightsLaws.{in_at, number_in}
 use Rattle.cx_rules.specs.Accepted.{IsAccepted}
 use Rattle.cx_rules.specs.Footprints.{AssignNames, Rests, registered_rests, Depends, at_once, by_way_of}
 use Rattle.cx_rules.specs.Invokes.{form_lasts}
@@ -30,7 +30,7 @@ use Rattle.cx_rules.proofs.ForeignLemmas.{sorted_among}
 use Rattle.cx_rewrites.specs.Driving.{assigns_of}
 use Rattle.cx_rewrites.specs.Moving.{moved_port, moved_owned, moved_form}
 use Rattle.cx_rewrites.proofs.ReflectLemmas.{names_back}
-use Rattle.cx_rewrites.proofs.MovedLists.{ranges_of-moved, some_target-moved, is_static-moved, written_length-moved, may_stand-moved, form_has_length-moved}
+use Rattle.cx_rewrites.proofs.MovedLists.{ranges_of-moved, some_target-moved, is_static-moved, written_length-moved, may_stand-moved, form_has_length-moved, moved_visited}
 use Rattle.cx_profiling.specs.Counters.{counters, Shown, shown_in, entry_count}
 use Rattle.cx_profiling.specs.Instrumented.{is_reached, counter_assigns, address_width, store_assigns, moved_in, moved_assigns, with_counts}
 use Rattle.cx_profiling.proofs.AcyclicLemmas.{shown_ends}
@@ -42,7 +42,6 @@ use Rattle.cx_profiling.proofs.GainedLemmas.{components-length}
 use Rattle.cx_profiling.proofs.GrownTrees.{InTree}
 use Rattle.cx_profiling.proofs.InsideLemmas.{targets_inside, names_inside}
 use Rattle.cx_profiling.proofs.InvokesMade.{words_kept, form_lasts-moved}
-use Rattle.cx_profiling.proofs.MovedParts.{moved_visited}
 use Rattle.cx_profiling.proofs.PartTable.{StoreOf, GroupMade, bare_group, counting_group, storing_group, no_group_there, group_made, kind_kept, length_kept, OwnedMade, old_owned, showing, counting, storing, owned_made, IsNewStatement, StatementMade, old_statement, new_statement, statement_made}
 use Rattle.cx_profiling.proofs.PortLemmas.{IsInside}
 use Rattle.cx_profiling.proofs.PortsKept.{counter_target, StoreTarget, to_memory, to_hole, store_target, enable_kept, part_port_kept, hole_kept, hole_of_kept, done_back, output_back, input_back, counts_row, memory_there, rests_moved, shown_rests}

@@ -1,9 +1,9 @@
 -- WHERE COUNTS SHOW: at the register of a counter of the instance itself, or at an output that a child gains.
 use Rattle.std.proofs.Common.{◌≡◌, ℕ, suc, ◌+◌, inl, inr, ⊎_elim, List, [], ◌∷◌, map, Some, slice_get, refl, sym, ap, ◌∙◌, arith}
+use Rattle.cx_text.proofs.MemberLaws.{image_in, in_either}
 use Rattle.cx_meaning.specs.declared.ports.PortRef.TheVariants as ports
 use Rattle.cx_meaning.specs.Instances.{Instance, Node, Cells, no_cells, a_primitive, an_instance, OfInstance, cell_at, cells_of, part_of}
-use Rattle.cx_meaning.specs.Sights.{In}
-use Rattle.cx_meaning.proofs.SightsLaws.{in_either, image_in}
+use Rattle.cx_text.specs.Members.{In}
 use Rattle.cx_profiling.specs.Counters.{Counter, counters, Shown, first_gained, behind_cell, shown_here, shown_at_cell, shown_below, shown_in}
 
 -- a count of a child, at an output that it gains

@@ -3,6 +3,7 @@ use Rattle.std.proofs.Common.{◌≡◌, ℕ, zero, suc, ◌+◌, ◌-◌, ◌<�
 use Rattle.std.specs.Prelude.{nat_eq, option_map, if◌then◌else◌}
 use Rattle.std.specs.List.{slice_get}
 use Rattle.std.proofs.lemmas.Bool.{cases_lt, eqb-true, eqb-false, lt-ltb, le-ltb}
+use Rattle.cx_text.proofs.MemberLaws.{in_at}
 use Rattle.cx_text.proofs.ListLaws.{there_at}
 use Rattle.cx_prim.specs.Rows.{is_output_side}
 use Rattle.cx_prim.specs.Table.{PrimitiveRow, row_of}
@@ -13,13 +14,13 @@ use Rattle.cx_meaning.specs.Designs.{PlainKind, OfPrimitive, OfComponent, PlainC
 use Rattle.cx_meaning.specs.Instances.{cell_at, cells_of, tree_within}
 use Rattle.cx_meaning.specs.Sights.{PartPort, Go, AnInput, AnOutput, ItsDone, part_port, output_port, later_port}
 use Rattle.cx_meaning.proofs.DesignsLemmas.{same_part}
-use Rattle.cx_meaning.proofs.SightsLaws.{in_at}
+use Rattle.cx_meaning.proofs.InstancesLemmas.{at_kind, cell_stands}
 use Rattle.cx_rules.specs.Ports.{component_of, declared_width, part_width, cell_width, width_of, written_width, is_part_output, is_cell_output, is_source_only, is_target_only}
 use Rattle.cx_rules.proofs.PortsLemmas.{part_is}
 use Rattle.cx_rules.specs.Wellformed.{IsDesign, IsKind}
 use Rattle.cx_profiling.specs.Counters.{first_gained}
 use Rattle.cx_profiling.specs.Instrumented.{gained, moved_by, moved_number, moved_in, with_counts}
-use Rattle.cx_profiling.proofs.ThereLemmas.{Names, kind_ports, of_kind, cell_at-cells_for, tree_on}
+use Rattle.cx_profiling.proofs.ThereLemmas.{Names, kind_ports, tree_on}
 use Rattle.cx_profiling.proofs.GainedLemmas.{IsGrown, grown_at, components-length}
 
 -- the width and the side of a port of a cell, by the kind of the cell
@@ -32,11 +33,11 @@ is_kind_output d (OfPrimitive q) p = is_output_side (side_of (row_of q) p)
 is_kind_output d (OfComponent j) p = is_part_output (part_port (component_at d j) p)
 
 module _ (d : PlainDesign) (n : ℕ) where
-  of_kind_width : (kind : PlainKind) (p : ℕ) → cell_width (of_kind (tree_within d n) kind) p ≡ kind_width d kind p
+  of_kind_width : (kind : PlainKind) (p : ℕ) → cell_width (at_kind (tree_within d n) kind) p ≡ kind_width d kind p
   of_kind_width (OfPrimitive q) p = refl
   of_kind_width (OfComponent j) p = ap (λ part. part_width part (part_port part p)) (same_part d n j)
 
-  of_kind_output : (kind : PlainKind) (p : ℕ) → is_cell_output (of_kind (tree_within d n) kind) p ≡ is_kind_output d kind p
+  of_kind_output : (kind : PlainKind) (p : ℕ) → is_cell_output (at_kind (tree_within d n) kind) p ≡ is_kind_output d kind p
   of_kind_output (OfPrimitive q) p = refl
   of_kind_output (OfComponent j) p = ap (λ part. is_part_output (part_port part p)) (same_part d n j)
 
@@ -44,12 +45,12 @@ module _ (d : PlainDesign) (some : 0 < length d.components) (k c : ℕ) (cell : 
   pub width_at : width_of (component_of d k) (ports.Cell c p) ≡ kind_width d cell.kind p
   width_at =
       let on = tree_on d some (length d.components) k some in
-      ap (λ i. cell_width (cell_at (cells_of i) c) p) on.1 ∙ ap (λ x. cell_width x p) (cell_at-cells_for (tree_within d on.0) (component_at d k).cells c cell at) ∙ of_kind_width d on.0 cell.kind p
+      ap (λ i. cell_width (cell_at (cells_of i) c) p) on.1 ∙ ap (λ x. cell_width x p) (cell_stands (tree_within d on.0) (component_at d k).cells c cell at) ∙ of_kind_width d on.0 cell.kind p
 
   pub output_at : is_source_only (component_of d k) (ports.Cell c p) ≡ is_kind_output d cell.kind p
   output_at =
       let on = tree_on d some (length d.components) k some in
-      ap (λ i. is_cell_output (cell_at (cells_of i) c) p) on.1 ∙ ap (λ x. is_cell_output x p) (cell_at-cells_for (tree_within d on.0) (component_at d k).cells c cell at) ∙ of_kind_output d on.0 cell.kind p
+      ap (λ i. is_cell_output (cell_at (cells_of i) c) p) on.1 ∙ ap (λ x. is_cell_output x p) (cell_stands (tree_within d on.0) (component_at d k).cells c cell at) ∙ of_kind_output d on.0 cell.kind p
 
 -- the ports of a component's cell, by number
 part_port_done : (part : PlainComponent) (p : ℕ) → p ≡ suc (length part.inputs + length part.outputs) → part_port part p ≡ ItsDone

@@ -1,6 +1,7 @@
 -- THE START of an instrumented design is the start of the design, with counters at 0 and a memory more.
 use Rattle.std.proofs.Common.{◌≡◌, ℕ, zero, suc, ◌+◌, ◌*◌, ◌<◌, inl, inr, Bool, true, false, if◌then◌else◌, List, [], ◌∷◌, ◌++◌, length, Some, slice_get, refl, sym, ap, ◌∙◌, subst, arith}
 use Rattle.std.proofs.lemmas.Option.{slice_get_within}
+use Rattle.cx_text.proofs.MemberLaws.{in_at}
 use Rattle.cx_text.specs.declared.places.Place.{Place}
 use Rattle.cx_prim.specs.CellStates.{CellState, Register, Memory}
 use Rattle.cx_prim.specs.CellStates as cell_states
@@ -10,10 +11,9 @@ use Rattle.cx_prim.specs.Table.{row_of}
 use Rattle.cx_prim.specs.declared.names.PrimitiveName.TheVariants as primitives
 use Rattle.cx_meaning.specs.Designs.{PlainCell, PlainKind, OfPrimitive, OfComponent, PlainComponent, PlainDesign, component_at}
 use Rattle.cx_meaning.specs.Instances.{Instance, OfRow, OfInstance, cell_at, cells_of, Path, State, under, just, start, start_at, loaded_at, if_external, externals_from, externals_of, tree_within}
-use Rattle.cx_meaning.specs.Sights.{In}
+use Rattle.cx_text.specs.Members.{In}
 use Rattle.cx_meaning.proofs.CycleLemmas.{row_within, count_for}
 use Rattle.cx_meaning.proofs.InstancesLemmas.{instance_is, instance_row, row_instance, just_same, not_just}
-use Rattle.cx_meaning.proofs.SightsLaws.{in_at}
 use Rattle.cx_rules.specs.Ports.{component_of}
 use Rattle.cx_rules.specs.Wellformed.{IsDesign, IsExternal}
 use Rattle.cx_rewrites.specs.Tallies.{none, at_cell}

@@ -2,6 +2,7 @@
 -- their continuous assignments name no input.
 use Rattle.std.proofs.Common.{◌≡◌, ℕ, suc, ◌+◌, ◌*◌, ◌<◌, inl, inr, ◌⊎◌, ⊎_elim, true, false, List, [], ◌∷◌, length, map, Some, is_some, refl, sym, ap, ◌∙◌, subst}
 use Rattle.std.specs.Prelude.{◌≢◌}
+use Rattle.cx_text.proofs.MemberLaws.{image_in}
 use Rattle.cx_text.specs.declared.places.Place.{Place}
 use Rattle.cx_text.specs.declared.rules.Rule.TheVariants as rules
 use Rattle.cx_text.proofs.OptionLaws.{none_some}
@@ -11,10 +12,9 @@ use Rattle.cx_meaning.specs.declared.ports.PortRef.TheVariants as ports
 use Rattle.cx_meaning.specs.Designs.{PlainAssign, PlainInvoke, PlainComponent, PlainDesign, component_at, form_of, PlainForm, Empty, Enable, Seq, Par, If, While, Repeat, StaticSeq, StaticPar, StaticIf, StaticRepeat, Timed, PlainStatement, Placed}
 use Rattle.cx_meaning.specs.Instances.{Instance, OfRow, cell_at, cells_of, part_of, tree_within}
 use Rattle.cx_meaning.specs.Active.{Owned, same_port, source_order}
-use Rattle.cx_meaning.specs.Sights.{In}
+use Rattle.cx_text.specs.Members.{In}
 use Rattle.cx_meaning.proofs.DesignsLemmas.{same_part}
 use Rattle.cx_meaning.proofs.InstancesLemmas.{instance_is, row_instance}
-use Rattle.cx_meaning.proofs.SightsLaws.{image_in}
 use Rattle.cx_rules.specs.Accepted.{IsAccepted}
 use Rattle.cx_rules.specs.Footprints.{AssignNames, Rests}
 use Rattle.cx_rules.specs.Invokes.{invoke_at, invoke_length, lasts, invoke_in}
@@ -27,15 +27,13 @@ use Rattle.cx_rules.specs.StaticControl.{is_timed, may_stand, has_length}
 use Rattle.cx_rules.specs.Wellformed.{IsDesign, IsInvoke}
 use Rattle.cx_rules.proofs.PortsLemmas.{part_is}
 use Rattle.cx_rewrites.specs.Moving.{moved_assign, moved_form, moved_statement}
-use Rattle.cx_rewrites.proofs.MovedLists.{may_stand-moved, form_has_length-moved}
+use Rattle.cx_rewrites.proofs.MovedLists.{may_stand-moved, form_has_length-moved, some_moved, moved_visited}
 use Rattle.cx_rewrites.proofs.ReflectLemmas.{names_back}
 use Rattle.cx_profiling.specs.Counters.{counters, shown_in}
 use Rattle.cx_profiling.specs.Instrumented.{address_width, moved_in, moved_invoke, with_counts}
 use Rattle.cx_profiling.proofs.GainedLemmas.{grown_at}
 use Rattle.cx_profiling.proofs.InvokesKept.{bind_stays, keeps_at}
 use Rattle.cx_profiling.proofs.InvokesMade.{invoke_back, words_kept, lasts-moved, own_invoke}
-use Rattle.cx_profiling.proofs.MovedCalls.{some_moved}
-use Rattle.cx_profiling.proofs.MovedParts.{moved_visited}
 use Rattle.cx_profiling.proofs.PairLemmas.{CellPair, row_pair, child_pair, pair_at}
 use Rattle.cx_profiling.proofs.PartTable.{length_kept, AlwaysMade, old_always, showing_always, always_made, OwnedMade, old_owned, showing, counting, storing, owned_made}
 use Rattle.cx_profiling.proofs.PortLemmas.{IsInside}

@@ -2,6 +2,7 @@
 use Rattle.std.proofs.Common.{◌≡◌, ℕ, zero, suc, ◌+◌, ◌*◌, ◌<◌, ◌≤◌, inr, false, if◌then◌else◌, List, [], ◌∷◌, ◌++◌, length, Some, None, slice_get, get_or, refl, sym, ap, ◌∙◌, subst, arith}
 use Rattle.std.proofs.lemmas.Bool.{ne_eqb, eq-eqb}
 use Rattle.std.proofs.lemmas.List.{get_or-append-add}
+use Rattle.cx_text.proofs.MemberLaws.{in_left, in_right}
 use Rattle.cx_text.specs.declared.places.Place.{Place}
 use Rattle.cx_meaning.specs.declared.kinds.GroupKind.TheVariants as kinds
 use Rattle.cx_meaning.specs.declared.ports.PortRef.{PortRef}
@@ -10,7 +11,6 @@ use Rattle.cx_meaning.specs.Designs.{PlainAssign, PlainGroup, PlainComponent, Pl
 use Rattle.cx_meaning.specs.Instances.{cells_of}
 use Rattle.cx_meaning.specs.Active.{Active, owned, owned_by_groups, group, only_at, same_port, drivers, if_acting}
 use Rattle.cx_meaning.proofs.PortsLemmas.{same_self}
-use Rattle.cx_meaning.proofs.SightsLaws.{in_left, in_right}
 use Rattle.cx_rules.specs.Ports.{component_of}
 use Rattle.cx_rules.specs.Wellformed.{IsDesign}
 use Rattle.cx_profiling.specs.Counters.{counters, counters_from, Shown, shown_in}

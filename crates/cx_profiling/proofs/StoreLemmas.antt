@@ -4,6 +4,8 @@ use Rattle.std.specs.Prelude.{slice_set}
 use Rattle.std.proofs.lemmas.Bool.{ne_eqb, cases_eq, cases_lt}
 use Rattle.std.proofs.lemmas.Option.{slice_get_within}
 use Rattle.std.proofs.lemmas.List.{get_or_past}
+use Rattle.cx_text.proofs.MemberLaws.{in_at}
+use Rattle.cx_text.specs.Members.{In}
 use Rattle.cx_prim.specs.CellStates.{CellState, Memory}
 use Rattle.cx_prim.specs.Rows.{Row}
 use Rattle.cx_prim.specs.MemoryRows.{memory_row}
@@ -15,7 +17,7 @@ use Rattle.cx_meaning.specs.Designs.{PlainAssign, PlainGroup, PlainComponent, Pl
 use Rattle.cx_meaning.specs.Instances.{Instance, At, Nothing, OfRow, OfInstance, cell_at, cell_count, cells_of, Path, State, under, just, idle, idle_at, IsSettled, tree_within}
 use Rattle.cx_meaning.specs.Active.{group, only_at, drivers}
 use Rattle.cx_meaning.specs.Truths.{truth_of}
-use Rattle.cx_meaning.specs.Sights.{Look, unheld, In, bit_of, of_option, target_seen, cell_step, step, seen, outputs_below}
+use Rattle.cx_meaning.specs.Sights.{Look, unheld, bit_of, of_option, target_seen, cell_step, step, seen, outputs_below}
 use Rattle.cx_meaning.specs.Cycles.{Outcome, Next, outcome_at, cell_outcome, first_of, first_fault, stepped, unless_fault, Goes, cycle}
 use Rattle.cx_meaning.specs.Answers.{Answer, End, More, turns_of, turn_then, then_do, after_turns}
 use Rattle.cx_meaning.specs.Answers as answers
@@ -23,7 +25,6 @@ use Rattle.cx_meaning.specs.Control.{group_drives, assigns_drive}
 use Rattle.cx_meaning.specs.Islands.{turn_of}
 use Rattle.cx_meaning.specs.Calls.{hole_turn, group_turn, called, called_in, if_instance, call_or_turns, enable_kind}
 use Rattle.cx_meaning.specs.Running.{Children}
-use Rattle.cx_meaning.proofs.SightsLaws.{in_at}
 use Rattle.cx_meaning.proofs.CycleLemmas.{row_within, count_for}
 use Rattle.cx_meaning.proofs.IdleLemmas.{kept_within}
 use Rattle.cx_meaning.proofs.InstancesLemmas.{not_just, literal_is}

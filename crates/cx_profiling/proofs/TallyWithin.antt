@@ -1,12 +1,14 @@
 -- NO GROUP IS COUNTED MORE OFTEN THAN THERE ARE TURNS: of two arms one counts a group of an instance, by the rule of races.
 use Rattle.std.proofs.Common.{◌≡◌, ◌⊎◌, inl, inr, ⊎_elim, ℕ, zero, suc, ◌+◌, ◌-◌, ◌<◌, ◌≤◌, Bool, true, false, nat_eq, if◌then◌else◌, List, [], ◌∷◌, length, slice_get, Option, Some, None, refl, sym, ap, ◌∙◌, subst, arith}
 use Rattle.std.proofs.lemmas.Bool.{eqb-true, eqb-false}
+use Rattle.cx_text.proofs.MemberLaws.{image_in, in_at, in_left, in_right}
+use Rattle.cx_text.specs.Members.{In}
 use Rattle.cx_meaning.specs.declared.kinds.GroupKind.{GroupKind}
 use Rattle.cx_meaning.specs.declared.kinds.GroupKind.TheVariants as kinds
 use Rattle.cx_meaning.specs.Designs.{PlainComponent, PlainDesign, PlainForm, Empty, Enable, Seq, Par, If, While, Repeat, StaticSeq, StaticPar, StaticIf, StaticRepeat, Timed, PlainStatement, Placed, PlainStatements, no_statements, a_statement, component_at, group_at}
 use Rattle.cx_meaning.specs.Instances.{Instance, OfInstance, cell_at, cells_of, idle, part_of, Path, start, State, tree_of, tree_within, under}
 use Rattle.cx_meaning.specs.Active.{Active, capture, entries, group, nothing}
-use Rattle.cx_meaning.specs.Sights.{Held, In, seen, unheld}
+use Rattle.cx_meaning.specs.Sights.{Held, seen, unheld}
 use Rattle.cx_meaning.specs.Cycles.{Fault, cycle}
 use Rattle.cx_meaning.specs.Answers.{Answer, End, Ends, Goes, More, Meaning, Turn, after_turns, idle_turn, then_do, turn_then, turns_of}
 use Rattle.cx_meaning.specs.Budgets.{Grows}
@@ -17,7 +19,6 @@ use Rattle.cx_meaning.specs.Calls.{after_child, call_or_turns, called, captures,
 use Rattle.cx_meaning.specs.Running.{control_below, leaves, run_control}
 use Rattle.cx_meaning.proofs.InstancesLemmas.{instance_is, row_instance}
 use Rattle.cx_meaning.proofs.RunningLemmas.{steady_control, child_runs}
-use Rattle.cx_meaning.proofs.SightsLaws.{image_in, in_at, in_left, in_right}
 use Rattle.cx_rules.specs.Ports.{component_of}
 use Rattle.cx_rules.specs.Items.{Context, Dynamic, Visited, below_dynamic, is_comb, statements_in, visit, visit_all, visit_parts}
 use Rattle.cx_rules.specs.Accepted.{IsAccepted}

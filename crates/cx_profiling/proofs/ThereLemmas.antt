@@ -1,13 +1,14 @@
 -- Which ports are there, by a design and a component of it alone.
-use Rattle.std.proofs.Common.{◌≡◌, ℕ, zero, suc, ◌+◌, ◌<◌, List, [], ◌∷◌, length, Option, Some, None, refl, sym, ap, ◌∙◌, subst, arith}
+use Rattle.std.proofs.Common.{◌≡◌, ℕ, zero, suc, ◌+◌, ◌<◌, length, Some, refl, sym, ap, ◌∙◌, subst, arith}
 use Rattle.std.specs.List.{slice_get}
 use Rattle.cx_text.proofs.ListLaws.{there_below, there_at}
 use Rattle.cx_prim.specs.Table.{row_of}
 use Rattle.cx_meaning.specs.declared.ports.PortRef.{PortRef}
 use Rattle.cx_meaning.specs.declared.ports.PortRef.TheVariants as ports
 use Rattle.cx_meaning.specs.Designs.{PlainKind, OfPrimitive, OfComponent, PlainCell, PlainComponent, PlainDesign, component_at}
-use Rattle.cx_meaning.specs.Instances.{Instance, Node, At, OfRow, OfInstance, cell_at, cells_for, add_cell, tree_within}
+use Rattle.cx_meaning.specs.Instances.{Instance, Node, cell_at, cells_for, tree_within}
 use Rattle.cx_meaning.proofs.DesignsLemmas.{same_part}
+use Rattle.cx_meaning.proofs.InstancesLemmas.{at_kind, cell_stands}
 use Rattle.cx_rules.specs.Ports.{component_of}
 use Rattle.cx_rules.specs.Wellformed.{IsThere, port_count}
 
@@ -24,30 +25,8 @@ Names d part (ports.Output n) = n < length part.outputs
 Names d part (ports.Done g) = g < length part.groups
 Names d part (ports.Literal w v) = Unit {0}
 
--- what stands at the cell of a kind
-abbrev pub of_kind : (ℕ → Instance) → PlainKind → At
-of_kind child (OfPrimitive primitive) = OfRow (row_of primitive)
-of_kind child (OfComponent k) = OfInstance (child k)
-
-pub cell_at-cells_for : (child : ℕ → Instance) (cells : List PlainCell) (c : ℕ) (cell : PlainCell) → slice_get cells c ≡ Some cell → cell_at (cells_for child cells) c ≡ of_kind child cell.kind
-cell_at-cells_for child [] c cell e = absurd cc
-cell_at-cells_for child (x ∷ cells) zero cell e = first x.kind ∙ ap (λ o. of_option o) e
-  where
-    of_option : Option PlainCell → At
-    of_option None = of_kind child x.kind
-    of_option (Some y) = of_kind child y.kind
-
-    first : (kind : PlainKind) → cell_at (add_cell child kind (cells_for child cells)) zero ≡ of_kind child kind
-    first (OfPrimitive p) = refl
-    first (OfComponent k) = refl
-cell_at-cells_for child (x ∷ cells) (suc c) cell e = later x.kind ∙ cell_at-cells_for child cells c cell e
-  where
-    later : (kind : PlainKind) → cell_at (add_cell child kind (cells_for child cells)) (suc c) ≡ cell_at (cells_for child cells) c
-    later (OfPrimitive p) = refl
-    later (OfComponent k) = refl
-
 module _ (d : PlainDesign) (n : ℕ) where
-  port_count-kind : (kind : PlainKind) → port_count (of_kind (tree_within d n) kind) ≡ kind_ports d kind
+  port_count-kind : (kind : PlainKind) → port_count (at_kind (tree_within d n) kind) ≡ kind_ports d kind
   port_count-kind (OfPrimitive p) = refl
   port_count-kind (OfComponent k) = ap (λ part. 2 + length part.inputs + length part.outputs) (same_part d n k)
 
@@ -57,7 +36,7 @@ module _ (d : PlainDesign) (n : ℕ) where
     whole = Node part (cells_for (tree_within d n) part.cells)
 
     at_cell : (c : ℕ) (cell : PlainCell) → slice_get part.cells c ≡ Some cell → port_count (cell_at (cells_for (tree_within d n) part.cells) c) ≡ kind_ports d cell.kind
-    at_cell c cell e = ap port_count (cell_at-cells_for (tree_within d n) part.cells c cell e) ∙ port_count-kind cell.kind
+    at_cell c cell e = ap port_count (cell_stands (tree_within d n) part.cells c cell e) ∙ port_count-kind cell.kind
 
     names_there : (p : PortRef) → Names d part p → IsThere whole p
     names_there (ports.Cell c p) (cell, e, less) = (there_below part.cells c cell e, subst (λ m. p < m) (sym (at_cell c cell e)) less)

@@ -1,60 +1,12 @@
 -- The tree of a component stands on the trees of its cells' components: no chain of components is longer than there are components.
-use Rattle.std.proofs.Common.{◌≡◌, ℕ, zero, suc, ◌+◌, ◌<◌, ◌≤◌, inl, inr, List, [], ◌∷◌, length, refl, ap, subst, arith}
-use Rattle.cx_meaning.specs.Designs.{OfComponent, PlainCell, PlainDesign, component_at}
-use Rattle.cx_meaning.specs.Instances.{Node, cells_for, tree_within}
-use Rattle.cx_meaning.specs.Sights.{In}
+use Rattle.std.proofs.Common.{◌≡◌, ℕ, suc, ◌<◌, [], length, arith}
+use Rattle.cx_meaning.specs.Designs.{PlainDesign, component_at}
+use Rattle.cx_meaning.specs.Instances.{Node, cells_for}
 use Rattle.cx_rules.specs.Ports.{component_of}
-use Rattle.cx_rules.specs.Wellformed.{LeadsTo, by_cell, by_way_of, IsDesign, IsKind}
-use Rattle.cx_rules.proofs.Finite.{Distinct}
-use Rattle.cx_flattening.proofs.TreeLevels.{few_below}
-use Rattle.cx_meaning.proofs.InstancesLemmas.{cells_same}
+use Rattle.cx_rules.specs.Wellformed.{IsDesign}
+use Rattle.cx_flattening.proofs.TreeLevels.{no_way, levels}
 
 module _ (d : PlainDesign) (rules : IsDesign d) where
-  -- the component of a cell is there
-  pub child_there : (k j : ℕ) (cell : PlainCell) → k < length d.components → In (component_at d k).cells cell → cell.kind ≡ OfComponent j → j < length d.components
-  child_there k j cell there here e = subst (IsKind d) e ((rules.components k there).cells cell here).kind
-
-  -- a way down to a component: all different, all there, and each leads to it
-  pub record IsWay (path : List ℕ) (k : ℕ) : Type 0 where
-    pub apart : Distinct (k ∷ path)
-    pub there : (m : ℕ) → In (k ∷ path) m → m < length d.components
-    pub leads : (m : ℕ) → In path m → LeadsTo d m k
-
-  pub no_way : (k : ℕ) → k < length d.components → IsWay [] k
-  no_way k there = record { apart = (λ i. absurd i, tt); there = at; leads = λ m i. absurd i }
-    where
-      at : (m : ℕ) → In (k ∷ []) m → m < length d.components
-      at m (inl e) = subst (λ n. n < length d.components) e there
-      at m (inr i) = absurd i
-
-  pub further : (path : List ℕ) (k j : ℕ) (cell : PlainCell) → IsWay path k → In (component_at d k).cells cell → cell.kind ≡ OfComponent j → IsWay (k ∷ path) j
-  further path k j cell way here e = record { apart = (fresh, way.apart); there = at; leads = down }
-    where
-      step : LeadsTo d k j
-      step = by_cell j cell here e
-
-      down : (m : ℕ) → In (k ∷ path) m → LeadsTo d m j
-      down m (inl same) = subst (λ x. LeadsTo d x j) same step
-      down m (inr i) = by_way_of k (way.leads m i) step
-
-      fresh : In (k ∷ path) j → ⊥
-      fresh i = rules.not_recursive j (down j i)
-
-      at : (m : ℕ) → In (j ∷ k ∷ path) m → m < length d.components
-      at m (inl same) = subst (λ x. x < length d.components) same (child_there k j cell (way.there k (inl refl)) here e)
-      at m (inr i) = way.there m i
-
-  pub way_is_short : (path : List ℕ) (k : ℕ) → IsWay path k → length path < length d.components
-  way_is_short path k way = few_below (k ∷ path) (length d.components) way.apart way.there
-
-  -- with levels enough a tree is always the same
-  levels : (n m : ℕ) (path : List ℕ) (k : ℕ) → IsWay path k → length d.components ≤ n + length path → n ≤ m → tree_within d n k ≡ tree_within d m k
-  levels zero m path k way many le = absurd (let short : length path < length d.components = way_is_short path k way in omega arith)
-  levels (suc n) zero path k way many le = absurd (omega arith)
-  levels (suc n) (suc m) path k way many le =
-      ap (Node (component_at d k)) (cells_same (tree_within d n) (tree_within d m) (component_at d k).cells
-      (λ cell j here e. levels n m (k ∷ path) j (further path k j cell way here e) (omega arith) (omega arith)))
-
   -- THE TREE OF A COMPONENT has at each of its component cells the tree of the cell's component
   pub component_of-is : (k : ℕ) → k < length d.components → component_of d k ≡ Node (component_at d k) (cells_for (component_of d) (component_at d k).cells)
-  component_of-is k there = levels (length d.components) (suc (length d.components)) [] k (no_way k there) (omega arith) (omega arith)
+  component_of-is k there = levels d rules (length d.components) (suc (length d.components)) [] k (no_way d rules k there) (omega arith) (omega arith)

@@ -1,13 +1,13 @@
 -- THE ASSIGNMENTS OF AN INSTRUMENTED COMPONENT: those of the component, moved, and new ones, whose targets are ports of new parts.
 use Rattle.std.proofs.Common.{◌≡◌, ℕ, suc, ◌+◌, ◌≤◌, inl, inr, Bool, true, false, if◌then◌else◌, List, [], ◌∷◌, ◌++◌, length, map, Option, Some, None, refl, sym, ap, ◌∙◌, subst, arith}
+use Rattle.cx_text.proofs.MemberLaws.{in_left, in_right}
 use Rattle.cx_text.specs.declared.places.Place.{Place}
 use Rattle.cx_meaning.specs.declared.ports.PortRef.{PortRef}
 use Rattle.cx_meaning.specs.Designs.{PlainAssign, PlainGroup, PlainComponent, PlainDesign}
 use Rattle.cx_meaning.specs.Instances.{Cells}
 use Rattle.cx_meaning.specs.Active.{Active, Owned, owned, owned_by_groups, same_port, drivers}
-use Rattle.cx_meaning.specs.Sights.{In}
+use Rattle.cx_text.specs.Members.{In}
 use Rattle.cx_meaning.proofs.PortsLemmas.{same_self}
-use Rattle.cx_meaning.proofs.SightsLaws.{in_left, in_right}
 use Rattle.cx_rules.proofs.FoundLemmas.{same_is}
 use Rattle.cx_rewrites.specs.Moving.{moved_owned, moved_acting}
 use Rattle.cx_rewrites.specs.Driving.{assigns_of, Between, no_assigns, kept, foreign}

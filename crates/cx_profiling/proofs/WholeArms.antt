@@ -1,16 +1,17 @@
 -- TWO ARMS with static invokes have counted apart, by the rule of races: what they leave together has the counts of both.
-use Rattle.std.proofs.Common.{◌≡◌, ℕ, suc, ◌+◌, ◌<◌, ◌≤◌, inl, inr, ◌⊎◌, ⊎_elim, Bool, true, false, ◌||◌, [], ◌∷◌, ◌++◌, length, Some, slice_get, refl, sym, ap, ◌∙◌, subst, arith}
-use Rattle.std.proofs.lemmas.Bool.{both_ways, or_cases, or_left, and_parts}
+use Rattle.std.proofs.Common.{◌≡◌, ℕ, suc, ◌+◌, ◌<◌, ◌≤◌, inl, inr, ◌⊎◌, ⊎_elim, true, false, ◌||◌, [], ◌∷◌, ◌++◌, length, Some, slice_get, refl, sym, ap, ◌∙◌, subst, arith}
+use Rattle.std.proofs.lemmas.Bool.{both_ways, or_cases, or_left, and_parts, false_from_ne_true}
+use Rattle.cx_text.proofs.MemberLaws.{in_either, in_left, in_right}
+use Rattle.cx_text.specs.Members.{In}
 use Rattle.cx_text.proofs.ListLaws.{behind}
 use Rattle.cx_meaning.specs.Designs.{PlainComponent, PlainDesign, PlainForm, Empty, Enable, Seq, Par, If, While, Repeat, StaticSeq, StaticPar, StaticIf, StaticRepeat, Timed, PlainStatement, Placed, PlainStatements, no_statements, a_statement, component_at, group_at, list_of}
 use Rattle.cx_meaning.specs.Instances.{Instance, cells_of, Path, State, tree_within}
-use Rattle.cx_meaning.specs.Sights.{Held, In}
+use Rattle.cx_meaning.specs.Sights.{Held}
 use Rattle.cx_meaning.specs.Cycles.{Fault}
 use Rattle.cx_meaning.specs.Control.{Leaves, groups_of, groups_in_all, group_drives, groups_drive, drives}
 use Rattle.cx_meaning.specs.Running.{Children}
 use Rattle.cx_meaning.specs.declared.ports.PortRef.{PortRef}
 use Rattle.cx_meaning.proofs.ControlLaws.{groups_drive_in, driver}
-use Rattle.cx_meaning.proofs.SightsLaws.{in_either, in_left, in_right}
 use Rattle.cx_meaning.proofs.DesignsLemmas.{same_part}
 use Rattle.cx_rules.specs.Items.{Context, Dynamic, InStatic, Branch, Visited, visit, visit_parts, visit_all, below_dynamic, statements_in, is_comb}
 use Rattle.cx_rules.specs.Invokes.{invokes_of, captures_of, invokes_cell, drives_all, ReadsAll}
@@ -80,10 +81,6 @@ module _ (part : PlainComponent) where
     all_less c no_statements all n i = absurd i
     all_less c (a_statement s ss) all n i =
         ⊎_elim (λ x. timed_less c s (λ v j. all v (in_left (visit c s) (visit_all c ss) v j)) n x) (λ x. all_less c ss (λ v j. all v (in_right (visit c s) (visit_all c ss) v j)) n x) (in_either (timed_of s) (timed_all ss) n i)
-
-not_false : (b : Bool) → (b ≡ true → ⊥) → b ≡ false
-not_false true h = absurd (h refl)
-not_false false h = refl
 
 module _ (d : PlainDesign) (design : IsDesign d) (accepted : IsAccepted d) (m k : ℕ) (at : InTree d (suc m) k) (controlled : AllControlled (tree_within d (suc m) k)) where
   abbrev part : PlainComponent
@@ -221,7 +218,7 @@ module _ (d : PlainDesign) (design : IsDesign d) (accepted : IsAccepted d) (m k 
     pub later_below : (c : ℕ) (path : Path) (g : ℕ) → drives_all part arm c ≡ true → (s : State) (n : ℕ) → whole_count_arms L C later s n (c ∷ path) g ≡ 0
     later_below c path g driven s n =
         whole_below_arms part (cells_of i) controlled kids counts held c path g later
-        (λ h inside. not_false (group_drives part h c) (λ e.
+        (λ h inside. false_from_ne_true (group_drives part h c) (λ e.
         let r = arm_of h later inside in apart_later c driven r.0 r.1 r.2 (owned_drives part r.1 h c (inl (subst (λ l. In l h) (sym (groups_form r.1)) r.3)) e)))
         (λ q inside. (
           later_less q inside,
@@ -232,7 +229,7 @@ module _ (d : PlainDesign) (design : IsDesign d) (accepted : IsAccepted d) (m k 
     pub first_below : (c : ℕ) (path : Path) (g : ℕ) → drives_all part arm c ≡ false → (s : State) (n : ℕ) → whole_count L C arm s n (c ∷ path) g ≡ 0
     first_below c path g none s n =
         whole_below_zero part (cells_of i) controlled kids counts held c path g arm
-        (λ h inside. not_false (group_drives part h c) (λ e. both_ways (drives_all part arm c) none (owned_drives part arm h c (inl (subst (λ l. In l h) (sym (groups_form arm)) inside)) e)))
+        (λ h inside. false_from_ne_true (group_drives part h c) (λ e. both_ways (drives_all part arm c) none (owned_drives part arm h c (inl (subst (λ l. In l h) (sym (groups_form arm)) inside)) e)))
         (λ q inside. (arm_less q inside, λ e. both_ways (drives_all part arm c) none (fed_drives part arm c (q, subst (λ l. In l q) (sym (timed_form arm)) inside, arm_less q inside, e)))) s n
 
     pub later_own : (g : ℕ) → is_comb (group_at part g).kind ≡ false → ((group_at part g).name ≡ [] → ⊥) → In (groups_of arm) g → (s : State) (n : ℕ) → whole_count_arms L C later s n [] g ≡ 0

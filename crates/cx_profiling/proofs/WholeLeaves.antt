@@ -1,6 +1,8 @@
 -- THE CONTROL of an instrumented instance with static components carries that of the instance, with the counts in its counters.
 use Rattle.std.proofs.Common.{◌≡◌, ℕ, zero, suc, ◌+◌, ◌*◌, ◌<◌, ◌≤◌, inl, inr, Bool, true, false, if◌then◌else◌, [], length, Option, Some, None, slice_get, refl, sym, ap, ◌∙◌, subst, arith}
 use Rattle.std.proofs.lemmas.Bool.{ne_eqb}
+use Rattle.cx_text.proofs.MemberLaws.{in_at}
+use Rattle.cx_text.specs.Members.{In}
 use Rattle.cx_prim.specs.CellStates.{CellState}
 use Rattle.cx_meaning.specs.declared.kinds.GroupKind.{GroupKind}
 use Rattle.cx_meaning.specs.declared.kinds.GroupKind.TheVariants as kinds
@@ -10,7 +12,7 @@ use Rattle.cx_meaning.specs.declared.ports.PlacedPort.{PlacedPort}
 use Rattle.cx_meaning.specs.Designs.{PlainCell, PlainComponent, PlainDesign, OfComponent, PlainForm, Enable, Timed, Placed, component_at, group_at}
 use Rattle.cx_meaning.specs.Instances.{Instance, Cells, no_cells, a_primitive, an_instance, OfInstance, cell_at, cells_of, State, under, tree_within}
 use Rattle.cx_meaning.specs.Active.{Active, capture, entries, only_at, group}
-use Rattle.cx_meaning.specs.Sights.{Held, In, seen}
+use Rattle.cx_meaning.specs.Sights.{Held, seen}
 use Rattle.cx_meaning.specs.Cycles.{Fault, Next}
 use Rattle.cx_meaning.specs.Answers.{Answer, End, More, Meaning}
 use Rattle.cx_meaning.specs.Answers as answers
@@ -19,7 +21,6 @@ use Rattle.cx_meaning.specs.Islands.{kind_length, turn_of}
 use Rattle.cx_meaning.specs.Calls.{called, inputs_of_call}
 use Rattle.cx_meaning.specs.Running.{Children}
 use Rattle.cx_meaning.proofs.InstancesLemmas.{instance_is, row_instance, nothing_instance}
-use Rattle.cx_meaning.proofs.SightsLaws.{in_at}
 use Rattle.cx_rules.specs.Circles.{IsAcyclic}
 use Rattle.cx_rules.specs.Invokes.{form_lasts, drives_all}
 use Rattle.cx_rules.specs.Items.{Dynamic, Visited, visit, statements_in, test_in, is_comb}

@@ -1,8 +1,9 @@
 -- MAIN with static components: the old control, and then the stores.
 use Rattle.std.proofs.Common.{◌≡◌, ℕ, zero, suc, ◌+◌, ◌-◌, ◌*◌, ◌<◌, ◌≤◌, inl, inr, Bool, true, false, if◌then◌else◌, List, [], ◌∷◌, ◌++◌, length, map, Some, slice_get, refl, sym, ap, ◌∙◌, subst, arith}
 use Rattle.std.specs.Prelude.{slice_set}
-use Rattle.std.proofs.lemmas.List.{map-append}
-use Rattle.cx_text.proofs.ListLaws.{behind, length-map, nothing_more}
+use Rattle.std.proofs.lemmas.List.{map-append, nil_from_length}
+use Rattle.cx_text.specs.Members.{In}
+use Rattle.cx_text.proofs.ListLaws.{behind, length-map, nothing_more, snoc_length}
 use Rattle.cx_prim.specs.CellStates.{CellState, Memory, AreWords}
 use Rattle.cx_prim.specs.CellStates as cell_states
 use Rattle.cx_prim.specs.Rows.{Row}
@@ -11,7 +12,7 @@ use Rattle.cx_meaning.specs.declared.ports.PortRef.TheVariants as ports
 use Rattle.cx_meaning.specs.Designs.{PlainComponent, PlainDesign, PlainStatement, PlainStatements, statements_of, component_at}
 use Rattle.cx_meaning.specs.Instances.{Instance, Cells, no_cells, a_primitive, an_instance, OfRow, OfInstance, cell_at, cell_count, cells_of, Path, State, under, put, just, beneath, idle, idle_at, IsSettled, instance_at, start, externals_of, words_of, tree_within}
 use Rattle.cx_meaning.specs.Active.{Active, group, entries}
-use Rattle.cx_meaning.specs.Sights.{Look, Held, unheld, In, bit_of, target_seen, side_step, cell_step, seen, outputs_below}
+use Rattle.cx_meaning.specs.Sights.{Look, Held, unheld, bit_of, target_seen, side_step, cell_step, seen, outputs_below}
 use Rattle.cx_meaning.specs.Cycles.{Fault, Next, outcome_at, first_fault, stepped, Ended, Goes, Faults, cycle}
 use Rattle.cx_meaning.specs.Answers.{Answer, End, More, then_do, after_turns}
 use Rattle.cx_meaning.specs.Answers as answers
@@ -51,7 +52,7 @@ use Rattle.cx_profiling.proofs.GrownIslands.{TwinKeeps}
 use Rattle.cx_profiling.proofs.WholeLeaves.{whole_control_carries, whole_kids}
 use Rattle.cx_profiling.proofs.WholeSteady.{steady_statement, whole_settles}
 use Rattle.cx_profiling.proofs.WholeStores.{whole_store_runs}
-use Rattle.cx_profiling.proofs.MainLemmas.{set_middle, none_left, more_after, one_longer, memory_rests}
+use Rattle.cx_profiling.proofs.MainLemmas.{set_middle, more_after, memory_rests}
 use Rattle.cx_profiling.proofs.OutputLemmas.{counted_of}
 use Rattle.cx_profiling.proofs.MemoryLemmas.{memory_at}
 use Rattle.cx_profiling.proofs.StoreLemmas.{Between, stored_between, store_leaves}
@@ -122,7 +123,7 @@ module _ (d : PlainDesign) (design : IsDesign d) (accepted : IsAccepted d) (grow
   stores_run τ s [] before n number all rest count u between b enough = (
     u,
     ap (End u) (omega arith),
-    subst (λ words. IsBetween words τ s u) (ap (λ list. map (counted_of τ) before ++ list) (none_left rest count) ∙ nothing_more (map (counted_of τ) before) ∙ ap (map (counted_of τ)) (sym (nothing_more before) ∙ sym all)) between,
+    subst (λ words. IsBetween words τ s u) (ap (λ list. map (counted_of τ) before ++ list) (nil_from_length rest count) ∙ nothing_more (map (counted_of τ) before) ∙ ap (map (counted_of τ)) (sym (nothing_more before) ∙ sym all)) between,
     λ c less. refl,
   )
   stores_run τ s (x ∷ xs) before n number all [] count u between b enough = absurd (let wrong : 0 ≡ suc (length xs) = count in omega (arith, wrong))
@@ -138,7 +139,7 @@ module _ (d : PlainDesign) (design : IsDesign d) (accepted : IsAccepted d) (grow
       two (suc (suc c)) h = (c, refl)
 
       longer : suc n ≡ length (before ++ x ∷ [])
-      longer = ap suc number ∙ sym (one_longer before x)
+      longer = ap suc number ∙ sym (snoc_length before x)
 
       listed : slice_get (shown_in (component_of d k)) n ≡ Some x
       listed = ap (λ list. slice_get list n) all ∙ behind before (x ∷ xs) n 0 (let same : n ≡ length before + 0 = omega (arith, number) in same)

@@ -1,12 +1,14 @@
 -- NO GROUP IS COUNTED MORE OFTEN THAN THERE ARE TURNS, with static components too: of two arms one counts a group of an instance.
 use Rattle.std.proofs.Common.{◌≡◌, ◌⊎◌, inl, inr, ℕ, zero, suc, ◌+◌, ◌<◌, ◌≤◌, Bool, true, false, nat_eq, if◌then◌else◌, List, [], ◌∷◌, length, slice_get, Option, Some, None, refl, sym, ap, ◌∙◌, subst, arith}
 use Rattle.std.proofs.lemmas.Bool.{both_ways, and_parts, eqb-true}
+use Rattle.cx_text.proofs.MemberLaws.{image_in, in_at, in_left, in_right}
+use Rattle.cx_text.specs.Members.{In}
 use Rattle.cx_meaning.specs.declared.kinds.GroupKind.{GroupKind}
 use Rattle.cx_meaning.specs.declared.kinds.GroupKind.TheVariants as kinds
 use Rattle.cx_meaning.specs.Designs.{PlainComponent, PlainDesign, PlainForm, Empty, Enable, Seq, Par, If, While, Repeat, StaticSeq, StaticPar, StaticIf, StaticRepeat, Timed, PlainStatement, Placed, PlainStatements, no_statements, a_statement, component_at, group_at}
 use Rattle.cx_meaning.specs.Instances.{Instance, OfInstance, cell_at, cells_of, idle, part_of, Path, start, State, tree_of, tree_within, under}
 use Rattle.cx_meaning.specs.Active.{Active, capture, entries, group}
-use Rattle.cx_meaning.specs.Sights.{Held, In, unheld}
+use Rattle.cx_meaning.specs.Sights.{Held, unheld}
 use Rattle.cx_meaning.specs.Cycles.{Fault}
 use Rattle.cx_meaning.specs.Answers.{Ends, Goes, Turn, idle_turn, turn_then}
 use Rattle.cx_meaning.specs.Answers as answers
@@ -14,7 +16,6 @@ use Rattle.cx_meaning.specs.Control.{Leaves, groups_of, run, run_arms, run_form,
 use Rattle.cx_meaning.specs.Islands.{turn_of}
 use Rattle.cx_meaning.specs.Calls.{called, captures, inputs_of_call, lift_answer}
 use Rattle.cx_meaning.proofs.InstancesLemmas.{instance_is, row_instance}
-use Rattle.cx_meaning.proofs.SightsLaws.{image_in, in_at, in_left, in_right}
 use Rattle.cx_rules.specs.Invokes.{form_lasts, drives_all}
 use Rattle.cx_rules.specs.Ports.{component_of}
 use Rattle.cx_rules.specs.Items.{Context, Dynamic, Visited, below_dynamic, is_comb, statements_in, visit, visit_all, visit_parts}

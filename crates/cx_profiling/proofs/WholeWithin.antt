@@ -2,19 +2,21 @@
 -- below a cell nothing, where it drives no port of the cell and invokes it not.
 use Rattle.std.proofs.Common.{◌≡◌, ℕ, zero, suc, ◌<◌, inl, inr, Bool, true, false, nat_eq, if◌then◌else◌, List, [], ◌∷◌, ◌++◌, length, Option, Some, None, refl, ap, ◌∙◌, subst}
 use Rattle.std.proofs.lemmas.Bool.{both_ways, ne_eqb}
+use Rattle.cx_text.proofs.MemberLaws.{in_left, in_right}
+use Rattle.cx_text.specs.Members.{In}
 use Rattle.cx_meaning.specs.declared.kinds.GroupKind.{GroupKind}
 use Rattle.cx_meaning.specs.declared.kinds.GroupKind.TheVariants as kinds
 use Rattle.cx_meaning.specs.Designs.{PlainComponent, group_at, PlainForm, Empty, Enable, Seq, Par, If, While, Repeat, StaticSeq, StaticPar, StaticIf, StaticRepeat, Timed, PlainStatement, Placed, form_of, PlainStatements, no_statements, a_statement, list_of}
 use Rattle.cx_meaning.specs.Instances.{Instance, Node, Cells, Path, State, under}
 use Rattle.cx_meaning.specs.Active.{Entry, group, offset_in}
-use Rattle.cx_meaning.specs.Sights.{Held, In}
+use Rattle.cx_meaning.specs.Sights.{Held}
 use Rattle.cx_meaning.specs.Cycles.{Fault}
 use Rattle.cx_meaning.specs.Answers.{Turn, Ends, Goes}
 use Rattle.cx_meaning.specs.Answers as answers
 use Rattle.cx_meaning.specs.Control.{Leaves, groups_in, groups_of, groups_in_all, group_drives, run}
 use Rattle.cx_meaning.specs.Calls.{called, inputs_of_call}
 use Rattle.cx_meaning.specs.Running.{Children}
-use Rattle.cx_meaning.proofs.SightsLaws.{in_left, in_right, behind_comb}
+use Rattle.cx_meaning.proofs.SightsLaws.{behind_comb}
 use Rattle.cx_rules.specs.Invokes.{form_lasts}
 use Rattle.cx_rewrites.specs.Tallies.{plus, then_count, turn_count, Counting}
 use Rattle.cx_flattening.specs.Events.{Event, the_invoke}

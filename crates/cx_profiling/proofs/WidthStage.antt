@@ -4,6 +4,7 @@ use Rattle.std.specs.Prelude.{nat_eq, option_map, if◌then◌else◌}
 use Rattle.std.specs.List.{slice_get}
 use Rattle.std.proofs.lemmas.Bool.{eq-eqb, ne_eqb, eqb-true, eqb-false}
 use Rattle.std.proofs.lemmas.Option.{slice_get_within}
+use Rattle.cx_text.proofs.MemberLaws.{in_at, number_in}
 use Rattle.cx_text.proofs.NumberLaws.{true_false}
 use Rattle.cx_text.proofs.OptionLaws.{none_is_some, map_some}
 use Rattle.cx_text.specs.declared.places.Place.{Place}
@@ -14,8 +15,7 @@ use Rattle.cx_meaning.specs.declared.ports.PlacedPort.{PlacedPort}
 use Rattle.cx_meaning.specs.Designs.{PlainAssign, PlainDesign, component_at}
 use Rattle.cx_meaning.specs.Instances.{Instance}
 use Rattle.cx_meaning.specs.Active.{Owned, source_order}
-use Rattle.cx_meaning.specs.Sights.{In}
-use Rattle.cx_meaning.proofs.SightsLaws.{in_at, number_in}
+use Rattle.cx_text.specs.Members.{In}
 use Rattle.cx_rules.specs.Items.{Visited, sources_of, statements_in, test_in}
 use Rattle.cx_rules.specs.Ports.{component_of, keeps_literal, width_of, path_of, is_source_only, is_target_only}
 use Rattle.cx_rules.specs.Accepted.{KeepsStage, IsAccepted}
@@ -25,9 +25,9 @@ use Rattle.cx_rules.specs.Wellformed.{IsDesign}
 use Rattle.cx_rules.proofs.ForeignLemmas.{sorted_among}
 use Rattle.cx_rewrites.specs.Driving.{assigns_of}
 use Rattle.cx_rewrites.specs.Moving.{moved_port, moved_assign}
+use Rattle.cx_rewrites.proofs.MovedLists.{test_in-moved}
 use Rattle.cx_profiling.specs.Counters.{counters, Shown, shown_in, entry_count}
 use Rattle.cx_profiling.specs.Instrumented.{drive, counter_assigns, store_assigns, address_width, moved_in, with_counts, instrumented}
-use Rattle.cx_profiling.proofs.MovedParts.{test_in-moved}
 use Rattle.cx_profiling.proofs.ThereLemmas.{Names}
 use Rattle.cx_profiling.proofs.FitLemmas.{FitsAssign, fits_assign, fits_statement, moved_literal}
 use Rattle.cx_profiling.proofs.GainedLemmas.{components-length}

@@ -1,22 +1,24 @@
 -- What keeps the rules on widths, literals, targets and sources keeps them with its ports moved.
 use Rattle.std.proofs.Common.{◌≡◌, ℕ, ◌<◌, Bool, true, false, inl, inr, List, [], ◌∷◌, length, map, Option, Some, None, refl, sym, ap, ◌∙◌, subst}
 use Rattle.std.specs.Prelude.{option_map, if◌then◌else◌}
+use Rattle.cx_text.proofs.MemberLaws.{image_in}
 use Rattle.cx_text.specs.declared.places.Place.{Place}
 use Rattle.cx_meaning.specs.declared.ports.PortRef.{PortRef}
 use Rattle.cx_meaning.specs.declared.ports.PlacedPort.{PlacedPort}
 use Rattle.cx_meaning.specs.Designs.{PlainAssign, PlainComponent, PlainDesign, component_at}
 use Rattle.cx_meaning.specs.Instances.{Instance}
 use Rattle.cx_meaning.specs.Active.{Owned}
-use Rattle.cx_meaning.specs.Sights.{In}
-use Rattle.cx_meaning.proofs.SightsLaws.{image_in}
+use Rattle.cx_text.specs.Members.{In}
 use Rattle.cx_rules.specs.Items.{Pair, atoms_of, sources_of}
 use Rattle.cx_rules.specs.Ports.{component_of, width_of, path_of, is_source_only, is_target_only}
 use Rattle.cx_rules.specs.Spots.{AssignRule}
 use Rattle.cx_rules.specs.WidthRules.{differ, pairs_of, first_unequal, is_wide, first_wide, IsBadLiteral, BreaksWidth, BreaksGuardWidth, BreaksLiteral, BreaksNotATarget, BreaksNotASource}
 use Rattle.cx_rules.specs.Wellformed.{IsDesign}
+use Rattle.cx_rules.proofs.ItemsLemmas.{atoms_are_operands}
 use Rattle.cx_rewrites.specs.Moving.{moved_port, moved_assign}
+use Rattle.cx_rewrites.proofs.MovedLists.{sources_of-moved, atoms_of-moved, moved_pair, comparisons_of-moved}
 use Rattle.cx_profiling.specs.Instrumented.{moved_in, with_counts}
-use Rattle.cx_profiling.proofs.MovedParts.{sources_of-moved, atoms_of-moved, comparisons_of-moved, moved_pair, atoms_are_operands, comparisons_are_operands}
+use Rattle.cx_profiling.proofs.OperandLemmas.{comparisons_are_operands}
 use Rattle.cx_profiling.proofs.ThereLemmas.{Names}
 use Rattle.cx_profiling.proofs.FitLemmas.{moved_literal}
 use Rattle.cx_profiling.proofs.SortLemmas.{width_of-moved, written_width-moved, is_source_only-moved, is_target_only-moved}

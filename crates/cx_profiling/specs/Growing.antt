@@ -2,7 +2,7 @@
 use Rattle.std.specs.Prelude.{◌≡◌, ℕ, suc, Bool, ◌^◌, ◌%◌, [], ◌∷◌}
 use Rattle.cx_prim.specs.CellStates.{Register}
 use Rattle.cx_meaning.specs.Instances.{Instance, Node, Cells, no_cells, a_primitive, an_instance, State, under}
-use Rattle.cx_meaning.specs.Sights.{In}
+use Rattle.cx_text.specs.Members.{In}
 use Rattle.cx_rewrites.specs.Tallies.{Tally, at_cell}
 use Rattle.cx_profiling.specs.Counters.{Counter, counters}
 

@@ -1,6 +1,6 @@
 -- THE INSTRUMENTED DESIGN: each counted group has a counter, outputs carry the counts up, and main has a memory of the counts with a group
 -- for each word of it. These groups run behind the old control.
-use Rattle.std.specs.Prelude.{ℕ, zero, suc, ◌+◌, ◌*◌, ◌^◌, nat_eq, nat_le, Bool, true, false, not, ◌||◌, ◌&&◌, List, [], ◌∷◌, ◌++◌, length, map, get_or, flat_map, Option, Some, None, slice_get, if◌then◌else◌}
+use Rattle.std.specs.Prelude.{ℕ, zero, suc, ◌+◌, ◌*◌, ◌^◌, nat_eq, nat_le, Bool, true, false, not, ◌&&◌, List, [], ◌∷◌, ◌++◌, length, map, get_or, flat_map, Option, Some, None, slice_get, if◌then◌else◌}
 use Rattle.std.specs.List.{range_with_len}
 use Rattle.cx_text.specs.declared.places.Place.{Place}
 use Rattle.cx_prim.specs.declared.names.PrimitiveName.{PrimitiveName}
@@ -9,32 +9,22 @@ use Rattle.cx_meaning.specs.declared.ports.PortRef.{PortRef}
 use Rattle.cx_meaning.specs.declared.ports.PortRef.TheVariants as ports
 use Rattle.cx_meaning.specs.declared.kinds.GroupKind.TheVariants as kinds
 use Rattle.cx_meaning.specs.declared.kinds.PortDecl.{PortDecl}
-use Rattle.cx_meaning.specs.Designs.{Always, PlainAssign, PlainGroup, PlainKind, OfPrimitive, OfComponent, PlainCell, Enable, Seq, PlainStatement, Placed, a_statement, statements_of, PlainInvoke, PlainComponent, PlainDesign, component_at}
+use Rattle.cx_meaning.specs.Designs.{Always, PlainAssign, PlainGroup, PlainKind, OfPrimitive, OfComponent, PlainCell, Enable, Seq, PlainStatement, Placed, a_statement, statements_of, PlainInvoke, PlainComponent, PlainDesign, component_at, components_of}
 use Rattle.cx_meaning.specs.Instances.{Cells, cells_of}
 use Rattle.cx_rules.specs.Ports.{component_of}
+use Rattle.cx_rules.specs.Counts.{is_one_of}
 use Rattle.cx_rewrites.specs.Moving.{moved_assign, moved_statement}
 use Rattle.cx_profiling.specs.Counters.{is_counted, counters, Shown, shown_in, first_gained, entry_count}
 use Rattle.cx_profiling.specs.FreeNames.{free_names, names_of}
 
 -- REACHED: main, the components of its cells, those of their cells, and so on
-abbrev pub has_number : ℕ → List ℕ → Bool
-has_number k [] = false
-has_number k (n ∷ rest) = nat_eq k n || has_number k rest
-
-abbrev pub component_of_kind : PlainKind → List ℕ
-component_of_kind (OfPrimitive primitive) = []
-component_of_kind (OfComponent k) = k ∷ []
-
-abbrev pub components_of : List PlainCell → List ℕ
-components_of cells = flat_map (λ cell. component_of_kind cell.kind) cells
-
 abbrev pub reached_from : PlainDesign → ℕ → ℕ → List ℕ
 reached_from d zero k = k ∷ []
 reached_from d (suc levels) k = k ∷ flat_map (reached_from d levels) (components_of (component_at d k).cells)
 
 -- no chain of components that stand in each other's cells is longer than there are components
 abbrev pub is_reached : PlainDesign → ℕ → Bool
-is_reached d k = has_number k (reached_from d (length d.components) d.main)
+is_reached d k = is_one_of k (reached_from d (length d.components) d.main)
 
 -- an assignment without a guard, all at one place
 abbrev pub drive : Place → PortRef → PortRef → PlainAssign

@@ -1,9 +1,10 @@
 //! Laws of counts: each function does nothing but call others, and its clause is the law.
 
 ghost use Rattle.std.specs.Prelude.{◌≡◌, ◌<◌, ◌+◌, ℕ, List, Some, length, slice_get, take};
+ghost use Rattle.cx_text.specs.Members.{In};
 ghost use Rattle.cx_meaning.specs.Designs.{PlainDesign, PlainForm, PlainStatement, Placed, Par, statements_of};
 ghost use Rattle.cx_meaning.specs.Instances.{Instance, State, Path, part_of, tree_of, instance_at};
-ghost use Rattle.cx_meaning.specs.Sights.{In, Held};
+ghost use Rattle.cx_meaning.specs.Sights.{Held};
 ghost use Rattle.cx_rules.specs.Accepted.{IsAccepted};
 ghost use Rattle.cx_rules.specs.Footprints.{Reads};
 ghost use Rattle.cx_rules.specs.Items.{Visited, statements_in};

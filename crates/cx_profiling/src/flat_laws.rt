@@ -3,7 +3,7 @@
 ghost use Rattle.std.specs.Prelude.{◌≡◌, ◌<◌, ℕ, List, length};
 ghost use Rattle.cx_meaning.specs.Designs.{PlainDesign};
 ghost use Rattle.cx_meaning.specs.Instances.{Path, instance_at, part_of, tree_of};
-ghost use Rattle.cx_meaning.specs.Sights.{In};
+ghost use Rattle.cx_text.specs.Members.{In};
 ghost use Rattle.cx_rules.specs.Accepted.{IsAccepted};
 ghost use Rattle.cx_rules.specs.Wellformed.{IsDesign};
 ghost use Rattle.cx_flattening.specs.Ends.{NoneNamesDone};

@@ -9,7 +9,7 @@ use Rattle.cx_meaning.specs.declared.ports.PortRef.{PortRef}
 use Rattle.cx_meaning.specs.Designs.{PlainGroup, group_at}
 use Rattle.cx_meaning.specs.Instances.{Instance, part_of}
 use Rattle.cx_meaning.specs.Active.{nothing, Owned, source_order}
-use Rattle.cx_meaning.specs.Sights.{In}
+use Rattle.cx_text.specs.Members.{In}
 use Rattle.cx_meaning.specs.Islands.{kind_length}
 use Rattle.cx_rules.specs.Footprints.{AssignNames, Rests}
 use Rattle.cx_rules.specs.Items.{Pair, Range, comparisons_of, atoms_of, sources_of, is_comb}

@@ -1,6 +1,8 @@
 -- WHAT A PROMOTED GROUP SEES in a cycle of the new design: all but dones as the old group sees it, and its enabling ports too.
-use Rattle.std.specs.Prelude.{◌≡◌, ◌⊎◌, ◌<◌, ℕ, zero, suc, Bool, true, false, not, List, [], ◌∷◌, Option, Some, None, length, refl}
+use Rattle.std.specs.Prelude.{◌≡◌, ◌⊎◌, ◌<◌, ℕ, zero, suc, true, false, not, List, [], ◌∷◌, Option, Some, None, length, refl}
 use Rattle.std.proofs.Common.{sym, ap, ◌∙◌, subst, inl, inr, arith}
+use Rattle.std.proofs.lemmas.Bool.{false_from_ne_true}
+use Rattle.cx_text.specs.Members.{In}
 use Rattle.cx_prim.specs.declared.ports.PortName.TheVariants as names
 use Rattle.cx_prim.specs.declared.ports.PortRow.{PortRow}
 use Rattle.cx_prim.specs.declared.ports.Side.{Side}
@@ -17,7 +19,7 @@ use Rattle.cx_meaning.specs.Designs.{PlainGuard, Always, PlainAssign, PlainGroup
 use Rattle.cx_meaning.specs.Instances.{Instance, At, Nothing, OfRow, OfInstance, part_of, cells_of, cell_at, State, under}
 use Rattle.cx_meaning.specs.Active.{Active, nothing, group, entries, Acting, Owned, offset_of, same_port, source_order, drivers}
 use Rattle.cx_meaning.specs.Truths.{One, truth_of, not_truth}
-use Rattle.cx_meaning.specs.Sights.{In, Look, Held, unheld, Sees, bit_of, of_option, guard_truth, target_seen, side_step, cell_step, seen, outputs_below}
+use Rattle.cx_meaning.specs.Sights.{Look, Held, unheld, Sees, bit_of, of_option, guard_truth, target_seen, side_step, cell_step, seen, outputs_below}
 use Rattle.cx_meaning.specs.Cycles.{enables}
 use Rattle.cx_meaning.proofs.ActiveLemmas.{only_self, acting_has, group_stands}
 use Rattle.cx_meaning.proofs.DesignsLemmas.{group_there}
@@ -88,10 +90,6 @@ enable_sink i (ports.Input n) e = no_true e
 enable_sink i (ports.Output n) e = no_true e
 enable_sink i (ports.Done g) e = no_true e
 enable_sink i (ports.Literal w v) e = no_true e
-
-false_from : (b : Bool) → (b ≡ true → ⊥) → b ≡ false
-false_from true wrong = absurd (wrong refl)
-false_from false wrong = refl
 
 plain_there : (list : List PortRow) (n : ℕ) → side_from list n ≡ sides.Plain → n < length list
 plain_there [] n e = absurd (cc)
@@ -393,7 +391,7 @@ module _ (i j : Instance) (t : Twins MadeBeside i j) (held : Held) (g o : ℕ) (
   named_inside : (a : Owned) (k : ℕ) (q : PortRef) → In os a → offset_of act a.owner ≡ Some k → IsInside whole a.assign.target → AssignNames a.assign q → IsInside whole q
   named_inside a k q stands active inside names = subst (IsInside whole) p.2 (record {
     no_hole = (h.assigns a stands).no_hole p.0 p.1;
-    no_enable = false_from (is_primitive_enable whole p.0.port) (λ e. h.no_sink a stands p.0 p.1 (enable_sink whole p.0.port e));
+    no_enable = false_from_ne_true (is_primitive_enable whole p.0.port) (λ e. h.no_sink a stands p.0 p.1 (enable_sink whole p.0.port e));
     no_done = none_pass (λ (r : PlacedPort). is_done whole r.port) (sources_of a.assign) p.0 (by (old_kind a k stands active)) p.1;
     there = in_range whole p.0.port ((h.assigns a stands).sources p.0 p.1);
   })

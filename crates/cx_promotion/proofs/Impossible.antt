@@ -4,8 +4,5 @@ use Rattle.std.specs.Prelude.{◌≡◌, true, false, Some, None}
 pub no_true : {A : Type 0} → false ≡ true → A
 no_true e = absurd (cc)
 
-pub no_false : {A : Type 0} → true ≡ false → A
-no_false e = absurd (cc)
-
 pub no_some : {A : Type 0} {B : Type 0} (a : A) → None ≡ Some a → B
 no_some a e = absurd (cc)

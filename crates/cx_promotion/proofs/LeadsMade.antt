@@ -1,12 +1,13 @@
 -- WHAT LEADS ON in the new design does so in the old one, and what rests on state in the old design does so in the new one.
 use Rattle.std.proofs.Common.{◌≡◌, ℕ, ◌⊎◌, inl, inr, Bool, true, false, List, [], ◌∷◌, refl, sym, ap, ◌∙◌, subst}
 use Rattle.std.specs.Prelude.{if◌then◌else◌}
+use Rattle.cx_text.specs.Members.{In}
 use Rattle.cx_prim.specs.Rows.{Row}
 use Rattle.cx_meaning.specs.declared.ports.PortRef.{PortRef}
 use Rattle.cx_meaning.specs.Designs.{Always, PlainAssign, PlainGroup, PlainComponent, group_at}
 use Rattle.cx_meaning.specs.Instances.{Instance, At, OfRow, OfInstance, part_of, cells_of, cell_at}
 use Rattle.cx_meaning.specs.Active.{Active, same_port, offset_of, source_order, drivers}
-use Rattle.cx_meaning.specs.Sights.{In, part_port}
+use Rattle.cx_meaning.specs.Sights.{part_port}
 use Rattle.cx_meaning.proofs.ActiveLemmas.{acting_has}
 use Rattle.cx_meaning.proofs.PortsLemmas.{same_self}
 use Rattle.cx_rules.specs.Footprints.{AssignNames, Mentions, Rests, literal_rests, input_rests, registered_rests, output_rests, done_rests, combinational_rests, Depends}

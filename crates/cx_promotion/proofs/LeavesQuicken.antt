@@ -3,6 +3,7 @@ use Rattle.std.proofs.Common.{◌≡◌, ℕ, suc, ◌≤◌, inl, inr, Bool, tr
 use Rattle.std.specs.Prelude.{nat_eq, ◌||◌, if◌then◌else◌}
 use Rattle.std.proofs.Math.Path.{fun_ext}
 use Rattle.std.proofs.lemmas.Bool.{eqb-true}
+use Rattle.cx_text.specs.Members.{In}
 use Rattle.cx_text.specs.declared.places.Place.{Place}
 use Rattle.cx_meaning.specs.declared.ports.PortRef.{PortRef}
 use Rattle.cx_meaning.specs.declared.ports.PortRef.TheVariants as ports
@@ -10,7 +11,7 @@ use Rattle.cx_meaning.specs.Designs.{PlainAssign, PlainGroup, group_at, Enable}
 use Rattle.cx_meaning.specs.Instances.{Instance, Node, At, OfInstance, part_of, cells_of, cell_at, State, under, put, idle, IsSettled}
 use Rattle.cx_meaning.specs.Active.{group, comb, capture}
 use Rattle.cx_meaning.specs.Truths.{truth_of}
-use Rattle.cx_meaning.specs.Sights.{In, Held, seen}
+use Rattle.cx_meaning.specs.Sights.{Held, seen}
 use Rattle.cx_meaning.specs.Cycles.{Fault, Ended, cycle}
 use Rattle.cx_meaning.specs.Answers.{Answer, End, More, Meaning, Test, Holds, Fails, Unclear, idle_turn, one_turn, turns_of, then_do}
 use Rattle.cx_meaning.specs.Answers as answers

@@ -5,7 +5,7 @@ use Rattle.cx_prim.specs.Table.{PrimitiveRow, row_of}
 use Rattle.cx_meaning.specs.declared.ports.PlacedPort.{PlacedPort}
 use Rattle.cx_meaning.specs.Instances.{Instance, At, Nothing, OfRow, OfInstance, part_of, cells_of, cell_at}
 use Rattle.cx_meaning.specs.Active.{group, entries, Owned, source_order}
-use Rattle.cx_meaning.specs.Sights.{In}
+use Rattle.cx_text.specs.Members.{In}
 use Rattle.cx_meaning.specs.Islands.{History, active_in, form_flat}
 use Rattle.cx_meaning.specs.Laws.{AllRows}
 use Rattle.cx_meaning.specs.Rows.{KeepsIdle}

@@ -3,6 +3,7 @@ use Rattle.std.specs.Prelude.{◌≡◌, ◌<◌, ℕ, zero, suc, ◌+◌, ◌==
 use Rattle.std.proofs.Common.{subst, sym, ap, ◌∙◌, arith}
 use Rattle.std.proofs.lemmas.Bool.Decides.{nat_tests}
 use Rattle.cx_bits.specs.Operators.{bit_of}
+use Rattle.cx_text.proofs.NumberLaws.{true_false_also}
 use Rattle.cx_prim.specs.declared.ports.PortName.TheVariants as names
 use Rattle.cx_prim.specs.declared.ports.PortRow.{PortRow}
 use Rattle.cx_prim.specs.declared.ports.Side.{Side}
@@ -19,7 +20,7 @@ use Rattle.cx_meaning.specs.Rows.{side_of}
 use Rattle.cx_promotion.specs.Promotable.{is_named}
 use Rattle.cx_promotion.proofs.RowPorts.{spot_of, Spot, before, behind, no_done, addresses}
 use Rattle.cx_promotion.proofs.RowCounts.{IsReady}
-use Rattle.cx_promotion.proofs.Impossible.{no_true, no_false}
+use Rattle.cx_promotion.proofs.Impossible.{no_true}
 use Rattle.cx_prim.proofs.MemoryLaws.{address_count}
 
 -- an output that is there and is no done
@@ -49,7 +50,7 @@ register_ready w (Register value done) ready = record { next = λ inputs. refl; 
     outputs inputs zero is = no_true is.out
     outputs inputs (suc zero) is = no_true is.out
     outputs inputs (suc (suc zero)) is = refl
-    outputs inputs (suc (suc (suc zero))) is = no_false is.other
+    outputs inputs (suc (suc (suc zero))) is = true_false_also is.other
     outputs inputs (suc (suc (suc (suc n)))) is = absurd (let lt = is.there in omega arith)
 register_ready w d ready = looks_itself (register_row w) d
 
@@ -76,7 +77,7 @@ multiplier_ready w (Multiplier run product) ready = record {
     outputs inputs (suc zero) is = no_true is.out
     outputs inputs (suc (suc zero)) is = no_true is.out
     outputs inputs (suc (suc (suc zero))) is = refl
-    outputs inputs (suc (suc (suc (suc zero)))) is = no_false is.other
+    outputs inputs (suc (suc (suc (suc zero)))) is = true_false_also is.other
     outputs inputs (suc (suc (suc (suc (suc n))))) is = absurd (let lt = is.there in omega arith)
 multiplier_ready w d ready = looks_itself (multiplier_row w) d
 
@@ -94,7 +95,7 @@ divider_ready w (Divider run q r) ready = record {
     outputs inputs (suc (suc zero)) is = no_true is.out
     outputs inputs (suc (suc (suc zero))) is = refl
     outputs inputs (suc (suc (suc (suc zero)))) is = refl
-    outputs inputs (suc (suc (suc (suc (suc zero))))) is = no_false is.other
+    outputs inputs (suc (suc (suc (suc (suc zero))))) is = true_false_also is.other
     outputs inputs (suc (suc (suc (suc (suc (suc n)))))) is = absurd (let lt = is.there in omega arith)
 divider_ready w d ready = looks_itself (divider_row w) d
 
@@ -110,7 +111,7 @@ timer_ready m (Timer count done) ready = record {
     outputs : (inputs : Inputs) (n : ℕ) → IsOutput (timer_row m) n → (timer_row m).output (Timer count done) inputs n ≡ (timer_row m).output (Timer 0 false) inputs n
     outputs inputs zero is = no_true is.out
     outputs inputs (suc zero) is = subst (λ (c : ℕ). (timer_row m).output (Timer c done) inputs 1 ≡ (timer_row m).output (Timer 0 false) inputs 1) (sym ready) refl
-    outputs inputs (suc (suc zero)) is = no_false is.other
+    outputs inputs (suc (suc zero)) is = true_false_also is.other
     outputs inputs (suc (suc (suc n))) is = absurd (let lt = is.there in omega arith)
 timer_ready m d ready = looks_itself (timer_row m) d
 
@@ -151,7 +152,7 @@ module _ (w : ℕ) (sizes address_widths : List ℕ) (layout : IsLayout w sizes 
   memory_out n is (behind zero at side same) = plain_is_no_output (side_of row n) side is.out
   memory_out n is (behind (suc zero) at side same) = no_true (sym (ap is_output_side side) ∙ is.out)
   memory_out n is (behind (suc (suc zero)) at side same) = let e : n ≡ length xs + 2 = at in omega (arith, count)
-  memory_out n is (behind (suc (suc (suc zero))) at side same) = no_false (sym same ∙ is.other)
+  memory_out n is (behind (suc (suc (suc zero))) at side same) = true_false_also (sym same ∙ is.other)
   memory_out n is (behind (suc (suc (suc (suc q)))) at side same) =
       absurd (beyond_tail tail xs n q (let e : n ≡ length xs + suc (suc (suc (suc q))) = at in omega arith) is.there)
 
@@ -178,7 +179,7 @@ module _ (w : ℕ) (sizes address_widths : List ℕ) (layout : IsLayout w sizes 
   sequential_out n is (behind (suc zero) at side same) = no_true (sym (ap is_output_side side) ∙ is.out)
   sequential_out n is (behind (suc (suc zero)) at side same) = plain_is_no_output (side_of other n) side is.out
   sequential_out n is (behind (suc (suc (suc zero))) at side same) = let e : n ≡ length xs + 3 = at in omega (arith, count)
-  sequential_out n is (behind (suc (suc (suc (suc zero)))) at side same) = no_false (sym same ∙ is.other)
+  sequential_out n is (behind (suc (suc (suc (suc zero)))) at side same) = true_false_also (sym same ∙ is.other)
   sequential_out n is (behind (suc (suc (suc (suc (suc q))))) at side same) =
       absurd (beyond_tail end xs n q (let e : n ≡ length xs + suc (suc (suc (suc (suc q)))) = at in omega arith) is.there)
 

@@ -3,6 +3,7 @@ use Rattle.std.proofs.Common.{◌≡◌, ℕ, zero, suc, ◌<◌, ◌≤◌, inl
 use Rattle.std.specs.Prelude.{true}
 use Rattle.std.proofs.lemmas.Bool.{cases_lt}
 use Rattle.std.proofs.lemmas.List.{get_or_past}
+use Rattle.cx_text.proofs.MemberLaws.{in_at, number_in}
 use Rattle.cx_text.specs.declared.places.Place.{Place}
 use Rattle.cx_text.proofs.BoolLaws.{not_both}
 use Rattle.cx_text.specs.declared.rules.Rule.{Rule}
@@ -10,9 +11,8 @@ use Rattle.cx_text.specs.declared.rules.Rule.TheVariants as rules
 use Rattle.cx_meaning.specs.Designs.{PlainGroup, PlainComponent, PlainDesign, component_at, group_at, no_component}
 use Rattle.cx_meaning.specs.Instances.{Instance, part_of, tree_within}
 use Rattle.cx_meaning.specs.Active.{Owned, nothing, group, source_order}
-use Rattle.cx_meaning.specs.Sights.{In}
+use Rattle.cx_text.specs.Members.{In}
 use Rattle.cx_meaning.proofs.DesignsLemmas.{same_part}
-use Rattle.cx_meaning.proofs.SightsLaws.{number_in, in_at}
 use Rattle.cx_rules.specs.Accepted as whole
 use Rattle.cx_rules.specs.Accepted.{stage_of}
 use Rattle.cx_rules.specs.CallShape.{BreaksCallShape, GroupBreaksCallShape}

@@ -3,6 +3,8 @@ use Rattle.std.proofs.Common.{◌≡◌, ℕ, zero, suc, ◌⊎◌, inl, inr, Bo
 use Rattle.std.specs.Prelude.{nat_eq, if◌then◌else◌}
 use Rattle.std.proofs.Math.Path.{fun_ext}
 use Rattle.std.proofs.lemmas.Bool.{eqb-true}
+use Rattle.cx_text.proofs.MemberLaws.{in_left, in_right}
+use Rattle.cx_text.specs.Members.{In}
 use Rattle.cx_text.specs.declared.places.Place.{Place}
 use Rattle.cx_meaning.specs.declared.kinds.GroupKind.{GroupKind}
 use Rattle.cx_meaning.specs.declared.kinds.GroupKind.TheVariants as kinds
@@ -10,7 +12,7 @@ use Rattle.cx_meaning.specs.declared.ports.PortRef.{PortRef}
 use Rattle.cx_meaning.specs.Designs.{PlainGroup, PlainComponent, group_at, no_place, PlainForm, Empty, Enable, Seq, Par, If, While, Repeat, StaticSeq, StaticPar, StaticIf, StaticRepeat, Timed, PlainStatement, Placed, PlainStatements, no_statements, a_statement}
 use Rattle.cx_meaning.specs.Instances.{Instance, Node, Cells, no_cells, a_primitive, an_instance, OfInstance, cell_at, State, Set, merge, idle, IsSettled}
 use Rattle.cx_meaning.specs.Active.{comb}
-use Rattle.cx_meaning.specs.Sights.{In, Held}
+use Rattle.cx_meaning.specs.Sights.{Held}
 use Rattle.cx_meaning.specs.Cycles.{Fault}
 use Rattle.cx_meaning.specs.Answers.{Test, Holds, Fails, Unclear}
 use Rattle.cx_meaning.specs.Control.{Leaves, groups_in, groups_of, groups_drive, run_form, run, run_parts}
@@ -19,7 +21,6 @@ use Rattle.cx_meaning.specs.Calls.{test}
 use Rattle.cx_meaning.specs.Running.{leaves, run_control, control_below}
 use Rattle.cx_meaning.proofs.InstancesLemmas.{instance_is}
 use Rattle.cx_meaning.proofs.RunningLemmas.{steady_island, idle_settles, settles_statement, merge_settles}
-use Rattle.cx_meaning.proofs.SightsLaws.{in_left, in_right}
 use Rattle.cx_rules.specs.Circles.{IsAcyclic}
 use Rattle.cx_rules.specs.Items.{Context, Dynamic, Visited, visit, visit_all, statements_in, is_plain, is_comb}
 use Rattle.cx_rules.specs.StaticControl.{is_static}

@@ -2,13 +2,14 @@
 use Rattle.std.specs.Prelude.{◌≡◌, ℕ, ◌==◌, Bool, true, List, [], ◌∷◌, ◌++◌, if◌then◌else◌, refl}
 use Rattle.std.proofs.Common.{ap, ◌∙◌, inl, inr, arith}
 use Rattle.std.proofs.lemmas.Bool.Decides.{nat_tests}
+use Rattle.cx_text.specs.Members.{In}
 use Rattle.cx_meaning.specs.declared.ports.PortRef.{PortRef}
 use Rattle.cx_meaning.specs.declared.sights.Seen.{Seen}
 use Rattle.cx_meaning.specs.declared.sights.Seen.TheVariants as sights
 use Rattle.cx_meaning.specs.Designs.{PlainGuard, Always, Atom, Negation, All, Any, Compared, Within, PlainGuards, no_guards, a_guard}
 use Rattle.cx_meaning.specs.Active.{Acting}
 use Rattle.cx_meaning.specs.Truths.{One, and_truth, or_truth, not_truth}
-use Rattle.cx_meaning.specs.Sights.{In, Look, guard_truth, all_truth, any_truth, Sources, with_source, take_guard, taken, agreed, all_agreed, settle, target_seen}
+use Rattle.cx_meaning.specs.Sights.{Look, guard_truth, all_truth, any_truth, Sources, with_source, take_guard, taken, agreed, all_agreed, settle, target_seen}
 use Rattle.cx_rules.specs.Items.{Range, ranges_of, ranges_in}
 use Rattle.cx_promotion.proofs.Orders.{SameActing, no_more, one_more}
 

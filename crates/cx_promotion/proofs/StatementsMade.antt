@@ -1,15 +1,15 @@
 -- RULES ON STATEMENTS: where one of the new design breaks a rule, so does the one of the old design from which it comes.
 use Rattle.std.proofs.Common.{◌≡◌, ℕ, ◌+◌, ◌≤◌, ◌⊎◌, inl, inr, Bool, true, false, ◌&&◌, List, [], Option, Some, refl, sym, ap, ◌∙◌, subst, arith}
 use Rattle.std.specs.Prelude.{slice_get, is_some, ◌≢◌}
+use Rattle.cx_text.proofs.MemberLaws.{flat_in, in_left, in_right}
 use Rattle.cx_text.specs.declared.places.Place.{Place}
 use Rattle.cx_text.proofs.BoolLaws.{not_both}
 use Rattle.cx_meaning.specs.declared.ports.PlacedPort.{PlacedPort}
 use Rattle.cx_meaning.specs.Designs.{PlainGroup, PlainComponent, group_at, PlainForm, Empty, Enable, Seq, Par, If, While, Repeat, StaticSeq, StaticPar, StaticIf, StaticRepeat, Timed, PlainStatement, Placed, PlainStatements, no_statements, a_statement}
 use Rattle.cx_meaning.specs.Instances.{Instance, part_of}
-use Rattle.cx_meaning.specs.Sights.{In}
+use Rattle.cx_text.specs.Members.{In}
 use Rattle.cx_meaning.specs.Control.{groups_in, groups_of, groups_in_all, groups_drive, drives}
 use Rattle.cx_meaning.specs.Islands.{kind_length, group_length, or_zero, form_length, sum_length}
-use Rattle.cx_meaning.proofs.SightsLaws.{in_left, in_right, flat_in}
 use Rattle.cx_rules.specs.Footprints.{Reads, driven, named, tested, through, Rests}
 use Rattle.cx_rules.specs.Items.{Context, Dynamic, InStatic, Branch, Visited, visit, statements_in, test_in, option_list, tests_of}
 use Rattle.cx_rules.specs.Ports.{path_of}

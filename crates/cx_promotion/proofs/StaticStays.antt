@@ -3,17 +3,18 @@
 use Rattle.std.proofs.Common.{◌≡◌, ℕ, zero, suc, ◌+◌, ◌-◌, inl, inr, Bool, true, false, ◌&&◌, nat_le, max, List, [], ◌∷◌, ◌++◌, Option, Some, None, refl, sym, ap, ◌∙◌, subst}
 use Rattle.std.specs.Prelude.{◌*◌, is_some, nat_lt}
 use Rattle.std.proofs.Math.Path.{fun_ext}
+use Rattle.cx_text.proofs.MemberLaws.{in_left, in_right, of_joined}
+use Rattle.cx_text.specs.Members.{In}
 use Rattle.cx_text.specs.declared.places.Place.{Place}
 use Rattle.cx_meaning.specs.Designs.{PlainComponent, PlainForm, Empty, Enable, Seq, Par, If, While, Repeat, StaticSeq, StaticPar, StaticIf, StaticRepeat, Timed, PlainStatement, Placed, PlainStatements, no_statements, a_statement}
 use Rattle.cx_meaning.specs.Instances.{Instance, part_of, State, idle}
 use Rattle.cx_meaning.specs.Active.{nothing, Entry, entries, offset_in}
-use Rattle.cx_meaning.specs.Sights.{In, Look, Held, seen}
+use Rattle.cx_meaning.specs.Sights.{Look, Held, seen}
 use Rattle.cx_meaning.specs.Cycles.{Fault, Ended, cycle}
 use Rattle.cx_meaning.specs.Answers.{Answer, idle_turn, turn_then}
 use Rattle.cx_meaning.specs.Control.{groups_in, groups_of, groups_in_all}
 use Rattle.cx_meaning.specs.Islands.{group_length, or_zero, form_length, length_of, sum_length, max_length, Condition, condition, Occurrence, Runs, Looks, rounds_from, occurrence, form_flat, flat, seq_flat, par_flat, History, no_history, and_now, hold, entry_if, active_in, looked_at, first_unclear, unless_unclear, island_from, island}
 use Rattle.cx_meaning.proofs.ActiveLemmas.{entry_of}
-use Rattle.cx_meaning.proofs.SightsLaws.{of_joined, in_left, in_right}
 use Rattle.cx_rules.specs.Items.{Context, InStatic, Branch, Visited, visit, visit_parts, visit_all, statements_in}
 use Rattle.cx_rules.specs.StaticControl.{is_static, is_in_static, may_stand}
 use Rattle.cx_rules.proofs.CirclesLemmas.{own_acyclic}

@@ -2,6 +2,7 @@
 use Rattle.std.proofs.Common.{◌≡◌, ℕ, zero, suc, ◌<◌, ◌≤◌, ⊎_elim, inl, inr, Bool, true, false, List, [], ◌∷◌, length, None, refl, sym, ap, ◌∙◌, subst, arith}
 use Rattle.std.proofs.lemmas.Bool.{cases_lt}
 use Rattle.std.proofs.lemmas.List.{get_or_past}
+use Rattle.cx_text.proofs.MemberLaws.{number_in}
 use Rattle.cx_text.specs.declared.rules.Rule.TheVariants.{NotASource, StaticGuard, StaticShape}
 use Rattle.cx_prim.specs.Rows.{Row}
 use Rattle.cx_prim.specs.Table.{PrimitiveRow, row_of}
@@ -9,12 +10,11 @@ use Rattle.cx_meaning.specs.declared.ports.PlacedPort.{PlacedPort}
 use Rattle.cx_meaning.specs.Designs.{PlainKind, OfPrimitive, OfComponent, PlainCell, PlainComponent, PlainDesign, component_at, no_component}
 use Rattle.cx_meaning.specs.Instances.{Instance, Node, Cells, no_cells, a_primitive, an_instance, Nothing, OfRow, part_of, cells_of, cell_at, add_cell, cells_for, tree_within, tree_of, Path, instance_at, child_at}
 use Rattle.cx_meaning.specs.Active.{group, entries, Owned, source_order}
-use Rattle.cx_meaning.specs.Sights.{In}
+use Rattle.cx_text.specs.Members.{In}
 use Rattle.cx_meaning.specs.Islands.{History, active_in, form_flat}
 use Rattle.cx_meaning.proofs.DesignsLemmas.{same_part, group_there}
 use Rattle.cx_meaning.proofs.IdleLemmas.{kept_within}
 use Rattle.cx_meaning.proofs.InstancesLemmas.{row_is}
-use Rattle.cx_meaning.proofs.SightsLaws.{number_in}
 use Rattle.cx_rules.specs.Accepted.{IsAccepted}
 use Rattle.cx_rules.specs.Circles.{IsAcyclic, AreAcyclic}
 use Rattle.cx_rules.specs.Flat.{IsFlat}
@@ -31,6 +31,7 @@ use Rattle.cx_promotion.specs.Made.{no_groups, placed, empty, no_assigns, PartMa
 use Rattle.cx_promotion.proofs.Twins.{Twins, TwinCells}
 use Rattle.cx_promotion.proofs.MadeBeside.{KindAt, no_cell, a_row, a_part, MadeBeside}
 use Rattle.cx_rules.proofs.ForeignLemmas.{OwnerOf, continuous, of_group, owner_of}
+use Rattle.cx_rules.proofs.ItemsLemmas.{bare_form}
 
 -- TREES OF ONE SHAPE, whatever their components
 abbrev pub Any : Instance → Instance → Type 0
@@ -262,16 +263,12 @@ module _ (old new : PlainDesign) (design : IsDesign old) (accepted : IsAccepted 
     no_sink = λ o i p inside sink. absurd i;
     ranges = λ o i none. absurd i;
     statics = λ v i stat. nothing_static v i stat;
-    statements = λ v i. nothing_form v i;
+    statements = λ v i. bare_form v i;
   }
     where
       nothing_static : (v : Visited) → In (statements_in no_component) v → is_in_static v.context ≡ true → may_stand no_component v.context v.form ≡ true
       nothing_static v (inl e) stat = absurd (let wrong : false ≡ true = ap (λ (w : Visited). is_in_static w.context) e ∙ stat in cc)
       nothing_static v (inr wrong) stat = absurd wrong
-
-      nothing_form : (v : Visited) → In (statements_in no_component) v → IsForm no_component v.form
-      nothing_form v (inl e) = subst (λ (w : Visited). IsForm no_component w.form) e tt
-      nothing_form v (inr wrong) = absurd wrong
 
   -- THE TREES are twins
   pub trees_are_twins : Twins MadeBeside (tree_of old) (tree_within new (length old.components) old.main)

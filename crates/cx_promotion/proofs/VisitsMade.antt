@@ -1,10 +1,10 @@
 -- STATEMENTS OF THE NEW DESIGN: each comes from one of the old design, or is a piece or an enable in one.
 use Rattle.std.proofs.Common.{◌≡◌, ℕ, zero, suc, inl, inr, false, List, [], ◌∷◌, ◌++◌, Some, None, refl, subst}
 use Rattle.std.specs.Prelude.{slice_get}
+use Rattle.cx_text.proofs.MemberLaws.{in_left, in_right, of_joined}
 use Rattle.cx_text.specs.declared.places.Place.{Place}
 use Rattle.cx_meaning.specs.Designs.{PlainForm, Empty, Enable, Seq, Par, If, While, Repeat, StaticSeq, Timed, PlainStatement, Placed, PlainStatements, no_statements, a_statement, list_of}
-use Rattle.cx_meaning.specs.Sights.{In}
-use Rattle.cx_meaning.proofs.SightsLaws.{of_joined, in_left, in_right}
+use Rattle.cx_text.specs.Members.{In}
 use Rattle.cx_rules.specs.Items.{Context, Dynamic, InStatic, Visited, visit, visit_parts, visit_all, test_in}
 use Rattle.cx_rules.specs.RaceRule.{arms_of, enabled_group}
 use Rattle.cx_rules.specs.StaticControl.{is_static}

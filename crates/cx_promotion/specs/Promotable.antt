@@ -12,9 +12,9 @@ use Rattle.cx_meaning.specs.declared.kinds.GroupKind.TheVariants.{Timed}
 use Rattle.cx_meaning.specs.Designs.{Always, PlainAssign, PlainGroup}
 use Rattle.cx_meaning.specs.Instances.{Instance, At, Nothing, OfRow, OfInstance, cell_at, cells_of, part_of}
 use Rattle.cx_meaning.specs.Active.{same_port}
-use Rattle.cx_meaning.specs.Sights.{PartPort, Go, AnInput, AnOutput, ItsDone, part_port}
+use Rattle.cx_meaning.specs.Sights.{part_port}
 use Rattle.cx_rules.specs.Items.{is_plain, sources_of}
-use Rattle.cx_rules.specs.Ports.{is_primitive_enable, is_part_port}
+use Rattle.cx_rules.specs.Ports.{is_primitive_enable, is_part_port, is_part_done}
 use Rattle.cx_rules.specs.ShapeRules.{is_hole, some_target}
 use Rattle.cx_rules.specs.CallShape.{one, with_target, is_always, is_negated, is_port_of}
 
@@ -63,16 +63,10 @@ is_pipe (DividerOf width latency) = true
 is_pipe (TimerOf length) = false
 
 -- A DONE: of a primitive cell, or of a component's cell
-abbrev pub is_done_of_part : PartPort → Bool
-is_done_of_part Go = false
-is_done_of_part (AnInput n) = false
-is_done_of_part (AnOutput n) = false
-is_done_of_part ItsDone = true
-
 abbrev pub is_done_at : At → ℕ → Bool
 is_done_at Nothing p = false
 is_done_at (OfRow row) p = is_named names.Done row.ports p
-is_done_at (OfInstance child) p = is_done_of_part (part_port (part_of child) p)
+is_done_at (OfInstance child) p = is_part_done (part_port (part_of child) p)
 
 abbrev pub is_done : Instance → PortRef → Bool
 is_done i (ports.Cell c p) = is_done_at (cell_at (cells_of i) c) p

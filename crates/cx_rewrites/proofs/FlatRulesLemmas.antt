@@ -1,5 +1,5 @@
 -- In a design without static components each rule comes to what `FlatRules` says.
-use Rattle.std.proofs.Common.{◌≡◌, ℕ, zero, suc, ◌<◌, inl, inr, ◌⊎◌, Bool, true, false, is_some, List, [], ◌∷◌, length, Option, Some, None, refl, sym, ap, ◌∙◌, subst}
+use Rattle.std.proofs.Common.{◌≡◌, ℕ, zero, suc, inl, inr, true, false, is_some, List, [], ◌∷◌, length, Some, None, refl, sym, ap, ◌∙◌, subst}
 use Rattle.std.specs.Prelude.{slice_get, flat_map}
 use Rattle.cx_text.specs.declared.places.Place.{Place}
 use Rattle.cx_text.specs.declared.rules.Rule.{Rule}
@@ -7,24 +7,24 @@ use Rattle.cx_text.specs.declared.rules.Rule.TheVariants as rules
 use Rattle.cx_meaning.specs.declared.ports.PortRef.{PortRef}
 use Rattle.cx_meaning.specs.declared.ports.PortRef.TheVariants as ports
 use Rattle.cx_meaning.specs.Designs.{PlainAssign, PlainInvoke, PlainCell, PlainKind, OfPrimitive, OfComponent, PlainComponent, PlainDesign, PlainStatement, component_at}
-use Rattle.cx_meaning.specs.Instances.{Instance, part_of, cells_of, cell_at, add_cell, cells_for, tree_within, tree_of}
+use Rattle.cx_meaning.specs.Instances.{part_of, cells_of, cell_at, add_cell, cells_for, tree_within}
 use Rattle.cx_meaning.proofs.DesignsLemmas.{same_part}
 use Rattle.cx_rules.specs.Ports.{component_of}
 use Rattle.cx_rules.specs.Items.{Visited}
-use Rattle.cx_rules.specs.Spots.{Spot, AssignRule, StatementRule, OnBind, OnAssign, OnStatement}
+use Rattle.cx_rules.specs.Spots.{Spot, AssignRule, StatementRule, OnBind, OnStatement}
 use Rattle.cx_rules.specs.Invokes.{invoke_at}
-use Rattle.cx_rules.specs.InvokeShape.{latency_at, is_static_port, BreaksStaticCell, BreaksInvoke}
+use Rattle.cx_rules.specs.InvokeShape.{latency_at, is_static_port}
 use Rattle.cx_rules.specs.ShapeRules as shapes
 use Rattle.cx_rules.specs.RaceRule as race
 use Rattle.cx_rules.specs.LimitRule as limit
-use Rattle.cx_rules.specs.LimitRule.{Limited, BreaksPart, BreaksTree}
+use Rattle.cx_rules.specs.LimitRule.{Limited, flat_limit, BreaksPart, BreaksTree}
 use Rattle.cx_rules.specs.Accepted as whole
 use Rattle.cx_rules.specs.Accepted.{stage_of}
 use Rattle.cx_rules.specs.Flat.{IsFlat}
 use Rattle.cx_rules.proofs.InvokesLemmas.{no_invoke_at, drives_more, drives_all-flat, reads_more, reads_all-flat}
 use Rattle.cx_rules.proofs.CountsLemmas.{no_invokes, no_invokes_within, latency_within, lasts_within, counted_cells-flat, counted_groups-flat, counted_weight-flat, counted_instances-flat, counted_depth-flat}
 use Rattle.cx_rules.proofs.LimitRuleLemmas.{statement_limit-flat}
-use Rattle.cx_rewrites.specs.FlatRules.{BreaksLength, IsShared, BreaksRace, statement_limit, BreaksStatement, Breaks, KeepsStage, IsAccepted}
+use Rattle.cx_rewrites.specs.FlatRules.{BreaksLength, IsShared, BreaksRace, BreaksStatement, Breaks, KeepsStage, IsAccepted}
 
 -- a rule on statements that says the same
 on_statement : (one other : StatementRule) (d : PlainDesign) (spot : Spot) (place : Place) (name : List ℕ) → ((v : Visited) → one (component_of d spot.component) v place name → other (component_of d spot.component) v place name)
@@ -63,7 +63,7 @@ module _ (d : PlainDesign) (flat : IsFlat d) where
       by (OfComponent j) zero h = latency_within d flat n j
       by (OfComponent j) (suc e) h = h e
 
-  tree_latency : (n k c : ℕ) → latency_at (cell_at (cells_of (tree_within d n k)) c) ≡ None
+  pub tree_latency : (n k c : ℕ) → latency_at (cell_at (cells_of (tree_within d n k)) c) ≡ None
   tree_latency zero k c = refl
   tree_latency (suc n) k c = cell_latency n (component_at d k).cells c
 
@@ -102,8 +102,8 @@ module _ (d : PlainDesign) (flat : IsFlat d) where
   race_back k v place name (inr (none, twice)) = inr ((λ c s. none c (shared_there k _ c s)), twice)
 
   -- LIMITS
-  limit-flat : (k : ℕ) (v : Visited) → limit.statement_limit (component_of d k) v ≡ statement_limit (part_of (component_of d k)) v
-  limit-flat k v = statement_limit-flat d flat (length d.components) k v ∙ ap (λ part. statement_limit part v) (sym (same_part d (length d.components) k))
+  limit-flat : (k : ℕ) (v : Visited) → limit.statement_limit (component_of d k) v ≡ flat_limit (part_of (component_of d k)) v
+  limit-flat k v = statement_limit-flat d flat (length d.components) k v ∙ ap (λ part. flat_limit part v) (sym (same_part d (length d.components) k))
 
   limit_there : (k : ℕ) (v : Visited) (place : Place) (name : List ℕ) → BreaksStatement (component_of d k) v place name → limit.BreaksStatement (component_of d k) v place name
   limit_there k v place name (limited, is, told) = (limited, limit-flat k v ∙ is, told)

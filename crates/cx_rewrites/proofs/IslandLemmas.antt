@@ -3,6 +3,7 @@
 use Rattle.std.proofs.Common.{◌≡◌, ℕ, zero, suc, ◌+◌, ◌-◌, ◌*◌, max, inl, inr, Bool, true, false, ◌&&◌, nat_le, List, [], ◌∷◌, ◌++◌, map, Option, Some, None, refl, sym, ap, ◌∙◌, subst}
 use Rattle.std.specs.Prelude.{nat_eq, nat_lt, if◌then◌else◌}
 use Rattle.std.proofs.lemmas.List.{map-append}
+use Rattle.cx_text.specs.Members.{In}
 use Rattle.cx_meaning.specs.declared.ports.PortRef.{PortRef}
 use Rattle.cx_meaning.specs.declared.sights.Seen.{Seen}
 use Rattle.cx_meaning.specs.declared.sights.Seen.TheVariants as sights
@@ -12,7 +13,7 @@ use Rattle.cx_meaning.specs.Designs.{PlainComponent, PlainForm, Empty, Enable, S
 use Rattle.cx_meaning.specs.Instances.{Instance, part_of, State, idle}
 use Rattle.cx_meaning.specs.Active.{Entry, entries, nothing}
 use Rattle.cx_meaning.specs.Truths.{truth_of}
-use Rattle.cx_meaning.specs.Sights.{Look, Held, In, seen}
+use Rattle.cx_meaning.specs.Sights.{Look, Held, seen}
 use Rattle.cx_meaning.specs.Cycles.{Fault, fault_at, Ended, cycle}
 use Rattle.cx_meaning.specs.Answers.{More, Faults}
 use Rattle.cx_meaning.specs.Islands.{group_length, or_zero, form_length, length_of, sum_length, max_length, Condition, Occurrence, Runs, Looks, condition, rounds_from, occurrence, form_flat, flat, seq_flat, par_flat, History, no_history, is_wanted, hold, entry_if, active_in, port_if, looked_at, is_one, and_now, fault_of, first_unclear, turn_of, unless_unclear, island_turn, island_from, island}

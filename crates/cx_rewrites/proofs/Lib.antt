@@ -5,6 +5,7 @@ mod PartLemmas
 pub mod BesideLemmas
 pub mod MovedLemmas
 pub mod MovedLists
+pub mod MovedCalls
 pub mod FollowLemmas
 pub mod SolvedLemmas
 pub mod TargetLemmas
@@ -25,7 +26,7 @@ pub mod PlaceDesigns
 mod PlacePorts
 mod PlaceLeads
 mod PlaceShapes
-mod PlaceRules
+pub mod PlaceRules
 mod PlaceCalls
 mod PlaceLimits
 pub mod FlatRulesLemmas

@@ -1,7 +1,8 @@
 -- PARTS WHOSE PORTS ARE MOVED name the moved ports of what the parts name, in the same order; of shapes and counts they keep all.
-use Rattle.std.proofs.Common.{◌≡◌, ℕ, zero, suc, ◌+◌, Bool, true, false, ◌||◌, ◌&&◌, List, [], ◌∷◌, ◌++◌, map, Option, Some, None, option_map, slice_get, refl, sym, ap, ap₂, ◌∙◌}
+use Rattle.std.proofs.Common.{◌≡◌, inl, inr, ℕ, zero, suc, ◌+◌, Bool, true, false, ◌||◌, ◌&&◌, List, [], ◌∷◌, ◌++◌, map, Option, Some, None, option_map, slice_get, refl, sym, ap, ap₂, ◌∙◌}
 use Rattle.std.specs.Prelude.{flat_map, is_some, get_or}
 use Rattle.std.proofs.lemmas.List.{map-append}
+use Rattle.cx_text.specs.Members.{In}
 use Rattle.cx_meaning.specs.declared.ports.PortRef.{PortRef}
 use Rattle.cx_meaning.specs.declared.ports.PlacedPort.{PlacedPort}
 use Rattle.cx_meaning.specs.Designs.{PlainGuard, Always, Atom, Negation, All, Any, Compared, Within, PlainGuards, no_guards, a_guard, PlainAssign, PlainGroup, PlainComponent, no_group, PlainForm, Empty, Enable, Seq, Par, If, While, Repeat, StaticSeq, StaticPar, StaticIf, StaticRepeat, Timed, PlainStatement, Placed, PlainStatements, no_statements, a_statement, list_of}
@@ -39,7 +40,7 @@ module _ (move : PortRef → PortRef) where
     atoms_in-moved (a_guard g gs) = ap₂ ◌++◌ (atoms_of-moved g) (atoms_in-moved gs) ∙ sym (map-append (moved_port move) (atoms_of g) (atoms_in gs))
 
   mutual
-    comparisons_of-moved : (g : PlainGuard) → comparisons_of (moved_guard move g) ≡ map moved_pair (comparisons_of g)
+    pub comparisons_of-moved : (g : PlainGuard) → comparisons_of (moved_guard move g) ≡ map moved_pair (comparisons_of g)
     comparisons_of-moved Always = refl
     comparisons_of-moved (Atom p) = refl
     comparisons_of-moved (Negation g) = comparisons_of-moved g
@@ -115,9 +116,12 @@ module _ (move : PortRef → PortRef) where
   moved_group_at (x ∷ xs) zero = refl
   moved_group_at (x ∷ xs) (suc g) = moved_group_at xs g
 
+  pub some_moved : (test other : PortRef → Bool) (list : List PlainAssign) → ((a : PlainAssign) → In list a → other (move a.target) ≡ test a.target) → some_target other (map (moved_assign move) list) ≡ some_target test list
+  some_moved test other [] same = refl
+  some_moved test other (a ∷ rest) same = ap₂ ◌||◌ (same a (inl refl)) (some_moved test other rest (λ b i. same b (inr i)))
+
   pub some_target-moved : (test other : PortRef → Bool) → ((p : PortRef) → other (move p) ≡ test p) → (list : List PlainAssign) → some_target other (map (moved_assign move) list) ≡ some_target test list
-  some_target-moved test other same [] = refl
-  some_target-moved test other same (a ∷ rest) = ap₂ ◌||◌ (same a.target) (some_target-moved test other same rest)
+  some_target-moved test other same list = some_moved test other list (λ a i. same a.target)
 
   -- STATEMENTS
   two_visited : (xs ys us vs : List Visited) → us ≡ map moved_visited xs → vs ≡ map moved_visited ys → us ++ vs ≡ map moved_visited (xs ++ ys)

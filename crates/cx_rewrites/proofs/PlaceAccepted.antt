@@ -17,7 +17,7 @@ use Rattle.cx_text.specs.declared.limits.TheConstants.{CELLS, GROUPS, INSTANCES,
 use Rattle.cx_rules.specs.Sizes.{weight_of, instances_below, depth_below, words_below}
 use Rattle.cx_rules.specs.LimitRule.{Limited, OnCells, OnGroups, OnInstances, OnDepth, OnWords, OnWeight, BreaksPart, BreaksTree}
 use Rattle.cx_rules.specs.Accepted as whole
-use Rattle.cx_rules.specs.Flat.{IsFlatPart, IsFlat}
+use Rattle.cx_rules.specs.Flat.{IsFlat}
 use Rattle.cx_rewrites.specs.FlatRules.{BreaksLength, BreaksRace, BreaksStatement, Breaks, KeepsStage}
 use Rattle.cx_rewrites.proofs.FlatRulesLemmas.{breaks_flat, breaks_whole, accepted_flat, accepted_whole}
 use Rattle.cx_rules.proofs.CountsLemmas.{flat_part}

@@ -10,7 +10,7 @@ use Rattle.cx_meaning.specs.Sights.{part_port}
 use Rattle.cx_rules.specs.Ports.{is_part_port}
 use Rattle.cx_rules.specs.Items.{is_plain}
 use Rattle.cx_rules.specs.ShapeRules.{is_hole_of, some_target}
-use Rattle.cx_rules.specs.CallShape.{is_port_of, Calls, go_port, done_port, write_en_of, is_reg_kind, is_register_cell, one, with_target, is_atom, is_always, is_negated, is_right_go, is_right_enable, is_register_enable, captured_from, captured, wanted_dones, joined, conjuncts, conjuncts_in, are_dones, is_right_done, assigns_of, IsFedBack, CallBreak, another_cell, wrong_go, input_by_output, wrong_enable, wrong_done, IsOutside, IsMisshapen, BreaksCallShape, GroupBreaksCallShape}
+use Rattle.cx_rules.specs.CallShape.{is_port_of, Calls, go_port, done_port, write_en_of, is_reg_kind, is_register_cell, one, with_target, is_atom, is_always, is_negated, is_right_go, is_right_enable, is_register_enable, added, captured_from, captured, wanted_dones, joined, conjuncts, conjuncts_in, are_dones, is_right_done, assigns_of, IsFedBack, CallBreak, another_cell, wrong_go, input_by_output, wrong_enable, wrong_done, IsOutside, IsMisshapen, BreaksCallShape, GroupBreaksCallShape}
 use Rattle.cx_rewrites.specs.Places.{unplaced_guard, unplaced_guards, unplaced_assign, unplaced_cell, unplaced_owned, SamePart}
 use Rattle.cx_rewrites.proofs.PlaceLemmas.{SameTree, same_parts, part_port-same}
 use Rattle.cx_rewrites.proofs.PlaceStatements.{kind-same, assigns-same}
@@ -103,10 +103,6 @@ is_register_cell-unplaced : (cells : List PlainCell) (r : ℕ) → is_register_c
 is_register_cell-unplaced [] r = refl
 is_register_cell-unplaced (c ∷ cells) zero = refl
 is_register_cell-unplaced (c ∷ cells) (suc r) = is_register_cell-unplaced cells r
-
-abbrev added : ℕ → Bool → List ℕ → List ℕ
-added r true rest = r ∷ rest
-added r false rest = rest
 
 captured_from-unplaced : (assigns : List PlainAssign) (r : ℕ) (cells : List PlainCell) → captured_from (map unplaced_assign assigns) r (map unplaced_cell cells) ≡ captured_from assigns r cells
 captured_from-unplaced assigns r [] = refl

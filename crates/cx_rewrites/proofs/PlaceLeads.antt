@@ -2,6 +2,7 @@
 use Rattle.std.proofs.Common.{◌≡◌, ℕ, List, [], ◌∷◌, ◌++◌, map, refl, sym, ap, ◌∙◌, subst}
 use Rattle.std.proofs.lemmas.List.{map-append}
 use Rattle.std.specs.Prelude.{flat_map}
+use Rattle.cx_text.specs.Members.{In}
 use Rattle.cx_prim.specs.declared.ports.Side.{Side}
 use Rattle.cx_prim.specs.declared.ports.Side.TheVariants as sides
 use Rattle.cx_prim.specs.Rows.{Row}
@@ -12,7 +13,7 @@ use Rattle.cx_meaning.specs.declared.ports.PlacedPort.{PlacedPort}
 use Rattle.cx_meaning.specs.Designs.{PlainComponent, group_at, PlainForm, Empty, Enable, Seq, Par, If, While, Repeat, StaticSeq, StaticPar, StaticIf, StaticRepeat, Timed, PlainStatement, Placed, PlainStatements, no_statements, a_statement, no_place}
 use Rattle.cx_meaning.specs.Instances.{Instance, At, OfRow, OfInstance, part_of, cells_of, cell_at}
 use Rattle.cx_meaning.specs.Active.{Active, Acting, source_order, acting, drivers}
-use Rattle.cx_meaning.specs.Sights.{In, PartPort, Go, AnInput, AnOutput, ItsDone, part_port}
+use Rattle.cx_meaning.specs.Sights.{PartPort, Go, AnInput, AnOutput, ItsDone, part_port}
 use Rattle.cx_meaning.specs.Control.{groups_of, groups_drive, drives}
 use Rattle.cx_rules.specs.Items.{Context, below_dynamic, Dynamic, InStatic, Branch, Visited, visit, visit_parts, visit_all, test_in, option_list, tests_of}
 use Rattle.cx_rules.specs.Footprints.{Mentions, SideLeads, PartLeads, CellLeads, Leads, Depends, at_once, by_way_of, Rests, literal_rests, input_rests, registered_rests, output_rests, done_rests, combinational_rests, Reads, driven, named, tested, through}

@@ -1,9 +1,7 @@
 -- LIMITS: counts are the same apart from places.
-use Rattle.std.proofs.Common.{◌≡◌, ℕ, ◌+◌, max, Bool, ◌&&◌, nat_lt, nat_le, List, [], ◌∷◌, length, map, Option, Some, None, refl, sym, ap, ◌∙◌, arith}
-use Rattle.std.specs.Prelude.{if◌then◌else◌}
+use Rattle.std.proofs.Common.{◌≡◌, ℕ, ◌+◌, max, List, [], ◌∷◌, length, map, refl, sym, ap, ◌∙◌, arith}
 use Rattle.std.proofs.lemmas.List.{length-map}
 use Rattle.cx_text.specs.declared.places.Place.{Place}
-use Rattle.cx_text.specs.declared.limits.TheConstants.{OCCURRENCES, REPETITIONS}
 use Rattle.cx_prim.specs.Rows.{Row}
 use Rattle.cx_meaning.specs.Designs.{PlainAssign, PlainGroup, PlainComponent}
 use Rattle.cx_meaning.specs.Instances.{Instance, Node, Cells, no_cells, a_primitive, an_instance, part_of}
@@ -11,8 +9,8 @@ use Rattle.cx_meaning.specs.Islands.{form_length}
 use Rattle.cx_rules.specs.Items.{guard_nodes, Dynamic, Visited, visit, statements_in}
 use Rattle.cx_rules.specs.StaticControl.{is_island, form_occurrences, occurrences_of}
 use Rattle.cx_rules.specs.Sizes.{assigns_size, groups_size, size_of, weight_below, weight_in, instances_below, instances_in, depth_below, depth_in, shape_words, words_below, words_in}
-use Rattle.cx_rules.specs.LimitRule.{Limited, OnRepeat, OnOccurrences, OnLatency, count_in, is_too_many}
-use Rattle.cx_rewrites.specs.FlatRules.{statement_limit, BreaksStatement}
+use Rattle.cx_rules.specs.LimitRule.{count_in, is_too_many, first_limit, flat_limit}
+use Rattle.cx_rewrites.specs.FlatRules.{BreaksStatement}
 use Rattle.cx_rewrites.specs.Places.{unplaced_assign, unplaced_group, unplaced_cell, unplaced_visited, unplaced_form, SamePart}
 use Rattle.cx_rewrites.proofs.PlaceLemmas.{SameTree, SameCells, same_parts}
 use Rattle.cx_rewrites.proofs.PlaceStatements.{form_length-unplaced}
@@ -120,21 +118,14 @@ mutual
   words_in-same (an_instance child rest) (an_instance twin more) (t, h) = ap (λ n. n + words_in rest) (words_below-same child twin t) ∙ ap (λ n. words_below twin + n) (words_in-same rest more h)
 
 -- AT A STATEMENT
-abbrev limit_by : Option ℕ → Bool → ℕ → ℕ → Option Limited
-limit_by times island occurring long =
-    if is_too_many times then Some OnRepeat
-    else if island && nat_lt OCCURRENCES occurring then Some OnOccurrences
-    else if island && nat_le REPETITIONS long then Some OnLatency
-    else None
-
-statement_limit-unplaced : (part other : PlainComponent) → SamePart part other → (v : Visited) → statement_limit other (unplaced_visited v) ≡ statement_limit part v
-statement_limit-unplaced part other same v =
-    ap (λ k. limit_by k (is_island other (unplaced_visited v)) (form_occurrences other (unplaced_form v.form)) (form_length other (unplaced_form v.form))) (count_in-unplaced v.form)
-    ∙ ap (λ b. limit_by (count_in v.form) b (form_occurrences other (unplaced_form v.form)) (form_length other (unplaced_form v.form))) (is_island-unplaced part other (lengths-same part other same) v)
-    ∙ ap (λ n. limit_by (count_in v.form) (is_island part v) n (form_length other (unplaced_form v.form))) (form_occurrences-unplaced part other (lengths-same part other same) v.form)
-    ∙ ap (limit_by (count_in v.form) (is_island part v) (form_occurrences part v.form)) (form_length-unplaced part other (lengths-same part other same) v.form)
+flat_limit-unplaced : (part other : PlainComponent) → SamePart part other → (v : Visited) → flat_limit other (unplaced_visited v) ≡ flat_limit part v
+flat_limit-unplaced part other same v =
+    ap (λ k. first_limit (is_too_many k) (is_island other (unplaced_visited v)) (form_occurrences other (unplaced_form v.form)) (form_length other (unplaced_form v.form))) (count_in-unplaced v.form)
+    ∙ ap (λ b. first_limit (is_too_many (count_in v.form)) b (form_occurrences other (unplaced_form v.form)) (form_length other (unplaced_form v.form))) (is_island-unplaced part other (lengths-same part other same) v)
+    ∙ ap (λ n. first_limit (is_too_many (count_in v.form)) (is_island part v) n (form_length other (unplaced_form v.form))) (form_occurrences-unplaced part other (lengths-same part other same) v.form)
+    ∙ ap (first_limit (is_too_many (count_in v.form)) (is_island part v) (form_occurrences part v.form)) (form_length-unplaced part other (lengths-same part other same) v.form)
 
 pub statement_limit_kept : (i j : Instance) → SameTree i j → (v x : Visited) → unplaced_visited v ≡ unplaced_visited x → (place : Place) (name : List ℕ)
     → BreaksStatement i v place name → ByStatement BreaksStatement j x
 statement_limit_kept i j t v x e place name (limited, is, told) =
-    (_, _, (limited, sym (statement_limit-unplaced (part_of j) (part_of j) (same_parts j j (same_tree_itself j)) x) ∙ ap (statement_limit (part_of j)) (sym e) ∙ statement_limit-unplaced (part_of i) (part_of j) (same_parts i j t) v ∙ is, (refl, refl)))
+    (_, _, (limited, sym (flat_limit-unplaced (part_of j) (part_of j) (same_parts j j (same_tree_itself j)) x) ∙ ap (flat_limit (part_of j)) (sym e) ∙ flat_limit-unplaced (part_of i) (part_of j) (same_parts i j t) v ∙ is, (refl, refl)))

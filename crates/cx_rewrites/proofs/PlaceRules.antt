@@ -1,5 +1,5 @@
 -- RULES OF WIDTHS, SHAPES AND RACES: what breaks one breaks it at other places too.
-use Rattle.std.proofs.Common.{◌≡◌, ◌≢◌, ℕ, zero, suc, ◌⊎◌, inl, inr, Bool, ◌||◌, List, [], ◌∷◌, map, Option, Some, None, slice_get, refl, sym, ap, ◌∙◌, subst}
+use Rattle.std.proofs.Common.{◌≡◌, ◌≢◌, ℕ, zero, suc, ◌⊎◌, inl, inr, Bool, ◌||◌, List, [], ◌∷◌, map, Option, Some, slice_get, refl, sym, ap, ◌∙◌, subst}
 use Rattle.std.specs.Prelude.{if◌then◌else◌, nat_eq, flat_map}
 use Rattle.cx_text.specs.declared.places.Place.{Place}
 use Rattle.cx_meaning.specs.declared.ports.PortRef.{PortRef}
@@ -8,7 +8,7 @@ use Rattle.cx_meaning.specs.declared.ports.PlacedPort.{PlacedPort}
 use Rattle.cx_meaning.specs.Designs.{PlainInvoke, PlainComponent, group_at, PlainForm, PlainStatement}
 use Rattle.cx_meaning.specs.Instances.{Instance, part_of}
 use Rattle.cx_meaning.specs.Active.{Owned, nothing, group}
-use Rattle.cx_meaning.specs.Sights.{In}
+use Rattle.cx_text.specs.Members.{In}
 use Rattle.cx_meaning.specs.Islands.{kind_length, group_length, form_length}
 use Rattle.cx_rules.specs.Ports.{width_of, is_source_only, is_target_only, is_primitive_enable, is_part_port}
 use Rattle.cx_rules.specs.Items.{Pair, atoms_of, comparisons_of, ranges_of, sources_of, Dynamic, Visited, visit, test_in, is_plain, is_comb}
@@ -18,6 +18,7 @@ use Rattle.cx_rules.specs.ShapeRules.{is_hole, is_hole_of, some_target, BreaksNo
 use Rattle.cx_rules.specs.StaticControl.{is_static, is_in_static, is_written, is_timed, may_stand, form_has_length, written_length}
 use Rattle.cx_rules.specs.RaceRule.{GroupBreaksCombCycle, arms_of, enabled_group, enabled_in, Arms, IsEnabledTwice}
 use Rattle.cx_rules.specs.Spots.{AssignRule, StatementRule, GroupRule}
+use Rattle.cx_rules.proofs.ShapeRulesLemmas.{owner_length-same}
 use Rattle.cx_rewrites.specs.FlatRules.{BreaksLength, IsShared, BreaksRace}
 use Rattle.cx_rewrites.specs.Places.{unplaced_port, unplaced_assign, unplaced_invoke, unplaced_owned, unplaced_form, unplaced, unplaced_visited, SamePart}
 use Rattle.cx_rewrites.proofs.PlaceLemmas.{SameTree, same_parts}
@@ -161,10 +162,6 @@ module _ (i j : Instance) (t : SameTree i j) (u : SameTree j i) where
       ),
     )
 
-    owner_length-same : (owner : Option ℕ) → owner_length (part_of j) owner ≡ owner_length (part_of i) owner
-    owner_length-same None = refl
-    owner_length-same (Some g) = lengths-same (part_of i) (part_of j) same g
-
     pub static_guard_kept : (place : Place) (name : List ℕ) → BreaksStaticGuard i o place name → ByAssign BreaksStaticGuard j w
     static_guard_kept place name (r, stands, bad, told) = (
       _,
@@ -172,7 +169,7 @@ module _ (i j : Instance) (t : SameTree i j) (u : SameTree j i) where
       (
         r,
         subst (λ list. In list r) (sym (ranges_of-unplaced o.assign.guard) ∙ ap ranges_of (guard_is o.assign w.assign assign_is) ∙ ranges_of-unplaced w.assign.guard) stands,
-        ap (λ x. is_bad_range x r) (ap (owner_length (part_of j)) (sym owner_is) ∙ owner_length-same o.owner) ∙ bad,
+        ap (λ x. is_bad_range x r) (ap (owner_length (part_of j)) (sym owner_is) ∙ owner_length-same (part_of i) (part_of j) (lengths-same (part_of i) (part_of j) same) o.owner) ∙ bad,
         (refl, refl),
       ),
     )

@@ -1,5 +1,5 @@
 -- Turns of groups, tests and calls carry, where what they look at is seen alike and their cycles carry.
-use Rattle.std.proofs.Common.{◌≡◌, ℕ, zero, suc, Bool, true, false, Option, Some, None, refl, sym, ap, ◌∙◌, subst}
+use Rattle.std.proofs.Common.{◌≡◌, ℕ, Bool, true, false, Option, Some, None, refl, sym, ap, ◌∙◌, subst}
 use Rattle.std.proofs.Math.Path.{fun_ext}
 use Rattle.cx_meaning.specs.declared.ports.PortRef.{PortRef}
 use Rattle.cx_meaning.specs.declared.ports.PortRef.TheVariants as ports
@@ -18,10 +18,10 @@ use Rattle.cx_meaning.specs.Answers as answers
 use Rattle.cx_meaning.specs.Islands.{kind_length, group_length, turn_of, island}
 use Rattle.cx_meaning.specs.Calls.{hole_turn, group_turn, test_of, test, captures, fault_below, lift_answer, inputs_of_call, after_child, call, called, call_or_turns, enable_kind, enable}
 use Rattle.cx_meaning.specs.Running.{Children}
-use Rattle.cx_rewrites.specs.Tallies.{Tally, none, plus, at_cell, below, Counted, then_count, turn_count, one_count, turns_count}
+use Rattle.cx_rewrites.specs.Tallies.{Tally, none, plus, at_cell, below, Counted, turns_count}
 use Rattle.cx_rewrites.specs.Carrying.{Pace, TestCarried, Carried, Carries, TurnCarried}
 use Rattle.cx_rewrites.specs.Turns.{IsSeenAlike, IsTold, GroupCarries, CallCarries}
-use Rattle.cx_rewrites.proofs.TallyLemmas.{plus-none}
+use Rattle.cx_rewrites.proofs.TallyLemmas.{plus-none, one_none, then_none}
 use Rattle.cx_rewrites.proofs.PaceLemmas.{if_exact, then_exact}
 use Rattle.cx_rewrites.proofs.CarryLemmas.{then_carried, idle_carries, one_carries, turns_carry}
 
@@ -59,19 +59,10 @@ module _ (pace : Pace) (R : Tally → State → State → Type 0) (faults : Faul
 
   -- A CALL
   module _ (Q : Tally → State → State → Type 0) (child_faults : Fault → Fault) (g h c e : ℕ) (carries : CallCarries pace R Q faults child_faults i j held twin_held g h c e) where
-    capture_none : (turn : State → Turn State Fault) (s : State) (n : ℕ) → one_count turn none (λ a k. none) s n ≡ none
-    capture_none turn s zero = refl
-    capture_none turn s (suc n) = one (turn s)
-      where
-        one : (t : Turn State Fault) → turn_count t (λ after. plus none none) ≡ none
-        one Ends = refl
-        one (Goes a) = plus-none none
-        one (Faults f) = refl
-
     after_carries : (capturing : Bool) → captures i g ≡ capturing → Carries pace R faults (λ s n. none) (after_child i held g c capturing) (after_child j twin_held h e capturing)
     after_carries false is before s z n m room r = idle_carries pace R faults (idle i) (idle j) carries.rests before s z n m room r
     after_carries true is before s z n m room r =
-        subst (λ k. Carried pace R faults before k (after_child i held g c true s n) (after_child j twin_held h e true z m)) (capture_none (λ s1. turn_of (cycle i held (capture g c) s1)) s n)
+        subst (λ k. Carried pace R faults before k (after_child i held g c true s n) (after_child j twin_held h e true z m)) (one_none (λ s1. turn_of (cycle i held (capture g c) s1)) s n)
         (one_carries pace R faults (idle i) (idle j) carries.rests (λ s1. turn_of (cycle i held (capture g c) s1)) (λ z1. turn_of (cycle j twin_held (capture h e) z1)) none (carries.capture_cycle is)
         (λ s1 k. none) (idle_turn (idle i)) (idle_turn (idle j)) (idle_carries pace R faults (idle i) (idle j) carries.rests) before s z n m room r)
 
@@ -83,11 +74,6 @@ module _ (pace : Pace) (R : Tally → State → State → Type 0) (faults : Faul
         then_exact pace (x ≡ answers.Fault (child_faults f) t) (lift_answer e z x ≡ answers.Fault (faults (fault_below c f)) t)
         (λ is. ap (lift_answer e z) is ∙ ap (λ k. answers.Fault k t) (sym (carries.told f))) told
     lift_carried before counted s z More x r told = then_exact pace (x ≡ More) (lift_answer e z x ≡ More) (λ is. ap (lift_answer e z) is) told
-
-    then_none : (o : Answer State Fault) (n : ℕ) → then_count o n (λ s k. none) ≡ none
-    then_none (End s t) n = refl
-    then_none (answers.Fault f t) n = refl
-    then_none More n = refl
 
     pub call_carries : (children others : Children) (counts : Held → Counted State) → ((own : Held) → Carries pace Q child_faults (counts own) (children c own) (others e own))
         → Carries pace R faults (λ s n. below c (counts (inputs_of_call i held g c s) (under c s) n)) (call i children held g c) (call j others twin_held h e)

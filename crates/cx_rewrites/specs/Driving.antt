@@ -3,7 +3,7 @@ use Rattle.std.specs.Prelude.{◌≡◌, ℕ, false, List, [], ◌∷◌, ◌++�
 use Rattle.cx_meaning.specs.declared.ports.PortRef.{PortRef}
 use Rattle.cx_meaning.specs.Designs.{PlainComponent}
 use Rattle.cx_meaning.specs.Active.{Active, Owned, owned, owned_by_groups, offset_of, same_port}
-use Rattle.cx_meaning.specs.Sights.{In}
+use Rattle.cx_text.specs.Members.{In}
 use Rattle.cx_rewrites.specs.Moving.{moved_assign}
 
 -- the assignments of a component, not yet by place

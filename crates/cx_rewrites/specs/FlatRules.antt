@@ -1,25 +1,24 @@
 -- What the rules come to in a design without static components: no invoke binds inputs, lengths and footprints are those of groups, and counts
 -- are those of what stands there.
-use Rattle.std.specs.Prelude.{◌≡◌, ◌≢◌, ℕ, ◌<◌, ◌⊎◌, ◌&&◌, nat_lt, nat_le, true, if◌then◌else◌, List, [], Option, Some, None, length}
+use Rattle.std.specs.Prelude.{◌≡◌, ◌≢◌, ℕ, ◌<◌, ◌⊎◌, true, List, [], Some, length}
 use Rattle.cx_text.specs.declared.places.Place.{Place}
 use Rattle.cx_text.specs.declared.rules.Rule.{Rule}
-use Rattle.cx_text.specs.declared.rules.Rule.TheVariants.{BadByte, OpenComment, OpenString, BadLiteral, Unexpected, TooDeep, Duplicate, UnknownName, UnknownPrimitive, BadParameters, Recursive, NoMain, LeftOut, Width, GuardWidth, Literal, NotATarget, NotASource, NoDone, DoneNotState, AlwaysEnable, CombEnable, StaticGuard, StaticShape, CallShape, OutputNotState, CombCycle, Race, Limit, TooLarge}
-use Rattle.cx_text.specs.declared.limits.TheConstants.{CELLS, GROUPS, INSTANCES, INSTANCE_DEPTH, MEMORY_WORDS, OCCURRENCES, REPETITIONS, WEIGHT}
+use Rattle.cx_text.specs.declared.rules.Rule.TheVariants.{Width, GuardWidth, Literal, NotATarget, NotASource, NoDone, DoneNotState, AlwaysEnable, CombEnable, StaticGuard, StaticShape, CallShape, OutputNotState, CombCycle, Race, Limit}
+use Rattle.cx_text.specs.declared.limits.TheConstants.{CELLS, GROUPS, INSTANCES, INSTANCE_DEPTH, WEIGHT}
 use Rattle.cx_meaning.specs.Designs.{PlainComponent, PlainDesign, PlainStatement, component_at, group_at}
 use Rattle.cx_meaning.specs.Instances.{part_of, tree_of}
 use Rattle.cx_meaning.specs.Islands.{form_length}
 use Rattle.cx_meaning.specs.Control.{drives}
 use Rattle.cx_rules.specs.Ports.{cell_name}
-use Rattle.cx_rules.specs.Items.{Visited}
 use Rattle.cx_rules.specs.Footprints.{Reads}
-use Rattle.cx_rules.specs.StaticControl.{is_static, form_has_length, written_length, is_island, form_occurrences}
-use Rattle.cx_rules.specs.Sizes.{weight_of, instances_below, depth_below, words_below}
+use Rattle.cx_rules.specs.StaticControl.{is_static, form_has_length, written_length}
+use Rattle.cx_rules.specs.Sizes.{weight_of, instances_below, depth_below}
 use Rattle.cx_rules.specs.Spots.{Spot, Tells, StatementRule, OnAssign, OnStatement, OnGroup}
 use Rattle.cx_rules.specs.WidthRules.{BreaksWidth, BreaksGuardWidth, TestBreaksGuardWidth, BreaksLiteral, TestBreaksLiteral, BreaksNotATarget, BreaksNotASource, TestBreaksNotASource}
 use Rattle.cx_rules.specs.ShapeRules.{BreaksNoDone, BreaksDoneNotState, BreaksAlwaysEnable, BreaksCombEnable, BreaksStaticGuard, GroupBreaksStaticShape, BreaksStaticControl, BreaksStaticTest, BreaksOutputNotState}
 use Rattle.cx_rules.specs.CallShape.{BreaksCallShape, GroupBreaksCallShape}
 use Rattle.cx_rules.specs.RaceRule.{BreaksCombCycle, GroupBreaksCombCycle, Arms, arms_of, IsEnabledTwice}
-use Rattle.cx_rules.specs.LimitRule.{Limited, OnCells, OnGroups, OnRepeat, OnOccurrences, OnLatency, OnInstances, OnDepth, OnWords, OnWeight, word_of, count_in, is_too_many, BreaksPart, BreaksTree}
+use Rattle.cx_rules.specs.LimitRule.{Limited, OnCells, OnGroups, OnInstances, OnDepth, OnWeight, word_of, flat_limit, BreaksPart, BreaksTree, BreaksWords}
 use Rattle.cx_rules.specs.Accepted.{stage_of}
 use Rattle.cx_rules.specs.Accepted as whole
 use Rattle.cx_rules.specs.Flat.{IsFlat}
@@ -43,17 +42,9 @@ BreaksRace i v place name =
     × ((g : ℕ) × IsEnabledTwice (arms_of v.form) g × ((h : ℕ) → h < g → IsEnabledTwice (arms_of v.form) h → ⊥)
     × Tells place name v.place (group_at (part_of i) g).name))
 
--- the first limit that a statement exceeds
-abbrev pub statement_limit : PlainComponent → Visited → Option Limited
-statement_limit part v =
-    if is_too_many (count_in v.form) then Some OnRepeat
-    else if is_island part v && nat_lt OCCURRENCES (form_occurrences part v.form) then Some OnOccurrences
-    else if is_island part v && nat_le REPETITIONS (form_length part v.form) then Some OnLatency
-    else None
-
 abbrev pub BreaksStatement : StatementRule
 BreaksStatement i v place name =
-    (limited : Limited) × (statement_limit (part_of i) v ≡ Some limited) × Tells place name v.place (word_of limited)
+    (limited : Limited) × (flat_limit (part_of i) v ≡ Some limited) × Tells place name v.place (word_of limited)
 
 abbrev pub BreaksCells : PlainDesign → Spot → Place → List ℕ → Type 0
 BreaksCells d spot place name = BreaksPart d OnCells (length (component_at d spot.component).cells) CELLS spot place name
@@ -66,9 +57,6 @@ BreaksInstances d = BreaksTree d OnInstances (instances_below (tree_of d)) INSTA
 
 abbrev pub BreaksDepth : PlainDesign → Spot → Place → List ℕ → Type 0
 BreaksDepth d = BreaksTree d OnDepth (depth_below (tree_of d)) INSTANCE_DEPTH
-
-abbrev pub BreaksWords : PlainDesign → Spot → Place → List ℕ → Type 0
-BreaksWords d = BreaksTree d OnWords (words_below (tree_of d)) MEMORY_WORDS
 
 abbrev pub BreaksWeight : PlainDesign → Spot → Place → List ℕ → Type 0
 BreaksWeight d = BreaksTree d OnWeight (weight_of d) WEIGHT

@@ -1,6 +1,7 @@
 //! Laws of what ports are seen as: each function does nothing, and its clause is the law.
 
 ghost use Rattle.std.specs.Prelude.{◌≡◌, ℕ, true, Some, map};
+ghost use Rattle.cx_text.specs.Members.{In};
 ghost use Rattle.cx_prim.specs.declared.ports.Side.TheVariants.{Output};
 ghost use Rattle.cx_prim.specs.Rows.{Row};
 ghost use Rattle.cx_meaning.specs.declared.ports.PortRef.{PortRef};
@@ -10,7 +11,7 @@ ghost use Rattle.cx_meaning.specs.Rows.{side_of};
 ghost use Rattle.cx_meaning.specs.Designs.{PlainComponent};
 ghost use Rattle.cx_meaning.specs.Instances.{Instance, OfRow, State, cell_at, cells_of, part_of};
 ghost use Rattle.cx_meaning.specs.Active.{Active, Owned, drivers, offset_of, source_order};
-ghost use Rattle.cx_meaning.specs.Sights.{Held, In, Look, Sees, seen};
+ghost use Rattle.cx_meaning.specs.Sights.{Held, Look, Sees, seen};
 ghost use Rattle.cx_rules.specs.Circles.{AcyclicBelow, IsAcyclic};
 ghost use Rattle.cx_rules.specs.Footprints.{AssignNames, Depends, Leads};
 ghost use Rattle.cx_rules.specs.RaceRule.{HasCycle};

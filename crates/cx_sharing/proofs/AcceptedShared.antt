@@ -2,6 +2,7 @@
 use Rattle.std.proofs.Common.{◌≡◌, ℕ, zero, suc, ◌<◌, ◌≤◌, inl, inr, Bool, true, false, List, [], ◌∷◌, ◌++◌, length, map, Some, None, slice_get, refl, sym, ap, ◌∙◌, subst, arith}
 use Rattle.std.specs.Prelude.{get_or}
 use Rattle.std.proofs.lemmas.List.{length-map}
+use Rattle.cx_text.proofs.MemberLaws.{in_at, in_left, in_right, number_in}
 use Rattle.cx_text.specs.declared.places.Place.{Place}
 use Rattle.cx_text.specs.declared.rules.Rule.{Rule}
 use Rattle.cx_text.specs.declared.rules.Rule.TheVariants as rules
@@ -9,10 +10,9 @@ use Rattle.cx_text.specs.declared.limits.TheConstants.{CELLS, GROUPS, INSTANCES,
 use Rattle.cx_meaning.specs.Designs.{PlainAssign, PlainGroup, PlainComponent, PlainStatement, PlainDesign, component_at, group_at, no_group}
 use Rattle.cx_meaning.specs.Instances.{part_of, tree_of}
 use Rattle.cx_meaning.specs.Active.{Owned, owned, owned_by_groups, source_order}
-use Rattle.cx_meaning.specs.Sights.{In}
+use Rattle.cx_text.specs.Members.{In}
 use Rattle.cx_meaning.proofs.ActiveLemmas.{sorted_has}
 use Rattle.cx_meaning.proofs.DesignsLemmas.{same_part, owned_has}
-use Rattle.cx_meaning.proofs.SightsLaws.{number_in, in_left, in_right, in_at}
 use Rattle.cx_rules.specs.Ports.{component_of, is_source_only}
 use Rattle.cx_rules.specs.Items.{Visited, statements_in}
 use Rattle.cx_rules.specs.Spots.{AnAssign, Spot, AssignRule, StatementRule, GroupRule, OnAssign, OnStatement, OnGroup}
@@ -22,7 +22,7 @@ use Rattle.cx_rules.specs.CallShape.{BreaksCallShape, GroupBreaksCallShape}
 use Rattle.cx_rules.specs.RaceRule.{arms_of, BreaksCombCycle, GroupBreaksCombCycle}
 use Rattle.cx_rules.specs.LimitRule.{Limited, OnCells, OnGroups, OnInstances, OnDepth, OnWords, OnWeight, BreaksPart, BreaksTree}
 use Rattle.cx_rules.specs.Sizes.{weight_of, instances_below, depth_below, words_below}
-use Rattle.cx_frames.proofs.ShareLemmas.{unshared}
+use Rattle.cx_laws.proofs.RaceLemmas.{unshared}
 use Rattle.cx_rewrites.specs.Moving.{moved_owned}
 use Rattle.cx_rules.specs.Accepted as whole
 use Rattle.cx_rules.specs.RaceRule as whole_race
@@ -34,9 +34,9 @@ use Rattle.cx_sharing.specs.Giving.{new_cell}
 use Rattle.cx_sharing.specs.SharedDesign.{shared_invoke, shared_design}
 use Rattle.cx_sharing.proofs.TwinLemmas.{shared_component}
 use Rattle.cx_rewrites.proofs.MovedLists.{moved_visited}
+use Rattle.cx_rewrites.proofs.PlaceRules.{ByAssign, ByStatement, ByGroup}
 use Rattle.cx_sharing.proofs.SharedParts.{Shares, new_port, as_many_parts, component-shares, source_order-shared, statements_in-shared}
 use Rattle.cx_sharing.proofs.RulesShared as kept
-use Rattle.cx_sharing.proofs.RulesShared.{ByAssign, ByStatement, ByGroup}
 use Rattle.cx_sharing.proofs.RestsShared.{HasInputs}
 use Rattle.cx_sharing.proofs.StateRules.{done_not_state_back, output_not_state_back, static_test_back}
 use Rattle.cx_sharing.proofs.CirclesShared.{cycle_back, group_cycle_back}

@@ -1,10 +1,10 @@
 -- THE RULE ON CALLS: an assignment that breaks it in an instance of the shared design breaks it in the instance of the design. The cells that it
 -- speaks of, components, registers and what has an enabling port, share their numbers with no other.
-use Rattle.std.proofs.Common.{◌≡◌, ℕ, zero, suc, ◌+◌, ◌<◌, inl, inr, ⊎_elim, Bool, true, false, ◌||◌, ◌&&◌, List, [], ◌∷◌, length, map, Option, Some, None, option_map, slice_get, refl, sym, ap, ap₂, ◌∙◌, subst, arith}
+use Rattle.std.proofs.Common.{◌≡◌, ℕ, zero, suc, ◌+◌, ◌<◌, inl, inr, ⊎_elim, Bool, true, false, ◌&&◌, List, [], ◌∷◌, length, map, Some, None, slice_get, refl, sym, ap, ap₂, ◌∙◌, subst, arith}
 use Rattle.std.specs.Prelude.{nat_eq, if◌then◌else◌}
-use Rattle.std.specs.List.{list_all, list_any}
-use Rattle.std.proofs.lemmas.Bool.{eqb-true, eq-eqb, both_ways, or_cases}
-use Rattle.std.proofs.lemmas.List.{map-append, length-map}
+use Rattle.std.proofs.lemmas.Bool.{eq-eqb, both_ways}
+use Rattle.cx_text.proofs.MemberLaws.{image_in}
+use Rattle.cx_text.specs.Members.{In}
 use Rattle.cx_text.specs.declared.places.Place.{Place}
 use Rattle.cx_prim.specs.declared.names.PrimitiveName.{PrimitiveName}
 use Rattle.cx_prim.specs.declared.names.PrimitiveName.TheVariants as primitives
@@ -15,17 +15,18 @@ use Rattle.cx_prim.specs.Table.{row_of}
 use Rattle.cx_meaning.specs.Rows.{side_of}
 use Rattle.cx_meaning.specs.declared.ports.PortRef.{PortRef}
 use Rattle.cx_meaning.specs.declared.ports.PortRef.TheVariants as ports
-use Rattle.cx_meaning.specs.Designs.{PlainGuard, Always, Atom, Negation, All, Any, Compared, Within, PlainGuards, no_guards, a_guard, PlainAssign, PlainGroup, PlainKind, OfPrimitive, PlainCell, PlainComponent}
+use Rattle.cx_meaning.specs.Designs.{PlainAssign, PlainGroup, PlainKind, OfPrimitive, PlainCell, PlainComponent}
 use Rattle.cx_meaning.specs.Instances.{Instance, At, OfInstance, part_of, cells_of, cell_at}
 use Rattle.cx_meaning.specs.Active.{Owned, group, same_port}
-use Rattle.cx_meaning.specs.Sights.{In, part_port}
+use Rattle.cx_meaning.specs.Sights.{part_port}
 use Rattle.cx_rules.specs.Ports.{enables_cell, is_primitive_enable, is_part_port}
 use Rattle.cx_rules.specs.Items.{is_plain}
 use Rattle.cx_rules.specs.Footprints.{Depends}
 use Rattle.cx_rules.specs.ShapeRules.{is_hole_of, some_target}
-use Rattle.cx_rules.specs.CallShape.{is_port_of, Calls, go_port, done_port, write_en_of, register_done, is_reg_name, is_reg_kind, is_register_cell, is_register, one, with_target, is_atom, is_always, is_negated, is_right_go, is_right_enable, is_register_enable, captured_from, captured, wanted_dones, joined, conjuncts, conjuncts_in, are_dones, is_right_done, assigns_of, IsOutputOrDone, IsFedBack, CallBreak, another_cell, wrong_go, input_by_output, wrong_enable, wrong_done, IsOutside, IsMisshapen, BreaksCallShape, GroupBreaksCallShape}
+use Rattle.cx_rules.specs.CallShape.{is_port_of, Calls, go_port, done_port, write_en_of, register_done, is_reg_name, is_reg_kind, is_register_cell, is_register, one, with_target, is_right_go, is_right_enable, is_register_enable, added, captured_from, captured, wanted_dones, is_right_done, assigns_of, IsOutputOrDone, IsFedBack, CallBreak, another_cell, wrong_go, input_by_output, wrong_enable, wrong_done, IsOutside, IsMisshapen, BreaksCallShape, GroupBreaksCallShape}
+use Rattle.cx_rules.proofs.ShapeRulesLemmas.{some_in, a_target, port_of_is}
 use Rattle.cx_numbering.specs.Names.{go_name}
-use Rattle.cx_rewrites.specs.Moving.{moved_guard, moved_guards, moved_assign, moved_owned}
+use Rattle.cx_rewrites.specs.Moving.{moved_assign, moved_owned}
 use Rattle.cx_rewrites.specs.Renaming.{renamed}
 use Rattle.cx_sharing.specs.Uses.{is_combinational, kind_in, is_candidate}
 use Rattle.cx_sharing.specs.Giving.{keeper, stays, staying, new_cell}
@@ -37,60 +38,31 @@ use Rattle.cx_sharing.proofs.TwinLemmas.{part_other, candidate_holds_nothing, st
 use Rattle.cx_sharing.proofs.CandidateLemmas.{candidate_is}
 use Rattle.cx_sharing.proofs.ReadLemmas.{started_none}
 use Rattle.cx_rewrites.proofs.MovedLists.{some_target-moved}
+use Rattle.cx_rewrites.proofs.MovedCalls.{Anywhere, IsApart, apart_right, apart_alone, all_anywhere, with_target-moved, is_right_go-moved, is_right_enable-moved, is_right_done-moved}
+use Rattle.cx_rewrites.proofs.PlaceRules.{ByAssign, ByGroup}
 use Rattle.cx_sharing.proofs.SharedParts.{shared_kind, AtShared, no_cell, a_row, a_part, Shares, is_primitive_enable-shared, is_part_port-shared, group_at-shared, own_assigns}
-use Rattle.cx_sharing.proofs.RulesShared.{ByAssign, ByGroup, hole_of_kept}
+use Rattle.cx_sharing.proofs.RulesShared.{hole_of_kept}
 use Rattle.cx_sharing.proofs.RestsShared.{stands_for}
 use Rattle.cx_sharing.proofs.CirclesShared.{group_depends_back}
-use Rattle.cx_meaning.proofs.SightsLaws.{image_in}
 
+-- A PORT THAT IS APART: no other port becomes the renamed one
 module _ (cell : ℕ → ℕ) where
-  -- A PORT THAT IS ALONE: no other port becomes the renamed one
-  pub record IsAlone (q : PortRef) : Type 0 where
-    pub left : (t : PortRef) → same_port (renamed cell t) (renamed cell q) ≡ same_port t q
-    pub right : (t : PortRef) → same_port (renamed cell q) (renamed cell t) ≡ same_port q t
+  cell_apart : (c p : ℕ) → ((d : ℕ) → cell d ≡ cell c → d ≡ c) → IsApart (renamed cell) (ports.Cell c p)
+  cell_apart c p sole (ports.Cell d m) e =
+      let cells : cell d ≡ cell c = cc in
+      let same : m ≡ p = cc in
+      ap₂ ports.Cell (sole d cells) same
+  cell_apart c p sole (ports.Input n) e = absurd (cc)
+  cell_apart c p sole (ports.Output n) e = absurd (cc)
+  cell_apart c p sole (ports.Done g) e = absurd (cc)
+  cell_apart c p sole (ports.Literal w v) e = absurd (cc)
 
-  number_alone : (c d : ℕ) → (cell d ≡ cell c → d ≡ c) → nat_eq (cell d) (cell c) ≡ nat_eq d c
-  number_alone c d sole = by (nat_eq (cell d) (cell c)) refl (nat_eq d c) refl
-    where
-      by : (x : Bool) → nat_eq (cell d) (cell c) ≡ x → (y : Bool) → nat_eq d c ≡ y → x ≡ y
-      by true e true f = refl
-      by false e false f = refl
-      by true e false f = sym (eq-eqb d c (sole (eqb-true (cell d) (cell c) e))) ∙ f
-      by false e true f = sym e ∙ eq-eqb (cell d) (cell c) (ap cell (eqb-true d c f))
-
-  pub cell_alone : (c p : ℕ) → ((d : ℕ) → cell d ≡ cell c → d ≡ c) → IsAlone (ports.Cell c p)
-  cell_alone c p sole = record { left = left; right = right }
-    where
-      left : (t : PortRef) → same_port (renamed cell t) (ports.Cell (cell c) p) ≡ same_port t (ports.Cell c p)
-      left (ports.Cell d m) = ap (λ b. b && nat_eq m p) (number_alone c d (sole d))
-      left (ports.Input n) = refl
-      left (ports.Output n) = refl
-      left (ports.Done g) = refl
-      left (ports.Literal w v) = refl
-
-      right : (t : PortRef) → same_port (ports.Cell (cell c) p) (renamed cell t) ≡ same_port (ports.Cell c p) t
-      right (ports.Cell d m) = ap (λ b. b && nat_eq p m) (number_alone d c (λ e. sym (sole d (sym e))))
-      right (ports.Input n) = refl
-      right (ports.Output n) = refl
-      right (ports.Done g) = refl
-      right (ports.Literal w v) = refl
-
-  done_alone : (h : ℕ) → IsAlone (ports.Done h)
-  done_alone h = record { left = left; right = right }
-    where
-      left : (t : PortRef) → same_port (renamed cell t) (ports.Done h) ≡ same_port t (ports.Done h)
-      left (ports.Cell d m) = refl
-      left (ports.Input n) = refl
-      left (ports.Output n) = refl
-      left (ports.Done g) = refl
-      left (ports.Literal w v) = refl
-
-      right : (t : PortRef) → same_port (ports.Done h) (renamed cell t) ≡ same_port (ports.Done h) t
-      right (ports.Cell d m) = refl
-      right (ports.Input n) = refl
-      right (ports.Output n) = refl
-      right (ports.Done g) = refl
-      right (ports.Literal w v) = refl
+  done_apart : (h : ℕ) → IsApart (renamed cell) (ports.Done h)
+  done_apart h (ports.Cell d m) e = absurd (cc)
+  done_apart h (ports.Input n) e = absurd (cc)
+  done_apart h (ports.Output n) e = absurd (cc)
+  done_apart h (ports.Done g) e = e
+  done_apart h (ports.Literal w v) e = absurd (cc)
 
   one_kept : (t : PortRef) → same_port (renamed cell t) one ≡ same_port t one
   one_kept (ports.Cell d m) = refl
@@ -98,101 +70,6 @@ module _ (cell : ℕ → ℕ) where
   one_kept (ports.Output n) = refl
   one_kept (ports.Done g) = refl
   one_kept (ports.Literal w v) = refl
-
-  -- GUARDS
-  is_always-moved : (g : PlainGuard) → is_always (moved_guard (renamed cell) g) ≡ is_always g
-  is_always-moved Always = refl
-  is_always-moved (Atom p) = refl
-  is_always-moved (Negation g) = refl
-  is_always-moved (All gs) = refl
-  is_always-moved (Any gs) = refl
-  is_always-moved (Compared c a b) = refl
-  is_always-moved (Within from to) = refl
-
-  module _ (q : PortRef) (alone : IsAlone q) where
-    is_atom-moved : (g : PlainGuard) → is_atom (renamed cell q) (moved_guard (renamed cell) g) ≡ is_atom q g
-    is_atom-moved Always = refl
-    is_atom-moved (Atom p) = alone.left p.port
-    is_atom-moved (Negation g) = refl
-    is_atom-moved (All gs) = refl
-    is_atom-moved (Any gs) = refl
-    is_atom-moved (Compared c a b) = refl
-    is_atom-moved (Within from to) = refl
-
-    is_negated-moved : (g : PlainGuard) → is_negated (renamed cell q) (moved_guard (renamed cell) g) ≡ is_negated q g
-    is_negated-moved Always = refl
-    is_negated-moved (Atom p) = refl
-    is_negated-moved (Negation g) = is_atom-moved g
-    is_negated-moved (All gs) = refl
-    is_negated-moved (Any gs) = refl
-    is_negated-moved (Compared c a b) = refl
-    is_negated-moved (Within from to) = refl
-
-    -- LISTS OF ASSIGNMENTS
-    pub with_target-moved : (list : List PlainAssign) → with_target (renamed cell q) (map (moved_assign (renamed cell)) list) ≡ map (moved_assign (renamed cell)) (with_target q list)
-    with_target-moved [] = refl
-    with_target-moved (a ∷ rest) =
-        ap (λ b. if b then moved_assign (renamed cell) a ∷ with_target (renamed cell q) (map (moved_assign (renamed cell)) rest) else with_target (renamed cell q) (map (moved_assign (renamed cell)) rest)) (alone.left a.target)
-        ∙ choice (same_port a.target q) (with_target-moved rest)
-      where
-        choice : (b : Bool) → with_target (renamed cell q) (map (moved_assign (renamed cell)) rest) ≡ map (moved_assign (renamed cell)) (with_target q rest)
-            → (if b then moved_assign (renamed cell) a ∷ with_target (renamed cell q) (map (moved_assign (renamed cell)) rest) else with_target (renamed cell q) (map (moved_assign (renamed cell)) rest))
-            ≡ map (moved_assign (renamed cell)) (if b then a ∷ with_target q rest else with_target q rest)
-        choice true e = ap (λ list. moved_assign (renamed cell) a ∷ list) e
-        choice false e = e
-
-    pub is_right_go-moved : (list : List PlainAssign) → is_right_go (renamed cell q) (map (moved_assign (renamed cell)) list) ≡ is_right_go q list
-    is_right_go-moved [] = refl
-    is_right_go-moved (a ∷ []) = ap₂ ◌&&◌ (one_kept a.source.port) (ap₂ ◌||◌ (is_always-moved a.guard) (is_negated-moved a.guard))
-    is_right_go-moved (a ∷ b ∷ rest) = refl
-
-    pub is_right_enable-moved : (list : List PlainAssign) → is_right_enable (renamed cell q) (map (moved_assign (renamed cell)) list) ≡ is_right_enable q list
-    is_right_enable-moved [] = refl
-    is_right_enable-moved (a ∷ []) = ap₂ ◌||◌ (ap₂ ◌&&◌ (alone.left a.source.port) (is_always-moved a.guard)) (ap₂ ◌&&◌ (one_kept a.source.port) (is_atom-moved a.guard))
-    is_right_enable-moved (a ∷ b ∷ rest) = refl
-
-  -- DONES
-  abbrev moved_all : List PortRef → List PortRef
-  moved_all list = map (renamed cell) list
-
-  joined-moved : (a b : Option (List PortRef)) → joined (option_map moved_all a) (option_map moved_all b) ≡ option_map moved_all (joined a b)
-  joined-moved None b = refl
-  joined-moved (Some ps) None = refl
-  joined-moved (Some ps) (Some qs) = ap Some (sym (map-append (renamed cell) ps qs))
-
-  mutual
-    conjuncts-moved : (g : PlainGuard) → conjuncts (moved_guard (renamed cell) g) ≡ option_map moved_all (conjuncts g)
-    conjuncts-moved Always = refl
-    conjuncts-moved (Atom p) = refl
-    conjuncts-moved (Negation g) = refl
-    conjuncts-moved (All gs) = conjuncts_in-moved gs
-    conjuncts-moved (Any gs) = refl
-    conjuncts-moved (Compared c a b) = refl
-    conjuncts-moved (Within from to) = refl
-
-    conjuncts_in-moved : (gs : PlainGuards) → conjuncts_in (moved_guards (renamed cell) gs) ≡ option_map moved_all (conjuncts_in gs)
-    conjuncts_in-moved no_guards = refl
-    conjuncts_in-moved (a_guard g gs) = ap₂ joined (conjuncts-moved g) (conjuncts_in-moved gs) ∙ joined-moved (conjuncts g) (conjuncts_in gs)
-
-  module _ (wanted : List PortRef) (alone : (w : PortRef) → In wanted w → IsAlone w) where
-    any_same : (w : PortRef) → IsAlone w → (ps : List PortRef) → list_any (same_port (renamed cell w)) (moved_all ps) ≡ list_any (same_port w) ps
-    any_same w is [] = refl
-    any_same w is (p ∷ ps) = ap₂ ◌||◌ (is.right p) (any_same w is ps)
-
-    all_same : (list ps : List PortRef) → ((w : PortRef) → In list w → IsAlone w) → list_all (λ w. list_any (same_port w) (moved_all ps)) (moved_all list) ≡ list_all (λ w. list_any (same_port w) ps) list
-    all_same [] ps each = refl
-    all_same (w ∷ ws) ps each = ap₂ ◌&&◌ (any_same w (each w (inl refl)) ps) (all_same ws ps (λ x i. each x (inr i)))
-
-    are_dones-moved : (o : Option (List PortRef)) → are_dones (moved_all wanted) (option_map moved_all o) ≡ are_dones wanted o
-    are_dones-moved None = refl
-    are_dones-moved (Some ps) = ap₂ ◌&&◌ (ap₂ nat_eq (length-map ps (renamed cell)) (length-map wanted (renamed cell))) (all_same wanted ps alone)
-
-    pub is_right_done-moved : (list : List PlainAssign) → is_right_done (moved_all wanted) (map (moved_assign (renamed cell)) list) ≡ is_right_done wanted list
-    is_right_done-moved [] = refl
-    is_right_done-moved (a ∷ []) =
-        ap₂ ◌||◌ (ap₂ ◌&&◌ (is_always-moved a.guard) (are_dones-moved (Some (a.source.port ∷ []))))
-        (ap₂ ◌&&◌ (one_kept a.source.port) (ap (are_dones (moved_all wanted)) (conjuncts-moved a.guard) ∙ are_dones-moved (conjuncts a.guard)))
-    is_right_done-moved (a ∷ b ∷ rest) = refl
 
 -- REGISTERS are no candidates
 reg_go : (name : PrimitiveName) → is_reg_name name ≡ true → (go : List ℕ) × (go_name name ≡ Some go)
@@ -214,10 +91,6 @@ register_kind [] r = refl
 register_kind (cell ∷ cells) zero = refl
 register_kind (cell ∷ cells) (suc r) = register_kind cells r
 
-abbrev added : ℕ → Bool → List ℕ → List ℕ
-added r true rest = r ∷ rest
-added r false rest = rest
-
 module _ (part : PlainComponent) where
   abbrev number : ℕ → ℕ
   number = new_cell part
@@ -238,7 +111,7 @@ module _ (part : PlainComponent) where
         by false e = refl
         by true e =
             some_target-moved (renamed number) (same_port (write_en_of r)) (same_port (write_en_of (number r)))
-            (cell_alone number r 1 (sole r (register_other part r (ap is_reg_kind is ∙ e)))).right assigns
+            (apart_right (renamed number) (ports.Cell r 1) (cell_apart number r 1 (sole r (register_other part r (ap is_reg_kind is ∙ e))))) assigns
 
     added_number : (r : ℕ) (b : Bool) (list : List ℕ) → added (number r) b (map number list) ≡ map number (added r b list)
     added_number r true list = refl
@@ -351,29 +224,9 @@ module _ (i j : Instance) (shares : Shares i j) where
   abbrev old_calls : (g e : ℕ) (twin : Instance) (b : CallBack g e twin) → Calls i (assigns_of i g) b.cell
   old_calls g e twin b = record { child = b.at.child; is_component = b.at.there; dynamic = sym (ap (λ (part : PlainComponent). part.latency) b.at.part) ∙ b.dynamic; driven = b.driven }
 
-  some_back : (test : PortRef → Bool) (list : List PlainAssign) → some_target test list ≡ true → (a : PlainAssign) × In list a × (test a.target ≡ true)
-  some_back test [] e = absurd (cc)
-  some_back test (a ∷ rest) e = ⊎_elim (λ h. (a, inl refl, h)) (λ h. let r = some_back test rest h in (r.0, inr r.1, r.2)) (or_cases (test a.target) (some_target test rest) e)
-
-  port_of_is : (e : ℕ) (t : PortRef) → is_port_of e t ≡ true → (n : ℕ) × (t ≡ ports.Cell e n)
-  port_of_is e (ports.Cell d n) h = (n, ap (λ x. ports.Cell x n) (eqb-true d e h))
-  port_of_is e (ports.Input n) h = absurd (cc)
-  port_of_is e (ports.Output n) h = absurd (cc)
-  port_of_is e (ports.Done g) h = absurd (cc)
-  port_of_is e (ports.Literal w v) h = absurd (cc)
-
-  some_there : (test : PortRef → Bool) (list : List PlainAssign) (a : PlainAssign) → In list a → test a.target ≡ true → some_target test list ≡ true
-  some_there test [] a k e = absurd k
-  some_there test (x ∷ xs) a (inl same) e = ap (λ b. b || some_target test xs) (ap (λ (z : PlainAssign). test z.target) same ∙ e)
-  some_there test (x ∷ xs) a (inr k) e = ap (λ b. test x.target || b) (some_there test xs a k e) ∙ either (test x.target)
-    where
-      either : (b : Bool) → (b || true) ≡ true
-      either true = refl
-      either false = refl
-
   pub call_back : (g e : ℕ) (calls : Calls j (assigns_of j g) e) → CallBack g e calls.child
   call_back g e calls =
-      let a = some_back (is_port_of e) (assigns_of j g) calls.driven in
+      let a = a_target (is_port_of e) (assigns_of j g) calls.driven in
       let n = port_of_is e a.0.target a.2 in
       let x = image_in (moved_assign move) (assigns_of i g) a.0 (subst (λ list. In list a.0) (own_assigns shares g) a.1) in
       let t = stands_for new x.0.target e n.0 (ap (λ (z : PlainAssign). z.target) x.2 ∙ n.1) in
@@ -383,7 +236,7 @@ module _ (i j : Instance) (shares : Shares i j) where
         number = t.number;
         at = at;
         dynamic = calls.dynamic;
-        driven = some_there (is_port_of t.own) (assigns_of i g) x.0 x.1 (ap (is_port_of t.own) t.is ∙ eq-eqb t.own t.own refl);
+        driven = some_in (is_port_of t.own) (assigns_of i g) x.0 x.1 (ap (is_port_of t.own) t.is ∙ eq-eqb t.own t.own refl);
       }
 
   -- a register keeps its kind
@@ -402,8 +255,8 @@ module _ (i j : Instance) (shares : Shares i j) where
     abbrev child : Instance
     child = back.at.child
 
-    alone_at : (p : ℕ) → IsAlone new (ports.Cell c p)
-    alone_at p = cell_alone new c p (sole (part_of i) c back.at.other)
+    apart_at : (p : ℕ) → IsApart move (ports.Cell c p)
+    apart_at p = cell_apart new c p (sole (part_of i) c back.at.other)
 
     go_is : go_port e ≡ move (go_port c)
     go_is = ap (λ x. ports.Cell x 0) (sym back.number)
@@ -414,25 +267,24 @@ module _ (i j : Instance) (shares : Shares i j) where
     ports_is : (p : ℕ) → part_port (part_of twin) p ≡ part_port (part_of child) p
     ports_is p = ap (λ x. part_port x p) back.at.part
 
-    of_target : (q : PortRef) → IsAlone new q → with_target (move q) (assigns_of j g) ≡ map (moved_assign move) (with_target q (assigns_of i g))
-    of_target q alone = ap (with_target (move q)) (own_assigns shares g) ∙ with_target-moved new q alone (assigns_of i g)
+    of_target : (q : PortRef) → IsApart move q → with_target (move q) (assigns_of j g) ≡ map (moved_assign move) (with_target q (assigns_of i g))
+    of_target q apart = ap (with_target (move q)) (own_assigns shares g) ∙ with_target-moved move (one_kept new) Anywhere q (apart_alone move q apart) (assigns_of i g) (all_anywhere (assigns_of i g))
 
     go_kept : is_right_go (done_port e twin) (with_target (go_port e) (assigns_of j g)) ≡ is_right_go (done_port c child) (with_target (go_port c) (assigns_of i g))
     go_kept =
         ap₂ (λ d p. is_right_go d (with_target p (assigns_of j g))) done_is go_is
-        ∙ ap (is_right_go (move (done_port c child))) (of_target (go_port c) (alone_at 0))
-        ∙ is_right_go-moved new (done_port c child) (alone_at _) (with_target (go_port c) (assigns_of i g))
+        ∙ ap (is_right_go (move (done_port c child))) (of_target (go_port c) (apart_at 0))
+        ∙ is_right_go-moved move (one_kept new) Anywhere (done_port c child) (apart_alone move (done_port c child) (apart_at _)) (with_target (go_port c) (assigns_of i g)) (all_anywhere (with_target (go_port c) (assigns_of i g)))
 
     enable_kept : (q : PortRef) → is_primitive_enable i q ≡ true
         → (is_register_enable (part_of j) (move q) && is_right_enable (done_port e twin) (with_target (move q) (assigns_of j g)))
         ≡ (is_register_enable (part_of i) q && is_right_enable (done_port c child) (with_target q (assigns_of i g)))
     enable_kept (ports.Cell r p) h =
         let other = enable_other (part_of i) r p (shares.cells r) h in
-        let alone = cell_alone new r p (sole (part_of i) r other) in
         ap₂ ◌&&◌ (ap (λ b. b && nat_eq p 1) (register_kept r other))
         (ap (λ d. is_right_enable d (with_target (move (ports.Cell r p)) (assigns_of j g))) done_is
-        ∙ ap (is_right_enable (move (done_port c child))) (of_target (ports.Cell r p) alone)
-        ∙ is_right_enable-moved new (done_port c child) (alone_at _) (with_target (ports.Cell r p) (assigns_of i g)))
+        ∙ ap (is_right_enable (move (done_port c child))) (of_target (ports.Cell r p) (cell_apart new r p (sole (part_of i) r other)))
+        ∙ is_right_enable-moved move (one_kept new) Anywhere (done_port c child) (apart_alone move (done_port c child) (apart_at _)) (with_target (ports.Cell r p) (assigns_of i g)) (all_anywhere (with_target (ports.Cell r p) (assigns_of i g))))
     enable_kept (ports.Input n) h = absurd (cc)
     enable_kept (ports.Output n) h = absurd (cc)
     enable_kept (ports.Done h2) h = absurd (cc)
@@ -446,13 +298,13 @@ module _ (i j : Instance) (shares : Shares i j) where
         each [] = refl
         each (x ∷ xs) = ap (λ z. register_done (new x) ∷ z) (each xs)
 
-    wanted_alone : (rs : List ℕ) → ((r : ℕ) → In rs r → is_candidate (part_of i) r ≡ false) → (w : PortRef) → In (wanted_dones (done_port c child) rs) w → IsAlone new w
-    wanted_alone [] other w (inl same) = subst (IsAlone new) same (alone_at _)
-    wanted_alone [] other w (inr k) = absurd k
-    wanted_alone (r ∷ rs) other w (inl same) = subst (IsAlone new) same (cell_alone new r 3 (sole (part_of i) r (other r (inl refl))))
-    wanted_alone (r ∷ rs) other w (inr k) =
+    wanted_apart : (rs : List ℕ) → ((r : ℕ) → In rs r → is_candidate (part_of i) r ≡ false) → (w : PortRef) → In (wanted_dones (done_port c child) rs) w → IsApart move w
+    wanted_apart [] other w (inl same) = subst (IsApart move) same (apart_at _)
+    wanted_apart [] other w (inr k) = absurd k
+    wanted_apart (r ∷ rs) other w (inl same) = subst (IsApart move) same (cell_apart new r 3 (sole (part_of i) r (other r (inl refl))))
+    wanted_apart (r ∷ rs) other w (inr k) =
         let x = image_in register_done rs w k in
-        subst (IsAlone new) x.2 (cell_alone new x.0 3 (sole (part_of i) x.0 (other x.0 (inr x.1))))
+        subst (IsApart move) x.2 (cell_apart new x.0 3 (sole (part_of i) x.0 (other x.0 (inr x.1))))
 
     captured_kept : captured (part_of j) (assigns_of j g) ≡ map new (captured (part_of i) (assigns_of i g))
     captured_kept = ap₂ captured shares.part (own_assigns shares g) ∙ captured-shared (part_of i) (assigns_of i g)
@@ -461,9 +313,10 @@ module _ (i j : Instance) (shares : Shares i j) where
         ≡ is_right_done (wanted_dones (done_port c child) (captured (part_of i) (assigns_of i g))) (with_target (ports.Done g) (assigns_of i g))
     done_kept =
         ap₂ (λ d rs. is_right_done (wanted_dones d rs) (with_target (ports.Done g) (assigns_of j g))) done_is captured_kept
-        ∙ ap₂ is_right_done (wanted_kept (captured (part_of i) (assigns_of i g))) (of_target (ports.Done g) (done_alone new g))
-        ∙ is_right_done-moved new (wanted_dones (done_port c child) (captured (part_of i) (assigns_of i g)))
-        (wanted_alone (captured (part_of i) (assigns_of i g)) (captured_other (part_of i) (assigns_of i g))) (with_target (ports.Done g) (assigns_of i g))
+        ∙ ap₂ is_right_done (wanted_kept (captured (part_of i) (assigns_of i g))) (of_target (ports.Done g) (done_apart new g))
+        ∙ is_right_done-moved move (one_kept new) Anywhere (wanted_dones (done_port c child) (captured (part_of i) (assigns_of i g)))
+        (λ w k. apart_alone move w (wanted_apart (captured (part_of i) (assigns_of i g)) (captured_other (part_of i) (assigns_of i g)) w k))
+        (with_target (ports.Done g) (assigns_of i g)) (all_anywhere (with_target (ports.Done g) (assigns_of i g)))
 
     -- what an input of the cell depends on
     fed_back : (p : ℕ) → IsFedBack j g e twin p → IsFedBack i g c child p
@@ -484,13 +337,6 @@ module _ (i j : Instance) (shares : Shares i j) where
         let s = stands_for new t e p is in
         s.is ∙ ap (λ x. ports.Cell x p) (sole (part_of i) c back.at.other s.own (s.number ∙ sym back.number))
 
-    done_of : (t : PortRef) → move t ≡ ports.Done g → t ≡ ports.Done g
-    done_of (ports.Cell d n) is = absurd (cc)
-    done_of (ports.Input n) is = absurd (cc)
-    done_of (ports.Output n) is = absurd (cc)
-    done_of (ports.Done h) is = is
-    done_of (ports.Literal w v) is = absurd (cc)
-
     break_back : (t target : PortRef) → move t ≡ target → CallBreak j g e twin target → CallBreak i g c child t
     break_back t target is (another_cell ((f, calls, differs), part)) =
         let b = call_back g f calls in
@@ -500,7 +346,7 @@ module _ (i j : Instance) (shares : Shares i j) where
     break_back t target is (wrong_enable enable wrong) =
         let on : is_primitive_enable i t ≡ true = sym (is_primitive_enable-shared shares t) ∙ ap (is_primitive_enable j) is ∙ enable in
         wrong_enable on (sym (enable_kept t on) ∙ ap (λ p. is_register_enable (part_of j) p && is_right_enable (done_port e twin) (with_target p (assigns_of j g))) is ∙ wrong)
-    break_back t target is (wrong_done wrong) = subst (CallBreak i g c child) (sym (done_of t is)) (wrong_done (sym done_kept ∙ wrong))
+    break_back t target is (wrong_done wrong) = subst (CallBreak i g c child) (sym (done_apart new g t is)) (wrong_done (sym done_kept ∙ wrong))
 
   -- THE RULE
   module _ (o : Owned) where
@@ -527,10 +373,10 @@ module _ (i j : Instance) (shares : Shares i j) where
   pub group_call_back : (g : ℕ) (place : Place) (name : List ℕ) → GroupBreaksCallShape j g place name → ByGroup GroupBreaksCallShape i g
   group_call_back g place name (plain, (e, calls, bad), told) =
       let b = call_back g e calls in
-      let alone = cell_alone new b.cell 0 (sole (part_of i) b.cell b.at.other) in
       let go : some_target (same_port (go_port e)) (assigns_of j g) ≡ some_target (same_port (go_port b.cell)) (assigns_of i g) =
       ap₂ (λ x list. some_target (same_port (go_port x)) list) (sym b.number) (own_assigns shares g)
-      ∙ some_target-moved move (same_port (go_port b.cell)) (same_port (go_port (new b.cell))) alone.right (assigns_of i g) in
+      ∙ some_target-moved move (same_port (go_port b.cell)) (same_port (go_port (new b.cell)))
+      (apart_right move (go_port b.cell) (cell_apart new b.cell 0 (sole (part_of i) b.cell b.at.other))) (assigns_of i g) in
       let done : some_target (is_hole_of g) (assigns_of j g) ≡ some_target (is_hole_of g) (assigns_of i g) =
       ap (some_target (is_hole_of g)) (own_assigns shares g) ∙ some_target-moved move (is_hole_of g) (is_hole_of g) (hole_of_kept new g) (assigns_of i g) in
       (_, _, (ap (λ (x : PlainGroup). is_plain x.kind) (sym (group_at-shared shares g)) ∙ plain, (b.cell, old_calls g e calls.child b, sym (ap₂ ◌&&◌ go done) ∙ bad), (refl, refl)))

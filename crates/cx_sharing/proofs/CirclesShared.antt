@@ -1,6 +1,7 @@
 -- A CIRCLE of an instance of the shared design is a circle of the instance of the design.
 use Rattle.std.proofs.Common.{◌≡◌, ℕ, ◌<◌, ◌≤◌, inl, ⊎_elim, Bool, true, false, Option, Some, None, refl, sym, ap, ◌∙◌, subst}
 use Rattle.std.proofs.lemmas.Bool.{cases_lt, both_ways}
+use Rattle.cx_text.proofs.MemberLaws.{image_in}
 use Rattle.cx_prim.specs.Table.{PrimitiveRow, row_of}
 use Rattle.cx_prim.specs.declared.ports.Side.{Side}
 use Rattle.cx_prim.specs.declared.ports.Side.TheVariants as sides
@@ -10,7 +11,7 @@ use Rattle.cx_meaning.specs.declared.ports.PortRef.TheVariants as ports
 use Rattle.cx_meaning.specs.Designs.{PlainComponent}
 use Rattle.cx_meaning.specs.Instances.{Instance, At, OfRow, part_of, cells_of, cell_at, cell_count}
 use Rattle.cx_meaning.specs.Active.{Active, nothing, group, Owned, source_order, offset_of, drivers}
-use Rattle.cx_meaning.specs.Sights.{In}
+use Rattle.cx_text.specs.Members.{In}
 use Rattle.cx_rules.specs.Footprints.{Mentions, SideLeads, CellLeads, Leads, Depends, at_once, by_way_of}
 use Rattle.cx_rules.specs.RaceRule.{HasCycle}
 use Rattle.cx_rules.proofs.ForeignLemmas.{sorted_among}
@@ -32,7 +33,6 @@ use Rattle.cx_sharing.proofs.RemainingLemmas.{stands_at}
 use Rattle.cx_sharing.proofs.SharedParts.{Shares, new_port, cells_alike, source_order-shared, AtShared, no_cell, a_row, a_part}
 use Rattle.cx_sharing.proofs.RestsShared.{stands_for}
 use Rattle.cx_sharing.proofs.SharedParts.{own_always, own_groups}
-use Rattle.cx_meaning.proofs.SightsLaws.{image_in}
 use Rattle.cx_rules.proofs.CircleLemmas.{depends_then}
 
 module _ (i j : Instance) (shares : Shares i j) where

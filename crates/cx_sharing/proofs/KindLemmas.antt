@@ -9,15 +9,8 @@ use Rattle.cx_prim.specs.PrimitiveNames.{name_text}
 use Rattle.cx_prim.specs.Table.{PrimitiveRow}
 use Rattle.cx_meaning.specs.Designs.{PlainKind, OfPrimitive, OfComponent}
 use Rattle.cx_numbering.specs.Names.{same_name, primitive_of}
+use Rattle.cx_numbering.proofs.NamesLemmas.{same_name-true}
 use Rattle.cx_sharing.specs.Giving.{same_numbers, same_kind}
-
-same_name-is : (xs ys : List ℕ) → same_name xs ys ≡ true → xs ≡ ys
-same_name-is [] [] e = refl
-same_name-is [] (b ∷ ys) e = absurd (cc)
-same_name-is (a ∷ xs) [] e = absurd (cc)
-same_name-is (a ∷ xs) (b ∷ ys) e =
-    let both = and_both (nat_eq a b) (same_name xs ys) e in
-    ap (λ n. n ∷ xs) (eqb-true a b both.0) ∙ ap (λ ns. b ∷ ns) (same_name-is xs ys both.1)
 
 same_numbers-is : (xs ys : List ℕ) → same_numbers xs ys ≡ true → xs ≡ ys
 same_numbers-is [] [] e = refl
@@ -81,7 +74,7 @@ one_name a b e = sym (named_again a) ∙ ap (λ text. or_timer (primitive_of tex
 primitive-is : (p q : PrimitiveRow) → same_kind (OfPrimitive p) (OfPrimitive q) ≡ true → p ≡ q
 primitive-is p q e =
     let both = and_both (same_name (name_text p.name) (name_text q.name)) (same_numbers p.numbers q.numbers) e in
-    let names : p.name ≡ q.name = one_name p.name q.name (same_name-is (name_text p.name) (name_text q.name) both.0) in
+    let names : p.name ≡ q.name = one_name p.name q.name (same_name-true (name_text p.name) (name_text q.name) both.0) in
     let numbers : p.numbers ≡ q.numbers = same_numbers-is p.numbers q.numbers both.1 in
     ap (λ n. record { name = n; numbers = p.numbers }) names ∙ ap (λ ns. record { name = q.name; numbers = ns }) numbers
 

@@ -1,8 +1,8 @@
 -- What is used at once meets: by one port, one group, a condition with its comb group, and by the groups of a cycle of an island.
-use Rattle.std.proofs.Common.{◌≡◌, ◌≢◌, ℕ, zero, suc, ◌<◌, ◌≤◌, inl, inr, ◌⊎◌, ⊎_elim, Bool, true, false, ◌||◌, ◌&&◌, Option, Some, None, List, [], ◌∷◌, refl, sym, ap, ◌∙◌, subst}
-use Rattle.std.specs.Prelude.{slice_get, nat_eq, if◌then◌else◌}
+use Rattle.std.proofs.Common.{◌≡◌, ◌≢◌, ℕ, zero, suc, ◌<◌, ◌≤◌, inl, inr, ◌⊎◌, ⊎_elim, true, ◌||◌, ◌&&◌, Option, Some, None, List, [], ◌∷◌, refl, sym, ap, ◌∙◌, subst}
+use Rattle.std.specs.Prelude.{slice_get}
 use Rattle.std.specs.List.{list_any}
-use Rattle.std.proofs.lemmas.Bool.{cases_lt, eqb-true, or_right}
+use Rattle.std.proofs.lemmas.Bool.{cases_lt, or_right}
 use Rattle.cx_text.specs.declared.places.Place.{Place}
 use Rattle.cx_text.proofs.BoolLaws.{or_left, and_true}
 use Rattle.cx_text.proofs.OptionLaws.{none_some}
@@ -10,11 +10,11 @@ use Rattle.cx_meaning.specs.declared.ports.PortRef.{PortRef}
 use Rattle.cx_meaning.specs.declared.ports.PortRef.TheVariants as ports
 use Rattle.cx_meaning.specs.declared.ports.PlacedPort.{PlacedPort}
 use Rattle.cx_meaning.specs.Designs.{PlainComponent, PlainForm, Empty, Enable, Seq, Par, If, While, Repeat, StaticSeq, StaticPar, StaticIf, StaticRepeat, Timed, PlainStatement, Placed}
-use Rattle.cx_meaning.specs.Active.{nothing, only_at, group, capture, comb, Entry, entries}
+use Rattle.cx_meaning.specs.Active.{nothing, group, capture, comb, Entry, entries}
 use Rattle.cx_meaning.specs.Control.{groups_of, targets_cell}
 use Rattle.cx_meaning.specs.Islands.{History, form_flat, form_length, active_in}
-use Rattle.cx_meaning.specs.Sights.{In}
-use Rattle.cx_meaning.proofs.ActiveLemmas.{entry_of}
+use Rattle.cx_text.specs.Members.{In}
+use Rattle.cx_meaning.proofs.ActiveLemmas.{entry_of, only_is}
 use Rattle.cx_meaning.proofs.InstancesLemmas.{just_true}
 use Rattle.cx_rules.specs.Items.{Context, Visited, visit, statements_in, tests_of}
 use Rattle.cx_rules.specs.RaceRule.{arms_of}
@@ -41,13 +41,6 @@ module _ (part : PlainComponent) where
   port_meets p x y a b = inl (one_target p x y a b)
 
   -- ONE GROUP, a call in its capture cycle too
-  only_is : (g h k : ℕ) → only_at g h ≡ Some k → g ≡ h
-  only_is g h k e = by (nat_eq g h) refl e
-    where
-      by : (b : Bool) → nat_eq g h ≡ b → ◌≡◌ {A = Option ℕ} (if b then Some 0 else None) (Some k) → g ≡ h
-      by true same f = eqb-true g h same
-      by false differ f = absurd (none_some k f)
-
   pub group_covers : (g : ℕ) → Covers part (λ c. group_uses part g c ≡ true) (group g)
   group_covers g h k c acts uses = ap (λ n. group_uses part n c) (only_is g h k acts) ∙ uses
 

@@ -2,6 +2,7 @@
 use Rattle.std.proofs.Common.{◌≡◌, ℕ, zero, suc, inl, inr, ⊎_elim, true, ◌||◌, List, [], ◌∷◌, map, Some, slice_get, refl, sym, ap, ◌∙◌, subst}
 use Rattle.std.specs.List.{list_any}
 use Rattle.std.proofs.lemmas.Bool.{both_ways, or_right}
+use Rattle.cx_text.proofs.MemberLaws.{image_in}
 use Rattle.cx_text.specs.declared.places.Place.{Place}
 use Rattle.cx_meaning.specs.declared.ports.PortRef.{PortRef}
 use Rattle.cx_meaning.specs.declared.ports.PortRef.TheVariants as ports
@@ -9,7 +10,7 @@ use Rattle.cx_meaning.specs.declared.ports.PlacedPort.{PlacedPort}
 use Rattle.cx_meaning.specs.Designs.{PlainAssign, PlainComponent, group_at, PlainForm, PlainStatement}
 use Rattle.cx_meaning.specs.Instances.{Instance, part_of}
 use Rattle.cx_meaning.specs.Control.{targets_cell, assigns_drive, groups_drive, groups_of, drives}
-use Rattle.cx_meaning.specs.Sights.{In}
+use Rattle.cx_text.specs.Members.{In}
 use Rattle.cx_meaning.proofs.InstancesLemmas.{just_same}
 use Rattle.cx_rules.specs.Items.{Visited, statements_in, tests_of}
 use Rattle.cx_rules.specs.Footprints.{AssignNames, Reads, driven, named, tested, through}
@@ -25,11 +26,10 @@ use Rattle.cx_sharing.proofs.UsedLemmas.{any_of, target_used, named_used, no_can
 use Rattle.cx_sharing.proofs.MeetLemmas.{arms_meet-true, in_form}
 use Rattle.cx_rewrites.proofs.MovedLists as lists
 use Rattle.cx_rewrites.proofs.MovedLists.{moved_visited}
+use Rattle.cx_rewrites.proofs.PlaceRules.{ByStatement}
 use Rattle.cx_sharing.proofs.SharedParts.{Shares, new_port, own_assigns, own_always}
-use Rattle.cx_sharing.proofs.RulesShared.{ByStatement}
 use Rattle.cx_sharing.proofs.RestsShared.{stands_for, driver_in, always_apart}
 use Rattle.cx_rewrites.specs.FlatRules.{IsShared, BreaksRace}
-use Rattle.cx_meaning.proofs.SightsLaws.{image_in}
 use Rattle.cx_meaning.proofs.ControlLaws.{groups_drive_in, driver}
 use Rattle.cx_text.proofs.ListLaws.{at_map}
 

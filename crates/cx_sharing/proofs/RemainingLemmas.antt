@@ -2,10 +2,9 @@
 use Rattle.std.proofs.Common.{◌≡◌, ℕ, zero, suc, ◌+◌, ◌-◌, ◌<◌, ◌≤◌, ⊎_elim, Bool, true, false, List, [], ◌∷◌, length, refl, sym, ap, ◌∙◌, subst, arith}
 use Rattle.std.specs.Prelude.{if◌then◌else◌}
 use Rattle.std.proofs.lemmas.Bool.{cases_lt}
-use Rattle.cx_prim.specs.Table.{row_of}
-use Rattle.cx_meaning.specs.Designs.{PlainKind, OfPrimitive, OfComponent, PlainCell}
-use Rattle.cx_meaning.specs.Instances.{Instance, At, Nothing, OfRow, OfInstance, cell_at, cells_for}
-use Rattle.cx_meaning.proofs.InstancesLemmas.{kind_skip, first_at}
+use Rattle.cx_meaning.specs.Designs.{PlainCell}
+use Rattle.cx_meaning.specs.Instances.{Instance, Nothing, cell_at, cells_for}
+use Rattle.cx_meaning.proofs.InstancesLemmas.{kind_skip, first_at, at_kind}
 use Rattle.cx_sharing.specs.Uses.{kind_in}
 use Rattle.cx_sharing.specs.Giving.{staying}
 use Rattle.cx_sharing.specs.SharedDesign.{remaining}
@@ -100,10 +99,6 @@ stands_at set (suc n) e lt = by (set n) refl lt (stands_at set n e)
     by false off l later = wider (later l)
 
 -- WHAT STANDS AT A CELL, by its kind
-abbrev pub at_kind : (ℕ → Instance) → PlainKind → At
-at_kind child (OfPrimitive primitive) = OfRow (row_of primitive)
-at_kind child (OfComponent k) = OfInstance (child k)
-
 pub cell_is : (child : ℕ → Instance) (cells : List PlainCell) (c : ℕ) → c < length cells → cell_at (cells_for child cells) c ≡ at_kind child (kind_in cells c)
 cell_is child [] c lt = absurd (omega (arith, lt))
 cell_is child (cell ∷ cells) zero lt = first_at child cell.kind (cells_for child cells)

@@ -3,6 +3,8 @@ use Rattle.std.proofs.Common.{◌≡◌, ℕ, suc, inl, inr, ⊎_elim, true, fal
 use Rattle.std.specs.Prelude.{get_or}
 use Rattle.std.specs.List.{list_any}
 use Rattle.std.proofs.lemmas.Bool.{both_ways, or_cases}
+use Rattle.cx_text.proofs.MemberLaws.{image_in}
+use Rattle.cx_text.specs.Members.{In}
 use Rattle.cx_prim.specs.Rows.{Row, is_output_side}
 use Rattle.cx_prim.specs.Table.{PrimitiveRow, row_of, no_row}
 use Rattle.cx_meaning.specs.Rows.{side_of}
@@ -11,7 +13,7 @@ use Rattle.cx_meaning.specs.declared.ports.PortRef.TheVariants as ports
 use Rattle.cx_meaning.specs.Designs.{PlainAssign, PlainKind, OfPrimitive, OfComponent, PlainGroup, PlainComponent, group_at, no_group}
 use Rattle.cx_meaning.specs.Instances.{Instance, At, OfRow, OfInstance, part_of, cells_of, cell_at}
 use Rattle.cx_meaning.specs.Control.{targets_cell, assigns_drive}
-use Rattle.cx_meaning.specs.Sights.{In, part_port}
+use Rattle.cx_meaning.specs.Sights.{part_port}
 use Rattle.cx_meaning.proofs.InstancesLemmas.{just_true}
 use Rattle.cx_rules.specs.Ports.{is_source_only, is_cell_output}
 use Rattle.cx_rules.specs.Footprints.{AssignNames, Rests, literal_rests, input_rests, registered_rests, output_rests, done_rests, combinational_rests}
@@ -26,7 +28,6 @@ use Rattle.cx_sharing.proofs.UsedLemmas.{any_of, target_used, no_candidate}
 use Rattle.cx_sharing.proofs.CandidateLemmas.{candidate_is}
 use Rattle.cx_sharing.proofs.ReadLemmas.{combinational_reads}
 use Rattle.cx_sharing.proofs.SharedParts.{AtShared, no_cell, a_row, a_part, Shares, new_port, own_assigns, own_always}
-use Rattle.cx_meaning.proofs.SightsLaws.{image_in}
 
 -- a target that stands for a port of a cell
 pub record StandsFor (cell : ℕ → ℕ) (t : PortRef) (c m : ℕ) : Type 0 where

@@ -1,6 +1,7 @@
 -- EACH RULE on widths, shapes and static control that an instance of the shared design breaks, the instance of the design breaks at the same part.
-use Rattle.std.proofs.Common.{◌≡◌, ◌≢◌, ℕ, inl, inr, ◌⊎◌, Bool, true, false, ◌||◌, ◌&&◌, List, [], ◌∷◌, map, Option, Some, None, option_map, refl, sym, ap, ap₂, ◌∙◌, subst}
-use Rattle.std.specs.Prelude.{nat_eq, nat_lt, nat_le, if◌then◌else◌}
+use Rattle.std.proofs.Common.{◌≡◌, ◌≢◌, ℕ, inl, inr, ◌⊎◌, Bool, true, false, ◌||◌, List, [], ◌∷◌, map, Option, Some, option_map, refl, sym, ap, ap₂, ◌∙◌, subst}
+use Rattle.std.specs.Prelude.{nat_eq, if◌then◌else◌}
+use Rattle.cx_text.proofs.MemberLaws.{image_in}
 use Rattle.cx_text.specs.declared.places.Place.{Place}
 use Rattle.cx_meaning.specs.declared.ports.PortRef.{PortRef}
 use Rattle.cx_meaning.specs.declared.ports.PortRef.TheVariants as ports
@@ -8,36 +9,25 @@ use Rattle.cx_meaning.specs.declared.ports.PlacedPort.{PlacedPort}
 use Rattle.cx_meaning.specs.Designs.{PlainGroup, group_at}
 use Rattle.cx_meaning.specs.Instances.{Instance, part_of}
 use Rattle.cx_meaning.specs.Active.{Owned}
-use Rattle.cx_meaning.specs.Sights.{In}
+use Rattle.cx_text.specs.Members.{In}
 use Rattle.cx_meaning.specs.Islands.{form_length}
 use Rattle.cx_rules.specs.Ports.{width_of, is_target_only, is_primitive_enable, is_part_port}
 use Rattle.cx_rules.specs.Items.{Pair, atoms_of, sources_of, Visited, test_in, is_plain, is_comb}
-use Rattle.cx_rules.specs.Spots.{AssignRule, StatementRule, GroupRule}
 use Rattle.cx_rules.specs.WidthRules.{differ, pairs_of, first_unequal, BreaksWidth, is_wide, first_wide, BreaksGuardWidth, TestBreaksGuardWidth, IsBadLiteral, BreaksLiteral, TestBreaksLiteral, BreaksNotATarget, BreaksNotASource, TestBreaksNotASource}
-use Rattle.cx_rules.specs.ShapeRules.{is_hole, is_hole_of, some_target, BreaksNoDone, BreaksAlwaysEnable, BreaksCombEnable, owner_length, is_bad_range, BreaksStaticGuard, GroupBreaksStaticShape, BreaksStaticControl}
+use Rattle.cx_rules.specs.ShapeRules.{is_hole, is_hole_of, some_target, BreaksNoDone, BreaksAlwaysEnable, BreaksCombEnable, is_bad_range, BreaksStaticGuard, GroupBreaksStaticShape, BreaksStaticControl}
 use Rattle.cx_rules.specs.StaticControl.{written_length, is_island, form_occurrences}
-use Rattle.cx_rules.specs.LimitRule.{Limited, OnRepeat, OnOccurrences, OnLatency, is_too_many, count_in}
-use Rattle.cx_text.specs.declared.limits.TheConstants.{OCCURRENCES, REPETITIONS}
+use Rattle.cx_rules.specs.LimitRule.{is_too_many, count_in, first_limit, flat_limit}
+use Rattle.cx_rules.proofs.ShapeRulesLemmas.{owner_length-same}
 use Rattle.cx_rewrites.specs.Moving.{moved_port, moved_assign, moved_owned, moved_form}
 use Rattle.cx_rewrites.specs.Renaming.{renamed}
 use Rattle.cx_rewrites.proofs.IslandLemmas.{form_length-moved}
 use Rattle.cx_sharing.specs.Giving.{new_cell}
 use Rattle.cx_rewrites.proofs.MovedLists as lists
 use Rattle.cx_rewrites.proofs.MovedLists.{moved_pair, moved_visited}
+use Rattle.cx_rewrites.proofs.PlaceRules.{ByAssign, ByStatement, ByGroup}
 use Rattle.cx_sharing.proofs.SharedParts.{Shares, new_port, width_of-shared, written_width-shared, is_source_only-shared, is_target_only-shared, is_primitive_enable-shared, is_part_port-shared, group_at-shared, group_length-shared, words-shared}
-use Rattle.cx_rewrites.specs.FlatRules.{BreaksLength, statement_limit, BreaksStatement}
+use Rattle.cx_rewrites.specs.FlatRules.{BreaksLength, BreaksStatement}
 use Rattle.cx_text.proofs.OptionLaws.{map_some}
-use Rattle.cx_meaning.proofs.SightsLaws.{image_in}
-
--- a break of a rule, whatever is told
-abbrev pub ByAssign : AssignRule → Instance → Owned → Type 0
-ByAssign rule i o = (place : Place) × (name : List ℕ) × rule i o place name
-
-abbrev pub ByStatement : StatementRule → Instance → Visited → Type 0
-ByStatement rule i v = (place : Place) × (name : List ℕ) × rule i v place name
-
-abbrev pub ByGroup : GroupRule → Instance → ℕ → Type 0
-ByGroup rule i g = (place : Place) × (name : List ℕ) × rule i g place name
 
 bad_literal : (cell : ℕ → ℕ) (p : PortRef) → IsBadLiteral (renamed cell p) → IsBadLiteral p
 bad_literal cell (ports.Cell c n) (w, v, e, bad) = absurd (cc)
@@ -59,13 +49,6 @@ hole_of_kept cell g (ports.Input n) = refl
 hole_of_kept cell g (ports.Output n) = refl
 hole_of_kept cell g (ports.Done h) = refl
 hole_of_kept cell g (ports.Literal w v) = refl
-
-abbrev limited : Bool → Bool → ℕ → ℕ → Option Limited
-limited many island occurrences cycles =
-    if many then Some OnRepeat
-    else if island && nat_lt OCCURRENCES occurrences then Some OnOccurrences
-    else if island && nat_le REPETITIONS cycles then Some OnLatency
-    else None
 
 module _ (i j : Instance) (shares : Shares i j) where
   abbrev move : PortRef → PortRef
@@ -141,13 +124,9 @@ module _ (i j : Instance) (shares : Shares i j) where
       ),
     )
 
-    owner_length-shared : (owner : Option ℕ) → owner_length (part_of j) owner ≡ owner_length (part_of i) owner
-    owner_length-shared None = refl
-    owner_length-shared (Some g) = group_length-shared shares g
-
     pub static_guard_back : (place : Place) (name : List ℕ) → BreaksStaticGuard j (moved_owned move o) place name → ByAssign BreaksStaticGuard i o
     static_guard_back place name (r, stands, bad, told) =
-        (_, _, (r, subst (λ list. In list r) (lists.ranges_of-moved move o.assign.guard) stands, ap (λ x. is_bad_range x r) (sym (owner_length-shared o.owner)) ∙ bad, (refl, refl)))
+        (_, _, (r, subst (λ list. In list r) (lists.ranges_of-moved move o.assign.guard) stands, ap (λ x. is_bad_range x r) (sym (owner_length-same (part_of i) (part_of j) (group_length-shared shares) o.owner)) ∙ bad, (refl, refl)))
 
   -- GROUPS
   some_target-shared : (test : PortRef → Bool) → ((p : PortRef) → test (move p) ≡ test p) → (g : ℕ) → some_target test (group_at (part_of j) g).assigns ≡ some_target test (group_at (part_of i) g).assigns
@@ -200,12 +179,12 @@ module _ (i j : Instance) (shares : Shares i j) where
         one (inl (n, written, differs)) = inl (n, sym (lists.written_length-moved move v.form) ∙ written, λ is. differs (is ∙ sym length_is))
         one (inr none) = inr (sym length_is ∙ none)
 
-    limit_is : statement_limit (part_of j) (moved_visited move v) ≡ statement_limit (part_of i) v
+    limit_is : flat_limit (part_of j) (moved_visited move v) ≡ flat_limit (part_of i) v
     limit_is =
-        ap (λ o. limited (is_too_many o) (is_island (part_of j) (moved_visited move v)) (form_occurrences (part_of j) (moved_form move v.form)) (form_length (part_of j) (moved_form move v.form))) (lists.count_in-moved move v.form)
-        ∙ ap (λ b. limited (is_too_many (count_in v.form)) b (form_occurrences (part_of j) (moved_form move v.form)) (form_length (part_of j) (moved_form move v.form)))
+        ap (λ o. first_limit (is_too_many o) (is_island (part_of j) (moved_visited move v)) (form_occurrences (part_of j) (moved_form move v.form)) (form_length (part_of j) (moved_form move v.form))) (lists.count_in-moved move v.form)
+        ∙ ap (λ b. first_limit (is_too_many (count_in v.form)) b (form_occurrences (part_of j) (moved_form move v.form)) (form_length (part_of j) (moved_form move v.form)))
         (lists.is_island-moved move (part_of i) (part_of j) (group_length-shared shares) v)
-        ∙ ap₂ (limited (is_too_many (count_in v.form)) (is_island (part_of i) v)) (lists.form_occurrences-moved move (part_of i) (part_of j) (group_length-shared shares) v.form) length_is
+        ∙ ap₂ (first_limit (is_too_many (count_in v.form)) (is_island (part_of i) v)) (lists.form_occurrences-moved move (part_of i) (part_of j) (group_length-shared shares) v.form) length_is
 
     pub statement_limit_back : (place : Place) (name : List ℕ) → BreaksStatement j (moved_visited move v) place name → ByStatement BreaksStatement i v
     statement_limit_back place name (limited, is, told) = (_, _, (limited, sym limit_is ∙ is, (refl, refl)))

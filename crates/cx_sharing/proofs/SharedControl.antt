@@ -3,6 +3,8 @@
 use Rattle.std.proofs.Common.{◌≡◌, ℕ, zero, suc, ◌<◌, inl, inr, ⊎_elim, Bool, true, false, Option, Some, None, List, [], length, refl, sym, ap, ◌∙◌, subst}
 use Rattle.std.proofs.lemmas.Bool.{cases_lt}
 use Rattle.std.proofs.lemmas.List.{get_or_past}
+use Rattle.cx_text.proofs.MemberLaws.{in_left, in_right}
+use Rattle.cx_text.specs.Members.{In}
 use Rattle.cx_text.specs.declared.places.Place.{Place}
 use Rattle.cx_text.proofs.NumberLaws.{false_true}
 use Rattle.cx_text.proofs.OptionLaws.{none_some}
@@ -15,10 +17,9 @@ use Rattle.cx_meaning.specs.Control.{Leaves, drives, run}
 use Rattle.cx_meaning.specs.Cycles.{Fault}
 use Rattle.cx_meaning.specs.Islands.{History, group_length, occurrence, form_flat, active_in, entry_if}
 use Rattle.cx_meaning.specs.Running.{leaves, control_below, run_control}
-use Rattle.cx_meaning.specs.Sights.{Held, unheld, In}
+use Rattle.cx_meaning.specs.Sights.{Held, unheld}
 use Rattle.cx_meaning.proofs.ActiveLemmas.{entry_of}
 use Rattle.cx_meaning.proofs.DesignsLemmas.{same_part}
-use Rattle.cx_meaning.proofs.SightsLaws.{in_left, in_right}
 use Rattle.cx_rules.specs.Accepted.{IsAccepted}
 use Rattle.cx_rules.specs.Circles.{IsAcyclic, AreAcyclic, AcyclicBelow}
 use Rattle.cx_rules.specs.Items.{Context, Dynamic, below_dynamic, Visited, visit, visit_all, statements_in}

@@ -4,7 +4,7 @@ use Rattle.std.specs.Prelude.{get_or}
 use Rattle.cx_meaning.specs.declared.ports.PortRef.{PortRef}
 use Rattle.cx_meaning.specs.declared.ports.PortRef.TheVariants as ports
 use Rattle.cx_meaning.specs.Designs.{PlainAssign, PlainGroup, PlainComponent, group_at, no_group, PlainStatement}
-use Rattle.cx_meaning.specs.Instances.{Instance, At, OfInstance, cell_at, cells_of, part_of}
+use Rattle.cx_meaning.specs.Instances.{Instance, At, cells_of, part_of}
 use Rattle.cx_meaning.specs.Control.{groups_of, targets_cell, assigns_drive, group_drives, groups_drive, drives}
 use Rattle.cx_meaning.specs.Islands.{kind_length, group_length}
 use Rattle.cx_meaning.specs.Calls.{if_instance, called_by, called_in, called, enables_at, enables_primitive, captures_in, captures}

@@ -2,6 +2,7 @@
 use Rattle.std.proofs.Common.{◌≡◌, ℕ, suc, inl, inr, ◌⊎◌, Bool, true, false, Option, Some, None, [], refl, sym, ap, ◌∙◌}
 use Rattle.std.specs.Prelude.{nat_eq}
 use Rattle.std.proofs.lemmas.Bool.{eqb-true, eq-eqb}
+use Rattle.cx_text.specs.Members.{In}
 use Rattle.cx_text.specs.declared.places.Place.{Place}
 use Rattle.cx_text.proofs.BoolLaws.{or_left}
 use Rattle.cx_meaning.specs.declared.ports.PortRef.{PortRef}
@@ -15,7 +16,7 @@ use Rattle.cx_meaning.specs.Control.{targets_cell}
 use Rattle.cx_meaning.specs.Islands.{History, group_length, form_flat, active_in, island}
 use Rattle.cx_meaning.specs.Calls.{group_turn, test, called, call, enable}
 use Rattle.cx_meaning.specs.Running.{run_control, control_below}
-use Rattle.cx_meaning.specs.Sights.{Held, In, is_done_cell}
+use Rattle.cx_meaning.specs.Sights.{Held, is_done_cell}
 use Rattle.cx_meaning.proofs.InstancesLemmas.{just_same}
 use Rattle.cx_rules.specs.Circles.{IsAcyclic}
 use Rattle.cx_rules.specs.Items.{Context, Dynamic, Visited, visit, statements_in}

@@ -2,6 +2,7 @@
 use Rattle.std.proofs.Common.{◌≡◌, ℕ, zero, suc, ◌+◌, ◌<◌, ◌≤◌, inl, inr, Bool, true, false, List, [], ◌∷◌, length, map, refl, sym, ap, ◌∙◌, subst, arith}
 use Rattle.std.specs.Prelude.{if◌then◌else◌, not}
 use Rattle.std.proofs.lemmas.Bool.{both_ways}
+use Rattle.cx_text.specs.Members.{In}
 use Rattle.cx_text.proofs.ListLaws.{length-map}
 use Rattle.cx_prim.specs.CellStates.{CellState, StateShape, NoState, RegisterOf, MemoryOf, SequentialMemoryOf, MultiplierOf, DividerOf, TimerOf}
 use Rattle.cx_prim.specs.CellStates as cell_states
@@ -9,13 +10,13 @@ use Rattle.cx_prim.specs.Rows.{Row}
 use Rattle.cx_prim.specs.Table.{PrimitiveRow, row_of}
 use Rattle.cx_meaning.specs.Designs.{PlainKind, OfPrimitive, OfComponent, PlainCell, PlainComponent, PlainDesign, component_at}
 use Rattle.cx_meaning.specs.Instances.{Instance, OfRow, cell_at, cells_of, part_of, tree_within, tree_of, Path, State, just, start_at, if_external, externals_from, externals_of, loaded_at, start, words_of}
-use Rattle.cx_meaning.specs.Sights.{In, unheld}
+use Rattle.cx_meaning.specs.Sights.{unheld}
 use Rattle.cx_meaning.specs.Cycles.{Fault}
 use Rattle.cx_meaning.specs.Answers.{Answer, End, More}
 use Rattle.cx_meaning.specs.Answers as answers
 use Rattle.cx_meaning.specs.Running.{run_control, run_main}
 use Rattle.cx_meaning.proofs.DesignsLemmas.{same_part}
-use Rattle.cx_meaning.proofs.InstancesLemmas.{some_cells}
+use Rattle.cx_meaning.proofs.InstancesLemmas.{some_cells, at_kind}
 use Rattle.cx_rules.specs.Accepted.{IsAccepted}
 use Rattle.cx_rules.specs.Externals.{row_for, rows_of, external_rows}
 use Rattle.cx_rules.specs.Externals as externals
@@ -28,7 +29,7 @@ use Rattle.cx_sharing.specs.Uses.{is_stateless, kind_in, is_candidate}
 use Rattle.cx_sharing.specs.Giving.{stays, staying, new_cell}
 use Rattle.cx_sharing.specs.SharedDesign.{remaining, shared_part, shared_design}
 use Rattle.cx_sharing.specs.Following.{has_state, SharedStands, shared_fault}
-use Rattle.cx_sharing.proofs.RemainingLemmas.{length_left, at_kind, cell_is}
+use Rattle.cx_sharing.proofs.RemainingLemmas.{length_left, cell_is}
 use Rattle.cx_sharing.proofs.TwinLemmas.{IsTwin, shared_component, stays_is, other_stays, state_other, own_equal_back}
 use Rattle.cx_sharing.proofs.TwinStates.{HoldsAt, itself, in_child, holds_at, held_other, of_path, path_of, root_of, row_path, row_state, child_renumbered, start_state}
 use Rattle.cx_sharing.proofs.SharedControl.{tree_beside, tree_is_twin}

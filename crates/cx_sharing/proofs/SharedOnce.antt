@@ -8,7 +8,7 @@ use Rattle.cx_meaning.specs.declared.ports.PortRef.{PortRef}
 use Rattle.cx_meaning.specs.declared.ports.PortRef.TheVariants as ports
 use Rattle.cx_meaning.specs.Designs.{PlainAssign, PlainGroup, PlainComponent, PlainDesign, component_at}
 use Rattle.cx_meaning.specs.Control.{targets_cell, assigns_drive}
-use Rattle.cx_meaning.specs.Sights.{In}
+use Rattle.cx_text.specs.Members.{In}
 use Rattle.cx_rewrites.specs.Moving.{moved_assign, moved_group}
 use Rattle.cx_rewrites.specs.Renaming.{renamed}
 use Rattle.cx_sharing.specs.Uses.{assigns_use, is_combinational, kind_in, is_candidate}

@@ -13,6 +13,7 @@ use Rattle.cx_meaning.specs.Sights.{part_port}
 use Rattle.cx_meaning.specs.Islands.{kind_length, group_length}
 use Rattle.cx_meaning.proofs.CycleLemmas.{count_for}
 use Rattle.cx_meaning.proofs.DesignsLemmas.{same_part}
+use Rattle.cx_meaning.proofs.InstancesLemmas.{at_kind}
 use Rattle.cx_rules.specs.Ports.{component_of, declared_width, part_width, cell_width, width_of, written_width, is_part_output, is_cell_output, is_source_only, is_target_only, enables_cell, is_primitive_enable, is_instance, is_part_port}
 use Rattle.cx_rules.specs.Items.{statements_in, Dynamic}
 use Rattle.cx_rewrites.specs.Moving.{moved_assign, moved_group, moved_owned}
@@ -25,7 +26,7 @@ use Rattle.cx_sharing.specs.SharedDesign.{remaining, shared_invoke, shared_part,
 use Rattle.cx_rules.specs.StaticControl.{is_written, is_timed}
 use Rattle.cx_sharing.proofs.KeptLemmas.{keeper_stays}
 use Rattle.cx_sharing.proofs.KeeperLemmas.{keeper_kind, keeper_within, keeper_past}
-use Rattle.cx_sharing.proofs.RemainingLemmas.{kind_left, length_left, staying_within, staying_past, at_kind, cell_is, none_past}
+use Rattle.cx_sharing.proofs.RemainingLemmas.{kind_left, length_left, staying_within, staying_past, cell_is, none_past}
 use Rattle.cx_sharing.proofs.TwinLemmas.{shared_component}
 use Rattle.cx_rewrites.proofs.MovedLists.{moved_visited, moved_group_at, visit-moved}
 

@@ -16,8 +16,8 @@ use Rattle.cx_rewrites.proofs.ReflectLemmas.{names_back}
 use Rattle.cx_sharing.specs.Giving.{new_cell}
 use Rattle.cx_sharing.proofs.UsedLemmas.{Inside}
 use Rattle.cx_rewrites.proofs.MovedLists.{moved_visited}
+use Rattle.cx_rewrites.proofs.PlaceRules.{ByAssign, ByStatement}
 use Rattle.cx_sharing.proofs.SharedParts.{Shares, new_port}
-use Rattle.cx_sharing.proofs.RulesShared.{ByAssign, ByStatement}
 use Rattle.cx_sharing.proofs.RestsShared.{HasInputs, rests_shared}
 use Rattle.cx_sharing.proofs.CirclesShared.{nothing_covers, depends_comes_back}
 

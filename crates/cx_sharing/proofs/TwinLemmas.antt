@@ -15,7 +15,7 @@ use Rattle.cx_meaning.specs.Sights.{Held, unheld, Sees, seen, part_port}
 use Rattle.cx_meaning.specs.Control.{assigns_drive}
 use Rattle.cx_meaning.specs.Running.{run_control}
 use Rattle.cx_meaning.proofs.CycleLemmas.{count_for}
-use Rattle.cx_meaning.proofs.InstancesLemmas.{row_is, instance_is, row_instance, instance_row, nothing_row, nothing_instance, just_true, just_same}
+use Rattle.cx_meaning.proofs.InstancesLemmas.{row_is, instance_is, row_instance, instance_row, nothing_row, nothing_instance, just_true, just_same, at_kind}
 use Rattle.cx_rules.specs.Circles.{AreAcyclic, AcyclicBelow}
 use Rattle.cx_rewrites.specs.Tallies.{none}
 use Rattle.cx_rewrites.specs.Carrying.{Exact, Carries}
@@ -27,7 +27,7 @@ use Rattle.cx_sharing.specs.SharedDesign.{remaining, shared_part, shared_design}
 use Rattle.cx_sharing.specs.Following.{has_state, SharedStands, shared_fault}
 use Rattle.cx_sharing.proofs.KeptLemmas.{keeper_stays, new_apart}
 use Rattle.cx_sharing.proofs.KeeperLemmas.{keeper_kind, keeper_within, keeper_past, other_kept}
-use Rattle.cx_sharing.proofs.RemainingLemmas.{kind_left, length_left, staying_within, staying_past, at_kind, cell_is, none_past}
+use Rattle.cx_sharing.proofs.RemainingLemmas.{kind_left, length_left, staying_within, staying_past, cell_is, none_past}
 
 -- A CHILD AND THE SHARED ONE: what an instance asks of its children
 pub record IsBeside (child twin : Instance) : Type 0 where

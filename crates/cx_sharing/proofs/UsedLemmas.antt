@@ -12,7 +12,7 @@ use Rattle.cx_meaning.specs.Designs.{PlainAssign, PlainGroup, PlainComponent, gr
 use Rattle.cx_meaning.specs.Instances.{Instance, part_of}
 use Rattle.cx_meaning.specs.Active.{Active, Owned, owned, owned_by_groups, source_order, offset_of, same_port}
 use Rattle.cx_meaning.specs.Control.{targets_cell, assigns_drive}
-use Rattle.cx_meaning.specs.Sights.{In}
+use Rattle.cx_text.specs.Members.{In}
 use Rattle.cx_meaning.proofs.InstancesLemmas.{just_same}
 use Rattle.cx_rules.specs.Items.{sources_of, statements_in}
 use Rattle.cx_rules.specs.Footprints.{AssignNames, Leads}
