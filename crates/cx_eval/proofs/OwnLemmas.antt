@@ -10,6 +10,7 @@ use Rattle.cx_meaning.specs.declared.ports.PortRef.TheVariants.{Cell}
 use Rattle.cx_meaning.specs.Designs.{PlainKind, OfPrimitive, OfComponent, PlainCell, PlainComponent, PlainDesign, component_at, no_component}
 use Rattle.cx_meaning.specs.Instances.{Instance, Cells, OfRow, add_cell, cell_at, cells_for, cells_of, instance_at, part_of, paths_of, tree_of, tree_within}
 use Rattle.cx_meaning.specs.Sights.{seen, unheld}
+use Rattle.cx_meaning.proofs.InstancesLemmas.{kind_skip}
 use Rattle.cx_rules.specs.Ports.{cell_width, component_of, width_of}
 use Rattle.cx_rules.specs.Sizes.{sizes_of}
 use Rattle.cx_rules.specs.Wellformed.{IsThere, port_count}
@@ -39,14 +40,10 @@ module _ (child : ℕ → Instance) where
   first_row (OfPrimitive q) rest p e = let same : q ≡ p = cc in ap (λ r. OfRow (row_of r)) same
   first_row (OfComponent k) rest p e = absurd (cc)
 
-  later_row : (kind : PlainKind) (rest : Cells) (c : ℕ) → cell_at (add_cell child kind rest) (suc c) ≡ cell_at rest c
-  later_row (OfPrimitive q) rest c = refl
-  later_row (OfComponent k) rest c = refl
-
   row_stands : (cells : List PlainCell) (c : ℕ) (p : PrimitiveRow) → kind_at cells c ≡ Some (OfPrimitive p) → cell_at (cells_for child cells) c ≡ OfRow (row_of p)
   row_stands [] c p e = absurd (cc)
   row_stands (cell ∷ cells) zero p e = first_row cell.kind (cells_for child cells) p e
-  row_stands (cell ∷ cells) (suc c) p e = later_row cell.kind (cells_for child cells) c ∙ row_stands cells c p e
+  row_stands (cell ∷ cells) (suc c) p e = kind_skip child cell.kind (cells_for child cells) c ∙ row_stands cells c p e
 
 own_row : (d : PlainDesign) (k c : ℕ) (p : PrimitiveRow) → k < length d.components → kind_at (component_at d k).cells c ≡ Some (OfPrimitive p) → cell_at (cells_of (component_of d k)) c ≡ OfRow (row_of p)
 own_row d k c p lt e = choice (length d.components) lt

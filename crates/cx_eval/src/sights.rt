@@ -50,3 +50,22 @@ pub(crate) fn seen_in(
     let asking = ask(tables, state, active, instance);
     port_seen(&asking, marks, port)
 }
+
+/// Finds ports of an instance in the order that is listed for what is active there, where what is marked is right. It takes no
+/// memory.
+pub(crate) fn fill_in(
+    tables: &Tables<'_>,
+    marks: &mut Marks,
+    state: &State,
+    active: &Active,
+    instance: usize,
+)
+    requires tables { AreTables tables.now }
+    requires state { IsStateOf (design_of tables.now) (plain_state state.now) }
+    requires instance { instance < length (paths_of (tree_of (design_of tables.now))) }
+    requires active { CanAct (design_of tables.now) instance active.now }
+    requires ready { AreReady tables.now (plain_state state.now) instance active.now marks.old }
+    ensures ready { AreReady tables.now (plain_state state.now) instance active.now marks.new }
+{
+    marks.fill(&ask(tables, state, active, instance));
+}

@@ -12,7 +12,7 @@ ghost use Rattle.cx_eval.specs.Evaluated.{CanAct, IsPort, Turned};
 ghost use Rattle.cx_eval.specs.Tables.{AreMarksOf, AreReady, AreRooms, AreTables, design_of};
 
 use crate::cycling::cycle_listed;
-use crate::sights::seen_in;
+use crate::sights::{fill_in, seen_in};
 use crate::tables::Tables;
 use cx_design::{Active, PortFault, PortRef, Seen};
 use cx_eval_cycle::CellRoom;
@@ -70,6 +70,7 @@ pub(crate) fn turn_in(
         PortRef::Done(group),
     );
     if is_zero(&hole) {
+        fill_in(tables, marks, state, &active, instance);
         GroupTurn::Cycled(cycle_listed(tables, marks, rooms, state, &active, instance, cells))
     } else {
         GroupTurn::Seen(hole)

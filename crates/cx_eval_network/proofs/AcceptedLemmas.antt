@@ -10,7 +10,7 @@ use Rattle.cx_meaning.specs.Designs.{PlainDesign, PlainComponent, component_at}
 use Rattle.cx_meaning.specs.Instances.{Path, instance_at, part_of, tree_of}
 use Rattle.cx_meaning.specs.Active as plain
 use Rattle.cx_meaning.specs.Active.{Owned, source_order, nothing}
-use Rattle.cx_meaning.specs.Sights.{In}
+use Rattle.cx_text.specs.Members.{In}
 use Rattle.cx_rules.specs.Accepted.{IsAccepted}
 use Rattle.cx_rules.specs.Circles.{IsAcyclic}
 use Rattle.cx_rules.specs.Footprints.{Leads}

@@ -16,7 +16,7 @@ use Rattle.cx_design.specs.declared.actives.Active.{Active}
 use Rattle.cx_design.specs.declared.actives.Active.TheVariants as actives
 use Rattle.cx_design.specs.PlainActives.{plain_active}
 use Rattle.cx_state.specs.States.{inputs_held}
-use Rattle.cx_design_leads.proofs.NodeLemmas.{component_cells}
+use Rattle.cx_design_parts.proofs.ReadLemmas.{component_cells}
 use Rattle.cx_eval_network.specs.declared.numbering.NodePort.{NodePort}
 use Rattle.cx_eval_network.specs.declared.numbering.Nodes.{Nodes}
 use Rattle.cx_eval_network.specs.Nodes.{IsAt, IsPortOf, first_node, found_at, part_at}

@@ -2,13 +2,15 @@
 use Rattle.std.proofs.Common.{◌≡◌, ℕ, zero, suc, ◌<◌, inl, true, false, Option, Some, None, List, [], ◌∷◌, ◌++◌, drop, get_or, length, map, refl, sym, ap, ◌∙◌, subst, arith}
 use Rattle.std.specs.Prelude.{IfNone, option_to_list, slice_get}
 use Rattle.std.proofs.lemmas.List.{append-nil}
+use Rattle.cx_text.proofs.MemberLaws.{in_left, in_right}
+use Rattle.cx_text.specs.Members.{In}
 use Rattle.cx_meaning.specs.declared.ports.PortRef.{PortRef}
 use Rattle.cx_meaning.specs.declared.ports.PlacedPort.{PlacedPort}
 use Rattle.cx_meaning.specs.declared.sights.Seen.{Seen}
 use Rattle.cx_meaning.specs.Active.{Owned, if_acting}
 use Rattle.cx_meaning.specs.Designs.{PlainGuard, PlainGuards, Always, Atom, Negation, All, Any, Compared, Within, no_guards, a_guard}
 use Rattle.cx_meaning.specs.Instances.{Instance}
-use Rattle.cx_meaning.specs.Sights.{In, Look, guard_truth, all_truth, any_truth, target_seen}
+use Rattle.cx_meaning.specs.Sights.{Look, guard_truth, all_truth, any_truth, target_seen}
 use Rattle.cx_meaning.specs.Truths.{truth_of, not_truth, and_truth, or_truth, compared}
 use Rattle.cx_rules.specs.Items.{operands_of, operands_in, sources_of}
 use Rattle.cx_design_leads.specs.Nodes.{node_of}
@@ -24,7 +26,6 @@ use Rattle.cx_eval_network.specs.LeadPorts.{named_by}
 use Rattle.cx_eval_network.specs.Networks.{shown}
 use Rattle.cx_eval_network.specs.Planned.{by_number, guard_plan, guard_plans, numbers_of, port_plan}
 use Rattle.cx_eval_network.proofs.PlanLemmas.{numbers_of-append}
-use Rattle.cx_meaning.proofs.SightsLaws.{in_left, in_right}
 
 -- WHAT MARKS SHOW of what is known is what is seen
 module _ (i : Instance) (look : Look) (own : List NodeMark) (agree : Agree i look own) where

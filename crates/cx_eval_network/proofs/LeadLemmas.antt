@@ -1,25 +1,25 @@
 -- The list of what a port depends on has that and nothing else.
 use Rattle.std.proofs.Common.{◌≡◌, ℕ, zero, suc, ◌<◌, ◌⊎◌, inl, inr, ⊎_elim, ◌↔◌, List, [], ◌∷◌, ◌++◌, length, map, refl, sym, ap, ◌∙◌, subst, arith}
 use Rattle.std.proofs.lemmas.Bool.{cases_lt}
+use Rattle.cx_text.proofs.MemberLaws.{in_either, in_left, in_right}
+use Rattle.cx_text.specs.Members.{In}
 use Rattle.cx_prim.specs.declared.ports.Side.{Side}
 use Rattle.cx_prim.specs.declared.ports.Side.TheVariants as sides
 use Rattle.cx_prim.specs.Rows.{Row}
-use Rattle.cx_prim.specs.Table.{PrimitiveRow, row_of}
 use Rattle.cx_meaning.specs.declared.ports.PortRef.{PortRef}
 use Rattle.cx_meaning.specs.declared.ports.PortRef.TheVariants as ports
 use Rattle.cx_meaning.specs.declared.ports.PlacedPort.{PlacedPort}
 use Rattle.cx_meaning.specs.Rows.{side_of}
-use Rattle.cx_meaning.specs.Designs.{PlainComponent, PlainAssign, PlainDesign, PlainGuard, Always, Atom, Negation, All, Any, Compared, Within, PlainGuards, no_guards, a_guard, PlainKind, OfPrimitive, OfComponent, PlainCell, component_at}
-use Rattle.cx_meaning.specs.Instances.{Instance, Cells, At, add_cell, cells_for, tree_within, Nothing, OfRow, OfInstance, cell_at, cells_of, part_of}
+use Rattle.cx_meaning.specs.Designs.{PlainComponent, PlainAssign, PlainDesign, PlainGuard, Always, Atom, Negation, All, Any, Compared, Within, PlainGuards, no_guards, a_guard}
+use Rattle.cx_meaning.specs.Instances.{Instance, At, Nothing, OfRow, OfInstance, cell_at, cells_of, part_of}
 use Rattle.cx_meaning.specs.Active.{Active, Acting, drivers}
-use Rattle.cx_meaning.specs.Sights.{In, GuardNames, AnyNames, PartPort, Go, AnInput, AnOutput, ItsDone, numbered, part_port}
+use Rattle.cx_meaning.specs.Sights.{GuardNames, AnyNames, PartPort, Go, AnInput, AnOutput, ItsDone, numbered, part_port}
 use Rattle.cx_rules.specs.Items.{sources_of, operands_of, operands_in}
 use Rattle.cx_rules.specs.Footprints.{AssignNames, Mentions, SideLeads, PartLeads, CellLeads, Leads}
 use Rattle.cx_rules.specs.Ports.{component_of}
 use Rattle.cx_design_parts.specs.Outputs.{ReadsFirst, read_count}
-use Rattle.cx_design_parts.proofs.OutputLemmas.{row_of-reads_first}
+use Rattle.cx_design_parts.proofs.ReadLemmas.{AllRead, all_read}
 use Rattle.cx_eval_network.specs.LeadPorts.{named_by, side_leads, part_leads, cell_leads, lead_ports}
-use Rattle.cx_meaning.proofs.SightsLaws.{in_either, in_left, in_right}
 use Rattle.cx_text.proofs.NumberLaws.{lt_true, true_lt}
 
 mapped_append : (xs ys : List PlacedPort) (q : PortRef) → In (map (λ p. p.port) xs) q ⊎ In (map (λ p. p.port) ys) q → In (map (λ p. p.port) (xs ++ ys)) q
@@ -142,30 +142,6 @@ module _ (part : PlainComponent) (act : Active) (c p : ℕ) (q : PortRef) where
   cell_to Nothing first i = i
   cell_to (OfRow row) first i = side_to row (side_of row p) (first row refl) refl i
   cell_to (OfInstance child) first i = part_to (part_port (part_of child) p) i
-
--- the outputs of each primitive of a component read its first inputs
-abbrev pub AllRead : Cells → Type 0
-AllRead cells = (c : ℕ) (row : Row) → cell_at cells c ≡ OfRow row → ReadsFirst row
-
-row_reads : (p : PrimitiveRow) (row : Row) → OfRow (row_of p) ≡ OfRow row → ReadsFirst row
-row_reads p row e = subst ReadsFirst (same_row e) (row_of-reads_first p)
-  where
-    same_row : OfRow (row_of p) ≡ OfRow row → row_of p ≡ row
-    same_row e = cc
-
-add_reads : (child : ℕ → Instance) (kind : PlainKind) (rest : Cells) → AllRead rest → AllRead (add_cell child kind rest)
-add_reads child (OfPrimitive p) rest h zero row e = row_reads p row e
-add_reads child (OfPrimitive p) rest h (suc c) row e = h c row e
-add_reads child (OfComponent k) rest h zero row e = absurd (cc)
-add_reads child (OfComponent k) rest h (suc c) row e = h c row e
-
-for_reads : (child : ℕ → Instance) (cells : List PlainCell) → AllRead (cells_for child cells)
-for_reads child [] c row e = absurd (cc)
-for_reads child (cell ∷ cells) c row e = add_reads child cell.kind (cells_for child cells) (for_reads child cells) c row e
-
-pub all_read : (d : PlainDesign) (n k : ℕ) → AllRead (cells_of (tree_within d n k))
-all_read d zero k c row e = absurd (cc)
-all_read d (suc n) k c row e = for_reads (tree_within d n) (component_at d k).cells c row e
 
 pub from_leads : (i : Instance) (act : Active) (p q : PortRef) → AllRead (cells_of i) → Leads i act p q → In (lead_ports i act p) q
 from_leads i act (ports.Cell c p) q first l = cell_from (part_of i) act c p q (cell_at (cells_of i) c) (first c) l

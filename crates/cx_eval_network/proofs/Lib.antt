@@ -19,4 +19,7 @@ pub mod EvaluateLemmas
 pub mod LookLemmas
 pub mod GatheredLemmas
 pub mod OwnLemmas
+pub mod SoleLemmas
+pub mod ListLemmas
+pub mod ListingLemmas
 pub mod ApartLemmas

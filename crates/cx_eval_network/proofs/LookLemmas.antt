@@ -1,6 +1,8 @@
 -- A port by one step from what the ports of its instance are seen as, and where its nodes lead.
 use Rattle.std.proofs.Common.{◌≡◌, ℕ, zero, suc, ◌+◌, ◌≤◌, ◌<◌, inl, inr, ⊎_elim, Option, Some, None, List, [], ◌∷◌, ◌++◌, drop, length, map, refl, sym, ap, ◌∙◌, subst, arith}
 use Rattle.std.specs.Prelude.{option_map, slice_get, if◌then◌else◌}
+use Rattle.cx_text.proofs.MemberLaws.{in_left}
+use Rattle.cx_text.specs.Members.{In}
 use Rattle.cx_prim.specs.Rows.{Row}
 use Rattle.cx_prim.specs.declared.ports.Side.{Side}
 use Rattle.cx_prim.specs.declared.ports.Side.TheVariants as sides
@@ -12,9 +14,8 @@ use Rattle.cx_meaning.specs.Active as plain
 use Rattle.cx_meaning.specs.Active.{Owned, drivers, source_order}
 use Rattle.cx_meaning.specs.Instances.{Instance, At, Nothing, OfRow, OfInstance, State, cell_at, cells_of, part_of, tree_of, under}
 use Rattle.cx_meaning.specs.Rows.{side_of}
-use Rattle.cx_meaning.specs.Sights.{Below, Held, In, Look, PartPort, Go, AnInput, AnOutput, ItsDone, cell_step, outputs_below, part_port, part_step, side_step, step, target_seen}
+use Rattle.cx_meaning.specs.Sights.{Below, Held, Look, PartPort, Go, AnInput, AnOutput, ItsDone, cell_step, outputs_below, part_port, part_step, side_step, step, target_seen}
 use Rattle.cx_meaning.proofs.InstancesLemmas.{literal_is}
-use Rattle.cx_meaning.proofs.SightsLaws.{in_left}
 use Rattle.cx_meaning.proofs.SightsLemmas.{outputs_at}
 use Rattle.cx_rules.specs.Footprints.{Leads}
 use Rattle.cx_design.specs.declared.actives.Active.{Active}

@@ -1,10 +1,12 @@
 -- Where the nodes of a network lead.
 use Rattle.std.proofs.Common.{◌≡◌, ℕ, zero, suc, ◌+◌, ◌<◌, ◌⊎◌, inl, inr, ⊎_elim, Bool, true, false, nat_le, Option, Some, None, List, [], ◌∷◌, ◌++◌, get_or, length, slice_get, refl, sym, ap, ◌∙◌, subst, arith}
 use Rattle.std.specs.Prelude.{option_map, option_to_list}
+use Rattle.cx_text.proofs.MemberLaws.{in_either}
+use Rattle.cx_text.specs.Members.{In}
 use Rattle.cx_meaning.specs.declared.ports.PortRef.{PortRef}
 use Rattle.cx_meaning.specs.declared.ports.PortRef.TheVariants as ports
 use Rattle.cx_meaning.specs.Instances.{Instance, At, Nothing, OfRow, OfInstance, Path, cell_at, cells_of, part_of, paths_of, tree_of}
-use Rattle.cx_meaning.specs.Sights.{In, PartPort, Go, AnInput, AnOutput, ItsDone, part_port}
+use Rattle.cx_meaning.specs.Sights.{PartPort, Go, AnInput, AnOutput, ItsDone, part_port}
 use Rattle.cx_rules.specs.Footprints.{Leads}
 use Rattle.cx_state.specs.Tables.{IsNumber, child_of, row_at}
 use Rattle.cx_state.proofs.PreOrder.{stands}
@@ -21,7 +23,6 @@ use Rattle.cx_eval_network.specs.LeadPorts.{lead_ports}
 use Rattle.cx_eval_network.specs.Networks.{Asked, path_at, instance_of, active_at, nodes_of, output_node, child_node, below_nodes, if_asked, asked_port, leads_of, leads_at, IsNetwork}
 use Rattle.cx_eval_network.proofs.LeadLemmas.{lead_ports_are}
 use Rattle.cx_text.proofs.ListLaws.{there_below}
-use Rattle.cx_meaning.proofs.SightsLaws.{in_either}
 
 listed : {A : Type 0} (o : Option A) (x : A) → In (option_to_list o) x → o ≡ Some x
 listed None x i = absurd i

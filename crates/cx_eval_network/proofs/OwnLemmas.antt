@@ -2,6 +2,8 @@
 use Rattle.std.proofs.Common.{◌≡◌, ℕ, zero, suc, ◌+◌, ◌-◌, ◌^◌, ◌≤◌, ◌<◌, ◌⊎◌, inl, inr, ⊎_elim, nat_lt, Option, Some, None, List, [], ◌∷◌, ◌++◌, get_or, length, refl, sym, ap, ◌∙◌, subst, arith}
 use Rattle.std.specs.Prelude.{option_map, option_to_list, slice_get}
 use Rattle.std.proofs.Math.Path.{fun_ext}
+use Rattle.cx_text.proofs.MemberLaws.{in_left, in_right}
+use Rattle.cx_text.specs.Members.{In}
 use Rattle.cx_bits.specs.BitVector.{BitVector}
 use Rattle.cx_prim.specs.CellStates.{CellState}
 use Rattle.cx_prim.specs.declared.ports.PortRow.{PortRow}
@@ -15,8 +17,7 @@ use Rattle.cx_meaning.specs.Designs.{PlainComponent, component_at}
 use Rattle.cx_meaning.specs.Active as plain
 use Rattle.cx_meaning.specs.Instances.{Instance, At, OfRow, OfInstance, State, cell_at, cells_of, instance_at, part_of, tree_of, under}
 use Rattle.cx_meaning.specs.Rows.{side_of}
-use Rattle.cx_meaning.specs.Sights.{Below, In, Look, cell_step, gather, numbered, of_option, output_seen, side_step}
-use Rattle.cx_meaning.proofs.SightsLaws.{in_left, in_right}
+use Rattle.cx_meaning.specs.Sights.{Below, Look, cell_step, gather, numbered, of_option, output_seen, side_step}
 use Rattle.cx_meaning.proofs.SightsLemmas.{outputs_at}
 use Rattle.cx_rules.specs.Ports.{cell_width, width_of}
 use Rattle.cx_rules.proofs.PortsLemmas.{part_is}

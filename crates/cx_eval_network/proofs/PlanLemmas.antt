@@ -2,13 +2,14 @@
 use Rattle.std.proofs.Common.{◌≡◌, ℕ, ◌+◌, ◌<◌, inl, inr, ⊎_elim, Option, Some, None, List, [], ◌∷◌, ◌++◌, get_or, length, map, take, refl, sym, ap, ◌∙◌, subst, append_assoc}
 use Rattle.std.specs.Prelude.{option_map, option_to_list, slice_get}
 use Rattle.std.proofs.lemmas.List.{append-nil, map-append, take_more}
+use Rattle.cx_text.proofs.MemberLaws.{in_either}
 use Rattle.cx_graphs.proofs.Lists.{get_last}
 use Rattle.cx_meaning.specs.declared.ports.PortRef.{PortRef}
 use Rattle.cx_meaning.specs.declared.ports.PlacedPort.{PlacedPort}
 use Rattle.cx_meaning.specs.Designs as plain
 use Rattle.cx_meaning.specs.Designs.{PlainGuard}
 use Rattle.cx_meaning.specs.Instances.{Instance}
-use Rattle.cx_meaning.specs.Sights.{In}
+use Rattle.cx_text.specs.Members.{In}
 use Rattle.cx_design_leads.specs.Nodes.{node_of, node_count}
 use Rattle.cx_design_leads.proofs.NodeLemmas.{distinct, within}
 use Rattle.cx_eval_network.specs.declared.planned.PortPlan.{PortPlan}
@@ -16,7 +17,6 @@ use Rattle.cx_eval_network.specs.Networks.{Asked, nodes_of}
 use Rattle.cx_eval_network.specs.Nodes.{first_node, part_at}
 use Rattle.cx_eval_network.specs.Planned.{a_guard, guard_plan, guard_plans, guards_of, numbers_of}
 use Rattle.cx_eval_network.specs.Plans.{IsPlanOf}
-use Rattle.cx_meaning.proofs.SightsLaws.{in_either}
 
 -- NUMBERS of ports
 module _ (i : Instance) where

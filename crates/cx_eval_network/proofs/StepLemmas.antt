@@ -4,33 +4,15 @@ use Rattle.std.specs.Prelude.{slice_get}
 use Rattle.std.proofs.Math.Seq.{drop-cons}
 use Rattle.cx_prim.specs.CellStates.{CellState, IsState}
 use Rattle.cx_prim.specs.Rows.{Row}
-use Rattle.cx_prim.specs.Table.{row_of}
 use Rattle.cx_meaning.specs.Calls as calls
-use Rattle.cx_meaning.specs.Designs.{PlainCell, PlainComponent, PlainDesign, PlainGroup, PlainKind, OfPrimitive, OfComponent, component_at, no_group}
-use Rattle.cx_meaning.specs.Instances.{Instance, Cells, OfRow, add_cell, cell_at, cells_for, cells_of, part_of, tree_within}
+use Rattle.cx_meaning.specs.Designs.{PlainComponent, PlainDesign, PlainGroup, component_at, no_group}
+use Rattle.cx_meaning.specs.Instances.{Cells, OfRow, cell_at, cells_of, part_of, tree_within}
 use Rattle.cx_rules.specs.Ports.{component_of}
 use Rattle.cx_design.specs.declared.groups.Assign.{Assign}
 use Rattle.cx_design.specs.PlainForms.{plain_assigns}
-use Rattle.cx_state.specs.States.{HoldCells, HoldsKind}
-use Rattle.cx_meaning.proofs.InstancesLemmas.{kind_skip}
+use Rattle.cx_state.specs.States.{HoldCells}
+use Rattle.cx_state.proofs.HeldLemmas.{Holds, cells_hold}
 use Rattle.cx_rules.proofs.PortsLemmas.{part_is}
-
--- a cell holds a state of a row
-pub record Holds (row : Row) (h : Option CellState) : Type 0 where
-  pub held : CellState
-  pub is : h ≡ Some held
-  pub fits : IsState row.shape held
-
-kind_holds : (trees : ℕ → Instance) (kind : PlainKind) (rest : Cells) (row : Row) (h : Option CellState) → HoldsKind kind h → cell_at (add_cell trees kind rest) zero ≡ OfRow row → Holds row h
-kind_holds trees (OfPrimitive p) rest row None k e = absurd k
-kind_holds trees (OfPrimitive p) rest row (Some held) k e = let same : row_of p ≡ row = cc in record { held = held; is = refl; fits = subst (λ (r : Row). IsState r.shape held) same k }
-kind_holds trees (OfComponent j) rest row h k e = absurd (cc)
-
-cells_hold : (trees : ℕ → Instance) (cells : List PlainCell) (hs : List (Option CellState)) (c : ℕ) (row : Row) → HoldCells cells hs → cell_at (cells_for trees cells) c ≡ OfRow row → Holds row (get_or hs c None)
-cells_hold trees [] hs c row k e = absurd (cc)
-cells_hold trees (x ∷ xs) [] c row k e = absurd k
-cells_hold trees (x ∷ xs) (h ∷ hs) zero row k e = kind_holds trees x.kind (cells_for trees xs) row h k.0 e
-cells_hold trees (x ∷ xs) (h ∷ hs) (suc c) row k e = cells_hold trees xs hs c row k.1 (sym (kind_skip trees x.kind (cells_for trees xs) c) ∙ e)
 
 pub component_holds : (d : PlainDesign) (k : ℕ) (hs : List (Option CellState)) (c : ℕ) (row : Row) → HoldCells (component_at d k).cells hs → cell_at (cells_of (component_of d k)) c ≡ OfRow row → Holds row (get_or hs c None)
 component_holds d k hs c row holds e = choice (length d.components) e

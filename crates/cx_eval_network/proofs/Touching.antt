@@ -8,7 +8,7 @@ use Rattle.cx_meaning.specs.declared.sights.Seen.{Seen}
 use Rattle.cx_eval_network.specs.declared.marks.NodeMark.{NodeMark}
 use Rattle.cx_eval_network.specs.declared.marks.NodeMark.TheVariants.{Unseen, Open, Known}
 use Rattle.cx_eval_network.specs.Demands.{AllUnseen, Ready}
-use Rattle.cx_eval_network.specs.Touches.{AreTouched, HaveRoom, unseen}
+use Rattle.cx_eval_network.specs.Touches.{AreTouched, HaveRoom, unseen, weight}
 use Rattle.cx_eval_network.proofs.DemandSteps.{unseen_le, unseen_set}
 use Rattle.cx_text.proofs.ListLaws.{there_below, set_same, set_other}
 use Rattle.cx_text.proofs.OptionLaws.{none_is_some}
@@ -38,10 +38,10 @@ none_touched nodes marks long all = record {
 }
 
 module _ (nodes : List ℕ) (count : ℕ) (marks : List NodeMark) (t : AreTouched nodes count marks) where
-  -- OPENED
-  module _ (node : ℕ) (e : slice_get marks node ≡ Some Unseen) where
-    counts : unseen (set marks node Open) + 1 ≡ unseen marks
-    counts = let u = unseen_set marks node Unseen Open e in omega (arith, u)
+  -- MARKED with a mark by which something is known
+  module _ (node : ℕ) (e : slice_get marks node ≡ Some Unseen) (mark : NodeMark) (seen : weight mark ≡ 0) where
+    counts : unseen (set marks node mark) + 1 ≡ unseen marks
+    counts = let u = unseen_set marks node Unseen mark e in omega (arith, u, seen)
 
     pub node_within : node < length marks
     node_within = there_below marks node Unseen e
@@ -55,18 +55,18 @@ module _ (nodes : List ℕ) (count : ℕ) (marks : List NodeMark) (t : AreTouche
     before : (j : ℕ) → j < count → get_or (set nodes count node) j 0 ≡ get_or nodes j 0
     before j lt = get_or-set_other nodes count j node 0 (λ same. (let f : j ≡ count = same in omega arith))
 
-    pub opened : AreTouched (set nodes count node) (count + 1) (set marks node Open)
-    opened = record {
-      long = length-set nodes count node ∙ t.long ∙ sym (length-set marks node Open);
-      room = (let r = t.room in let u = counts in let s = length-set marks node Open in omega (arith, r, u, s));
-      within = λ j lt. subst (λ k. get_or (set nodes count node) j 0 < k) (sym (length-set marks node Open))
+    pub marked : AreTouched (set nodes count node) (count + 1) (set marks node mark)
+    marked = record {
+      long = length-set nodes count node ∙ t.long ∙ sym (length-set marks node mark);
+      room = (let r = t.room in let u = counts in let s = length-set marks node mark in omega (arith, r, u, s));
+      within = λ j lt. subst (λ k. get_or (set nodes count node) j 0 < k) (sym (length-set marks node mark))
           (⊎_elim
           (λ (same : j ≡ count). subst (λ k. k < length marks) (sym (ap (λ k. get_or (set nodes count node) k 0) same ∙ here)) node_within)
           (λ (ne : j ≢ count). let less : j < count = inner j lt ne in subst (λ k. k < length marks) (sym (before j less)) (t.within j less))
           (same_or j count));
       listed = λ n m at ne. ⊎_elim
           (λ (same : n ≡ node). (count, omega arith, here ∙ sym same))
-          (λ (other : n ≢ node). let o = t.listed n m (sym (set_other marks node n Open other) ∙ at) ne in (o.0, (let lt = o.1 in omega (arith, lt)), before o.0 o.1 ∙ o.2))
+          (λ (other : n ≢ node). let o = t.listed n m (sym (set_other marks node n mark other) ∙ at) ne in (o.0, (let lt = o.1 in omega (arith, lt)), before o.0 o.1 ∙ o.2))
           (same_or n node);
     }
       where

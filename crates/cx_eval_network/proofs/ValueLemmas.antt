@@ -2,6 +2,8 @@
 use Rattle.std.proofs.Common.{◌≡◌, ℕ, ◌+◌, ◌<◌, ◌≤◌, ◌⊎◌, inl, inr, ⊎_elim, Bool, true, false, nat_le, Option, Some, None, List, [], ◌∷◌, ◌++◌, length, map, slice_get, refl, sym, ap, ◌∙◌, subst, append_assoc, arith}
 use Rattle.std.proofs.Math.Path.{fun_ext}
 use Rattle.std.specs.Prelude.{option_map, option_to_list, if◌then◌else◌}
+use Rattle.cx_text.proofs.MemberLaws.{in_left, in_right}
+use Rattle.cx_text.specs.Members.{In}
 use Rattle.cx_prim.specs.declared.ports.Side.{Side}
 use Rattle.cx_prim.specs.declared.ports.Side.TheVariants as sides
 use Rattle.cx_prim.specs.Rows.{Row}
@@ -12,7 +14,7 @@ use Rattle.cx_meaning.specs.declared.sights.Seen.TheVariants.{Undefined, Value}
 use Rattle.cx_meaning.specs.Designs.{PlainAssign, PlainComponent, PlainDesign, component_at, group_at}
 use Rattle.cx_meaning.specs.Instances.{Instance, At, Nothing, OfRow, OfInstance, Path, State, cell_at, cells_of, instance_at, part_of, tree_of, under}
 use Rattle.cx_meaning.specs.Active.{Active, nothing}
-use Rattle.cx_meaning.specs.Sights.{In, Below, Held, Look, PartPort, Go, AnInput, AnOutput, ItsDone, part_port, side_step, part_step, cell_step, step, seen, unheld, outputs_below}
+use Rattle.cx_meaning.specs.Sights.{Below, Held, Look, PartPort, Go, AnInput, AnOutput, ItsDone, part_port, side_step, part_step, cell_step, step, seen, unheld, outputs_below}
 use Rattle.cx_rules.specs.Footprints.{AssignNames, Leads}
 use Rattle.cx_rules.specs.Items.{sources_of}
 use Rattle.cx_rules.specs.Ports.{component_of}
@@ -37,14 +39,14 @@ use Rattle.cx_eval_network.proofs.FoundLemmas.{found_is}
 use Rattle.cx_eval_network.proofs.NodeLemmas.{nodes_apart, nodes_within}
 use Rattle.cx_eval_network.specs.LeadPorts.{lead_ports}
 use Rattle.cx_eval_network.specs.Networks.{Asked, path_at, instance_of, active_at, held_at, seen_at, nodes_of, output_node, child_node, below_nodes, if_asked, asked_port, value_of, value_at, leads_of, leads_at, shown, node_shown, look_at, below_at, IsNetwork}
-use Rattle.cx_eval_network.proofs.LeadLemmas.{AllRead, all_read, assign_named, lead_ports_are}
+use Rattle.cx_design_parts.proofs.ReadLemmas.{AllRead, all_read}
+use Rattle.cx_eval_network.proofs.LeadLemmas.{assign_named, lead_ports_are}
 use Rattle.cx_eval_network.proofs.NetworkLemmas.{at_is, child_later, number_at, same_instance}
 use Rattle.cx_eval_network.proofs.OutputLemmas.{few_read}
 use Rattle.cx_meaning.proofs.DesignsLemmas.{group_there}
 use Rattle.cx_text.proofs.NumberLaws.{apart_above, true_lt}
 use Rattle.cx_laws.proofs.TreeLemmas.{output_there}
 use Rattle.cx_meaning.proofs.InstancesLemmas.{literal_is}
-use Rattle.cx_meaning.proofs.SightsLaws.{in_left, in_right}
 use Rattle.cx_rules.proofs.PortsLemmas.{part_is}
 use Rattle.cx_meaning.proofs.SightsLemmas.{outputs_at}
 

@@ -1,7 +1,8 @@
 -- Nodes that depend on one another, and what is known of them.
 use Rattle.std.specs.Prelude.{◌≡◌, ℕ, ◌<◌, Bool, true, false, List, Option, Some, None, slice_get}
 use Rattle.cx_meaning.specs.declared.sights.Seen.{Seen}
-use Rattle.cx_meaning.specs.Sights.{In}
+use Rattle.cx_meaning.specs.declared.sights.Seen.TheVariants.{Undefined}
+use Rattle.cx_text.specs.Members.{In}
 use Rattle.cx_eval_network.specs.declared.marks.NodeMark.{NodeMark}
 use Rattle.cx_eval_network.specs.declared.marks.NodeMark.TheVariants.{Unseen, Open, Known}
 use Rattle.cx_eval_network.specs.declared.network.Found.{Found}
@@ -28,6 +29,19 @@ is_known (Some (Known x)) = true
 abbrev pub known_at : List NodeMark → ℕ → Bool
 known_at marks n = is_known (slice_get marks n)
 
+abbrev pub is_unseen : Option NodeMark → Bool
+is_unseen None = false
+is_unseen (Some Unseen) = true
+is_unseen (Some Open) = false
+is_unseen (Some (Known x)) = false
+
+-- what a mark shows
+abbrev pub shown : Option NodeMark → Seen
+shown None = Undefined
+shown (Some Unseen) = Undefined
+shown (Some Open) = Undefined
+shown (Some (Known x)) = x
+
 -- these nodes are known with their values
 abbrev pub AreKnown : (ℕ → Seen) → List NodeMark → List ℕ → Type 0
 AreKnown value marks nodes = (m : ℕ) → In nodes m → slice_get marks m ≡ Some (Known (value m))
@@ -50,8 +64,12 @@ pub record Ready (value : ℕ → Seen) (marks : List NodeMark) : Type 0 where
 abbrev pub AllUnseen : List NodeMark → Type 0
 AllUnseen marks = (n : ℕ) (m : NodeMark) → slice_get marks n ≡ Some m → m ≡ Unseen
 
+-- what was known still is
+abbrev pub Keeps : List NodeMark → List NodeMark → Type 0
+Keeps old marks = (n : ℕ) (x : Seen) → slice_get old n ≡ Some (Known x) → slice_get marks n ≡ Some (Known x)
+
 -- after a demand: the node is known with its value, and so is what was known before
 pub record Demanded (value : ℕ → Seen) (root : ℕ) (old marks : List NodeMark) : Type 0 where
   pub ready : Ready value marks
   pub found : slice_get marks root ≡ Some (Known (value root))
-  pub kept : (n : ℕ) (x : Seen) → slice_get old n ≡ Some (Known x) → slice_get marks n ≡ Some (Known x)
+  pub kept : Keeps old marks

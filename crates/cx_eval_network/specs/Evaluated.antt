@@ -1,5 +1,6 @@
 -- What marks of the ports of an instance, by their numbers there, come to.
 use Rattle.std.specs.Prelude.{◌≡◌, ◌<◌, ◌+◌, ℕ, true, false, nat_le, nat_lt, ◌&&◌, List, Option, Some, None, Ok, Err, length, slice_get}
+use Rattle.cx_text.specs.Members.{In}
 use Rattle.cx_bits.specs.BitVector.{BitVector}
 use Rattle.cx_meaning.specs.declared.ports.PortRef.{PortRef}
 use Rattle.cx_meaning.specs.declared.sights.Seen.{Seen}
@@ -7,7 +8,7 @@ use Rattle.cx_meaning.specs.declared.sights.Seen.TheVariants.{Value}
 use Rattle.cx_prim.specs.declared.ports.PortRow.{PortRow}
 use Rattle.cx_meaning.specs.Active.{Owned}
 use Rattle.cx_meaning.specs.Instances.{Instance}
-use Rattle.cx_meaning.specs.Sights.{Look, Lacks, Given, In}
+use Rattle.cx_meaning.specs.Sights.{Look, Lacks, Given}
 use Rattle.cx_meaning.specs.Truths.{Truth, One, Zero, truth_of_bit, truth_of, not_truth, and_truth, or_truth, compared}
 use Rattle.cx_design_leads.specs.Nodes.{node_of}
 use Rattle.cx_eval_drives.specs.Drives.{acting_of}
@@ -18,10 +19,9 @@ use Rattle.cx_eval_network.specs.declared.network.Found.{Found}
 use Rattle.cx_eval_network.specs.declared.network.Found.TheVariants.{Worth, Waits}
 use Rattle.cx_eval_network.specs.declared.planned.PlannedPort.{PlannedPort}
 use Rattle.cx_eval_network.specs.declared.planned.PlannedPort.TheVariants.{Numbered, Fixed}
-use Rattle.cx_eval_network.specs.Demands.{known_at}
+use Rattle.cx_eval_network.specs.Demands.{known_at, shown}
 use Rattle.cx_eval_network.specs.LeadPorts.{named_by}
 use Rattle.cx_eval_network.specs.Literals.{literal_seen}
-use Rattle.cx_eval_network.specs.Networks.{shown}
 use Rattle.cx_eval_network.specs.Planned.{NumberedGuard, NumberedGuards, Always, Atom, Negation, All, Any, Compared, Within, no_guards, a_guard, numbers_of}
 
 -- what is known of the ports of an instance is what they are seen as

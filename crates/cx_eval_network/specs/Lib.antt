@@ -6,10 +6,11 @@ pub mod LeadPorts
 pub mod Literals
 pub mod Planned
 pub mod Plans
+pub mod Evaluated
+pub mod Lists
 pub mod Nodes
 pub mod Networks
 pub mod Below
-pub mod Evaluated
 pub mod Asked
 pub mod Askings
 pub mod Lacking

@@ -13,7 +13,6 @@ use Rattle.cx_rules.specs.Footprints.{Leads}
 use Rattle.cx_rules.specs.Ports.{keeps_literal}
 use Rattle.cx_rules.specs.Wellformed.{IsDesign}
 use Rattle.cx_eval_network.specs.declared.marks.NodeMark.{NodeMark}
-use Rattle.cx_eval_network.specs.declared.marks.NodeMark.TheVariants.{Unseen, Open, Known}
 use Rattle.cx_state.specs.declared.tables.InstanceRow.{InstanceRow}
 use Rattle.cx_state.specs.Tables.{IsTable, child_of}
 use Rattle.cx_state.specs.States.{PlainInstance, inputs_held, under_path}
@@ -23,6 +22,7 @@ use Rattle.cx_eval_network.specs.declared.numbering.Nodes.{Nodes}
 use Rattle.cx_eval_network.specs.Nodes.{IsNodesOf, found_at, node_at}
 use Rattle.cx_eval_network.specs.LeadPorts.{lead_ports}
 pub use Rattle.cx_eval_network.specs.Literals.{literal_seen}
+pub use Rattle.cx_eval_network.specs.Demands.{shown}
 
 -- what is asked: an instance of a design under an active set, in a state by its rows
 pub record Asked : Type 0 where
@@ -99,12 +99,6 @@ module _ (a : Asked) where
   leads_at nodes node = leads_of (asked_port (found_at nodes node))
 
 -- WHAT MARKS SHOW of a port of an instance: a literal that fits its width as it is, and of a node what is known
-abbrev pub shown : Option NodeMark → Seen
-shown None = Undefined
-shown (Some Unseen) = Undefined
-shown (Some Open) = Undefined
-shown (Some (Known x)) = x
-
 abbrev pub node_shown : List NodeMark → PortRef → Option ℕ → Seen
 node_shown marks q None = literal_seen q
 node_shown marks q (Some m) = shown (slice_get marks m)

@@ -1,9 +1,10 @@
 -- Numbers for the ports of all instances, their nodes: instance by instance, and in each as its component numbers its ports.
-use Rattle.std.specs.Prelude.{◌≡◌, ℕ, zero, suc, ◌+◌, ◌^◌, ◌≤◌, ◌<◌, ◌⊎◌, List, Option, Some, None, length, slice_get, option_map}
+use Rattle.std.specs.Prelude.{◌≡◌, ℕ, zero, suc, ◌+◌, ◌^◌, ◌≤◌, ◌<◌, ◌⊎◌, List, Option, Some, None, IfSome, length, slice_get, option_map}
 use Rattle.cx_meaning.specs.declared.ports.PortRef.{PortRef}
 use Rattle.cx_meaning.specs.Designs.{PlainDesign}
 use Rattle.cx_meaning.specs.Instances.{Instance}
 use Rattle.cx_rules.specs.Ports.{component_of}
+use Rattle.cx_design.specs.declared.actives.Active.{Active}
 use Rattle.cx_state.specs.declared.tables.InstanceRow.{InstanceRow}
 use Rattle.cx_state.specs.Tables.{row_at}
 use Rattle.cx_design_leads.specs.Nodes as part
@@ -12,7 +13,11 @@ use Rattle.cx_eval_network.specs.declared.parts.PartNodes.{PartNodes}
 use Rattle.cx_eval_network.specs.declared.numbering.InstanceNodes.{InstanceNodes}
 use Rattle.cx_eval_network.specs.declared.numbering.NodePort.{NodePort}
 use Rattle.cx_eval_network.specs.declared.numbering.Nodes.{Nodes}
-use Rattle.cx_eval_network.specs.Plans.{HavePlans}
+use Rattle.cx_eval_network.specs.Plans.{HavePlans, IsPlanOf}
+use Rattle.cx_eval_network.specs.declared.planned.PortPlan.{PortPlan}
+use Rattle.cx_eval_network.specs.declared.listed.ListedPort.{ListedPort}
+use Rattle.cx_eval_network.specs.declared.listed.InstanceList.{InstanceList}
+use Rattle.cx_eval_network.specs.Lists.{HaveLists, IsSource}
 use Rattle.cx_eval_network.specs.declared.instance_ports.InstancePorts.{InstancePorts}
 
 -- the component of an instance with what is below it, by the rows of the instances
@@ -82,6 +87,7 @@ pub record ArePlaced (d : PlainDesign) (rows : List InstanceRow) (count : ℕ) (
 pub record IsNodesOf (d : PlainDesign) (rows : List InstanceRow) (nodes : Nodes) : Type 0 where
   pub parts : HaveParts d nodes.parts.items
   pub plans : HavePlans d nodes.plans.items
+  pub lists : HaveLists nodes.plans.items nodes.lists.items
   pub there : (n : ℕ) → n < length rows → (row_at rows n).component < length d.components
   pub placed : ArePlaced d rows (length rows) nodes.instances.items nodes.ports.items
   pub fits : node_count d rows < 2 ^ 64
@@ -89,3 +95,16 @@ pub record IsNodesOf (d : PlainDesign) (rows : List InstanceRow) (nodes : Nodes)
 -- what stands at a node, as the numbering has it
 abbrev pub found_at : Nodes → ℕ → Option NodePort
 found_at nodes node = slice_get nodes.ports.items node
+
+-- a listed port of a component has a plan, and its source is one by that plan
+pub record IsInList (i : Instance) (active : Active) (listed : ListedPort) : Type 0 where
+  pub port : PortRef
+  pub number : part.node_of i port ≡ Some listed.number
+  pub plan : PortPlan
+  pub plans : IsPlanOf i port plan
+  pub source : IfSome listed.source (IsSource active plan)
+
+-- THE LIST of an instance under an active set: its first node, and ports of its component
+pub record IsListOf (d : PlainDesign) (rows : List InstanceRow) (n : ℕ) (active : Active) (list : InstanceList) : Type 0 where
+  pub first : list.first ≡ first_node d rows n
+  pub each : (j : ℕ) (listed : ListedPort) → slice_get list.ports.now j ≡ Some listed → IsInList (part_at d rows n) active listed

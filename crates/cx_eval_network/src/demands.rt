@@ -2,14 +2,18 @@
 
 ghost use Rattle.std.specs.Prelude.{◌≡◌, ◌<◌, ℕ, IfOk, length};
 ghost use Rattle.cx_meaning.specs.declared.sights.Seen.{Seen};
-ghost use Rattle.cx_eval_network.specs.Demands.{AllUnseen, Demanded, IsGrounded, Ready, StaysWithin};
+ghost use Rattle.cx_eval_network.specs.Demands.{AllUnseen, Demanded, IsGrounded, Keeps, Ready, StaysWithin};
+ghost use Rattle.cx_eval_network.specs.Askings.{IsAsking, asked_of};
+ghost use Rattle.cx_eval_network.specs.Networks.{value_at};
 
+use crate::asking::Asking;
+use crate::filling::fill;
 use crate::finding::find;
 use crate::marked::shown_at;
 use crate::marks::{NodeMark, unseen_marks};
 use crate::network::Network;
 use crate::touched::Touched;
-use cx_design::Seen;
+use cx_design::{Active, Seen};
 use cx_text::Memory;
 use std::alloc::Global;
 use std::marker::Model;
@@ -81,5 +85,20 @@ impl Marks {
             root,
         );
         shown_at(&self.marks, root)
+    }
+
+    /// Finds ports of the asked instance in the order that is listed for the group that is active there, each by one look. What
+    /// is not found so is left to demands. It takes no memory.
+    pub fn fill(&mut self, asking: &Asking<'_>)
+        requires can { IsAsking asking.now }
+        requires ready { Ready (value_at (asked_of asking.now) asking.now.nodes.now) self.old }
+        ensures ready { Ready (value_at (asked_of asking.now) asking.now.nodes.now) self.new }
+        ensures kept { Keeps self.old self.new }
+        ensures count { length self.new ≡ length self.old }
+    {
+        if let Active::Group(group) = asking.active {
+            let list = asking.nodes.listed(asking.instance, *group);
+            fill(asking, &mut self.marks, &mut self.touched, list);
+        }
     }
 }

@@ -1,6 +1,7 @@
 //! What is known of a node.
 
-ghost use Rattle.std.specs.Prelude.{◌≡◌, IfOk, replicate};
+ghost use Rattle.std.specs.Prelude.{◌≡◌, IfOk, replicate, slice_get};
+ghost use Rattle.cx_eval_network.specs.Demands as demands;
 ghost use Rattle.cx_eval_network.specs.Demands.{known_at};
 ghost use Rattle.cx_eval_network.specs.declared.marks.NodeMark.TheVariants.{Unseen};
 
@@ -23,6 +24,16 @@ pub fn is_known(marks: &[NodeMark], node: usize) -> bool
     match marks.get(node) {
         Some(NodeMark::Known(_)) => true,
         Some(NodeMark::Unseen | NodeMark::Open) | None => false,
+    }
+}
+
+/// Whether nothing is known of a node.
+pub fn is_unseen(marks: &[NodeMark], node: usize) -> bool
+    ensures value { result ≡ demands.is_unseen (slice_get marks.now node) }
+{
+    match marks.get(node) {
+        Some(NodeMark::Unseen) => true,
+        Some(NodeMark::Open | NodeMark::Known(_)) | None => false,
     }
 }
 

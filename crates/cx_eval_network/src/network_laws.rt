@@ -1,6 +1,7 @@
 //! Laws: each function does nothing, and its clause is the law.
 
 ghost use Rattle.std.specs.Prelude.{◌≡◌, ◌↔◌, ℕ, List, Some};
+ghost use Rattle.cx_text.specs.Members.{In};
 ghost use Rattle.cx_meaning.specs.declared.ports.PortRef.{PortRef};
 ghost use Rattle.cx_meaning.specs.Active.{Active};
 ghost use Rattle.cx_meaning.specs.Designs.{PlainDesign};
@@ -11,7 +12,7 @@ ghost use Rattle.cx_design.specs.PlainActives.{plain_active};
 ghost use Rattle.cx_eval_drives.specs.Actives.{CanBeActive};
 ghost use Rattle.cx_state.specs.Tables.{IsTable};
 ghost use Rattle.cx_meaning.specs.Instances.{tree_of};
-ghost use Rattle.cx_meaning.specs.Sights.{In, step};
+ghost use Rattle.cx_meaning.specs.Sights.{step};
 ghost use Rattle.cx_rules.specs.Footprints.{Leads};
 ghost use Rattle.cx_rules.specs.Ports.{component_of};
 ghost use Rattle.cx_eval_network.specs.Demands.{AreKnown, IsGrounded, StaysWithin};

@@ -8,12 +8,17 @@ ghost use Rattle.cx_state.specs.Tables.{IsTable, row_at};
 ghost use Rattle.cx_meaning.specs.declared.ports.PortRef as refs;
 ghost use Rattle.cx_rules.specs.Ports.{component_of};
 ghost use Rattle.cx_design_leads.specs.Nodes.{node_of};
-ghost use Rattle.cx_eval_network.specs.Nodes.{ArePortsOf, HaveParts, IsNodesOf, IsPortOf, StandBehind, found_at, node_at, node_count};
+ghost use Rattle.cx_eval_network.specs.Nodes.{ArePortsOf, HaveParts, IsListOf, IsNodesOf, IsPortOf, StandBehind, found_at, node_at, node_count};
+ghost use Rattle.cx_eval_network.specs.Lists.{AreListed, HaveLists};
 ghost use Rattle.cx_eval_network.specs.Plans.{HavePlans, IsPlanOf};
+ghost use Rattle.cx_eval_network.specs.declared.planned.PartPlans.{PartPlans};
+ghost use Rattle.cx_design.specs.declared.actives.Active.TheVariants.{Group};
 
 use crate::instance_ports::InstancePorts;
+use crate::listed::{InstanceList, ListedPort, PartLists};
+use crate::listing::all_lists;
 use crate::parts::PartNodes;
-use crate::planned::{PartPlans, PortPlan};
+use crate::planned::{PartPlans, PortPlan, port_plan};
 use crate::plans::all_plans;
 use cx_design::{Design, PortRef};
 use cx_state::{InstanceRow, InstanceTable};
@@ -44,6 +49,8 @@ pub struct Nodes {
     parts: Vec<PartNodes>,
     /// What is known of them before any run.
     plans: Vec<PartPlans>,
+    /// The listed ports of the groups of each component.
+    lists: Vec<PartLists>,
     instances: Vec<InstanceNodes>,
     /// What stands at each node.
     ports: Vec<NodePort>,
@@ -60,7 +67,8 @@ impl Nodes {
             parts.push(PartNodes::new(alloc, design, number)?)?;
         }
         let plans = all_plans(alloc, design, parts.as_slice())?;
-        let nodes = placed(alloc, table.rows.as_slice(), parts, plans)?;
+        let lists = all_lists(alloc, design, parts.as_slice(), plans.as_slice())?;
+        let nodes = placed(alloc, table.rows.as_slice(), parts, plans, lists)?;
         Ok(nodes)
     }
 
@@ -110,6 +118,22 @@ impl Nodes {
         self.ports.get(node).copied()
     }
 
+    /// The listed ports of a group of an instance.
+    pub fn listed(&self, instance: usize, group: u32) -> InstanceList<'_>
+        ensures value { (d : PlainDesign) (rows : List InstanceRow) → IsNodesOf d rows self.now → instance < length rows → IsListOf d rows instance (Group group) result }
+    {
+        match instance_nodes(self.instances.as_slice(), instance) {
+            Some(place) => InstanceList {
+                first: place.first,
+                ports: group_ports(self.lists.as_slice(), place.component, group),
+            },
+            None => InstanceList {
+                first: 0,
+                ports: &[],
+            },
+        }
+    }
+
     /// What is known of a port of a component before any run, by its number there.
     pub fn plan(&self, component: u32, number: usize) -> Option<&PortPlan>
         ensures none { IfNone result ((d : PlainDesign) (rows : List InstanceRow) (p : refs.PortRef) → IsNodesOf d rows self.now → component < length d.components → node_of (component_of d component) p ≡ Some number → ⊥) }
@@ -148,12 +172,17 @@ fn part_plans(plans: &[PartPlans], component: u32) -> Option<&PartPlans>
     plans.get(component as usize)
 }
 
-/// The plan of a port, where it is there.
-fn port_plan(plans: &[PortPlan], number: usize) -> Option<&PortPlan>
-    ensures none { IfNone result (slice_get plans.now number ≡ None) }
-    ensures some { IfSome result (λ plan. slice_get plans.now number ≡ Some plan.now) }
+/// The listed ports of a group of a component; none where they are not there.
+fn group_ports(lists: &[PartLists], component: u32, group: u32) -> &[ListedPort]
+    ensures value { (plans : List PartPlans) (part : PartPlans) → HaveLists plans lists.now → slice_get plans component ≡ Some part → AreListed part.ports.items (Group group) result.now }
 {
-    plans.get(number)
+    match lists.get(component as usize) {
+        Some(own) => match own.groups.get(group as usize) {
+            Some(group) => group.ports.as_slice(),
+            None => &[],
+        },
+        None => &[],
+    }
 }
 
 /// The numbering over the ports of the components.
@@ -162,9 +191,10 @@ fn placed(
     rows: &[InstanceRow],
     parts: Vec<PartNodes>,
     plans: Vec<PartPlans>,
+    lists: Vec<PartLists>,
 ) -> Result<Nodes, Memory>
     requires within { (n : ℕ) → n < length rows.now → (row_at rows.now n).component < length parts.items }
-    ensures value { IfOk result (λ nodes. (d : PlainDesign) → HaveParts d parts.items → HavePlans d plans.items → IsNodesOf d rows.now nodes) }
+    ensures value { IfOk result (λ nodes. (d : PlainDesign) → HaveParts d parts.items → HavePlans d plans.items → HaveLists plans.items lists.items → IsNodesOf d rows.now nodes) }
 {
     let mut instances = Vec::new(alloc);
     let mut ports = Vec::new(alloc);
@@ -180,6 +210,7 @@ fn placed(
     Ok(Nodes {
         parts,
         plans,
+        lists,
         instances,
         ports,
     })

@@ -83,7 +83,7 @@ fn numbered(port: PortRef, number: u32) -> PortRef
 }
 
 /// A number as a `u32`. One that is no `u32` counts what is too much for any memory.
-fn narrow(number: usize) -> Result<u32, Memory>
+pub fn narrow(number: usize) -> Result<u32, Memory>
     ensures value { IfOk result (λ narrow. narrow ≡ number) }
 {
     match u32::try_from(number) {

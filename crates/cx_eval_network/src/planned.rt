@@ -1,5 +1,7 @@
 //! What is known of each port of a component before any run.
 
+ghost use Rattle.std.specs.Prelude.{◌≡◌, IfNone, IfSome, None, Some, slice_get};
+
 use cx_design::{Comparison, Seen};
 
 /// A port by its number in the component; of a literal, and of a port that is not there, what it is seen as.
@@ -52,4 +54,12 @@ pub enum PortPlan {
 #[derive(Debug, Drop)]
 pub struct PartPlans {
     pub ports: Vec<PortPlan>,
+}
+
+/// The plan of a port, where it is there.
+pub fn port_plan(plans: &[PortPlan], number: usize) -> Option<&PortPlan>
+    ensures none { IfNone result (slice_get plans.now number ≡ None) }
+    ensures some { IfSome result (λ plan. slice_get plans.now number ≡ Some plan.now) }
+{
+    plans.get(number)
 }

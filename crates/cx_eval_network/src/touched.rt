@@ -6,6 +6,7 @@ ghost use Rattle.cx_eval_network.specs.Touches.{AreTouched};
 ghost use Rattle.cx_eval_network.specs.declared.marks.NodeMark.TheVariants as marks_are;
 
 use crate::marks::NodeMark;
+use cx_design::Seen;
 
 /// The nodes of which something is known: the first so many of a list that is as long as there are nodes.
 #[derive(Debug, Drop)]
@@ -25,6 +26,18 @@ impl Touched {
         self.nodes[self.count] = node;
         self.count += 1;
         marks[node] = NodeMark::Open;
+    }
+
+    /// Knows a node of which nothing was known.
+    pub fn know(&mut self, marks: &mut [NodeMark], node: usize, seen: Seen)
+        requires touched { AreTouched self.old.nodes.items self.old.count marks.old }
+        requires unseen { slice_get marks.old node ≡ Some marks_are.Unseen }
+        ensures touched { AreTouched self.new.nodes.items self.new.count marks.new }
+        ensures marks { marks.new ≡ slice_set marks.old node (marks_are.Known seen) }
+    {
+        self.nodes[self.count] = node;
+        self.count += 1;
+        marks[node] = NodeMark::Known(seen);
     }
 
     /// Forgets what is known of them.

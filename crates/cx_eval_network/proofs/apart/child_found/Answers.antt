@@ -2,7 +2,7 @@ use Rattle.std.specs.Prelude.{option_to_list}
 use Rattle.std.proofs.Common.{◌≡◌, Some, inl, refl, sym, ap, ◌∙◌, subst}
 use Rattle.cx_meaning.specs.declared.ports.PortRef.TheVariants.{Output}
 use Rattle.cx_text.proofs.OptionLaws.{none_is_some}
-use Rattle.cx_meaning.specs.Sights.{In}
+use Rattle.cx_text.specs.Members.{In}
 use Rattle.cx_state.specs.Tables.{child_of}
 use Rattle.cx_eval_network.specs.Askings.{asked_of}
 use Rattle.cx_eval_network.specs.Demands.{Looked}

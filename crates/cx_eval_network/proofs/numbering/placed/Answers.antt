@@ -21,13 +21,14 @@ loop-number-preserved c = λ d parts.
 
 pub returns : goal.returns
 returns c = record {
-  value = λ d parts plans.
+  value = λ d parts plans lists.
       let end : c.loop-number.number ≡ length c.args.rows.now = omega arith in
       let placed : ArePlaced d c.args.rows.now (length c.args.rows.now) c.loop-number.instances.items c.loop-number.ports.items =
       subst (λ k. ArePlaced d c.args.rows.now k c.loop-number.instances.items c.loop-number.ports.items) end (c.loop-number.invariant d parts) in
       record {
         parts = parts;
         plans = plans;
+        lists = lists;
         there = λ n lt. subst (λ k. (row_at c.args.rows.now n).component < k) parts.count (c.requires.within n lt);
         placed = placed;
         fits = let long = placed.nodes in let ok = c.loop-number.ports.ok in let small = c.loop-number.ports.small in omega (arith, long, ok, small);

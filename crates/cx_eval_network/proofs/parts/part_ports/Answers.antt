@@ -1,9 +1,9 @@
 use Rattle.std.proofs.Common.{rules, ◌≡◌, ◌+◌, suc, length, refl, ap, ◌∙◌, subst, arith}
-use Rattle.cx_meaning.specs.Instances.{cells_of, cell_at, part_of}
+use Rattle.cx_meaning.specs.Instances.{cells_of, cell_at, part_of, cell_count}
 use Rattle.cx_rules.specs.Ports.{component_of}
 use Rattle.cx_rules.specs.Wellformed.{port_count}
 use Rattle.cx_design.specs.PlainDesigns.{plain_design}
-use Rattle.cx_design_leads.specs.Nodes.{below, cell_count, first_done, first_input, first_output, ports_before}
+use Rattle.cx_design_leads.specs.Nodes.{below, first_done, first_input, first_output, ports_before}
 use Rattle.cx_design_leads.proofs.NodeLemmas.{cells_of_part}
 use Rattle.cx_eval_network.specs.Parts.{ArePorts}
 use Rattle.cx_eval_network.proofs.parts.part_ports.Goals as goal

@@ -1,0 +1,151 @@
+-- Ports that are found in a listed order are found as they are seen.
+use Rattle.std.proofs.Common.{◌≡◌, true, ℕ, ◌+◌, ◌^◌, ◌<◌, ◌≤◌, Option, Some, None, List, [], drop, length, slice_get, set, ⊎_elim, refl, sym, ap, ◌∙◌, subst, arith}
+use Rattle.std.specs.Prelude.{IfSome, option_map, if◌then◌else◌}
+use Rattle.cx_text.proofs.ListLaws.{set_other, set_same, there_at, there_below}
+use Rattle.cx_text.proofs.NumberLaws.{equal, never, same_or}
+use Rattle.cx_meaning.specs.declared.sights.Seen.{Seen}
+use Rattle.cx_meaning.specs.Designs.{PlainDesign}
+use Rattle.cx_meaning.specs.Sights.{target_seen}
+use Rattle.cx_design.specs.declared.actives.Active.{Active}
+use Rattle.cx_design.specs.declared.actives.Active.TheVariants as actives
+use Rattle.cx_state.specs.declared.tables.InstanceRow.{InstanceRow}
+use Rattle.cx_state.specs.Tables.{row_at}
+use Rattle.cx_eval_drives.specs.Drives.{acting_of, offset_by}
+use Rattle.cx_eval_network.specs.declared.asking.Asking.{Asking}
+use Rattle.cx_eval_network.specs.declared.listed.InstanceList.{InstanceList}
+use Rattle.cx_eval_network.specs.declared.listed.ListedPort.{ListedPort}
+use Rattle.cx_eval_network.specs.declared.marks.NodeMark.{NodeMark}
+use Rattle.cx_eval_network.specs.declared.marks.NodeMark.TheVariants.{Unseen, Open, Known}
+use Rattle.cx_eval_network.specs.declared.network.Found.{Found}
+use Rattle.cx_eval_network.specs.declared.network.Found.TheVariants.{Worth, Waits}
+use Rattle.cx_eval_network.specs.declared.numbering.InstanceNodes.{InstanceNodes}
+use Rattle.cx_eval_network.specs.declared.numbering.NodePort.{NodePort}
+use Rattle.cx_eval_network.specs.declared.numbering.Nodes.{Nodes}
+use Rattle.cx_eval_network.specs.declared.planned.PartPlans.{PartPlans}
+use Rattle.cx_eval_network.specs.declared.planned.PlannedPort.{PlannedPort}
+use Rattle.cx_eval_network.specs.declared.planned.PortPlan.{PortPlan}
+use Rattle.cx_eval_network.specs.declared.planned.PortPlan.TheVariants as plans
+use Rattle.cx_eval_network.specs.Asked.{CanAsk, active_in}
+use Rattle.cx_eval_network.specs.Askings.{IsFound, asked_of}
+use Rattle.cx_eval_network.specs.Demands.{IsRight, Keeps, Looked, Ready, is_unseen}
+use Rattle.cx_eval_network.specs.Evaluated.{Gives, port_found}
+use Rattle.cx_eval_network.specs.Lists.{AreListed, IsSource}
+use Rattle.cx_eval_network.specs.Networks.{Asked, seen_at, value_at}
+use Rattle.cx_eval_network.specs.Nodes.{IsInList, IsListOf, IsNodesOf, first_node, node_at, part_at}
+use Rattle.cx_eval_network.specs.Plans.{IsPlanOf}
+use Rattle.cx_eval_network.proofs.LookLemmas.{driven_known}
+use Rattle.cx_eval_network.proofs.NodeLemmas.{nodes_within}
+use Rattle.cx_eval_network.proofs.ValueLemmas.{value_there}
+
+pub unseen_is : (o : Option NodeMark) → is_unseen o ≡ true → o ≡ Some Unseen
+unseen_is None e = never e
+unseen_is (Some Unseen) e = refl
+unseen_is (Some Open) e = never e
+unseen_is (Some (Known x)) e = never e
+
+-- a look that finds a value finds the right one
+pub looked_gives : (leads : List ℕ) (value : Seen) (marks : List NodeMark) (found : Found) → Looked leads value marks found → Gives value found
+looked_gives leads value marks (Worth x) l = l
+looked_gives leads value marks (Waits n) l = tt
+
+-- A NODE OF WHICH NOTHING WAS KNOWN is known
+module _ (marks : List NodeMark) (node : ℕ) (x : Seen) (unseen : slice_get marks node ≡ Some Unseen) where
+  abbrev after : List NodeMark
+  after = set marks node (Known x)
+
+  here : (n : ℕ) → n ≡ node → slice_get after n ≡ Some (Known x)
+  here n e = ap (slice_get after) e ∙ set_same marks node (Known x) (there_below marks node Unseen unseen)
+
+  pub known_ready : (value : ℕ → Seen) → Ready value marks → x ≡ value node → Ready value after
+  known_ready value ready is = record {
+    right = λ n y h. ⊎_elim
+        (λ s. let f : Some (Known x) ≡ Some (Known y) = sym (here n s) ∙ h in let same : x ≡ y = cc in sym same ∙ is ∙ ap value (sym s))
+        (λ ne. ready.right n y (sym (set_other marks node n (Known x) ne) ∙ h)) (same_or n node);
+    closed = λ n h. ⊎_elim
+        (λ s. absurd (let f : Some (Known x) ≡ Some Open = sym (here n s) ∙ h in cc))
+        (λ ne. ready.closed n (sym (set_other marks node n (Known x) ne) ∙ h)) (same_or n node);
+  }
+
+  pub known_keeps : Keeps marks after
+  known_keeps n y h = ⊎_elim
+      (λ s. absurd (let f : Some Unseen ≡ Some (Known y) = sym unseen ∙ ap (slice_get marks) (sym s) ∙ h in cc))
+      (λ ne. set_other marks node n (Known x) ne ∙ h) (same_or n node)
+
+-- THE LIST OF AN INSTANCE, by that of its component
+module _ (d : PlainDesign) (rows : List InstanceRow) (nodes : Nodes) (h : IsNodesOf d rows nodes) (n : ℕ) (lt : n < length rows) where
+  abbrev k : ℕ
+  k = (row_at rows n).component
+
+  pub list_there : (active : Active) (place : InstanceNodes) (list : InstanceList) → slice_get nodes.instances.items n ≡ Some place → list.first ≡ place.first
+      → ((part : PartPlans) → slice_get nodes.plans.items place.component ≡ Some part → AreListed part.ports.items active list.ports.now) → IsListOf d rows n active list
+  list_there active place list at first listed =
+      let there = h.there n lt in
+      let planned : (part : PartPlans) × (slice_get nodes.plans.items k ≡ Some part) = there_at nodes.plans.items k (let many = h.plans.count in omega (arith, there, many)) in
+      let numbered = there_at nodes.parts.items k (let many = h.parts.count in omega (arith, there, many)) in
+      let plan_of = h.plans.each k planned.0 planned.1 in
+      let ports = (h.parts.each k numbered.0 numbered.1).ports in
+      record {
+        first = first ∙ h.placed.firsts n place at;
+        each = λ j own e.
+            let port = listed planned.0 (ap (slice_get nodes.plans.items) (h.placed.components n place at) ∙ planned.1) j own e in
+            let below = there_below planned.0.ports.items own.number port.plan port.there in
+            let found = there_at numbered.0.ports.items own.number (let many = plan_of.sized in let all = ports.sized in omega (arith, below, many, all)) in
+            let number = ports.each own.number found.0 found.1 in
+            record {
+              port = found.0;
+              number = number;
+              plan = port.plan;
+              plans = plan_of.each own.number found.0 port.plan port.there number;
+              source = port.source;
+            };
+      }
+
+-- A LISTED PORT of the asked instance
+module _ (asking : Asking) (can : CanAsk (asked_of asking) asking.nodes.now asking.drivers.now) (listed : ListedPort)
+    (l : IsInList (part_at (asked_of asking).design (asked_of asking).rows asking.instance) asking.active.now listed) where
+  abbrev a : Asked
+  a = asked_of asking
+
+  abbrev node : ℕ
+  node = first_node a.design a.rows a.instance + listed.number
+
+  node_is : node_at a.design a.rows a.instance l.port ≡ Some node
+  node_is = ap (option_map (λ m. first_node a.design a.rows a.instance + m)) l.number
+
+  pub node_fits : node < 2 ^ 64
+  node_fits =
+      let below = nodes_within a.design a.rows a.instance l.port node can.within node_is in
+      let fits = can.network.numbered.fits in
+      omega (arith, below, fits)
+
+  value_is : value_at a asking.nodes.now node ≡ seen_at a a.instance l.port
+  value_is = value_there a asking.nodes.now can.network [] a.instance node l.port (omega arith) can.within node_is
+
+  abbrev found : NodePort
+  found = record { instance = a.instance; component = (row_at a.rows a.instance).component; port = l.port; number = listed.number }
+
+  from_there : a.instance ≤ a.instance
+  from_there = omega arith
+
+  is_found : IsFound a found
+  is_found = record { from = from_there; within = can.within; component = refl; number = l.number }
+
+  here_active : asking.active.now ≡ active_in a.instance asking.active.now a.instance
+  here_active = sym (ap (λ b. if b then asking.active.now else actives.Nothing) (equal a.instance))
+
+  module _ (marks : List NodeMark) (right : IsRight (value_at a asking.nodes.now) marks) where
+    abbrev own : List NodeMark
+    own = drop (first_node a.design a.rows a.instance) marks
+
+    by_plan : (plan : PortPlan) → IsPlanOf (part_at a.design a.rows a.instance) l.port plan → (source : PlannedPort) → IsSource asking.active.now plan source → (r : Found) → port_found own source ≡ r
+        → Gives (seen_at a a.instance l.port) r
+    by_plan (plans.Output reads) e source h r f = absurd h
+    by_plan plans.Apart e source h r f = absurd h
+    by_plan (plans.Driven plan) e source seen (Waits m) f = tt
+    by_plan (plans.Driven plan) e source seen (Worth x) f =
+        driven_known asking can found is_found plan asking.active.now marks own (Worth x) e here_active right refl
+        (λ i owned look stand agree. subst (Gives (target_seen plan.undriven look (acting_of (offset_by asking.active.now) owned))) f (seen i owned look own stand agree))
+
+    pub source_known : (o : Option PlannedPort) → IfSome o (IsSource asking.active.now l.plan) → IfSome o (λ source. Gives (value_at a asking.nodes.now node) (port_found own source))
+    source_known None s = s
+    source_known (Some source) s = subst (λ x. Gives x (port_found own source)) (sym value_is) (by_plan l.plan l.plans source s (port_found own source) refl)
