@@ -1,5 +1,6 @@
 -- What the assigns and the edge of a component's module have of bytes: names, the ends of chains, and the drivers.
 use Rattle.std.proofs.Common.{◌≡◌, ℕ, suc, ◌+◌, ◌*◌, ◌^◌, ◌<◌, ◌≤◌, ◌==◌, Bool, true, false, List, [], ◌∷◌, ◌++◌, length, Some, None, refl, arith, if◌then◌else◌}
+use Rattle.cx_text.specs.Members.{Each}
 use Rattle.cx_meaning.specs.declared.kinds.PortDecl.{PortDecl}
 use Rattle.cx_meaning.specs.declared.ports.PortRef.TheVariants as ports
 use Rattle.cx_vtree.specs.Plain.{PlainPort, PlainAssign}
@@ -11,7 +12,7 @@ use Rattle.cx_emit.specs.Chains.{chain_to}
 use Rattle.cx_emit.specs.Signatures.{PlainCellPorts}
 use Rattle.cx_emit.specs.Sources.{assign, port_assigns, cell_assigns, wire_assign, output_assign, done_assign, register_reset, register_assign, register_step, edge_of, assigns_with, module_with}
 use Rattle.cx_emit.specs.Driven.{port_driven, cell_driven, driven_by}
-use Rattle.cx_bytes.proofs.TextBytes.{sum_over, Each}
+use Rattle.cx_bytes.proofs.TextBytes.{sum_over}
 use Rattle.cx_bytes.proofs.ModuleBytes.{sum_over-append, assigned_bytes, reset_bytes, step_bytes, edge_bytes, module_bytes}
 use Rattle.cx_bytes.proofs.DrivenBytes.{value_bytes, option_bytes, cell_bytes, driven_bytes, before_bytes, driven_few}
 use Rattle.cx_bytes.proofs.SumBytes.{sum_same, from_zero, numbered_sum, lists_sum}

@@ -1,6 +1,7 @@
 -- What a primitive cell has of bytes, in its own module and in that of the component around it, and that its module is narrow.
 use Rattle.std.proofs.Common.{◌≡◌, ℕ, ◌+◌, ◌*◌, ◌^◌, ◌≤◌, ◌&&◌, Bool, true, false, List, [], ◌∷◌, length, Option, Some, None, refl, ap, sym, subst, arith}
 use Rattle.std.specs.Prelude.{codes, nat_le, nat_lt, unwrap_or, if◌then◌else◌}
+use Rattle.cx_text.specs.Members.{Each}
 use Rattle.cx_prim.specs.declared.names.PrimitiveName.{PrimitiveName}
 use Rattle.cx_prim.specs.declared.names.PrimitiveName.TheVariants.{DivPipe, Timer}
 use Rattle.cx_prim.specs.PrimitiveNames.{name_text}
@@ -13,7 +14,7 @@ use Rattle.cx_vtree.specs.Sound.{width_of, drivers_in}
 use Rattle.cx_vmods.specs.Modules.{pieces_of, module_of}
 use Rattle.cx_emit.proofs.CleanModules as clean
 use Rattle.cx_emit.proofs.PrimitiveModules.{primitive_owes}
-use Rattle.cx_bytes.proofs.TextBytes.{AreNarrow, DeclNarrow, ItemNarrow, Each}
+use Rattle.cx_bytes.proofs.TextBytes.{AreNarrow, DeclNarrow, ItemNarrow}
 use Rattle.cx_bytes.proofs.ModuleBytes.{EdgeNarrow, IsNarrow}
 use Rattle.cx_bytes.proofs.NarrowLemmas.{narrow_by, scope_wide}
 use Rattle.cx_bytes.proofs.PrimitiveBytes.{pieces_cost, pieces_few, others_few}
@@ -23,7 +24,7 @@ use Rattle.cx_vtree.proofs.InstanceTreeLemmas.{same_is}
 use Rattle.std.proofs.lemmas.Bool.{both_ways}
 
 -- KEPT MODULES are narrow
-each_so : {A : Type 0} (P Q : A → Type 0) (xs : List A) → ((x : A) → P x → Q x) → clean.Each P xs → Each Q xs
+each_so : {A : Type 0} (P Q : A → Type 0) (xs : List A) → ((x : A) → P x → Q x) → Each P xs → Each Q xs
 each_so P Q [] so each = tt
 each_so P Q (x ∷ xs) so each = (so x each.0, each_so P Q xs so each.1)
 

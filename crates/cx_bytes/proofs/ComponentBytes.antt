@@ -2,6 +2,7 @@
 use Rattle.std.proofs.Common.{◌≡◌, ℕ, ◌+◌, ◌*◌, ◌^◌, ◌<◌, ◌≤◌, true, List, [], ◌∷◌, ◌++◌, length, refl, arith, length-append}
 use Rattle.std.specs.Prelude.{codes, decimal}
 use Rattle.std.proofs.lemmas.Fmt.{length-decimal-le}
+use Rattle.cx_text.specs.Members.{Each}
 use Rattle.cx_meaning.specs.declared.kinds.PortDecl.{PortDecl}
 use Rattle.cx_vtree.specs.Plain.{PlainPort, PlainDecl, PlainConn}
 use Rattle.cx_net.specs.Nets.{PlainNetComponent}
@@ -9,7 +10,7 @@ use Rattle.cx_emit.specs.Names.{numbered, twice_numbered, input_name, output_nam
 use Rattle.cx_emit.specs.Numbered.{with_numbers, lists_from}
 use Rattle.cx_emit.specs.Signatures.{one_bit, input_port, output_port, module_ports, PlainCellPorts}
 use Rattle.cx_emit.specs.Sources.{port_decl, cell_decls, port_conn, cell_instance, wire_decl, register_decl, decls_with}
-use Rattle.cx_bytes.proofs.TextBytes.{conns_bytes, sum_over, Each}
+use Rattle.cx_bytes.proofs.TextBytes.{conns_bytes, sum_over}
 use Rattle.cx_bytes.proofs.ModuleBytes.{sum_over-append, port_bytes, declared_bytes, instance_bytes}
 use Rattle.cx_bytes.proofs.SumBytes.{sum_same, from_zero, numbered_sum, lists_sum}
 

@@ -4,12 +4,13 @@ use Rattle.std.specs.Prelude.{nat_le, nat_lt, codes}
 use Rattle.std.specs.Option.{option_map_or}
 use Rattle.std.specs.List.{list_all}
 use Rattle.std.proofs.lemmas.Bool.{or_parts, and_parts, leb-true, ltb-true, ltb-false, eqb-true}
+use Rattle.cx_text.specs.Members.{Each}
 use Rattle.cx_text.specs.Loading.{word_count}
 use Rattle.cx_vtree.specs.InstanceTree.{same_name}
 use Rattle.cx_vtree.specs.Plain.{PlainDecl, WireOf, RegisterOf, ArrayOf, PlainModule, PlainExternal, PlainSource}
 use Rattle.cx_vtree.specs.Layout.{is_word, is_name, decl_fits, assign_fits, instance_fits, edge_fits, module_fits, external_fits, is_laid_out}
 use Rattle.cx_vtree.specs.Sound.{module_named, last_named, instance_kind, memory_module, arrays_in, not_this_memory, not_this_width, memory_arrays, external_faults, externals_faults, modules_faults, faults_of, break_of, is_sound}
-use Rattle.cx_bytes.proofs.TextBytes.{DeclNarrow, AreShort, sizes_bytes, Each}
+use Rattle.cx_bytes.proofs.TextBytes.{DeclNarrow, AreShort, sizes_bytes}
 use Rattle.cx_bytes.proofs.ModuleBytes.{IsNarrow, ExternalNarrow, external_bytes}
 use Rattle.cx_bytes.proofs.NarrowLemmas.{step_of}
 use Rattle.cx_bytes.proofs.SoundNarrow.{IsFine, all_fine, first_fine, sound_narrow}

@@ -1,5 +1,6 @@
 -- THE TEXT OF A DESIGN has at most 4,096 bytes for each unit of its size and 256 for each unit of its weight, where its modules are narrow.
 use Rattle.std.proofs.Common.{◌≡◌, ℕ, ◌+◌, ◌*◌, ◌^◌, ◌<◌, ◌≤◌, true, List, [], ◌∷◌, length, map, refl, arith}
+use Rattle.cx_text.specs.Members.{Each}
 use Rattle.cx_meaning.specs.Designs.{PlainComponent, PlainDesign, component_at}
 use Rattle.cx_rules.specs.Flat.{IsFlat}
 use Rattle.cx_rules.specs.Accepted.{IsAccepted}
@@ -22,7 +23,7 @@ use Rattle.cx_emit.specs.Numbered.{with_numbers}
 use Rattle.cx_emit.specs.Signatures.{primitive_module}
 use Rattle.cx_emit.specs.Sources.{component_module, primitives_among, primitive_modules, source_of}
 use Rattle.cx_bytes.specs.Shallow.{Shallow}
-use Rattle.cx_bytes.proofs.TextBytes.{sum_over, Each}
+use Rattle.cx_bytes.proofs.TextBytes.{sum_over}
 use Rattle.cx_bytes.proofs.ModuleBytes.{sum_over-append, module_bytes, external_bytes, ExternalNarrow, text_fits}
 use Rattle.cx_bytes.proofs.WeightBytes.{cells_weight, cells_weigh_little, sizes_few, sizes_sum}
 use Rattle.cx_bytes.proofs.JoinBytes.{outside_sum}

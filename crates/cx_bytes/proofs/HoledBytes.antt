@@ -2,6 +2,7 @@
 -- are narrow.
 use Rattle.std.proofs.Common.{◌≡◌, ℕ, zero, suc, ◌+◌, ◌<◌, ◌≤◌, Bool, true, false, List, [], ◌∷◌, length, map, Some, slice_get, if◌then◌else◌, arith}
 use Rattle.std.specs.Prelude.{nat_lt}
+use Rattle.cx_text.specs.Members.{Each}
 use Rattle.cx_meaning.specs.declared.ports.PortRef.{PortRef}
 use Rattle.cx_meaning.specs.declared.ports.PortRef.TheVariants as ports
 use Rattle.cx_vtree.specs.declared.operators.Operator.{Operator}
@@ -11,10 +12,10 @@ use Rattle.cx_vtree.specs.Lines.{op_text}
 use Rattle.cx_net.specs.Nets.{PlainNetExpr, OfPort, OfRegister, OfWire, OfHole, OfGo, Fixed, Inverse, AllOf, AnyOf, Sum, Compares, PlainNetExprs, no_exprs, an_expr, PlainNetDriver, PlainNetComponent, PlainNet}
 use Rattle.cx_net.specs.NetFits.{HasPortWidth, HasWidth, AreBits}
 use Rattle.cx_holes.specs.Inlining.{inlined_expr, inlined_exprs, inlined_driver}
-use Rattle.cx_wiring.specs.Fitting.{Are, Drives}
+use Rattle.cx_wiring.specs.Fitting.{Drives}
 use Rattle.cx_emit.specs.Exprs.{paired, paired_often, to_the_right, joined, folded, literal, port_expr, operator_of, expr_of, exprs_to}
 use Rattle.cx_emit.specs.Names.{wire_name, register_name}
-use Rattle.cx_bytes.proofs.TextBytes.{AreNarrow, expr_bytes, sum_over, Each}
+use Rattle.cx_bytes.proofs.TextBytes.{AreNarrow, expr_bytes, sum_over}
 use Rattle.cx_bytes.proofs.NetBytes.{expr_cost, exprs_cost}
 use Rattle.cx_bytes.proofs.TreeBytes.{bare_costs}
 use Rattle.cx_bytes.proofs.DrivenBytes.{before_bytes}
@@ -66,7 +67,7 @@ module _ (net : PlainNet) (part : PlainNetComponent) (first : ℕ)
         omega arith
 
   -- DRIVERS
-  pub drivers_few : (ds : List PlainNetDriver) → Are (Drives net part) ds → sum_over before_bytes (map (inlined_driver first) ds) ≤ bare_costs ds
+  pub drivers_few : (ds : List PlainNetDriver) → Each (Drives net part) ds → sum_over before_bytes (map (inlined_driver first) ds) ≤ bare_costs ds
   drivers_few [] are = omega arith
   drivers_few (d ∷ ds) are =
       let k : expr_bytes (expr_of (inlined_expr first d.guard)) + 5 ≤ expr_cost d.guard = expr_few d.guard 1 are.0.guard in

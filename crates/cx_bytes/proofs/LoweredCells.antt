@@ -1,7 +1,8 @@
 -- The cells of a lowered component: few, and the components of which they are stand in the net.
 use Rattle.std.proofs.Common.{◌≡◌, ℕ, ◌+◌, ◌*◌, ◌^◌, ◌<◌, ◌≤◌, true, List, [], ◌∷◌, length, refl, subst, arith}
+use Rattle.cx_text.proofs.MemberLaws.{of_joined}
 use Rattle.cx_meaning.specs.Designs.{OfComponent, PlainCell, PlainDesign, component_at}
-use Rattle.cx_meaning.specs.Sights.{In}
+use Rattle.cx_text.specs.Members.{In}
 use Rattle.cx_rules.specs.Items.{statements_in}
 use Rattle.cx_rules.specs.Sizes.{size_of, design_size}
 use Rattle.cx_rules.specs.Wellformed.{IsDesign}
@@ -13,7 +14,6 @@ use Rattle.cx_wiring.proofs.LoweringCounts.{cells_cost, all_timers, statement_ad
 use Rattle.cx_wiring.proofs.OrderHeights.{closed, no_timer}
 use Rattle.cx_wiring.proofs.TimerCells.{cells-lowered_component}
 use Rattle.cx_bytes.proofs.SignedBytes.{sized}
-use Rattle.cx_meaning.proofs.SightsLaws.{of_joined}
 
 counted : (cells : List PlainCell) → cells_cost (λ cell. 1) cells ≡ length cells
 counted [] = refl

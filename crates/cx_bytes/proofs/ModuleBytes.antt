@@ -1,9 +1,11 @@
 -- How long the text of a module and of a source is at most: the sum over its lines.
 use Rattle.std.proofs.Common.{◌≡◌, ℕ, ◌+◌, ◌≤◌, List, [], ◌∷◌, ◌++◌, map, length, Option, Some, None, refl, arith}
+use Rattle.cx_text.specs.Members.{Each}
+use Rattle.cx_text.proofs.MemberLaws.{each_append}
 use Rattle.cx_vtree.specs.Plain.{PlainPort, PlainDecl, PlainAssign, PlainInstance, PlainItem, SetTo, StoreTo, PlainEdge, PlainModule, PlainExternal, PlainSource}
 use Rattle.cx_vtree.specs.Lines.{Line, ExternalLine, ModuleLine, PortsEnd, DeclLine, AssignLine, InstanceLine, AlwaysLine, ResetLine, SetLine, ElseLine, BranchesEnd, AlwaysEnd, ModuleEnd, lines_text}
 use Rattle.cx_vtree.specs.Spelling.{port_lines, item_line, edge_lines, module_lines, modules_lines, source_lines, text_of}
-use Rattle.cx_bytes.proofs.TextBytes.{AreNarrow, DeclNarrow, ItemNarrow, LineNarrow, AreShort, conns_bytes, sizes_bytes, decl_bytes, assign_bytes, item_bytes, line_bytes, sum_over, Each, lines_fit}
+use Rattle.cx_bytes.proofs.TextBytes.{AreNarrow, DeclNarrow, ItemNarrow, LineNarrow, AreShort, conns_bytes, sizes_bytes, decl_bytes, assign_bytes, item_bytes, line_bytes, sum_over, lines_fit}
 
 -- SUMS over lists that are put together
 pub sum_over-append : {A : Type 0} (f : A → ℕ) (xs ys : List A) → sum_over f (xs ++ ys) ≡ sum_over f xs + sum_over f ys
@@ -13,10 +15,6 @@ sum_over-append f (x ∷ xs) ys = let h : sum_over f (xs ++ ys) ≡ sum_over f x
 pub sum_over-map : {A B : Type 0} (f : B → ℕ) (g : A → B) (xs : List A) → sum_over f (map g xs) ≡ sum_over (λ x. f (g x)) xs
 sum_over-map f g [] = refl
 sum_over-map f g (x ∷ xs) = let h : sum_over f (map g xs) ≡ sum_over (λ y. f (g y)) xs = sum_over-map f g xs in omega arith
-
-pub each-append : {A : Type 0} (P : A → Type 0) (xs ys : List A) → Each P xs → Each P ys → Each P (xs ++ ys)
-each-append P [] ys first second = second
-each-append P (x ∷ xs) ys first second = (first.0, each-append P xs ys first.1 second)
 
 pub each-map : {A B : Type 0} (P : B → Type 0) (g : A → B) (xs : List A) → Each (λ x. P (g x)) xs → Each P (map g xs)
 each-map P g [] each = tt
@@ -111,8 +109,8 @@ edge_sum (Some e) =
 edge_narrow : (e : Option PlainEdge) → EdgeNarrow e → Each LineNarrow (edge_lines e)
 edge_narrow None h = tt
 edge_narrow (Some e) h =
-    each-append LineNarrow ((AlwaysLine ∷ ResetLine ∷ map SetLine e.reset) ++ (ElseLine ∷ map item_line e.step)) (BranchesEnd ∷ AlwaysEnd ∷ [])
-    (each-append LineNarrow (AlwaysLine ∷ ResetLine ∷ map SetLine e.reset) (ElseLine ∷ map item_line e.step) (tt, (tt, each-map LineNarrow SetLine e.reset h.0)) (tt, items_narrow e.step h.1)) (tt, (tt, tt))
+    each_append LineNarrow ((AlwaysLine ∷ ResetLine ∷ map SetLine e.reset) ++ (ElseLine ∷ map item_line e.step)) (BranchesEnd ∷ AlwaysEnd ∷ [])
+    (each_append LineNarrow (AlwaysLine ∷ ResetLine ∷ map SetLine e.reset) (ElseLine ∷ map item_line e.step) (tt, (tt, each-map LineNarrow SetLine e.reset h.0)) (tt, items_narrow e.step h.1)) (tt, (tt, tt))
 
 module_sum : (m : PlainModule) → sum_over line_bytes (module_lines m) ≡ module_bytes m
 module_sum m =
@@ -148,11 +146,11 @@ module_narrow m narrow =
     let c : List Line = map AssignLine m.assigns in
     let d : List Line = map InstanceLine m.instances in
     let e : List Line = edge_lines m.edge in
-    each-append LineNarrow ((((a ++ b) ++ c) ++ d) ++ e) (ModuleEnd ∷ [])
-    (each-append LineNarrow (((a ++ b) ++ c) ++ d) e
-    (each-append LineNarrow ((a ++ b) ++ c) d
-    (each-append LineNarrow (a ++ b) c
-    (each-append LineNarrow a b (tt, ports_narrow m.ports narrow.ports) (tt, each-map LineNarrow DeclLine m.decls narrow.decls))
+    each_append LineNarrow ((((a ++ b) ++ c) ++ d) ++ e) (ModuleEnd ∷ [])
+    (each_append LineNarrow (((a ++ b) ++ c) ++ d) e
+    (each_append LineNarrow ((a ++ b) ++ c) d
+    (each_append LineNarrow (a ++ b) c
+    (each_append LineNarrow a b (tt, ports_narrow m.ports narrow.ports) (tt, each-map LineNarrow DeclLine m.decls narrow.decls))
     (each-map LineNarrow AssignLine m.assigns narrow.assigns))
     (instances_narrow m.instances))
     (edge_narrow m.edge narrow.edge))
@@ -176,12 +174,12 @@ modules_sum (m ∷ ms) =
 
 modules_narrow : (ms : List PlainModule) → Each IsNarrow ms → Each LineNarrow (modules_lines ms)
 modules_narrow [] each = tt
-modules_narrow (m ∷ ms) each = each-append LineNarrow (module_lines m) (modules_lines ms) (module_narrow m each.0) (modules_narrow ms each.1)
+modules_narrow (m ∷ ms) each = each_append LineNarrow (module_lines m) (modules_lines ms) (module_narrow m each.0) (modules_narrow ms each.1)
 
 -- THE TEXT of a source
 pub text_fits : (s : PlainSource) → Each ExternalNarrow s.externals → Each IsNarrow s.modules → length (text_of s) ≤ sum_over external_bytes s.externals + sum_over module_bytes s.modules
 text_fits s externals modules =
-    let text = lines_fit (source_lines s) (each-append LineNarrow (map ExternalLine s.externals) (modules_lines s.modules) (each-map LineNarrow ExternalLine s.externals externals) (modules_narrow s.modules modules)) in
+    let text = lines_fit (source_lines s) (each_append LineNarrow (map ExternalLine s.externals) (modules_lines s.modules) (each-map LineNarrow ExternalLine s.externals externals) (modules_narrow s.modules modules)) in
     let few : length (text_of s) ≤ sum_over line_bytes (map ExternalLine s.externals ++ modules_lines s.modules) = text.few in
     let all : sum_over line_bytes (map ExternalLine s.externals ++ modules_lines s.modules) ≡ sum_over line_bytes (map ExternalLine s.externals) + sum_over line_bytes (modules_lines s.modules) =
     sum_over-append line_bytes (map ExternalLine s.externals) (modules_lines s.modules) in

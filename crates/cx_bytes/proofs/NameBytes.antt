@@ -11,7 +11,7 @@ use Rattle.cx_prim.specs.Table.{PrimitiveRow, HasRow, timer_at, row_at}
 use Rattle.cx_prim.proofs.NameLemmas.{one_name}
 use Rattle.cx_vtree.specs.InstanceTree.{same_name}
 use Rattle.cx_vtree.proofs.InstanceTreeLemmas.{same_is}
-use Rattle.cx_emit.specs.Names.{joined_numbers, primitive_name}
+use Rattle.cx_emit.specs.Names.{primitive_name}
 use Rattle.cx_emit.proofs.PrimitiveNames.{primitive_name_short}
 use Rattle.cx_text.proofs.BoolLaws.{and_right}
 

@@ -2,6 +2,7 @@
 use Rattle.std.proofs.Common.{◌≡◌, ℕ, ◌+◌, ◌^◌, ◌<◌, ◌≤◌, true, List, length, Option, Some, None, slice_get, refl, sym, ap, ◌∙◌, arith}
 use Rattle.std.specs.Prelude.{option_map, option_and_then}
 use Rattle.std.proofs.lemmas.Option.{slice_get-map, slice_get_within}
+use Rattle.cx_text.proofs.MemberLaws.{in_at}
 use Rattle.cx_prim.specs.declared.ports.PortRow.{PortRow}
 use Rattle.cx_prim.specs.Table.{row_of}
 use Rattle.cx_meaning.specs.declared.kinds.PortDecl.{PortDecl}
@@ -27,7 +28,6 @@ use Rattle.cx_bytes.proofs.ComponentBytes.{port_short, input_short, output_short
 use Rattle.cx_bytes.proofs.SignedBytes.{sized}
 use Rattle.cx_bytes.proofs.LoweredCells.{lowered_cells, cells_here, cells_few}
 use Rattle.cx_net.proofs.NetsLemmas.{length-signature}
-use Rattle.cx_meaning.proofs.SightsLaws.{in_at}
 
 some_within : {A : Type 0} (f : A → ℕ) (xs : List A) (n w : ℕ) → option_map f (slice_get xs n) ≡ Some w → n < length xs
 some_within {A} f xs n w e = by (slice_get xs n) refl e

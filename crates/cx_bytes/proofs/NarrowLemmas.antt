@@ -2,10 +2,11 @@
 use Rattle.std.proofs.Common.{◌≡◌, ℕ, ◌+◌, ◌-◌, ◌^◌, ◌<◌, ◌≤◌, ◌==◌, ◌&&◌, ◌||◌, Bool, true, false, List, [], ◌∷◌, Option, Some, None, option_and_then, refl, arith, if◌then◌else◌}
 use Rattle.std.specs.Prelude.{nat_le, nat_lt}
 use Rattle.std.proofs.lemmas.Bool.{or_parts, leb-true, leb-false, ltb-true, ltb-false}
+use Rattle.cx_text.specs.Members.{Each}
 use Rattle.cx_vtree.specs.InstanceTree.{same_name}
 use Rattle.cx_vtree.specs.Plain.{PlainExpr, Named, Number, Part, Word, Applied, Inverted, Chosen, Joined, PlainPort, PlainDecl, WireOf, RegisterOf, ArrayOf}
 use Rattle.cx_vtree.specs.Sound.{Scope, decl_name, decl_meaning, port_meaning, meant_decl, meant_in, width_of, misnames, bad_width, applied_width, chosen_width, joined_width, fitting_width}
-use Rattle.cx_bytes.proofs.TextBytes.{AreNarrow, DeclNarrow, Each}
+use Rattle.cx_bytes.proofs.TextBytes.{AreNarrow, DeclNarrow}
 
 -- what an option leads to hangs on what it has
 pub record Step {A B : Type 0} (f : A → Option B) (o : Option A) (w : B) : Type 0 where

@@ -1,12 +1,11 @@
 -- What the net of a component costs, with its timers: 4,096 for each statement and 460 for each assignment, node of a guard and group at most.
-use Rattle.std.proofs.Common.{◌≡◌, inl, inr, ℕ, suc, ◌+◌, ◌-◌, ◌*◌, ◌<◌, ◌≤◌, List, [], ◌∷◌, length, refl, subst, arith, length-append}
+use Rattle.std.proofs.Common.{◌≡◌, ℕ, suc, ◌+◌, ◌-◌, ◌*◌, ◌<◌, ◌≤◌, List, [], ◌∷◌, length, refl, arith, length-append}
 use Rattle.cx_meaning.specs.Designs.{PlainComponent, PlainDesign, component_at}
-use Rattle.cx_meaning.specs.Active.{Owned, source_order}
-use Rattle.cx_meaning.specs.Sights.{In}
+use Rattle.cx_meaning.specs.Active.{source_order}
 use Rattle.cx_rules.specs.Items.{Dynamic, visit, statements_in}
 use Rattle.cx_rules.specs.Sizes.{assigns_size, groups_size}
 use Rattle.cx_rules.specs.Flat.{IsFlatPart}
-use Rattle.cx_rules.specs.Wellformed.{IsForm, IsDesign}
+use Rattle.cx_rules.specs.Wellformed.{IsDesign}
 use Rattle.cx_static.specs.Islands.{PlainPoint, PlainOccurrence, PlainIsland, PlainLowered}
 use Rattle.cx_static.specs.Lowering.{unlowered, lowered_component, lowered_of}
 use Rattle.cx_wiring.specs.Counts.{wires_of, registers_of}
@@ -16,21 +15,19 @@ use Rattle.cx_wiring.specs.Assignments.{is_driven, driven_assigns, assigns_wires
 use Rattle.cx_wiring.specs.Trees.{tree_widths}
 use Rattle.cx_wiring.specs.Wiring.{groups, first_of_control, first_of_assigns, bits, plain_wires, plain_drivers, component_driven, target_width}
 use Rattle.cx_wiring.specs.PartNets.{wired_in}
-use Rattle.cx_wiring.specs.Nesting.{HasParts}
 use Rattle.cx_wiring.proofs.CountLaws.{samples_in, wires_of_few, registers_of_few}
 use Rattle.cx_wiring.proofs.NetTargets.{plain_wires_count}
 use Rattle.cx_wiring.proofs.DesignNames.{in_filter}
 use Rattle.cx_wiring.proofs.LoweringCounts.{total, all_timers, all_points}
-use Rattle.cx_wiring.proofs.ControlCounts.{timed_in, Untimed, Before, lowered_total, samples_are}
+use Rattle.cx_wiring.proofs.ControlCounts.{timed_in, Before, lowered_total, samples_are}
 use Rattle.cx_wiring.proofs.AssignCounts.{units, AllParts, assigns_wires_few, units_filter, units_order}
-use Rattle.cx_wiring.proofs.ComponentCounts.{no_timed, PartsHold}
+use Rattle.cx_wiring.proofs.ComponentCounts.{PartsHold, all_parts, untimed}
 use Rattle.cx_bytes.specs.Shallow.{Shallow}
 use Rattle.cx_bytes.proofs.NetBytes.{drivers_cost, drivers_cost-append}
 use Rattle.cx_bytes.proofs.ControlBytes.{points_cost, occurrences_cost, island_cost, control_cost}
 use Rattle.cx_bytes.proofs.TreeBytes.{bare_costs, all_trees_cost}
 use Rattle.cx_bytes.proofs.AssignBytes.{assigns_cost}
 use Rattle.cx_bytes.proofs.LoweringBytes.{points_weigh, occurrences_weigh, islands_weigh, statement_lowers}
-use Rattle.cx_meaning.proofs.DesignsLemmas.{same_part}
 
 -- ISLANDS weigh what they cost, with their wires, the registers of their samples, and 1,348 for each timer's cell
 points_paid : (ps : List PlainPoint) → points_weigh ps ≡ points_cost ps + 212 * length ps
@@ -72,18 +69,11 @@ module _ (d : PlainDesign) (rules : IsDesign d) (k : ℕ) (within : k < length d
   abbrev low : PlainLowered
   low = lowered_component part
 
-  untimed : Untimed (statements_in part)
-  untimed v i n is = no_timed part flat n (subst (IsForm part) is (subst (λ x. IsForm x v.form) (same_part d (length d.components) k) ((rules.components k within).statements v i).form))
-
-  all_parts : (list : List Owned) → ((o : Owned) → In list o → HasParts o.assign.guard) → AllParts (groups low) list
-  all_parts [] each = tt
-  all_parts (o ∷ list) each = (each o (inl refl), all_parts list (λ x i. each x (inr i)))
-
   pub part_cost : bare_costs (wired_in d part).drivers + 90 * (length (wired_in d part).wires + (wired_in d part).holes) + 122 * length (wired_in d part).registers + 1362 * all_timers low.islands
       ≤ 4096 * length (statements_in part) + 460 * (assigns_size part.always + groups_size part.groups) + 240
   part_cost =
       let before : Before low.islands low.islands = λ n x e. e in
-      let own : AllParts (groups low) (driven_assigns low) = all_parts (driven_assigns low) (λ o i. parts o (in_filter (is_driven low) (source_order part) o i)) in
+      let own : AllParts (groups low) (driven_assigns low) = all_parts (groups low) (driven_assigns low) (λ o i. parts o (in_filter (is_driven low) (source_order part) o i)) in
       let some : units (driven_assigns low) ≤ units (source_order part) = units_filter (is_driven low) (source_order part) in
       let sized : length part.groups + units (source_order part) ≡ assigns_size part.always + groups_size part.groups = units_order part in
       let assigned : assigns_wires (driven_assigns low) ≤ units (driven_assigns low) = assigns_wires_few (groups low) (driven_assigns low) own in
@@ -91,7 +81,7 @@ module _ (d : PlainDesign) (rules : IsDesign d) (k : ℕ) (within : k < length d
       let stated : wires_of low.part.control ≤ length (visit Dynamic low.part.control) + length (visit Dynamic low.part.control) = wires_of_few low.part.control in
       let plain : length (plain_wires low) ≡ groups low + bits low = plain_wires_count low in
       let narrow : bits low ≡ island_wires low.islands + wires_of low.part.control + assigns_wires (driven_assigns low) = refl in
-      let timed : timed_in island_cost low.islands (visit Dynamic low.part.control) + 0 ≡ total island_cost low.islands = lowered_total part island_cost part.control (unlowered part) low.islands untimed before in
+      let timed : timed_in island_cost low.islands (visit Dynamic low.part.control) + 0 ≡ total island_cost low.islands = lowered_total part island_cost part.control (unlowered part) low.islands (untimed d rules k within parts flat) before in
       let controlled : drivers_cost (control_drivers (groups low) low.islands (first_of_control low) low.part.control) ≤ 1024 * length (visit Dynamic low.part.control) + timed_in island_cost low.islands (visit Dynamic low.part.control) + 240 =
       control_cost (groups low) low.islands (first_of_control low) low.part.control in
       let driving : drivers_cost (plain_drivers low) ≡ drivers_cost (control_drivers (groups low) low.islands (first_of_control low) low.part.control) + drivers_cost (assigns_drivers (groups low) (first_of_assigns low) (driven_assigns low)) =
@@ -103,7 +93,7 @@ module _ (d : PlainDesign) (rules : IsDesign d) (k : ℕ) (within : k < length d
       let kept : suc (length (registers_of low.islands low.part.control)) ≤ length (visit Dynamic low.part.control) + length (visit Dynamic low.part.control) + samples_in low.islands (visit Dynamic low.part.control) =
       registers_of_few low.islands low.part.control in
       let sampled : samples_in low.islands (visit Dynamic low.part.control) ≡ timed_in (λ i. length i.points) low.islands (visit Dynamic low.part.control) = samples_are low.islands (visit Dynamic low.part.control) in
-      let pointed : timed_in (λ i. length i.points) low.islands (visit Dynamic low.part.control) + 0 ≡ all_points low.islands = lowered_total part (λ i. length i.points) part.control (unlowered part) low.islands untimed before in
+      let pointed : timed_in (λ i. length i.points) low.islands (visit Dynamic low.part.control) + 0 ≡ all_points low.islands = lowered_total part (λ i. length i.points) part.control (unlowered part) low.islands (untimed d rules k within parts flat) before in
       let registered : length (wired_in d part).registers ≡ suc (length (registers_of low.islands low.part.control)) = refl in
       let held : (wired_in d part).holes ≡ length part.groups + length part.groups = refl in
       let grouped : groups low ≡ length part.groups = refl in

@@ -4,10 +4,11 @@ use Rattle.std.specs.Prelude.{codes, option_map}
 use Rattle.std.proofs.lemmas.Bool.Decides.{eqb_tells}
 use Rattle.std.proofs.lemmas.List.{length-map}
 use Rattle.std.proofs.lemmas.Option.{slice_get-map, slice_get-get_or, slice_get_within}
+use Rattle.cx_text.proofs.MemberLaws.{each_append}
 use Rattle.cx_prim.specs.declared.ports.PortRow.{PortRow}
 use Rattle.cx_prim.specs.Table.{PrimitiveRow, HasRow, row_of}
 use Rattle.cx_meaning.specs.Designs.{PlainKind, OfPrimitive, OfComponent, PlainCell, PlainDesign, no_component, component_at}
-use Rattle.cx_meaning.specs.Sights.{In}
+use Rattle.cx_text.specs.Members.{Each, In}
 use Rattle.cx_rules.specs.Sizes.{size_of, design_size}
 use Rattle.cx_rules.specs.Wellformed.{IsDesign}
 use Rattle.cx_vtree.specs.Plain.{PlainPort}
@@ -27,8 +28,6 @@ use Rattle.cx_emit.specs.Names.{numbered, input_name, output_name, module_name}
 use Rattle.cx_emit.specs.Numbered.{numbered_from, with_numbers}
 use Rattle.cx_emit.specs.Signatures.{input_port, output_port, signature_of, signature_at, kind_ports, cell_ports}
 use Rattle.cx_emit.proofs.CellPorts.{length-signature}
-use Rattle.cx_bytes.proofs.TextBytes.{Each}
-use Rattle.cx_bytes.proofs.ModuleBytes.{each-append}
 use Rattle.cx_bytes.proofs.PrimitiveBytes.{port_name_few}
 use Rattle.cx_bytes.proofs.ComponentBytes.{five, input_short, output_short, PortShort, CellShort}
 use Rattle.cx_bytes.proofs.JoinBytes.{IsSigned, IsShown}
@@ -66,8 +65,8 @@ signature_short : (part : PlainNetComponent) → length part.inputs ≤ 10 ^ 5 �
 signature_short part ins outs =
     let few_ins : 0 + length part.inputs ≤ 10 ^ 5 = omega (arith, ins) in
     let few_outs : 0 + length part.outputs ≤ 10 ^ 5 = omega (arith, outs) in
-    each-append PortShort ((record { output = false; name = codes "go"; width = 1 } ∷ with_numbers input_port part.inputs) ++ with_numbers output_port part.outputs) (record { output = true; name = codes "done"; width = 1 } ∷ [])
-    (each-append PortShort (record { output = false; name = codes "go"; width = 1 } ∷ with_numbers input_port part.inputs) (with_numbers output_port part.outputs)
+    each_append PortShort ((record { output = false; name = codes "go"; width = 1 } ∷ with_numbers input_port part.inputs) ++ with_numbers output_port part.outputs) (record { output = true; name = codes "done"; width = 1 } ∷ [])
+    (each_append PortShort (record { output = false; name = codes "go"; width = 1 } ∷ with_numbers input_port part.inputs) (with_numbers output_port part.outputs)
     (omega arith, each_numbered input_port (10 ^ 5) (λ m x less. let h : length (input_name m) ≤ 10 = input_short m less in omega (arith, h)) 0 part.inputs few_ins)
     (each_numbered output_port (10 ^ 5) (λ m x less. let h : length (output_name m) ≤ 11 = output_short m less in omega (arith, h)) 0 part.outputs few_outs))
     (omega arith, tt)

@@ -3,10 +3,11 @@ use Rattle.std.proofs.Common.{◌≡◌, ℕ, ◌+◌, ◌^◌, ◌≤◌, ◌==
 use Rattle.std.specs.Prelude.{nat_lt}
 use Rattle.std.specs.Option.{option_map_or}
 use Rattle.std.proofs.lemmas.Bool.{or_parts, and_parts, leb-false}
+use Rattle.cx_text.specs.Members.{Each}
 use Rattle.cx_vtree.specs.Plain.{PlainPort, PlainDecl, WireOf, RegisterOf, ArrayOf, PlainAssign, PlainItem, SetTo, StoreTo, PlainEdge, PlainModule, PlainSource}
 use Rattle.cx_vtree.specs.Layout.{is_laid_out}
 use Rattle.cx_vtree.specs.Sound.{Faults, no_faults, Break, NameAt, WidthAt, LimitAt, Scope, width_of, misnames, bad_width, has_width, fitting_width, meant_in, drivers_in, decl_name, ports_faults, decl_faults, decls_faults, assigns_faults, instances_faults, set_faults, sets_faults, item_faults, item_name, items_faults, edge_faults, Counts, module_counts, module_faults, lines_faults, modules_faults, externals_faults, faults_of, first_break, break_of, is_sound}
-use Rattle.cx_bytes.proofs.TextBytes.{AreNarrow, DeclNarrow, ItemNarrow, Each}
+use Rattle.cx_bytes.proofs.TextBytes.{AreNarrow, DeclNarrow, ItemNarrow}
 use Rattle.cx_bytes.proofs.ModuleBytes.{EdgeNarrow, IsNarrow}
 use Rattle.cx_bytes.proofs.NarrowLemmas.{narrow_by, scope_wide}
 use Rattle.cx_vtree.proofs.SoundLemmas.{no_break, small_width}

@@ -1,7 +1,8 @@
 -- Sums over lists whose elements are told with their numbers.
 use Rattle.std.proofs.Common.{◌≡◌, ℕ, suc, ◌+◌, ◌*◌, ◌<◌, ◌≤◌, List, [], ◌∷◌, ◌++◌, length, arith, suc-mul, zero-mul}
+use Rattle.cx_text.specs.Members.{Each}
 use Rattle.cx_emit.specs.Numbered.{numbered_from, lists_from}
-use Rattle.cx_bytes.proofs.TextBytes.{sum_over, Each}
+use Rattle.cx_bytes.proofs.TextBytes.{sum_over}
 use Rattle.cx_bytes.proofs.ModuleBytes.{sum_over-append}
 
 pub sum_same : {A : Type 0} (c : ℕ) (xs : List A) → sum_over (λ x. c) xs ≡ length xs * c

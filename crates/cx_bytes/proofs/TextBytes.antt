@@ -5,6 +5,7 @@ use Rattle.std.proofs.Math.Pow.{pow_mono}
 use Rattle.std.specs.Int.Digits.{digits_of}
 use Rattle.std.proofs.lemmas.List.{length-map}
 use Rattle.std.proofs.lemmas.Int.Digits.{length-digits_of-le}
+use Rattle.cx_text.specs.Members.{Each}
 use Rattle.cx_vtree.specs.Plain.{PlainExpr, Named, Number, Part, Word, Applied, Inverted, Chosen, Joined, PlainDecl, WireOf, RegisterOf, ArrayOf, PlainAssign, PlainConn, PlainItem, SetTo, StoreTo}
 use Rattle.cx_vtree.specs.Lines.{glyph, number_text, decimal_text, op_text, expr_text, Line, ExternalLine, ModuleLine, PortLine, PortsEnd, DeclLine, AssignLine, InstanceLine, AlwaysLine, ResetLine, SetLine, ElseLine, StoreLine, BranchesEnd, AlwaysEnd, ModuleEnd, sizes_text, bounds_text, conn_text, more_conns_text, conns_text, decl_text, side_text, comma_text, line_text, lines_text}
 
@@ -264,11 +265,6 @@ line_fits ModuleEnd narrow = record { few = omega arith }
 abbrev pub sum_over : {A : Type 0} → (A → ℕ) → List A → ℕ
 sum_over f [] = 0
 sum_over f (x ∷ xs) = f x + sum_over f xs
-
--- it holds of each
-abbrev pub Each : {A : Type 0} → (A → Type 0) → List A → Type 0
-Each P [] = Unit {0}
-Each P (x ∷ xs) = P x × Each P xs
 
 pub lines_fit : (ls : List Line) → Each LineNarrow ls → Fits (sum_over line_bytes ls) (lines_text ls)
 lines_fit [] each = exactly []

@@ -5,9 +5,10 @@ use Rattle.std.specs.Prelude.{filter_map, option_map}
 use Rattle.std.specs.List.{cons_option}
 use Rattle.std.proofs.lemmas.List.{length-map, map-append}
 use Rattle.std.proofs.lemmas.Option.{slice_get-map, slice_get_within}
+use Rattle.cx_text.proofs.MemberLaws.{number_in}
 use Rattle.cx_meaning.specs.Designs.{OfPrimitive, PlainCell, PlainComponent, PlainDesign, component_at}
 use Rattle.cx_prim.specs.Table.{PrimitiveRow, HasRow}
-use Rattle.cx_meaning.specs.Sights.{In}
+use Rattle.cx_text.specs.Members.{In}
 use Rattle.cx_rules.specs.Flat.{IsFlat}
 use Rattle.cx_rules.specs.Accepted.{IsAccepted}
 use Rattle.cx_rules.specs.Sizes.{size_of, design_size}
@@ -40,7 +41,6 @@ use Rattle.cx_bytes.proofs.HoledBytes.{drivers_few}
 use Rattle.cx_bytes.proofs.WeightBytes.{cells_weight}
 use Rattle.cx_bytes.proofs.JoinBytes.{outside_sum, lowered_cheap, cells_written}
 use Rattle.cx_bytes.proofs.LoweredCells.{lowered_cells, cells_here, cells_few}
-use Rattle.cx_meaning.proofs.SightsLaws.{number_in}
 use Rattle.cx_bytes.proofs.NamedBytes.{ports_named}
 use Rattle.cx_bytes.proofs.SignedBytes.{place_at, holed, net, sized, module_short, cells_short, cells_shown}
 use Rattle.std.proofs.lemmas.Bool.{or_right}

@@ -2,11 +2,12 @@
 use Rattle.std.proofs.Common.{◌≡◌, inl, inr, ⊎_elim, ℕ, suc, ◌+◌, ◌*◌, ◌^◌, ◌<◌, ◌≤◌, Bool, true, false, List, [], ◌∷◌, ◌++◌, length, map, Option, subst, sym, ap, arith, if◌then◌else◌, zero-mul}
 use Rattle.cx_text.specs.declared.limits.TheConstants.{COMPILE_SIZE, VERILOG_BYTES}
 use Rattle.cx_meaning.specs.Designs.{PlainCell, PlainDesign, component_at}
-use Rattle.cx_meaning.specs.Sights.{In}
+use Rattle.cx_text.specs.Members.{Each, In}
 use Rattle.cx_rules.specs.Flat.{IsFlat}
 use Rattle.cx_rules.specs.Accepted.{IsAccepted}
 use Rattle.cx_rules.specs.Sizes.{size_of, design_size, weight_of}
 use Rattle.cx_rules.specs.Wellformed.{IsDesign}
+use Rattle.cx_rules.specs.StaticControl.{one_if}
 use Rattle.cx_vtree.specs.Plain.{PlainExternal}
 use Rattle.cx_vtree.specs.Spelling.{text_of}
 use Rattle.cx_vtree.specs.Sound.{is_sound}
@@ -25,7 +26,7 @@ use Rattle.cx_emit.specs.Names.{instance_name}
 use Rattle.cx_emit.specs.Sources.{external_of, cell_externals, externals_at, source_of}
 use Rattle.cx_bytes.specs.Laws.{HasGuards, HasFewBytes}
 use Rattle.cx_bytes.specs.Shallow.{IsShallow, Shallow}
-use Rattle.cx_bytes.proofs.TextBytes.{sum_over, Each}
+use Rattle.cx_bytes.proofs.TextBytes.{sum_over}
 use Rattle.cx_bytes.proofs.ModuleBytes.{external_bytes}
 use Rattle.cx_bytes.proofs.ComponentBytes.{instance_short}
 use Rattle.cx_bytes.proofs.WeightBytes.{cells_weight, cells_weigh_little}
@@ -40,18 +41,14 @@ sum_has f [] x i = absurd i
 sum_has f (y ∷ xs) x (inl e) = let same : f y ≡ f x = ap f e in omega (arith, same)
 sum_has f (y ∷ xs) x (inr i) = let h : f x ≤ sum_over f xs = sum_has f xs x i in omega (arith, h)
 
-abbrev one_outside : Bool → ℕ
-one_outside true = 1
-one_outside false = 0
-
 abbrev outsiders : List PlainCell → ℕ
-outsiders = cells_cost (λ cell. one_outside cell.external)
+outsiders = cells_cost (λ cell. one_if cell.external)
 
 outsiders_few : (cells : List PlainCell) → outsiders cells ≤ length cells
 outsiders_few [] = omega arith
-outsiders_few (c ∷ cells) = let own : one_outside c.external ≤ 1 = by c.external in let h : outsiders cells ≤ length cells = outsiders_few cells in omega (arith, own, h)
+outsiders_few (c ∷ cells) = let own : one_if c.external ≤ 1 = by c.external in let h : outsiders cells ≤ length cells = outsiders_few cells in omega (arith, own, h)
   where
-    by : (b : Bool) → one_outside b ≤ 1
+    by : (b : Bool) → one_if b ≤ 1
     by true = omega arith
     by false = omega arith
 
@@ -61,7 +58,7 @@ module _ (d : PlainDesign) (rules : IsDesign d) (small : design_size d ≤ 16384
 
   -- AN EXTERNAL LINE has 368 bytes: 112 of its cell and 256 more
   one_line : (n : ℕ) (cell : PlainCell) (b : Bool) (rest : List PlainExternal) (outs count : ℕ) → n < 10 ^ 5 → Each IsBrief ((if b then external_of n cell ∷ [] else []) ++ rest) → (Each IsBrief rest → sum_over external_bytes rest ≤ outs + 256 * count)
-      → sum_over external_bytes ((if b then external_of n cell ∷ [] else []) ++ rest) ≤ outside_cost b + outs + 256 * (one_outside b + count)
+      → sum_over external_bytes ((if b then external_of n cell ∷ [] else []) ++ rest) ≤ outside_cost b + outs + 256 * (one_if b + count)
   one_line n cell true rest outs count less each later =
       let own = each.0.few in
       let name : length (instance_name n) ≤ 9 = instance_short n less in
@@ -82,7 +79,7 @@ module _ (d : PlainDesign) (rules : IsDesign d) (small : design_size d ≤ 16384
 
   main_outsiders : outsiders (lowered_cells d rules d.main) ≤ size_of (component_at d d.main)
   main_outsiders =
-      let adds = statement_adds (component_at d d.main) (λ cell. one_outside cell.external) 0 (λ place n. (omega arith)) (component_at d d.main).control (unlowered (component_at d d.main)) in
+      let adds = statement_adds (component_at d d.main) (λ cell. one_if cell.external) 0 (λ place n. (omega arith)) (component_at d d.main).control (unlowered (component_at d d.main)) in
       let grown : outsiders (lowered_cells d rules d.main) + 0 * 0 ≤ outsiders (component_at d d.main).cells + 0 * all_timers (lowered_component (component_at d d.main)).islands = adds.cells in
       let none : 0 * all_timers (lowered_component (component_at d d.main)).islands ≡ 0 = zero-mul (all_timers (lowered_component (component_at d d.main)).islands) in
       let few : outsiders (component_at d d.main).cells ≤ length (component_at d d.main).cells = outsiders_few (component_at d d.main).cells in

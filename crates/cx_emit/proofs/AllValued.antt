@@ -34,7 +34,7 @@ use Rattle.cx_vmods.specs.Laws.{EachIsBuilt}
 use Rattle.cx_net.specs.NetFits.{signature_widths, port_width}
 use Rattle.cx_emit.specs.Fits.{IsFlat, node_width}
 use Rattle.cx_emit.specs.States.{StatesStand}
-use Rattle.cx_emit.proofs.NumberedLemmas.{mapped_in, In, in_either, numbered_in, lists_in}
+use Rattle.cx_emit.proofs.NumberedLemmas.{In, in_either, numbered_in, lists_in}
 use Rattle.cx_emit.proofs.Evals.{value_tied, value_held, value_outside}
 use Rattle.cx_emit.proofs.Standing.{tree, comp_there, own, IsPlaced, main_placed, IsCell, cell_placed, child_placed, cell_module_ports, primitive_placed}
 use Rattle.cx_emit.proofs.Origins.{register_is_held}
@@ -45,7 +45,7 @@ use Rattle.cx_emit.proofs.PortPlaces.{done_port, length-numbered}
 use Rattle.cx_emit.proofs.Situations.{Situation, situation_below, primitive_at, main_situation}
 use Rattle.cx_emit.proofs.Reached.{IsReached, of_component, of_primitive, reached}
 use Rattle.cx_text.proofs.OptionLaws.{map_some, same_some, one_value}
-use Rattle.cx_text.proofs.ListLaws.{there_at}
+use Rattle.cx_text.proofs.ListLaws.{at_map, there_at}
 use Rattle.cx_net.proofs.NetsLemmas.{length-signature}
 
 -- a look that has every value
@@ -139,7 +139,7 @@ module _ (net : PlainNet) (sound : is_sound (source_of net) ≡ true) (fit : IsF
       at_cell : In d (lists_from cell_decls 0 cells) → Valued i (decl_name d)
       at_cell h =
           let (c, wired, at, inner) = lists_in cell_decls cells d h in
-          let (cell, there, is) = mapped_in (cell_ports net) part.cells c wired at in
+          let (cell, there, is) = at_map (cell_ports net) part.cells c wired at in
           let (port, at_port, named) = numbered_in (port_decl c) wired.ports inner.0 d inner.1 in
           let wide = text_width c inner.0 cell port there cell.kind refl (subst (λ (y : PlainCellPorts). slice_get y.ports inner.0 ≡ Some port) (sym is) at_port) in
           subst (λ e. Valued i (decl_name e)) named (node_valued (APort (ports.Cell c inner.0)) wide.0 wide.1)

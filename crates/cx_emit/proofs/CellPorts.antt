@@ -4,6 +4,7 @@ use Rattle.std.specs.Prelude.{codes}
 use Rattle.std.proofs.lemmas.List.{length-map, map-append}
 use Rattle.std.proofs.lemmas.Option.{slice_get-map, slice_get-get_or, slice_get_within}
 use Rattle.std.proofs.lemmas.List.Elements.{All-head, All-tail}
+use Rattle.cx_text.specs.Members.{Each}
 use Rattle.cx_prim.specs.declared.ports.PortRow.{PortRow}
 use Rattle.cx_prim.specs.Widths.{IsWidth}
 use Rattle.cx_prim.specs.Table.{row_of}
@@ -27,7 +28,7 @@ use Rattle.cx_emit.proofs.NameLaws.{is_name-numbered}
 use Rattle.cx_emit.proofs.PrimitiveNames.{is_name-primitive_name}
 use Rattle.cx_emit.proofs.ModuleNames.{names_in, names_in-apart}
 use Rattle.cx_emit.proofs.PortPlaces.{PortIs, is_go, is_input, is_output, is_done, done_port, port_is, length-numbered}
-use Rattle.cx_emit.proofs.CleanModules.{Each, each_more}
+use Rattle.cx_emit.proofs.CleanModules.{each_more}
 use Rattle.cx_emit.proofs.StatelessModules.{one_wide}
 use Rattle.cx_emit.proofs.PrimitiveModules.{primitive_owes}
 use Rattle.cx_text.proofs.OptionLaws.{map_some}

@@ -26,9 +26,10 @@ use Rattle.cx_vmods.specs.Laws.{EachIsBuilt}
 use Rattle.cx_emit.specs.Fits.{IsFlat, stand_for}
 use Rattle.cx_emit.proofs.Evals.{value_tied}
 use Rattle.cx_emit.proofs.Standing.{tree, comp, IsPlaced, ports_of_cell, IsCell, primitive_placed, primitive_fits}
-use Rattle.cx_emit.proofs.Origins.{IsWide, port_is_wide, cell_input_tied, cell_output_ties}
+use Rattle.cx_emit.proofs.Origins.{port_is_wide, cell_input_tied, cell_output_ties}
 use Rattle.cx_net.proofs.GatherLemmas.{input_within}
 use Rattle.cx_text.proofs.ListLaws.{there_at}
+use Rattle.cx_vlaws.proofs.ExpressionWidths.{IsWide}
 
 -- a net of an instance has this value, which is this wide
 abbrev pub Carried : List Placed → Moment → ℕ → List ℕ → ℕ → BitVector → Type 0

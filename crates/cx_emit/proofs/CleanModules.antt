@@ -3,6 +3,7 @@ use Rattle.std.proofs.Common.{◌≡◌, ℕ, ◌+◌, ◌^◌, ◌<◌, ◌≤�
 use Rattle.std.specs.Prelude.{nat_lt, codes}
 use Rattle.std.specs.List.{list_all}
 use Rattle.std.proofs.lemmas.Bool.{lt-leb, and_from, or_from}
+use Rattle.cx_text.specs.Members.{Each}
 use Rattle.cx_prim.specs.Widths.{IsWidth}
 use Rattle.cx_vtree.specs.Plain.{PlainPort, PlainDecl, WireOf, RegisterOf, ArrayOf, PlainAssign, PlainInstance, PlainStore, PlainItem, SetTo, StoreTo, PlainEdge, PlainModule}
 use Rattle.cx_vtree.specs.InstanceTree.{same_name}
@@ -13,11 +14,6 @@ use Rattle.cx_emit.specs.Signatures.{one_bit}
 use Rattle.cx_emit.proofs.FaultLaws.{IsClean, AreClean, no_lines, a_line, clean-append}
 use Rattle.cx_emit.proofs.Keeping.{Keeps, keeps_width}
 use Rattle.cx_vtree.proofs.SoundLemmas.{not_wide}
-
--- it holds of each element, one after another
-abbrev pub Each : {A : Type 0} → (A → Type 0) → List A → Type 0
-Each P [] = Unit {0}
-Each P (x ∷ xs) = P x × Each P xs
 
 pub record KeepsPort (drivers : List (List ℕ)) (p : PlainPort) : Type 0 where
   pub named : is_name p.name ≡ true

@@ -5,6 +5,8 @@ use Rattle.std.proofs.lemmas.Bool.{or_from, and_from}
 use Rattle.std.proofs.lemmas.Nat.{pow_pos}
 use Rattle.std.proofs.lemmas.List.{map-append}
 use Rattle.std.proofs.lemmas.Option.{slice_get_within}
+use Rattle.cx_text.proofs.ListLaws.{at_map}
+use Rattle.cx_text.specs.Members.{Each}
 use Rattle.cx_prim.specs.Widths.{IsWidth}
 use Rattle.cx_meaning.specs.declared.kinds.PortDecl.{PortDecl}
 use Rattle.cx_meaning.specs.declared.ports.PortRef.{PortRef}
@@ -30,14 +32,14 @@ use Rattle.cx_emit.specs.Exprs.{literal, port_expr}
 use Rattle.cx_emit.specs.Chains.{chain_to}
 use Rattle.cx_emit.specs.Signatures.{PlainCellPorts, one_bit, input_port, output_port, signature_of, module_ports, cell_ports}
 use Rattle.cx_emit.specs.Sources.{assign, port_decl, cell_decls, port_assigns, cell_assigns, port_conn, cell_instance, wire_decl, wire_assign, output_assign, done_assign, register_decl, register_reset, register_step, component_module}
-use Rattle.cx_emit.proofs.NumberedLemmas.{in_mapped, mapped_in, In, in_left, in_right, in_either, in_numbered, numbered_in, in_lists, lists_in}
+use Rattle.cx_emit.proofs.NumberedLemmas.{in_mapped, In, in_left, in_right, in_either, in_numbered, numbered_in, in_lists, lists_in}
 use Rattle.cx_emit.proofs.NameLaws.{is_name-numbered, is_name-twice_numbered}
 use Rattle.cx_emit.proofs.ApartLaws.{lack_other, lacks_name, have_numbered, fresh_numbered, fresh_kins, names_of, Kin, port_names, have_twice, fresh_twice}
 use Rattle.cx_emit.proofs.ModuleNames.{map-numbered, one_kin, numbered_kin, names_in}
 use Rattle.cx_net.proofs.DriverLemmas.{drivers_fit}
 use Rattle.cx_emit.proofs.PortPlaces.{done_port}
 use Rattle.cx_emit.proofs.Keeping.{Keeps, keeps_named, keeps_number, keeps_more, keeps_as}
-use Rattle.cx_emit.proofs.CleanModules.{Each, KeepsPort, KeepsDecl, KeepsAssign, KeepsInstance, KeepsSet, KeepsItem, KeepsEdges, IsKept, scope_of}
+use Rattle.cx_emit.proofs.CleanModules.{KeepsPort, KeepsDecl, KeepsAssign, KeepsInstance, KeepsSet, KeepsItem, KeepsEdges, IsKept, scope_of}
 use Rattle.cx_emit.proofs.StatelessModules.{one_wide}
 use Rattle.cx_emit.proofs.ExprKeeps.{chain_keeps}
 use Rattle.cx_emit.proofs.CellPorts.{each_in, in_each, all_each, IsFinePort, module_named_well, has_few, part_names, signature_ports, kind_ports_are, port_there, port_wide, kind_named}
@@ -220,13 +222,13 @@ module _ (net : PlainNet) (fit : IsFit net) (no_holes : HasNoHoles net) (writabl
   -- the width of a port of a cell, from its place
   port_target : (c p : ℕ) (cell : PlainCellPorts) (port : PlainPort) → slice_get cells c ≡ Some cell → slice_get cell.ports p ≡ Some port → port_width net part (ports.Cell c p) ≡ Some port.width
   port_target c p cell port at there =
-      let (plain, known, is) = mapped_in (cell_ports net) part.cells c cell at in
+      let (plain, known, is) = at_map (cell_ports net) part.cells c cell at in
       let here : slice_get (cell_ports net plain).ports p ≡ Some port = ap (λ (x : PlainCellPorts). slice_get x.ports p) is ∙ there in
       ap (option_and_then (λ (x : PlainCell). kind_width net x.kind p)) known ∙ port_wide net fit writable k plain.kind p port lt ((fit.components k lt).cells c plain known) here
 
   fine_port : (c p : ℕ) (cell : PlainCellPorts) (port : PlainPort) → slice_get cells c ≡ Some cell → slice_get cell.ports p ≡ Some port → IsFinePort port
   fine_port c p cell port at there =
-      let (plain, known, is) = mapped_in (cell_ports net) part.cells c cell at in
+      let (plain, known, is) = at_map (cell_ports net) part.cells c cell at in
       in_each IsFinePort cell.ports port (subst (λ (x : PlainCellPorts). Each IsFinePort x.ports) is (kind_ports_are net fit writable k plain.kind lt ((fit.components k lt).cells c plain known)).fine) (p, there)
 
   wire_wide : (n w : ℕ) → slice_get part.wires n ≡ Some w → IsWidth w
@@ -419,7 +421,7 @@ module _ (net : PlainNet) (fit : IsFit net) (no_holes : HasNoHoles net) (writabl
         of_cell : (c : ℕ) (cell : PlainCellPorts) → slice_get cells c ≡ Some cell → KeepsInstance before scope (cell_instance c cell)
         of_cell c cell at =
             let knows = in_each (IsKnown before) cells cell known (c, at) in
-            let (plain, there, is) = mapped_in (cell_ports net) part.cells c cell at in
+            let (plain, there, is) = at_map (cell_ports net) part.cells c cell at in
             let wires : (j : ℕ) (p : PlainPort) → slice_get cell.ports j ≡ Some p → scope (cell_port_name c j) ≡ meant.Wire p.width = λ j p e. cell_scope c j cell p at e in
             let clocked : scope (codes "clk") ≡ meant.Input 1 = port_scope (one_bit (codes "clk")) (0, refl) in
             let is_reset : scope (codes "reset") ≡ meant.Input 1 = port_scope (one_bit (codes "reset")) (1, refl) in

@@ -3,6 +3,7 @@ use Rattle.std.proofs.Common.{◌≡◌, ℕ, zero, suc, ◌+◌, ◌==◌, ◌&
 use Rattle.std.specs.Prelude.{codes}
 use Rattle.std.specs.Option.{option_map_or}
 use Rattle.std.proofs.lemmas.Bool.{or_from, or_parts, both_ways, false_from_ne_true}
+use Rattle.cx_text.specs.Members.{Each}
 use Rattle.cx_vtree.specs.declared.meanings.Meaning.TheVariants as meant
 use Rattle.cx_vtree.specs.Plain.{PlainPort, PlainConn, PlainModule}
 use Rattle.cx_vtree.specs.InstanceTree.{same_name}
@@ -14,7 +15,6 @@ use Rattle.cx_emit.specs.Numbered.{numbered_from, with_numbers}
 use Rattle.cx_emit.specs.Signatures.{PlainCellPorts, one_bit}
 use Rattle.cx_emit.specs.Sources.{conn, port_conn, cell_instance}
 use Rattle.cx_emit.proofs.PickedNames.{picked, all_picked}
-use Rattle.cx_emit.proofs.CleanModules.{Each}
 use Rattle.cx_vtree.proofs.InstanceTreeLemmas.{same_is, is_same, same_self}
 
 -- a port is an output where its name is one

@@ -2,6 +2,7 @@
 use Rattle.std.proofs.Common.{◌≡◌, ℕ, suc, ◌+◌, ◌-◌, ◌^◌, ◌<◌, ◌≤◌, List, [], ◌∷◌, ◌++◌, length, map, Some, slice_get, refl, ap, sym, ◌∙◌, subst, arith}
 use Rattle.std.specs.Prelude.{min}
 use Rattle.std.proofs.lemmas.List.{length-map}
+use Rattle.cx_text.specs.Members.{Each}
 use Rattle.cx_vmods.specs.Modules.{port_of}
 use Rattle.cx_meaning.specs.Designs.{PlainKind, OfPrimitive, OfComponent, PlainCell}
 use Rattle.cx_prim.specs.Table.{row_of}
@@ -19,7 +20,6 @@ use Rattle.cx_emit.specs.Signatures.{signature_at, kind_ports, cell_ports}
 use Rattle.cx_emit.specs.Sources.{port_decl, cell_decls, wire_decl, register_decl, decls_with, cell_instance, component_module}
 use Rattle.cx_net.proofs.DriverLemmas.{part-within}
 use Rattle.cx_emit.proofs.CellPorts.{length-signature}
-use Rattle.cx_emit.proofs.CleanModules.{Each}
 
 -- at most so many
 pub record AtMost (c : Counts) (nets instances words : ℕ) : Type 0 where

@@ -1,8 +1,8 @@
 -- What holds of the parts of a net that is emitted: all that has a width has 1 to 128 bits, and the numbers in expressions fit.
-use Rattle.std.proofs.Common.{map, ◌≡◌, ℕ, ◌<◌, ◌≤◌, List, [], ◌∷◌, length, All, Some, slice_get, refl, sym, ◌∙◌, subst, arith}
-use Rattle.std.proofs.lemmas.List.Elements.{All-nil, All-cons}
+use Rattle.std.proofs.Common.{map, ◌≡◌, ℕ, ◌<◌, ◌≤◌, List, [], ◌∷◌, length, Some, slice_get, refl, sym, ◌∙◌, subst, arith}
 use Rattle.std.proofs.lemmas.Option.{get_or_from_slice_get, slice_get_within}
 use Rattle.std.specs.Prelude.{codes}
+use Rattle.cx_text.specs.Members.{Each}
 use Rattle.cx_prim.specs.Widths.{IsWidth}
 use Rattle.cx_meaning.specs.declared.ports.PortRef.{PortRef}
 use Rattle.cx_meaning.specs.declared.ports.PortRef.TheVariants as ports
@@ -11,17 +11,13 @@ use Rattle.cx_rules.specs.Externals.{numbers_of, sizes_in}
 use Rattle.cx_net.specs.Nets.{PlainNetExpr, OfPort, OfRegister, OfWire, OfHole, OfGo, Fixed, Inverse, AllOf, AnyOf, Sum, Compares, PlainNetExprs, no_exprs, an_expr, PlainNetDriver, PlainNetComponent, PlainNet}
 use Rattle.cx_net.specs.NetFits.{HasPortWidth, HasWidth, AreBits, target_width, IsFitKind, IsExternalKind}
 use Rattle.cx_net.specs.NetTree.{no_net_component, net_component_at}
+use Rattle.cx_net.proofs.NetsLemmas.{each_all}
 use Rattle.cx_emit.specs.Emitted.{CanBeEmitted, PortFits, LiteralsFit, AllLiteralsFit, DriverFits, PortsAreWide, PartFits, ExternalsHaveWords}
 use Rattle.cx_emit.specs.Signatures.{cell_ports}
-use Rattle.cx_emit.proofs.CleanModules.{Each, each_more}
+use Rattle.cx_emit.proofs.CleanModules.{each_more}
 use Rattle.cx_emit.proofs.CellPorts.{each_in, comp_there, kind_ports_are}
 use Rattle.cx_emit.proofs.PrimitiveModules.{primitive_owes}
 use Rattle.cx_text.proofs.OptionLaws.{some_value}
-
--- what holds of each holds of all
-pub each_all : {A : Type 0} (P : A → Type 0) (xs : List A) → Each P xs → All P xs
-each_all P [] h = All-nil P
-each_all P (x ∷ xs) h = All-cons P x xs h.0 (each_all P xs h.1)
 
 module _ (net : PlainNet) (part : PlainNetComponent) where
   -- the numbers of an expression that has a width fit

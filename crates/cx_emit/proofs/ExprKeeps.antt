@@ -2,6 +2,7 @@
 use Rattle.std.proofs.Common.{◌≡◌, ℕ, zero, suc, ◌+◌, ◌-◌, ◌*◌, ◌^◌, ◌<◌, ◌≤◌, Bool, true, false, List, [], ◌∷◌, length, slice_get, Some, refl, ap, sym, subst, if◌then◌else◌, arith}
 use Rattle.std.specs.Prelude.{nat_lt, codes}
 use Rattle.std.proofs.lemmas.Bool.{ltb-true, ltb-false}
+use Rattle.cx_text.specs.Members.{Each}
 use Rattle.cx_prim.specs.Rows.{IsOfWidth}
 use Rattle.cx_meaning.specs.declared.ports.PortRef.{PortRef}
 use Rattle.cx_meaning.specs.declared.ports.Comparison.{Comparison}
@@ -17,7 +18,6 @@ use Rattle.cx_emit.specs.Exprs.{paired, paired_often, joined, folded, literal, p
 use Rattle.cx_emit.specs.Names.{wire_name, register_name}
 use Rattle.cx_emit.specs.Chains.{is_one, chain_of}
 use Rattle.cx_net.proofs.DriverLemmas.{AreFitDrivers}
-use Rattle.cx_emit.proofs.CleanModules.{Each}
 use Rattle.cx_emit.proofs.Keeping.{Keeps, keeps_number, keeps_applied, keeps_inverted, keeps_chosen, keeps_more, keeps_as}
 
 -- half of the parts, and one more of an odd number

@@ -23,7 +23,7 @@ use Rattle.cx_net.specs.NetFits.{HasWidth, HasPortWidth, AreBits}
 use Rattle.cx_emit.proofs.Evals.{IsReading}
 use Rattle.cx_emit.proofs.FoldLemmas.{Folds, last_part, a_part, folds-folded}
 use Rattle.cx_text.proofs.OptionLaws.{map_some, bind_some}
-use Rattle.cx_text.proofs.BoolLaws.{or_false, and_true_also}
+use Rattle.cx_text.proofs.BoolLaws.{or_false, and_true_also, from_not, not_not, or_assoc}
 use Rattle.cx_net.proofs.NetMeaningLemmas.{and_two, or_two, not_bit, bit_width}
 use Rattle.cx_net.proofs.WidthLaws.{bit_is}
 
@@ -43,10 +43,6 @@ some_is x y e = cc
 and_assoc : (a b c : Bool) → (a && (b && c)) ≡ ((a && b) && c)
 and_assoc true b c = refl
 and_assoc false b c = refl
-
-or_assoc : (a b c : Bool) → (a || (b || c)) ≡ ((a || b) || c)
-or_assoc true b c = refl
-or_assoc false b c = refl
 
 -- a comparison of the text is that of the net
 compared : (c : Comparison) (x y : BitVector) → operate (operator_of c) x y ≡ truth_bit (compares c x.value y.value)
@@ -101,7 +97,7 @@ module _ (net : PlainNet) (part : PlainNetComponent) (no_holes : part.holes ≡ 
 
   any_reads : (es : PlainNetExprs) (b : Bool) → AnyTogether es b → E (expr_of (AnyOf es)) (truth_bit b)
   any_reads no_exprs b h = subst (λ x. E (expr_of (AnyOf no_exprs)) (truth_bit x)) (sym h) (reads.number (truth_bit false))
-  any_reads (an_expr a es) b h = folds-folded E reads operators.Or ◌||◌ or_two or_assoc (literal 1 0) (exprs_to (an_expr a es)) b h
+  any_reads (an_expr a es) b h = folds-folded E reads operators.Or ◌||◌ or_two (λ x y z. sym (or_assoc x y z)) (literal 1 0) (exprs_to (an_expr a es)) b h
 
   mutual
     pub reads_expr : (e : PlainNetExpr) (w : ℕ) (v : BitVector) → HasWidth net part e w → value e ≡ Some v → Reads E (expr_of e) w v
@@ -177,14 +173,6 @@ module _ (net : PlainNet) (part : PlainNetComponent) (no_holes : part.holes ≡ 
   one_is_true (Sum a b) v one e = absurd (cc)
   one_is_true (Compares c a b) v one e = absurd (cc)
 
-  not_false : (b : Bool) → not b ≡ true → b ≡ false
-  not_false true e = absurd (cc)
-  not_false false e = refl
-
-  not_true : (b : Bool) → not b ≡ false → b ≡ true
-  not_true true e = refl
-  not_true false e = absurd (cc)
-
   if_both : (b : Bool) (x y : PlainExpr) (v : BitVector) → E x v → E y v → E (if b then x else y) v
   if_both true x y v h k = h
   if_both false x y v h k = k
@@ -206,13 +194,13 @@ module _ (net : PlainNet) (part : PlainNetComponent) (no_holes : part.holes ≡ 
       go g is true test f guard later =
           let r = reads_expr d.source w v fits.1 f in (
             if_both (is_one d.guard) (expr_of d.source) (Chosen (expr_of d.guard) (expr_of d.source) (chain_of last ds)) v r.0
-                (reads.one (expr_of d.guard) (expr_of d.source) (chain_of last ds) g v guard (not_false (g.value == 0) test) r.0),
+                (reads.one (expr_of d.guard) (expr_of d.source) (chain_of last ds) g v guard (from_not (g.value == 0) test) r.0),
             r.1,
           )
       go g is false test f guard later =
           let r = later f in (
             if_other (is_one d.guard) (expr_of d.source) (Chosen (expr_of d.guard) (expr_of d.source) (chain_of last ds)) v
                 (λ one. let same = sym test ∙ one_is_true d.guard g one is in cc)
-                (reads.other (expr_of d.guard) (expr_of d.source) (chain_of last ds) g v guard (not_true (g.value == 0) test) r.0),
+                (reads.other (expr_of d.guard) (expr_of d.source) (chain_of last ds) g v guard (not_not (g.value == 0) test) r.0),
             r.1,
           )

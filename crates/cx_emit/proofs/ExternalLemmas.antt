@@ -3,6 +3,7 @@ use Rattle.std.proofs.Common.{◌≡◌, inl, inr, ℕ, zero, suc, ◌+◌, ◌<
 use Rattle.std.specs.Prelude.{slice_index}
 use Rattle.std.specs.Option.{option_map_or}
 use Rattle.std.proofs.lemmas.Option.{slice_get-map}
+use Rattle.cx_text.proofs.ListLaws.{at_map}
 use Rattle.cx_prim.specs.CellStates.{CellState, AreWords, IsState, TakesWords}
 use Rattle.cx_prim.specs.CellStates as cell_states
 use Rattle.cx_prim.specs.Table.{PrimitiveRow, row_of}
@@ -28,7 +29,7 @@ use Rattle.cx_emit.specs.Signatures.{cell_ports}
 use Rattle.cx_emit.specs.Sources.{cell_instance, external_of, cell_externals, externals_at, source_of}
 use Rattle.cx_emit.specs.Places.{part_number, cell_number}
 use Rattle.cx_emit.specs.Fits.{IsFlat}
-use Rattle.cx_emit.proofs.NumberedLemmas.{in_mapped, mapped_in, In, in_lists, in_numbered, numbered_in}
+use Rattle.cx_emit.proofs.NumberedLemmas.{in_mapped, In, in_lists, in_numbered, numbered_in}
 use Rattle.cx_emit.proofs.Standing.{number-same, tree, comp_there, own, main_placed}
 use Rattle.cx_prim.proofs.CellStatesLemmas.{memory_with, sequential_with, words_fit, sequential_words_fit}
 use Rattle.cx_vlaws.proofs.Parts.{instances_fresh}
@@ -106,7 +107,7 @@ module _ (net : PlainNet) (sound : is_sound (source_of net) ≡ true) (fit : IsF
         let r = part_in the_source sound 0 main.place main.at memory.number memory.place memory.at inner memory.holder in
         let stands : slice_get (own net sound fit net.main).instances r.s ≡ Some r.x = subst (λ (m : PlainModule). slice_get m.instances r.s ≡ Some r.x) main.is r.there in
         let (wired, at, is) = numbered_in cell_instance (map (cell_ports net) cells) r.s r.x stands in
-        let (other, at_other, is') = mapped_in (cell_ports net) cells r.s wired at in
+        let (other, at_other, is') = at_map (cell_ports net) cells r.s wired at in
         let same : c ≡ r.s = same_cell c r.s cell other there at_other (sym memory.name ∙ r.name ∙ name_of_part r.s r.x stands) in
         r.number ∙ sym (number-same the_source 0 1 main.place.part.instances r.s)
         ∙ ap (λ (o : Option Placed). part_number the_source 0 1 (option_map_or (λ p. p.part.instances) o []) r.s) (sym main.at) ∙ ap (cell_number the_source 0) (sym same)

@@ -4,6 +4,7 @@ use Rattle.std.specs.Prelude.{codes, nat_lt, nat_le}
 use Rattle.std.specs.Option.{option_map_or}
 use Rattle.std.proofs.lemmas.Bool.{or_from, and_from, cond-true, cond-false, false_from_ne_true}
 use Rattle.std.proofs.lemmas.Option.{slice_get_within}
+use Rattle.cx_text.specs.Members.{Each}
 use Rattle.cx_text.specs.Loading.{word_count}
 use Rattle.cx_prim.specs.CellStates.{StateShape}
 use Rattle.cx_prim.specs.Table.{PrimitiveRow, row_of}
@@ -29,7 +30,6 @@ use Rattle.cx_emit.proofs.NetPrimitives.{its_primitives, its_primitive}
 use Rattle.cx_emit.proofs.NumberedLemmas.{in_mapped, In, in_left, in_numbered, lists_in}
 use Rattle.cx_emit.proofs.NameLaws.{is_name-numbered, numbered-injective}
 use Rattle.cx_emit.proofs.FaultLaws.{IsClean, AreClean, no_lines, a_line}
-use Rattle.cx_emit.proofs.CleanModules.{Each}
 use Rattle.cx_emit.proofs.PrimitiveModules.{arrays_of, primitive_owes}
 use Rattle.cx_emit.proofs.CellPorts.{each_in, comp_there, part_names}
 use Rattle.cx_emit.proofs.ModuleWalk.{modules_differ}

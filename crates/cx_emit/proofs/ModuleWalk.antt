@@ -3,6 +3,8 @@ use Rattle.std.proofs.Common.{◌≡◌, ◌⊎◌, inl, inr, ℕ, zero, suc, �
 use Rattle.std.specs.Prelude.{codes, nat_lt}
 use Rattle.std.proofs.lemmas.Bool.{or_from, or_parts, cond-true, cond-false, cases_order}
 use Rattle.std.proofs.lemmas.List.{map-append, length-map}
+use Rattle.cx_text.proofs.ListLaws.{at_map}
+use Rattle.cx_text.specs.Members.{Each}
 use Rattle.cx_prim.specs.Table.{PrimitiveRow, HasRow, row_of}
 use Rattle.cx_meaning.specs.Designs.{PlainKind, OfPrimitive, OfComponent, PlainCell}
 use Rattle.cx_vtree.specs.Plain.{PlainModule}
@@ -22,13 +24,13 @@ use Rattle.cx_emit.specs.Numbered.{numbered_from, with_numbers}
 use Rattle.cx_meaning.specs.declared.kinds.PortDecl.{PortDecl}
 use Rattle.cx_emit.specs.Signatures.{one_bit, input_port, output_port, signature_at, primitive_module, kind_ports, cell_ports}
 use Rattle.cx_emit.specs.Sources.{component_module, source_of}
-use Rattle.cx_emit.proofs.NumberedLemmas.{In, in_either, mapped_in}
+use Rattle.cx_emit.proofs.NumberedLemmas.{In, in_either}
 use Rattle.cx_emit.proofs.FaultLaws.{AreClean, no_lines, clean-append}
 use Rattle.cx_emit.proofs.ModulesApart.{modules-apart}
 use Rattle.cx_emit.proofs.PortPlaces.{length-numbered}
 use Rattle.cx_emit.proofs.PrimitiveNames.{is_name-primitive_name}
 use Rattle.cx_emit.proofs.NetPrimitives.{its_primitives, its_primitive, its_rows}
-use Rattle.cx_emit.proofs.CleanModules.{Each, IsKept, module_clean, main_clean, module_laid}
+use Rattle.cx_emit.proofs.CleanModules.{IsKept, module_clean, main_clean, module_laid}
 use Rattle.cx_emit.proofs.PrimitiveModules.{primitive_owes}
 use Rattle.cx_emit.proofs.CellPorts.{each_in, comp_there, kind_ports_are}
 use Rattle.cx_emit.proofs.Connections.{IsKnown}
@@ -182,7 +184,7 @@ module _ (net : PlainNet) (fit : IsFit net) (no_holes : HasNoHoles net) (writabl
     cells_known : Each (IsKnown before) (map (cell_ports net) (comp k).cells)
     cells_known =
         each_in (map (cell_ports net) (comp k).cells) (λ x h.
-        let (cell, there, is) = mapped_in (cell_ports net) (comp k).cells h.0 x h.1 in
+        let (cell, there, is) = at_map (cell_ports net) (comp k).cells h.0 x h.1 in
         subst (IsKnown before) is (cell_known h.0 cell there cell.kind refl))
 
     own_kept : IsKept before (own k)

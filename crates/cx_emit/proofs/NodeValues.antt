@@ -22,6 +22,7 @@ use Rattle.cx_vtree.specs.InstanceTree.{Placed, ports_at, Given, origin_of}
 use Rattle.cx_vtree.specs.Meaning.{Moment, HasValue, Eval}
 use Rattle.cx_vtree.specs.Sound.{is_sound}
 use Rattle.cx_vlaws.proofs.Ties.{input_outside}
+use Rattle.cx_vlaws.proofs.ExpressionWidths.{IsWide}
 use Rattle.cx_vmods.specs.Modules.{port_of}
 use Rattle.cx_vmods.specs.Built.{IsAt}
 use Rattle.cx_net.specs.Nets.{OfPort, OfWire, PlainNetTarget, ToPort, ToRegister, ToWire, ToDone, PlainNetComponent, PlainNet}
@@ -43,7 +44,7 @@ use Rattle.cx_emit.specs.RunsAs.{ValuesCarry}
 use Rattle.cx_emit.proofs.Evals.{IsReading, eval_reading, eval_named, value_tied, value_held, value_outside, value_given}
 use Rattle.cx_emit.proofs.ExprLemmas.{Reads, reads_chain}
 use Rattle.cx_emit.proofs.Standing.{tree, comp_there, IsPlaced, main_placed, ports_of_cell, IsCell, cell_placed, child_placed, child_lower}
-use Rattle.cx_emit.proofs.Origins.{IsWide, port_is_wide, port_given, cell_input_tied, cell_output_ties, wire_is_wide, wire_given, register_is_wide, register_is_held, output_is_wide, output_given, done_given}
+use Rattle.cx_emit.proofs.Origins.{port_is_wide, port_given, cell_input_tied, cell_output_ties, wire_is_wide, wire_given, register_is_wide, register_is_held, output_is_wide, output_given, done_given}
 use Rattle.cx_emit.proofs.ReadLemmas.{row_of_reads}
 use Rattle.cx_net.proofs.GatherLemmas.{gathered, no_inputs, length-no_inputs, input-no_inputs}
 use Rattle.cx_emit.proofs.CellValues.{Carried, zero_fits, text_port, inputs_stand, output_carried}

@@ -77,9 +77,6 @@ lists_in f xs y h =
 pub in_mapped : {A B : Type 0} (f : A → B) (xs : List A) (k : ℕ) (x : A) → slice_get xs k ≡ Some x → slice_get (map f xs) k ≡ Some (f x)
 in_mapped f xs k x e = slice_get-map f xs k ∙ ap (option_map f) e
 
-pub mapped_in : {A B : Type 0} (f : A → B) (xs : List A) (k : ℕ) (y : B) → slice_get (map f xs) k ≡ Some y → (x : A) × (slice_get xs k ≡ Some x) × (f x ≡ y)
-mapped_in f xs k y e = map_some f (slice_get xs k) y (sym (slice_get-map f xs k) ∙ e)
-
 pub in_flat : {A B : Type 0} (f : A → List B) (xs : List A) (k : ℕ) (x : A) (y : B) → slice_get xs k ≡ Some x → In y (f x) → In y (flat_map f xs)
 in_flat f [] k x y e h = absurd (cc)
 in_flat f (z ∷ xs) zero x y e h = let is : x ≡ z = cc in in_left y (f z) (flat_map f xs) (subst (λ a. In y (f a)) is h)

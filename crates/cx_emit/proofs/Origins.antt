@@ -1,5 +1,5 @@
 -- What gives each net of a component's module its value.
-use Rattle.std.proofs.Common.{map, ◌≡◌, ℕ, zero, suc, ◌<◌, ◌≤◌, List, [], ◌∷◌, ◌++◌, true, false, Option, Some, slice_get, refl, ap, sym, ◌∙◌, subst, if◌then◌else◌}
+use Rattle.std.proofs.Common.{map, ◌≡◌, ℕ, zero, suc, List, [], ◌∷◌, ◌++◌, true, false, Option, Some, slice_get, refl, ap, sym, ◌∙◌, subst, if◌then◌else◌}
 use Rattle.std.specs.Prelude.{codes}
 use Rattle.std.specs.Option.{option_map_or}
 use Rattle.cx_meaning.specs.declared.ports.PortRef.TheVariants as ports
@@ -10,6 +10,7 @@ use Rattle.cx_vtree.specs.InstanceTree.{Placed, decls_at, Tied, Held, Given, ori
 use Rattle.cx_vtree.specs.Sound.{decl_meaning, width_of, is_sound}
 use Rattle.cx_vlaws.proofs.MeaningLemmas.{decl-means, decl_wide, port_wide}
 use Rattle.cx_vlaws.proofs.Ties.{input_tied, output_tied, assigned_given, register_held}
+use Rattle.cx_vlaws.proofs.ExpressionWidths.{IsWide}
 use Rattle.cx_net.specs.Nets.{PlainNetComponent, PlainNet, ToPort, ToWire, ToDone}
 use Rattle.cx_emit.specs.Fits.{IsFlat}
 use Rattle.cx_emit.specs.Names.{output_name, cell_port_name, wire_name, register_name}
@@ -22,10 +23,6 @@ use Rattle.cx_emit.specs.Places.{cell_number}
 use Rattle.cx_emit.proofs.NumberedLemmas.{in_mapped, In, in_left, in_right, in_numbered, in_lists}
 use Rattle.cx_emit.proofs.Standing.{tree, comp, own, IsPlaced, ports_of_cell, IsCell, cell_module_ports}
 use Rattle.cx_text.proofs.OptionLaws.{one_value}
-
--- 1 to 128
-abbrev pub IsWide : ℕ → Type 0
-IsWide w = (0 < w) × (w ≤ 128)
 
 module _ (net : PlainNet) (sound : is_sound (source_of net) ≡ true) (fit : IsFlat net) (k i : ℕ) (here : IsPlaced net sound fit k i) where
   abbrev the_tree : List Placed

@@ -2,6 +2,8 @@
 use Rattle.std.proofs.Common.{◌≡◌, ℕ, suc, Bool, true, false, List, [], ◌∷◌, ◌++◌, map, All, refl, sym, subst, if◌then◌else◌}
 use Rattle.std.specs.Prelude.{codes, ◌==◌, ◌||◌}
 use Rattle.std.proofs.lemmas.List.Elements.{All-nil, All-cons}
+use Rattle.cx_text.specs.Members.{Each}
+use Rattle.cx_text.proofs.MemberLaws.{each_append}
 use Rattle.cx_prim.specs.PortNames.{text_of}
 use Rattle.cx_prim.specs.declared.ports.PortRow.{PortRow}
 use Rattle.cx_prim.specs.Table.{PrimitiveRow, row_of}
@@ -12,15 +14,14 @@ use Rattle.cx_vmods.specs.Spelling.{spelled}
 use Rattle.cx_vmods.specs.Parts.{Piece, Wire, Output, Register, Array, Store, Interior, nothing, with_piece, with_pieces}
 use Rattle.cx_vmods.specs.Modules.{port_of, pieces_of, module_of}
 use Rattle.cx_net.specs.Nets.{PlainNetComponent, PlainNet}
+use Rattle.cx_net.proofs.NetsLemmas.{each_all}
 use Rattle.cx_emit.specs.Names.{numbered, module_name, primitive_name}
 use Rattle.cx_emit.specs.Numbered.{numbered_from, with_numbers, lists_from}
 use Rattle.cx_emit.specs.Signatures.{PlainCellPorts, input_port, output_port, module_ports, primitive_module, cell_ports}
 use Rattle.cx_emit.specs.Sources.{port_decl, cell_decls, wire_decl, register_decl, decls_with, cell_instance, component_module, primitive_modules, source_of}
 use Rattle.cx_emit.specs.Shapes.{is_own_name, named_in, HasOwnNames}
-use Rattle.cx_emit.proofs.CleanModules.{Each}
 use Rattle.cx_emit.proofs.NetPrimitives.{its_primitives}
 use Rattle.cx_emit.proofs.PortPlaces.{done_port}
-use Rattle.cx_emit.proofs.EmittedParts.{each_all}
 use Rattle.cx_vtree.proofs.InstanceTreeLemmas.{same_is}
 
 abbrev IsOwn : List ℕ → Type 0
@@ -29,10 +30,6 @@ IsOwn name = is_own_name name ≡ true
 -- LISTS of names that are its own
 abbrev Own : {A : Type 0} → (A → List ℕ) → List A → Type 0
 Own name xs = Each (λ x. IsOwn (name x)) xs
-
-pub each_append : {A : Type 0} (P : A → Type 0) (xs ys : List A) → Each P xs → Each P ys → Each P (xs ++ ys)
-each_append P [] ys h k = k
-each_append P (x ∷ xs) ys h k = (h.0, each_append P xs ys h.1 k)
 
 own_map : {A : Type 0} (name : A → List ℕ) (xs : List A) → Own name xs → Each IsOwn (map name xs)
 own_map name [] h = tt

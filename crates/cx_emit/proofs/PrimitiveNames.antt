@@ -7,6 +7,7 @@ use Rattle.std.proofs.lemmas.Bool.{leb-true, and_from, cond-true, cond-false}
 use Rattle.std.proofs.lemmas.Fmt.{decimal_by_steps_wide, decimal_is_IsNumeral_wide}
 use Rattle.std.proofs.lemmas.List.{append_cancel_left}
 use Rattle.std.proofs.lemmas.List.Folds.{list_all-append}
+use Rattle.cx_text.specs.Members.{Each}
 use Rattle.cx_prim.specs.PrimitiveNames.{name_text}
 use Rattle.cx_prim.specs.declared.names.PrimitiveName.{PrimitiveName}
 use Rattle.cx_prim.specs.declared.names.PrimitiveName.TheVariants.{Const, Wire, Add, Sub, And, Or, Xor, Not, Lsh, Rsh, Lt, Gt, Equal, Neq, Le, Ge, Slt, Sgt, Seq, Sneq, Sle, Sge, Slice, Pad, Mux, Reg, StdMemD1, StdMemD2, StdMemD3, StdMemD4, CombMemD1, CombMemD2, CombMemD3, CombMemD4, SeqMemD1, SeqMemD2, SeqMemD3, SeqMemD4, MultPipe, DivPipe, Timer}
@@ -14,10 +15,9 @@ use Rattle.cx_prim.specs.Table.{PrimitiveRow, HasRow}
 use Rattle.cx_prim.proofs.NameLemmas.{one_name}
 use Rattle.cx_vtree.specs.Layout.{is_name_byte, is_name}
 use Rattle.cx_emit.specs.Names.{numbered, module_name, joined_numbers, primitive_name}
-use Rattle.cx_emit.proofs.CleanModules.{Each}
 use Rattle.cx_emit.proofs.NameLaws.{is_digit, one_digit, last_digit, digits_named, name_of}
 use Rattle.cx_emit.proofs.ShortNumbers.{numbers_few}
-use Rattle.cx_text.proofs.BoolLaws.{and_left, and_right}
+use Rattle.cx_text.proofs.BoolLaws.{and_left, and_right, from_not}
 
 -- a digit comes first
 starts_digit : List ℕ → Bool
@@ -84,10 +84,6 @@ has_no_number : List ℕ → Bool
 has_no_number [] = true
 has_no_number (c ∷ cs) = not (nat_eq c 95 && starts_digit cs) && has_no_number cs
 
-not_true : (b : Bool) → not b ≡ true → b ≡ false
-not_true true h = absurd (cc)
-not_true false h = refl
-
 text_starts : (cs ns : List ℕ) → starts_digit (cs ++ joined_numbers ns) ≡ starts_digit cs
 unfolding starts_digit
 text_starts [] ns = joined_starts ns
@@ -100,7 +96,7 @@ before_text [] (n ∷ ns) none small =
     cond-true (nat_eq 95 95 && starts_digit (decimal n ++ joined_numbers ns)) [] (95 ∷ before_number (decimal n ++ joined_numbers ns))
     (and_from (nat_eq 95 95) (starts_digit (decimal n ++ joined_numbers ns)) refl (starts-append (decimal n) (joined_numbers ns) (starts n small.0)))
 before_text (c ∷ cs) ns none small =
-    let here : (nat_eq c 95 && starts_digit cs) ≡ false = not_true (nat_eq c 95 && starts_digit cs) (and_left (not (nat_eq c 95 && starts_digit cs)) (has_no_number cs) none) in
+    let here : (nat_eq c 95 && starts_digit cs) ≡ false = from_not (nat_eq c 95 && starts_digit cs) (and_left (not (nat_eq c 95 && starts_digit cs)) (has_no_number cs) none) in
     cond-false (nat_eq c 95 && starts_digit (cs ++ joined_numbers ns)) [] (c ∷ before_number (cs ++ joined_numbers ns)) (ap (λ b. nat_eq c 95 && b) (text_starts cs ns) ∙ here)
     ∙ ap (λ xs. c ∷ xs) (before_text cs ns (and_right (not (nat_eq c 95 && starts_digit cs)) (has_no_number cs) none) small)
 

@@ -1,6 +1,7 @@
 -- Every instance of the source is of a component or of a primitive cell of the net.
 use Rattle.std.proofs.Common.{map, ◌≡◌, ℕ, zero, suc, ◌+◌, ◌<◌, List, [], ◌∷◌, ◌++◌, true, Option, Some, slice_get, refl, ap, sym, ◌∙◌, subst, arith}
 use Rattle.std.specs.Option.{option_map_or}
+use Rattle.cx_text.proofs.ListLaws.{at_map}
 use Rattle.cx_prim.specs.Table.{PrimitiveRow}
 use Rattle.cx_meaning.specs.Designs.{PlainKind, OfPrimitive, OfComponent, PlainCell}
 use Rattle.cx_meaning.specs.Instances.{Path}
@@ -15,7 +16,7 @@ use Rattle.cx_emit.specs.Signatures.{cell_ports}
 use Rattle.cx_emit.specs.Sources.{cell_instance, source_of}
 use Rattle.cx_net.specs.NetPaths.{LeadsTo}
 use Rattle.cx_emit.specs.Places.{part_number, cell_number, number_at}
-use Rattle.cx_emit.proofs.NumberedLemmas.{mapped_in, numbered_in}
+use Rattle.cx_emit.proofs.NumberedLemmas.{numbered_in}
 use Rattle.cx_emit.proofs.Standing.{number-same, tree, own, main_placed, cell_placed, primitive_placed, placed_at}
 use Rattle.cx_text.proofs.OptionLaws.{one_value}
 
@@ -50,7 +51,7 @@ module _ (net : PlainNet) (sound : is_sound (source_of net) ≡ true) (fit : IsF
       let module_is : q.part ≡ own net sound fit h = ap (λ (x : Placed). x.part) (sym same) ∙ here.is in
       let stands : slice_get (own net sound fit h).instances r.s ≡ Some r.x = subst (λ (m : PlainModule). slice_get m.instances r.s ≡ Some r.x) module_is r.there in
       let (wired, at_cell, is_instance) = numbered_in cell_instance (map (cell_ports net) (net_component_at net h).cells) r.s r.x stands in
-      let (cell, there, is_ports) = mapped_in (cell_ports net) (net_component_at net h).cells r.s wired at_cell in
+      let (cell, there, is_ports) = at_map (cell_ports net) (net_component_at net h).cells r.s wired at_cell in
       let numbered : cell_number source p.holder r.s ≡ i =
       ap (λ (o : Option Placed). part_number source p.holder (p.holder + 1) (option_map_or (λ x. x.part.instances) o []) r.s) at
       ∙ number-same source p.holder (p.holder + 1) q.part.instances r.s ∙ sym r.number in

@@ -4,6 +4,7 @@ use Rattle.std.specs.Prelude.{codes, ◌==◌}
 use Rattle.std.proofs.lemmas.Bool.{eq-eqb, cond-true, cond-false, false_from_ne_true, or_parts}
 use Rattle.std.proofs.lemmas.List.{length-map, map-append}
 use Rattle.std.proofs.lemmas.Option.{slice_get-map, slice_get-get_or, slice_get_within}
+use Rattle.cx_text.proofs.ListLaws.{at_map}
 use Rattle.cx_prim.specs.Table.{PrimitiveRow}
 use Rattle.cx_meaning.specs.Designs.{PlainKind, OfPrimitive, OfComponent, PlainCell, PlainDesign, component_at}
 use Rattle.cx_rules.specs.Wellformed.{LeadsTo}
@@ -17,17 +18,17 @@ use Rattle.cx_vlaws.proofs.Modules.{sound-faults}
 use Rattle.cx_net.specs.Nets.{PlainNetComponent, PlainNet}
 use Rattle.cx_net.specs.NetTree.{no_net_component, net_component_at}
 use Rattle.cx_net.specs.NetFits.{IsFitKind, IsFit}
+use Rattle.cx_net.proofs.NetsLemmas.{each_all}
 use Rattle.cx_emit.specs.Names.{numbered, cell_port_name, wire_name, module_name, primitive_name}
 use Rattle.cx_emit.specs.Numbered.{numbered_from, with_numbers, lists_from}
 use Rattle.cx_emit.specs.Signatures.{PlainCellPorts, primitive_module, kind_ports, cell_ports}
 use Rattle.cx_emit.specs.Sources.{port_decl, cell_decls, wire_decl, register_decl, decls_with, cell_instance, component_module, primitive_modules, source_of}
 use Rattle.cx_emit.specs.Shapes.{most_registers, registers_in, Use, IsUse, IsPartModule, IsOfKind, IsShaped}
 use Rattle.cx_emit.proofs.CellPorts.{each_in}
-use Rattle.cx_emit.proofs.NumberedLemmas.{In, in_left, in_right, in_either, in_numbered, numbered_in, in_mapped, mapped_in}
+use Rattle.cx_emit.proofs.NumberedLemmas.{In, in_left, in_right, in_either, in_numbered, numbered_in, in_mapped}
 use Rattle.cx_emit.proofs.NetPrimitives.{its_primitives, its_primitive}
 use Rattle.cx_emit.proofs.ModuleNames.{map-numbered}
 use Rattle.cx_vtree.proofs.InstanceTreeLemmas.{same_is, is_same}
-use Rattle.cx_emit.proofs.EmittedParts.{each_all}
 use Rattle.cx_emit.proofs.PortPlaces.{length-numbered}
 
 -- WHAT IS ASKED OF THE NET: the component of the design that each of its components stands for, and what is in these
@@ -167,7 +168,7 @@ module _ (net : PlainNet) (stands : ℕ → ℕ) where
       ∙ ap (λ ms. primitive_modules net ++ ms) (map-numbered (λ (x : Labelled). x.part) own_label 0 net.components)
 
   label_at : (k : ℕ) (m : PlainModule) → slice_get (source_of net).modules k ≡ Some m → (x : Labelled) × (slice_get labels k ≡ Some x) × (x.part ≡ m)
-  label_at k m e = mapped_in (λ (x : Labelled). x.part) labels k m (ap (λ ms. slice_get ms k) labels_same ∙ e)
+  label_at k m e = at_map (λ (x : Labelled). x.part) labels k m (ap (λ ms. slice_get ms k) labels_same ∙ e)
 
   module _ (sound : is_sound (source_of net) ≡ true) where
     names_apart : AreApart (map (λ (m : PlainModule). m.name) (map (λ (x : Labelled). x.part) labels))
@@ -196,7 +197,7 @@ module _ (net : PlainNet) (stands : ℕ → ℕ) where
     -- a module of a primitive has the primitive's name, so no two are of one
     label_named : (p : PrimitiveRow) (x : Labelled) → x.kind ≡ OfPrimitive p → In x primitive_labels ⊎ In x own_labels → x.part.name ≡ primitive_name p
     label_named p x is (inl (n, e)) =
-        let (q, at, same) = mapped_in primitive_label (its_primitives net) n x e in
+        let (q, at, same) = at_map primitive_label (its_primitives net) n x e in
         let kinds : OfPrimitive q ≡ OfPrimitive p = ap (λ (y : Labelled). y.kind) same ∙ is in
         let one : q ≡ p = cc in
         ap (λ (y : Labelled). y.part.name) (sym same) ∙ ap primitive_name one
@@ -231,7 +232,7 @@ module _ (net : PlainNet) (stands : ℕ → ℕ) where
           use_of = for.use_of;
           each = λ i x e.
               let (y, at, is) = numbered_in cell_instance (map (cell_ports net) (comp k).cells) i x e in
-              let (cell, there, same) = mapped_in (cell_ports net) (comp k).cells i y at in
+              let (cell, there, same) = at_map (cell_ports net) (comp k).cells i y at in
               let named : (cell_ports net cell).kind ≡ x.kind = ap (λ (z : PlainCellPorts). z.kind) same ∙ ap (λ (z : PlainInstance). z.kind) is in
               let kinds : kind_for stands cell.kind ≡ kind_named labels x.kind = sym (cell_kind k i cell lt there) ∙ ap (kind_named labels) named in
               subst (λ kind. IsUse d (stands k) kind (for.use_of i)) kinds (for.cells i cell there);
@@ -246,7 +247,7 @@ module _ (net : PlainNet) (stands : ℕ → ℕ) where
           label_shaped x h = by_place (in_either x primitive_labels own_labels h) where
             by_place : In x primitive_labels ⊎ In x own_labels → IsOfKind d (kind_named labels) x.kind x.part
             by_place (inl (n, e)) =
-                let (p, at, same) = mapped_in primitive_label (its_primitives net) n x e in
+                let (p, at, same) = at_map primitive_label (its_primitives net) n x e in
                 subst (λ (y : Labelled). IsOfKind d (kind_named labels) y.kind y.part) same refl
             by_place (inr (k, e)) =
                 let (part, there, same) = numbered_in own_label net.components k x e in

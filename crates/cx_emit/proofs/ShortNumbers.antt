@@ -1,5 +1,5 @@
 -- The numbers of a primitive, each behind `_`: few bytes.
-use Rattle.std.proofs.Common.{◌≡◌, ℕ, suc, ◌+◌, ◌*◌, ◌^◌, ◌<◌, ◌≤◌, ◌==◌, ◌&&◌, Bool, true, false, List, [], ◌∷◌, ◌++◌, length, length-append, Some, None, refl, subst, if◌then◌else◌, arith}
+use Rattle.std.proofs.Common.{◌≡◌, ℕ, suc, ◌+◌, ◌*◌, ◌^◌, ◌<◌, ◌≤◌, ◌==◌, ◌&&◌, true, false, List, [], ◌∷◌, ◌++◌, length, length-append, subst, arith}
 use Rattle.std.specs.Prelude.{decimal, IsSome, nat_le, nat_lt, take, drop}
 use Rattle.std.specs.List.{list_all}
 use Rattle.std.proofs.Math.Nat.{pow-le-pow_right}
@@ -7,6 +7,7 @@ use Rattle.std.proofs.lemmas.Bool.{leb-true, ltb-true, eqb-true}
 use Rattle.std.proofs.lemmas.Fmt.{length-decimal-le_wide}
 use Rattle.std.proofs.lemmas.List.{length-take, length-drop, take-append-drop}
 use Rattle.std.proofs.lemmas.Nat.{mul-le}
+use Rattle.cx_text.specs.Members.{Each}
 use Rattle.cx_text.specs.Loading.{word_count}
 use Rattle.cx_prim.specs.declared.names.PrimitiveName.{PrimitiveName}
 use Rattle.cx_prim.specs.declared.names.PrimitiveName.TheVariants.{Const, Wire, Add, Sub, And, Or, Xor, Not, Lsh, Rsh, Lt, Gt, Equal, Neq, Le, Ge, Slt, Sgt, Seq, Sneq, Sle, Sge, Slice, Pad, Mux, Reg, StdMemD1, StdMemD2, StdMemD3, StdMemD4, CombMemD1, CombMemD2, CombMemD3, CombMemD4, SeqMemD1, SeqMemD2, SeqMemD3, SeqMemD4, MultPipe, DivPipe, Timer}
@@ -16,8 +17,8 @@ use Rattle.cx_prim.specs.MemoryRows.{are_sizes, is_address_width, memory_row, se
 use Rattle.cx_prim.specs.Table.{PrimitiveRow, HasRow, at_width, constant_at, slice_at, pad_at, memory_at, timer_at, row_at}
 use Rattle.cx_prim.proofs.TableCases.{is_width_tells}
 use Rattle.cx_emit.specs.Names.{joined_numbers}
-use Rattle.cx_emit.proofs.CleanModules.{Each}
 use Rattle.cx_text.proofs.BoolLaws.{and_left, and_right}
+use Rattle.cx_vmods.proofs.NumberLemmas.{tested}
 
 -- numbers of at most 39 digits, in so many bytes
 pub record AreShort (bytes : ℕ) (ns : List ℕ) : Type 0 where
@@ -47,25 +48,20 @@ both_few bytes more (n ∷ ns) ms h k =
     let whole = length-append (decimal n) (joined_numbers (ns ++ ms)) in
     record { small = (h.small.0, rest.small); short = omega (arith, all, own, front, whole) }
 
--- a row is there where its test is true
-test_true : (b : Bool) (row : Row) → IsSome (if b then Some row else None) → b ≡ true
-test_true true row there = refl
-test_true false row there = absurd (let wrong : false ≡ true = there in cc)
-
 -- WIDTHS
 a_width : (w bytes : ℕ) (ns : List ℕ) → is_width w ≡ true → AreShort bytes ns → AreShort (4 + bytes) (w ∷ ns)
 a_width w bytes ns test h = let few = (is_width_tells w test).few_bits in one_more 3 w bytes ns (omega arith) (omega (arith, few)) (omega (arith, few)) h
 
 width_few : (make : ℕ → Row) (numbers : List ℕ) → IsSome (at_width make numbers) → AreShort 60 numbers
 width_few make [] there = absurd (let wrong : false ≡ true = there in cc)
-width_few make (w ∷ []) there = no_more 4 60 (w ∷ []) (omega arith) (a_width w 0 [] (test_true (is_width w) (make w) there) no_numbers)
+width_few make (w ∷ []) there = no_more 4 60 (w ∷ []) (omega arith) (a_width w 0 [] (tested (is_width w) (make w) there) no_numbers)
 width_few make (w ∷ v ∷ rest) there = absurd (let wrong : false ≡ true = there in cc)
 
 const_few : (numbers : List ℕ) → IsSome (constant_at numbers) → AreShort 60 numbers
 const_few [] there = absurd (let wrong : false ≡ true = there in cc)
 const_few (w ∷ []) there = absurd (let wrong : false ≡ true = there in cc)
 const_few (w ∷ v ∷ []) there =
-    let test = test_true (is_width w && nat_lt v (2 ^ w)) _ there in
+    let test = tested (is_width w && nat_lt v (2 ^ w)) _ there in
     let width = and_left (is_width w) (nat_lt v (2 ^ w)) test in
     let below : v < 2 ^ w = ltb-true v (2 ^ w) (and_right (is_width w) (nat_lt v (2 ^ w)) test) in
     let few = (is_width_tells w width).few_bits in
@@ -81,7 +77,7 @@ slice_few : (numbers : List ℕ) → IsSome (slice_at numbers) → AreShort 60 n
 slice_few [] there = absurd (let wrong : false ≡ true = there in cc)
 slice_few (w ∷ []) there = absurd (let wrong : false ≡ true = there in cc)
 slice_few (w ∷ v ∷ []) there =
-    let widths = and_left (is_width w && is_width v) (nat_le v w) (test_true ((is_width w && is_width v) && nat_le v w) _ there) in
+    let widths = and_left (is_width w && is_width v) (nat_le v w) (tested ((is_width w && is_width v) && nat_le v w) _ there) in
     two_widths w v (and_left (is_width w) (is_width v) widths) (and_right (is_width w) (is_width v) widths)
 slice_few (w ∷ v ∷ x ∷ rest) there = absurd (let wrong : false ≡ true = there in cc)
 
@@ -89,14 +85,14 @@ pad_few : (numbers : List ℕ) → IsSome (pad_at numbers) → AreShort 60 numbe
 pad_few [] there = absurd (let wrong : false ≡ true = there in cc)
 pad_few (w ∷ []) there = absurd (let wrong : false ≡ true = there in cc)
 pad_few (w ∷ v ∷ []) there =
-    let widths = and_left (is_width w && is_width v) (nat_le w v) (test_true ((is_width w && is_width v) && nat_le w v) _ there) in
+    let widths = and_left (is_width w && is_width v) (nat_le w v) (tested ((is_width w && is_width v) && nat_le w v) _ there) in
     two_widths w v (and_left (is_width w) (is_width v) widths) (and_right (is_width w) (is_width v) widths)
 pad_few (w ∷ v ∷ x ∷ rest) there = absurd (let wrong : false ≡ true = there in cc)
 
 timer_few : (numbers : List ℕ) → IsSome (timer_at numbers) → AreShort 60 numbers
 timer_few [] there = absurd (let wrong : false ≡ true = there in cc)
 timer_few (n ∷ []) there =
-    let below : n < 2 ^ 32 = ltb-true n (2 ^ 32) (and_right (nat_le 1 n) (nat_lt n (2 ^ 32)) (test_true (nat_le 1 n && nat_lt n (2 ^ 32)) _ there)) in
+    let below : n < 2 ^ 32 = ltb-true n (2 ^ 32) (and_right (nat_le 1 n) (nat_lt n (2 ^ 32)) (tested (nat_le 1 n && nat_lt n (2 ^ 32)) _ there)) in
     no_more 11 60 (n ∷ []) (omega arith) (one_more 10 n 0 [] (omega arith) (omega (arith, below)) (omega (arith, below)) no_numbers)
 timer_few (n ∷ x ∷ rest) there = absurd (let wrong : false ≡ true = there in cc)
 
@@ -121,7 +117,7 @@ addresses_few (w ∷ ws) each =
 memory_few : (d : ℕ) → d ≤ 4 → (make : ℕ → List ℕ → List ℕ → Row) (numbers : List ℕ) → IsSome (memory_at d make numbers) → AreShort 60 numbers
 memory_few d few make [] there = absurd (let wrong : false ≡ true = there in cc)
 memory_few d few make (w ∷ rest) there =
-    let test = test_true ((is_width w && (length rest == 2 * d)) && (are_sizes (take d rest) && list_all is_address_width (drop d rest))) _ there in
+    let test = tested ((is_width w && (length rest == 2 * d)) && (are_sizes (take d rest) && list_all is_address_width (drop d rest))) _ there in
     let front = and_left (is_width w && (length rest == 2 * d)) (are_sizes (take d rest) && list_all is_address_width (drop d rest)) test in
     let behind = and_right (is_width w && (length rest == 2 * d)) (are_sizes (take d rest) && list_all is_address_width (drop d rest)) test in
     let sized = and_left (are_sizes (take d rest)) (list_all is_address_width (drop d rest)) behind in

@@ -3,6 +3,7 @@ use Rattle.std.proofs.Common.{map, ◌≡◌, ℕ, zero, suc, ◌+◌, ◌<◌, 
 use Rattle.std.specs.Prelude.{codes}
 use Rattle.std.proofs.lemmas.Bool.{eq-eqb}
 use Rattle.std.proofs.lemmas.List.{length-map}
+use Rattle.cx_text.specs.Members.{Each}
 use Rattle.cx_prim.specs.Table.{PrimitiveRow, row_of}
 use Rattle.cx_meaning.specs.Designs.{PlainKind, OfPrimitive, OfComponent, PlainCell}
 use Rattle.cx_vtree.specs.InstanceTree.{Placed, declared_nets, below, tree_from, main_instance, instances_of}
@@ -22,7 +23,6 @@ use Rattle.cx_emit.specs.Numbered.{numbered_from}
 use Rattle.cx_emit.specs.Signatures.{primitive_module, kind_ports, cell_ports}
 use Rattle.cx_emit.specs.Sources.{cell_instance, component_module, source_of}
 use Rattle.cx_emit.proofs.CellPorts.{each_in, length-signature}
-use Rattle.cx_emit.proofs.CleanModules.{Each}
 use Rattle.cx_emit.proofs.Counted.{IsThereKind, child_nets, all_ports, all_nets, nets-in, component_declared}
 use Rattle.cx_emit.proofs.PrimitiveModules.{primitive_owes}
 use Rattle.cx_emit.proofs.Standing.{comp_there, own_known, primitive_known}

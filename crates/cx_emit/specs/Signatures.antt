@@ -8,9 +8,7 @@ use Rattle.cx_vmods.specs.Modules.{module_of}
 use Rattle.cx_net.specs.Nets.{PlainNetComponent, PlainNet}
 use Rattle.cx_emit.specs.Names.{input_name, output_name, module_name, primitive_name}
 use Rattle.cx_emit.specs.Numbered.{with_numbers}
-
-abbrev pub one_bit : List ℕ → PlainPort
-one_bit name = record { output = false; name = name; width = 1 }
+pub use Rattle.cx_vmods.specs.Modules.{input as one_bit}
 
 abbrev pub input_port : ℕ → PortDecl → PlainPort
 input_port n d = record { output = false; name = input_name n; width = d.width }

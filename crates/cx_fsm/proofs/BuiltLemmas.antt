@@ -9,6 +9,7 @@ use Rattle.cx_net.specs.Nets.{PlainNetComponent, PlainNet}
 use Rattle.cx_net.specs.NetFits.{IsNet}
 use Rattle.cx_net.specs.NetLimits.{IsWritable}
 use Rattle.cx_net.specs.NetTree.{net_tree}
+use Rattle.cx_net.proofs.NetsLemmas.{net_in}
 use Rattle.cx_static.specs.Islands.{PlainLowereds}
 use Rattle.cx_static.specs.Lowering.{lowered_of}
 use Rattle.cx_wiring.specs.InNet.{RealisesInNet}
@@ -18,9 +19,6 @@ use Rattle.cx_wiring.proofs.FitTargets.{targets_there}
 use Rattle.cx_wiring.proofs.MainLaws.{rows_of-net_of}
 use Rattle.cx_wiring.proofs.WritableNets.{CanBeWritten, net_writable}
 use Rattle.cx_fsm.specs.Built.{IsLowered, IsNetFor}
-
-abbrev net_in : List PlainNetComponent → ℕ → PlainNet
-net_in components main = record { components = components; main = main }
 
 -- the net of a lowered design is a net
 pub made_net : (lowered : PlainLowereds) → IsLowered lowered → (components : List PlainNetComponent) (main : ℕ) → components ≡ (net_of lowered).components → main ≡ (net_of lowered).main → ∥ IsNet (net_in components main) ∥₁

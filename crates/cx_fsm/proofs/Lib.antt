@@ -1,7 +1,6 @@
 mod PartLemmas
 mod StandLemmas
 mod ControlLemmas
-mod StableSorts
 mod TargetOrder
 mod LeafLemmas
 mod RoundLemmas

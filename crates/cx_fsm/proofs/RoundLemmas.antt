@@ -10,6 +10,7 @@ use Rattle.cx_static.specs.PlainLowered.{plain_lowered, plain_lowereds}
 use Rattle.cx_static.specs.declared.lowered.Lowered.{Lowered}
 use Rattle.cx_static.specs.declared.lowered.LoweredComponent.{LoweredComponent}
 use Rattle.cx_wiring.specs.Reached.{component_of_kind, components_of, cells_at, has_number, below, reached_from, highest, height_of, count, height}
+use Rattle.cx_wiring.proofs.MainLaws.{height_few}
 use Rattle.cx_fsm.specs.Rounds.{below_marked, IsSpread, MarksReached, height_above, raised, HasHeights}
 use Rattle.cx_text.proofs.BoolLaws.{or_assoc, bools_same}
 
@@ -177,23 +178,11 @@ module _ (d : PlainLowereds) where
       let at : suc (n + levels) ≡ suc n + levels = omega arith in
       subst (λ l. HasHeights d l heights) at (raised_more (n + levels) heights heights (raised_stays levels heights h e n) e)
 
-  highest_few : (levels : ℕ) → ((k : ℕ) → height_of d levels k ≤ levels) → (cs : List ℕ) → highest d (map (λ c. suc (height_of d levels c)) cs) ≤ suc levels
-  highest_few levels h [] = omega arith
-  highest_few levels h (c ∷ cs) =
-      let one : height_of d levels c ≤ levels = h c in
-      let rest : highest d (map (λ c. suc (height_of d levels c)) cs) ≤ suc levels = highest_few levels h cs in
-      omega arith
-
-  -- no height is above the levels that tell it
-  pub height_few : (levels k : ℕ) → height_of d levels k ≤ levels
-  height_few zero k = omega arith
-  height_few (suc levels) k = highest_few levels (height_few levels) (below d k)
-
   -- heights that many levels tell are no higher than few levels tell that tell the same
   heights_within : (levels : ℕ) (heights : List ℕ) → HasHeights d levels heights → HasHeights d (count d) heights → (k : ℕ) → height d k ≤ levels
   heights_within levels heights few all k =
       let same : height_of d levels k ≡ height d k = sym (few.right k) ∙ all.right k in
-      let within : height_of d levels k ≤ levels = height_few levels k in
+      let within : height_of d levels k ≤ levels = height_few d levels k in
       omega arith
 
   -- the height above one cell more

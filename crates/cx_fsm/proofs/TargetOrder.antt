@@ -7,7 +7,7 @@ use Rattle.std.specs.List.Sorted.{IsSortedBy, IsStableBy}
 use Rattle.cx_net.specs.PlainNets.{plain_net_driver, plain_net_target}
 use Rattle.cx_net.specs.declared.drivers.NetDriver.{NetDriver}
 use Rattle.cx_wiring.specs.Trees.{placed_among, by_target}
-use Rattle.cx_fsm.proofs.StableSorts.{placed, in_order, one_stable}
+use Rattle.cx_design_parts.proofs.Stable.{placed, in_order, one_stable}
 use Rattle.cx_fsm.specs.Leaves.{plain_rank}
 
 abbrev rank_before : ℕ × (ℕ × ℕ) → ℕ × (ℕ × ℕ) → Bool

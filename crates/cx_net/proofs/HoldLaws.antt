@@ -21,7 +21,7 @@ use Rattle.cx_net.specs.NetPaths.{LeadsTo}
 use Rattle.cx_net.specs.NetHolds.{Holds, IsWide, RowsAreWide}
 use Rattle.cx_net.proofs.DriverLemmas.{AreFitDrivers, drivers_fit, primitive_width, register-at, state-at}
 use Rattle.cx_net.proofs.GatherLemmas.{length-inputs_from, input-from_look}
-use Rattle.cx_net.proofs.WidthLaws.{HasAround, IsLooked, child_there, holds_below, around_below, main_around, values_wide, expr_wide, inputs_fit, zero_fits}
+use Rattle.cx_net.proofs.WidthLaws.{HasAround, IsLooked, lower_child, holds_below, around_below, main_around, values_wide, expr_wide, inputs_fit, zero_fits}
 
 module _ (net : PlainNet) (fit : IsFit net) (wide : IsWide net) (rows_wide : RowsAreWide) where
   -- what is known of an instance and around it
@@ -34,12 +34,12 @@ module _ (net : PlainNet) (fit : IsFit net) (wide : IsWide net) (rows_wide : Row
   known_below : (k : ℕ) (around : NetAround) (s : NetState) (look : NetLook) → Known k around s look → (c : ℕ) (cell : PlainCell) (child : ℕ) → slice_get (net_component_at net k).cells c ≡ Some cell → cell.kind ≡ OfComponent child
       → (child < k) × Known child (around_child c (look [])) (below_cell c s) (λ q. look (c ∷ q))
   known_below k around s look x c cell child there is =
-      let less : child < k = child_there net fit wide rows_wide k c cell child x.here there is in
+      let less : child < k = lower_child net fit k c cell child x.here there is in
       let before = x.here in (
         less,
         record {
           here = omega (arith, less, before);
-          holds = holds_below net fit wide rows_wide k s x.holds c cell child there is;
+          holds = holds_below net k s x.holds c cell child there is;
           outward = around_below net fit wide rows_wide k look x.looked c cell child there is;
           looked = λ q g node u v below width seen. x.looked (c ∷ q) g node u v (cell, child, there, is, below) width seen;
         },

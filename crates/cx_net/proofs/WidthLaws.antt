@@ -1,9 +1,9 @@
 -- What stands at a node of a net that fits has the node's width, where its state holds what its rows and registers can.
-use Rattle.std.proofs.Common.{◌≡◌, ℕ, zero, suc, ◌+◌, ◌<◌, ◌≤◌, Bool, true, false, ◌&&◌, ◌||◌, List, [], ◌∷◌, ◌++◌, length, Option, Some, None, IsSome, nat_lt, option_and_then, option_map, slice_get, refl, sym, ap, ◌∙◌, subst, if◌then◌else◌, arith}
-use Rattle.std.specs.Prelude.{◌^◌, ◌==◌, unwrap_or}
+use Rattle.std.proofs.Common.{◌≡◌, ℕ, zero, suc, ◌<◌, Bool, true, false, List, [], ◌∷◌, length, Option, Some, None, nat_lt, option_and_then, option_map, slice_get, refl, sym, ap, ◌∙◌, subst, if◌then◌else◌, arith}
+use Rattle.std.specs.Prelude.{◌^◌, unwrap_or}
 use Rattle.std.proofs.lemmas.Bool.{lt-ltb}
 use Rattle.std.proofs.lemmas.Nat.{pow_pos}
-use Rattle.cx_bits.specs.BitVector.{BitVector, Fits}
+use Rattle.cx_bits.specs.BitVector.{BitVector}
 use Rattle.cx_bits.specs.Operators.{and_of, or_of, sum_of, complement_of}
 use Rattle.cx_bits.proofs.OperatorLaws.{Fits-sum_of, Fits-and_of, Fits-or_of, Fits-complement_of}
 use Rattle.cx_prim.specs.declared.ports.PortRow.{PortRow}
@@ -60,6 +60,17 @@ and_wide a b h = record { same_width = h.same_width; fits = Fits-and_of a b h.fi
 
 or_wide : (a b : BitVector) → IsOfWidth 1 a → IsOfWidth 1 b → IsOfWidth 1 (or_of a b)
 or_wide a b h k = record { same_width = h.same_width; fits = Fits-or_of a b h.fits k.fits (h.same_width ∙ sym k.same_width) }
+
+-- a component's cell is of a lower one
+pub lower_child : (net : PlainNet) → IsFit net → (k c : ℕ) (cell : PlainCell) (j : ℕ) → k < length net.components → slice_get (net_component_at net k).cells c ≡ Some cell → cell.kind ≡ OfComponent j → j < k
+lower_child net fit k c cell j here there is = subst (IsFitKind k) is ((fit.components k here).cells c cell there)
+
+-- what holds below a component holds below the component of each of its cells
+pub holds_below : (net : PlainNet) (k : ℕ) (s : NetState) → Holds net k s → (c : ℕ) (cell : PlainCell) (child : ℕ) → slice_get (net_component_at net k).cells c ≡ Some cell → cell.kind ≡ OfComponent child → Holds net child (below_cell c s)
+holds_below net k s holds c cell child there is = record {
+  registers = λ path h n w leads at. holds.registers (c ∷ path) h n w (cell, child, there, is, leads) at;
+  cells = λ path h d inner p leads at kind. holds.cells (c ∷ path) h d inner p (cell, child, there, is, leads) at kind;
+}
 
 -- a component of a net that fits
 module _ (net : PlainNet) (fit : IsFit net) (wide : IsWide net) (rows_wide : RowsAreWide) where
@@ -231,12 +242,12 @@ module _ (net : PlainNet) (fit : IsFit net) (wide : IsWide net) (rows_wide : Row
           driven_port ok f = driven_wide (ToPort (ports.Cell c p)) w v ok (component_width net part c cell child p w there is is_wide) f
 
           go : WidePort (net_component_at net child) p w → IsOfWidth w v
-          go (wide_go is_q width) = driven_port (subst IsWidth (sym width) one_wide) (subst (λ u. driven_node part cells around s (look []) (λ c. look (c ∷ [])) u (ToPort (ports.Cell c p)) ≡ Some v) (sym width) (by_part Go is_q))
-          go (wide_input n d is_q at width) =
+          go (wide_go is_q width place) = driven_port (subst IsWidth (sym width) one_wide) (subst (λ u. driven_node part cells around s (look []) (λ c. look (c ∷ [])) u (ToPort (ports.Cell c p)) ≡ Some v) (sym width) (by_part Go is_q))
+          go (wide_input n d is_q at width place) =
               driven_port (subst IsWidth (sym width) ((wide child).inputs n d at))
               (subst (λ u. driven_node part cells around s (look []) (λ c. look (c ∷ [])) u (ToPort (ports.Cell c p)) ≡ Some v) (input_is n d is_q at ∙ sym width) (by_part (AnInput n) is_q))
-          go (wide_output n d is_q at width) = looked (c ∷ []) child (APort (ports.Output n)) w v (cell, child, there, is, refl) (ap (option_map (λ (x : PortDecl). x.width)) at ∙ ap Some (sym width)) (by_part (AnOutput n) is_q)
-          go (wide_done is_q width) = looked (c ∷ []) child TheDone w v (cell, child, there, is, refl) (ap Some (sym width)) (by_part ItsDone is_q)
+          go (wide_output n d is_q at width place) = looked (c ∷ []) child (APort (ports.Output n)) w v (cell, child, there, is, refl) (ap (option_map (λ (x : PortDecl). x.width)) at ∙ ap Some (sym width)) (by_part (AnOutput n) is_q)
+          go (wide_done is_q width place) = looked (c ∷ []) child TheDone w v (cell, child, there, is, refl) (ap Some (sym width)) (by_part ItsDone is_q)
 
     -- a node of the instance itself
     module _ (levels : ℕ) where
@@ -274,19 +285,6 @@ module _ (net : PlainNet) (fit : IsFit net) (wide : IsWide net) (rows_wide : Row
         go false there f g = absurd (cc)
       own_wide TheDone w v is_wide e = subst (λ u. IsOfWidth u v) (same_some 1 w is_wide) (driven_wide its_cells ToDone 1 v one_wide refl e)
 
-  -- a component's cell is of one that is there
-  pub child_there : (k c : ℕ) (cell : PlainCell) (child : ℕ) → k < length net.components → slice_get (net_component_at net k).cells c ≡ Some cell → cell.kind ≡ OfComponent child → child < k
-  child_there k c cell child here there is = go cell.kind is ((fit.components k here).cells c cell there) where
-    go : (kind : PlainKind) → kind ≡ OfComponent child → IsFitKind k kind → child < k
-    go (OfPrimitive p) e h = absurd (cc)
-    go (OfComponent h) e less = let same : h ≡ child = cc in subst (λ x. x < k) same less
-
-  pub holds_below : (k : ℕ) (s : NetState) → Holds net k s → (c : ℕ) (cell : PlainCell) (child : ℕ) → slice_get (net_component_at net k).cells c ≡ Some cell → cell.kind ≡ OfComponent child → Holds net child (below_cell c s)
-  holds_below k s holds c cell child there is = record {
-    registers = λ path h n w leads at. holds.registers (c ∷ path) h n w (cell, child, there, is, leads) at;
-    cells = λ path h d inner p leads at kind. holds.cells (c ∷ path) h d inner p (cell, child, there, is, leads) at kind;
-  }
-
   pub around_below : (k : ℕ) (look : NetLook) → IsLooked k look → (c : ℕ) (cell : PlainCell) (child : ℕ) → slice_get (net_component_at net k).cells c ≡ Some cell → cell.kind ≡ OfComponent child → HasAround child (around_child c (look []))
   around_below k look looked c cell child there is = record {
     go = λ v e. looked [] k (APort (ports.Cell c 0)) 1 v refl (component_width net (net_component_at net k) c cell child 0 1 there is refl) e;
@@ -302,8 +300,8 @@ module _ (net : PlainNet) (fit : IsFit net) (wide : IsWide net) (rows_wide : Row
   node_wide [] (suc levels) k lower here around s look holds outward looked h node w v leads is_wide e =
       own_wide k here around s look holds outward looked levels node w v (subst (λ x. width_of_node net (net_component_at net x) node ≡ Some w) (sym leads) is_wide) e
   node_wide (c ∷ path) (suc levels) k lower here around s look holds outward looked h node w v (cell, child, there, is, leads) is_wide e =
-      let less : child < k = child_there k c cell child here there is in
-      node_wide path levels child (omega arith) (omega arith) (around_child c (look [])) (below_cell c s) (λ q. look (c ∷ q)) (holds_below k s holds c cell child there is) (around_below k look looked c cell child there is)
+      let less : child < k = lower_child net fit k c cell child here there is in
+      node_wide path levels child (omega arith) (omega arith) (around_child c (look [])) (below_cell c s) (λ q. look (c ∷ q)) (holds_below net k s holds c cell child there is) (around_below k look looked c cell child there is)
       (λ q g inner u x below width known. looked (c ∷ q) g inner u x (cell, child, there, is, below) width known) h node w v leads is_wide
       (sym (step-at (net_within net levels) (around_child c (look [])) (below_cell c s) (λ q. look (c ∷ q)) path (net_component_at net k).cells c cell child there is node) ∙ e)
 

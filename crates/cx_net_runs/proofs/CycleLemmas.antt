@@ -42,7 +42,7 @@ use Rattle.cx_emit.proofs.Situations.{main_situation}
 use Rattle.cx_emit.proofs.TextWholes.{whole_has}
 use Rattle.cx_net_runs.specs.Inputs.{HasInputs}
 use Rattle.cx_net_runs.specs.Standing.{moment, StandsAt, StandsIn}
-use Rattle.cx_net_runs.proofs.InputLemmas.{inputs_stand}
+use Rattle.cx_vnets.proofs.InputLemmas.{inputs_stand}
 use Rattle.cx_net.proofs.WidthLaws.{bit_is}
 
 abbrev bit : Bool → ℕ
@@ -69,7 +69,7 @@ module _ (net : PlainNet) (s : NetState) (m : Machine) where
     sound = at.sound;
     machine = at.machine;
     state = at.state;
-    stored = inputs_stand (instances_of (source_of net)) (can (source_of net) at.sound).apart.names m at.machine.reset at.machine.go at.state r g reset go before after at.stored inputs;
+    stored = inputs_stand (instances_of (source_of net)) (can (source_of net) at.sound).apart.names m at.machine.reset at.machine.go at.state r g reset go before after at.stored inputs.nets inputs.arrays;
     states = at.states;
   }
 

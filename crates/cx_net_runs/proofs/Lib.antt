@@ -1,4 +1,3 @@
-mod InputLemmas
 mod ReadyLemmas
 mod CycleLemmas
 mod StartLemmas

@@ -9,6 +9,7 @@ use Rattle.cx_net.specs.Nets.{PlainNet}
 use Rattle.cx_net.specs.NetTree.{NetInstance, add_net_cell, net_cells_for, net_component_at, net_within, net_tree}
 use Rattle.cx_net.specs.NetMeaning.{NetState, below_cell}
 use Rattle.cx_net.specs.NetHolds.{Holds}
+use Rattle.cx_net.proofs.WidthLaws.{holds_below}
 use Rattle.cx_wiring_values.proofs.StateForms.{has_form}
 use Rattle.cx_wiring_values.proofs.CellForms.{AreForms, FormsBelow}
 
@@ -38,18 +39,10 @@ module _ (child : ℕ → NetInstance) where
   cells_forms (cell ∷ cells) s each = kind_forms cell.kind cells s (each 0 cell refl) (cells_forms cells (λ c. s (suc c)) (λ c other at. each (suc c) other at))
 
 module _ (net : PlainNet) where
-  -- what holds below a component holds below the component of each of its cells
-  holds_below : (k : ℕ) (s : NetState) → Holds net k s → (c : ℕ) (cell : PlainCell) (child : ℕ) → slice_get (net_component_at net k).cells c ≡ Some cell → cell.kind ≡ OfComponent child
-      → Holds net child (below_cell c s)
-  holds_below k s h c cell child at is = record {
-    registers = λ path g n w leads there. h.registers (c ∷ path) g n w (cell, child, at, is, leads) there;
-    cells = λ path g e inner p leads there of. h.cells (c ∷ path) g e inner p (cell, child, at, is, leads) there of;
-  }
-
   cell_forms : (child : ℕ → NetInstance) → ((k : ℕ) (s : NetState) → Holds net k s → AreForms (child k) s.cell) → (k : ℕ) (s : NetState) → Holds net k s
       → (c : ℕ) (cell : PlainCell) → slice_get (net_component_at net k).cells c ≡ Some cell → (kind : PlainKind) → cell.kind ≡ kind → HasForms child kind (λ path. s.cell (c ∷ path))
   cell_forms child each k s h c cell at (OfPrimitive p) is = state_form (row_of p).shape (s.cell (c ∷ [])) (h.cells [] k c cell p refl at is)
-  cell_forms child each k s h c cell at (OfComponent j) is = each j (below_cell c s) (holds_below k s h c cell j at is)
+  cell_forms child each k s h c cell at (OfComponent j) is = each j (below_cell c s) (holds_below net k s h c cell j at is)
 
   within_forms : (levels k : ℕ) (s : NetState) → Holds net k s → AreForms (net_within net levels k) s.cell
   within_forms zero k s h = tt

@@ -23,6 +23,7 @@ use Rattle.cx_control.specs.DesignRuns.{design_machine}
 use Rattle.cx_control.proofs.ControlLaws.{control_does}
 use Rattle.cx_control.proofs.DesignRuns.{islands_do}
 use Rattle.cx_scripts.specs.Stays.{run_from}
+use Rattle.cx_text.proofs.NumberLaws.{before_more}
 
 -- A RUN LEAVES a settled state
 control_settles : (i : Instance) → AllRows KeepsIdle i → (held : Held) (s : State) (n : ℕ) → IsSettled i s → Leaves (IsSettled i) (run_control i held s n)
@@ -75,21 +76,11 @@ module _ (d : PlainDesign) (does : ControlDoes d) where
       let it = ended (world_of (tree_of d)) (Rests (tree_of d)) (design_machine d) driven (Machine.start (design_machine d)) (shown unheld s) n t (shown unheld after) met in
       record { in_budget = met.in_budget; quiet = it.quiet; is_over = it.is_over; store = it.store }
 
-  by_order : (k n : ℕ) → k ≤ n → (k < n) ⊎ (k ≡ n)
-  by_order zero zero less = inr refl
-  by_order zero (suc n) less = inl (omega arith)
-  by_order (suc k) zero less = absurd (omega arith)
-  by_order (suc k) (suc n) less = up (by_order k n (omega arith))
-    where
-      up : (k < n) ⊎ (k ≡ n) → (suc k < suc n) ⊎ (suc k ≡ suc n)
-      up (inl h) = inl (omega arith)
-      up (inr e) = inr (ap suc e)
-
   goes : (s : State) (n : ℕ) → IsSettled (tree_of d) s → run_from d s n ≡ More → GoesOnFrom d s n
   goes s n settled is =
       let met = subst (Meets (world_of (tree_of d)) (Rests (tree_of d)) (design_machine d) (λ x. Unit {0}) unheld driven (Machine.start (design_machine d)) (shown unheld s) n) is (meets s settled n) in
       let it = going (world_of (tree_of d)) (Rests (tree_of d)) (design_machine d) (Machine.start (design_machine d)) (shown unheld s) n met in
-      record { quiet = it.quiet; undone = λ k less. undone it k (by_order k n less) }
+      record { quiet = it.quiet; undone = λ k less. undone it k (before_more n k (omega (arith, less))) }
     where
       undone : StillGoes (world_of (tree_of d)) (Rests (tree_of d)) (design_machine d) (Machine.start (design_machine d)) (shown unheld s) n → (k : ℕ) → (k < n) ⊎ (k ≡ n) → is_done (Moment.control (moment_from d s k)) ≡ false
       undone it k (inl less) = IsQuiet.goes (it.quiet k less)

@@ -12,7 +12,7 @@ use Rattle.cx_net.specs.NetTree.{NetInstance}
 use Rattle.cx_net.specs.NetMeaning.{NetState}
 use Rattle.cx_net.specs.NetEdges.{net_after}
 use Rattle.cx_net.specs.NetRuns as nets
-use Rattle.cx_net.specs.NetRuns.{IsWholeLook, net_words}
+use Rattle.cx_net.specs.NetRuns.{net_words}
 use Rattle.cx_wiring_values.proofs.GroundedRuns.{HasLook}
 use Rattle.cx_wiring_runs.proofs.EdgeRuns.{Place, next, after}
 use Rattle.cx_scripts.specs.Scripts.{Stay, Undone, here, further, over, waits, runs}
@@ -21,9 +21,7 @@ use Rattle.cx_scripts.proofs.AheadLemmas.{ComesBy, done_in, none, Ahead, LeadsTo
 use Rattle.cx_scripts.proofs.NetCycles.{NetCycle}
 use Rattle.cx_scripts.proofs.MachineLemmas.{end_settled, moment_from, RunsFromAll}
 use Rattle.cx_scripts.proofs.RootLemmas.{ScriptKeeps}
-
-true_false : true ≡ false → ⊥
-true_false e = cc
+use Rattle.cx_text.proofs.NumberLaws.{true_false}
 
 module _ (d : PlainDesign) (tree : NetInstance) (Holds : NetState → Type 0) (Good : Place d tree → Kept → Type 0) (Shows : Place d tree → Kept → NetState → Type 0)
     (keeps : ScriptKeeps d tree Holds Good Shows) (machine : RunsFromAll d) where

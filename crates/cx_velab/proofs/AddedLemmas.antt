@@ -1,5 +1,6 @@
 -- What is appended, step by step.
 use Rattle.std.proofs.Common.{◌≡◌, ℕ, suc, ◌+◌, ◌<◌, List, [], ◌∷◌, ◌++◌, length, get_or, drop, drop-cons, map, refl, ap, sym, ◌∙◌, subst, append_assoc, append-nil, add-one}
+use Rattle.cx_text.proofs.ListLaws.{drop_next}
 use Rattle.cx_velab.specs.Added.{Paired, Adds}
 
 module _ {A B : Type 0} (R : A → B → Type 0) where
@@ -28,10 +29,6 @@ module _ {A B : Type 0} (R : A → B → Type 0) where
   -- the same, where what they are added for is known by another list
   pub adds_as : (old new : List A) (ys vs : List B) → ys ≡ vs → Adds R old new ys → Adds R old new vs
   adds_as old new ys vs e a = subst (λ l. Adds R old new l) e a
-
--- the elements from one on
-pub drop_next : {A : Type 0} (xs : List A) (i : ℕ) (x : A) → i < length xs → x ≡ get_or xs i x → drop i xs ≡ x ∷ drop (i + 1) xs
-drop_next xs i x lt at = drop-cons xs i x lt ∙ ap (λ y. y ∷ drop (suc i) xs) (sym at) ∙ ap (λ k. x ∷ drop k xs) (sym (add-one i))
 
 -- some were added so far, and the rest is left
 module _ {A B : Type 0} (R : A → B → Type 0) where

@@ -11,8 +11,8 @@ use Rattle.cx_vnets.specs.CodeLaws.{net_widths, array_widths}
 use Rattle.cx_vnets.specs.Numbers.{nets_before, arrays_before}
 use Rattle.cx_velab.specs.Tables.{zero_of, module_zeros, zero_arrays, all_zeros, all_zero_arrays}
 use Rattle.cx_velab.specs.FitsLaws.{ZerosFit}
-use Rattle.cx_velab.proofs.ZeroLemmas.{before_first, length-net_widths, mapped_some, zeros_at, zero_arrays_at, zeros}
-use Rattle.cx_text.proofs.ListLaws.{length-map}
+use Rattle.cx_velab.proofs.ZeroLemmas.{before_first, length-net_widths, zeros_at, zero_arrays_at, zeros}
+use Rattle.cx_text.proofs.ListLaws.{at_map, length-map}
 
 -- as many zeros as nets
 zeros_count : (tree : List Placed) → length (all_zeros tree) ≡ nets_before tree (length tree)
@@ -71,7 +71,7 @@ zeros_fit tree s nets arrays = record {
   nets = λ i k w e. ap (λ l. width_at l (nets_before tree i + k)) nets ∙ ap (option_map (λ b. b.width)) (zeros_at tree i k w e);
   arrays = λ i a w e.
       let z = array_zeros (decls_at tree i) a w e in
-      let x = mapped_some plain_words s.arrays.items (arrays_before tree i + a) (zeros w z.0) (ap (λ l. slice_get l (arrays_before tree i + a)) arrays ∙ zero_arrays_at tree i a (zeros w z.0) z.1) in
+      let x = at_map plain_words s.arrays.items (arrays_before tree i + a) (zeros w z.0) (ap (λ l. slice_get l (arrays_before tree i + a)) arrays ∙ zero_arrays_at tree i a (zeros w z.0) z.1) in
       ap (option_map (λ y. y.zero.width)) x.1 ∙ ap (λ p. Some p.zero.width) x.2;
   even = λ a x k b at word.
       let z = tree_zeros tree a (plain_words x) (ap (λ l. slice_get l a) (sym arrays) ∙ array_at s.arrays.items a x at) in

@@ -19,7 +19,7 @@ use Rattle.cx_velab.specs.Tables.{zero_of, module_zeros, zero_arrays, all_zeros,
 use Rattle.cx_velab.specs.Zeros.{widths_at, ZerosHaveWidths}
 use Rattle.cx_vtree.proofs.InstanceTreeLemmas.{input_unheld, output_unheld, assigned_unheld}
 use Rattle.cx_text.proofs.BoolLaws.{either_zero}
-use Rattle.cx_text.proofs.ListLaws.{length-map, behind, front, slice_get-next}
+use Rattle.cx_text.proofs.ListLaws.{behind, front, length-map, slice_get-next}
 use Rattle.cx_text.proofs.OptionLaws.{bind_some}
 
 -- a first list comes before the others
@@ -194,11 +194,6 @@ zero_word x w k index e =
 
 pub zero_count : (x : Words) (w k : ℕ) → plain_words x ≡ zeros w k → length x.words.items ≡ k
 zero_count x w k e = ap (λ p. length p.words) e ∙ length-zeros w k
-
-pub mapped_some : {A B : Type 0} (f : A → B) (xs : List A) (k : ℕ) (y : B) → slice_get (map f xs) k ≡ Some y → (x : A) × (slice_get xs k ≡ Some x) × (f x ≡ y)
-mapped_some f [] k y e = absurd (cc)
-mapped_some f (x ∷ xs) zero y e = let same : f x ≡ y = cc in (x, refl, same)
-mapped_some f (x ∷ xs) (suc k) y e = mapped_some f xs k y e
 
 pub outside_zero : (t u : Bool) → ◌≡◌ {A = BitVector} (zero_of 1) (record { width = 1; value = if t then 0 else (if u then 0 else 0) })
 outside_zero true u = refl

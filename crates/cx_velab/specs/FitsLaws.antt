@@ -2,8 +2,8 @@
 use Rattle.std.specs.Prelude.{◌≡◌, ℕ, ◌+◌, List, false, Some, length, map, slice_get}
 use Rattle.cx_vtree.specs.Plain.{PlainExpr, PlainAssign, PlainStore}
 use Rattle.cx_vtree.specs.Edges.{edge_at, acting_sets, acting_stores}
-use Rattle.cx_vtree.specs.InstanceTree.{Placed, ports_at, decls_at, nets_at, Origin, Outside, Tied, Held, Given, origin_of}
-use Rattle.cx_vtree.specs.Sound.{Scope, meant_in, misnames, fitting_width}
+use Rattle.cx_vtree.specs.InstanceTree.{Placed, decls_at, nets_at, Origin, Outside, Tied, Held, Given, origin_of}
+use Rattle.cx_vtree.specs.Sound.{Scope, misnames, fitting_width}
 use Rattle.cx_vnets.specs.declared.nets.Nets.{Nets}
 use Rattle.cx_vnets.specs.declared.nets.Stored.{Stored}
 use Rattle.cx_vnets.specs.declared.codes.Code.{Code}
@@ -20,6 +20,7 @@ use Rattle.cx_vnets.specs.Numbers.{arrays_at, nets_before, arrays_before}
 use Rattle.cx_vnets.specs.Flat.{NetsStand}
 use Rattle.cx_velab.specs.Tables.{all_zeros, all_zero_arrays}
 use Rattle.cx_velab.specs.Zeros.{widths_at}
+pub use Rattle.cx_vlaws.specs.Widths.{scope_at}
 
 -- what is stored has the widths of the nets and the arrays
 pub record StoredHasWidths (tree : List Placed) (s : Stored) : Type 0 where
@@ -27,10 +28,6 @@ pub record StoredHasWidths (tree : List Placed) (s : Stored) : Type 0 where
   pub nets : (i k w : ℕ) → slice_get (widths_at tree i) k ≡ Some w → width_at s.nets.items (nets_before tree i + k) ≡ Some w
   pub arrays : (i a w : ℕ) → slice_get (array_widths (decls_at tree i)) a ≡ Some w → array_width s.arrays.items (arrays_before tree i + a) ≡ Some w
   pub even : IsEven s.arrays.items
-
--- what each name stands for in an instance
-abbrev pub scope_at : List Placed → ℕ → Scope
-scope_at tree i = meant_in (ports_at tree i) (decls_at tree i)
 
 -- an expression names what is there, and its widths fit and give this one
 abbrev pub IsSound : Scope → PlainExpr → ℕ → Type 0

@@ -22,7 +22,7 @@ pub record HasWidth (numbers : List ℕ) : Type 0 where
   pub width : IsWidth (slice_index numbers 0)
 
 -- a row that is there where a test is true
-tested : (b : Bool) (row : Row) → IsSome (if b then Some row else None) → b ≡ true
+pub tested : (b : Bool) (row : Row) → IsSome (if b then Some row else None) → b ≡ true
 tested true row there = refl
 tested false row there = absurd (let wrong : false ≡ true = there in cc)
 

@@ -69,21 +69,22 @@ module _ (tree : List Placed) (apart : AreApart tree) (input : List ℕ) (f : �
       sym p.2 ∙ ap (λ z. nets_before tree 0 + z) (apart.nets 0 p.0 k input p.1 there)
 
 module _ (tree : List Placed) (apart : AreApart tree) (m : Machine) (reset_is : IsInput tree (codes "reset") m.reset) (go_is : IsInput tree (codes "go") m.go)
-    (state : State) (r g : ℕ) (one : Bool) (before after : Memory) (memory : StoredStands tree (record { state = state; reset = r; go = g }) before) (inputs : WithInputs m one before after) where
+    (state : State) (r g : ℕ) (one two : Bool) (before after : Memory) (memory : StoredStands tree (record { state = state; reset = r; go = g }) before)
+    (nets_are : after.nets.items ≡ slice_set (slice_set before.nets.items m.reset (bit one)) m.go (bit two)) (arrays_are : after.arrays.items ≡ before.arrays.items) where
   abbrev inner : List BitVector
   inner = slice_set before.nets.items m.reset (bit one)
 
   abbrev nets : List BitVector
-  nets = slice_set inner m.go (bit (not one))
+  nets = slice_set inner m.go (bit two)
 
   abbrev old : Moment
   old = record { state = state; reset = r; go = g }
 
   abbrev new : Moment
-  new = record { state = state; reset = if one then 1 else 0; go = if not one then 1 else 0 }
+  new = record { state = state; reset = if one then 1 else 0; go = if two then 1 else 0 }
 
   other_net : (f : ℕ) → (m.reset ≡ f → ⊥) → (m.go ≡ f → ⊥) → slice_get nets f ≡ slice_get before.nets.items f
-  other_net f not_reset not_go = get_set_other inner m.go f (bit (not one)) not_go ∙ get_set_other before.nets.items m.reset f (bit one) not_reset
+  other_net f not_reset not_go = get_set_other inner m.go f (bit two) not_go ∙ get_set_other before.nets.items m.reset f (bit one) not_reset
 
   -- an input of `main` by its name
   module _ (k : ℕ) (name : List ℕ) (there : slice_get (nets_at tree 0) k ≡ Some name) (out : origin_of tree 0 name ≡ Some Outside) where
@@ -105,15 +106,15 @@ module _ (tree : List Placed) (apart : AreApart tree) (m : Machine) (reset_is : 
     at_reset : codes "reset" ≡ name → slice_get nets f ≡ Some (bit one)
     at_reset same =
         let net = input_net tree apart (codes "reset") m.reset reset_is k (there ∙ ap Some (sym same)) in
-        get_set_other inner m.go f (bit (not one)) (not_go (subst (λ n. same_name n (codes "go") ≡ false) same refl))
+        get_set_other inner m.go f (bit two) (not_go (subst (λ n. same_name n (codes "go") ≡ false) same refl))
         ∙ ap (λ j. slice_get (slice_set before.nets.items j (bit one)) f) net
         ∙ get_set_same before.nets.items f (bit one) within
 
-    at_go : codes "go" ≡ name → slice_get nets f ≡ Some (bit (not one))
+    at_go : codes "go" ≡ name → slice_get nets f ≡ Some (bit two)
     at_go same =
         let net = input_net tree apart (codes "go") m.go go_is k (there ∙ ap Some (sym same)) in
-        ap (λ j. slice_get (slice_set inner j (bit (not one))) f) net
-        ∙ get_set_same inner f (bit (not one)) (subst (λ c. f < c) (sym (length-set before.nets.items m.reset (bit one))) within)
+        ap (λ j. slice_get (slice_set inner j (bit two)) f) net
+        ∙ get_set_same inner f (bit two) (subst (λ c. f < c) (sym (length-set before.nets.items m.reset (bit one))) within)
 
     at_other : same_name name (codes "reset") ≡ false → same_name name (codes "go") ≡ false → slice_get nets f ≡ Some (value_by false false)
     at_other no_reset no_go =
@@ -136,15 +137,19 @@ module _ (tree : List Placed) (apart : AreApart tree) (m : Machine) (reset_is : 
       (input_value k name (subst (λ j. slice_get (nets_at tree j) k ≡ Some name) zero_is there) (subst (λ j. origin_of tree j name ≡ Some Outside) zero_is out))
 
   -- what is stored with the inputs of another cycle
-  pub inputs_same : StoredStands tree new after
-  inputs_same = record {
+  pub inputs_stand : StoredStands tree new after
+  inputs_stand = record {
     registers = λ i k w name there held.
-        ap (λ l. slice_get l (nets_before tree i + k)) inputs.nets
+        ap (λ l. slice_get l (nets_before tree i + k)) nets_are
         ∙ other_net (nets_before tree i + k)
         (no_register tree apart (codes "reset") m.reset reset_is i k w name there held)
         (no_register tree apart (codes "go") m.go go_is i k w name there held)
         ∙ memory.registers i k w name there held;
-    inputs = λ i k name there out. ap (λ l. slice_get l (nets_before tree i + k)) inputs.nets ∙ input_at i k name there out (outside_zero tree i name out);
-    arrays = λ i a name there. let x = memory.arrays i a name there in (x.0, ap (λ l. slice_get l (arrays_before tree i + a)) inputs.arrays ∙ x.1, x.2);
-    count = ap length inputs.arrays ∙ memory.count;
+    inputs = λ i k name there out. ap (λ l. slice_get l (nets_before tree i + k)) nets_are ∙ input_at i k name there out (outside_zero tree i name out);
+    arrays = λ i a name there. let x = memory.arrays i a name there in (x.0, ap (λ l. slice_get l (arrays_before tree i + a)) arrays_are ∙ x.1, x.2);
+    count = ap length arrays_are ∙ memory.count;
   }
+
+pub inputs_same : (tree : List Placed) → AreApart tree → (m : Machine) → IsInput tree (codes "reset") m.reset → IsInput tree (codes "go") m.go → (state : State) (r g : ℕ) (one : Bool) (before after : Memory)
+    → StoredStands tree (record { state = state; reset = r; go = g }) before → WithInputs m one before after → StoredStands tree (record { state = state; reset = if one then 1 else 0; go = if not one then 1 else 0 }) after
+inputs_same tree apart m reset_is go_is state r g one before after memory inputs = inputs_stand tree apart m reset_is go_is state r g one (not one) before after memory inputs.nets inputs.arrays

@@ -2,7 +2,8 @@
 use Rattle.std.proofs.Common.{◌≡◌, ℕ, ◌+◌, ◌<◌, ◌≤◌, ⊎_elim, List, [], ◌∷◌, ◌++◌, Option, Some, length, slice_get, sym, ap, ◌∙◌, subst, arith}
 use Rattle.std.proofs.lemmas.Bool.{cases_lt}
 use Rattle.std.proofs.lemmas.List.{length-map}
-use Rattle.cx_graphs.specs.Graphs.{Edges, In, edges_of, targets_of}
+use Rattle.cx_text.specs.Members.{In}
+use Rattle.cx_graphs.specs.Graphs.{Edges, edges_of, targets_of}
 use Rattle.cx_vnets.specs.declared.spans.Span.{Span}
 use Rattle.cx_vnets.specs.declared.spans.Spans.{Spans}
 use Rattle.cx_vnets.specs.Gates.{IsShut}

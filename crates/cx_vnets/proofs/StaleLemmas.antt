@@ -1,6 +1,6 @@
 -- What marks tell.
 use Rattle.std.proofs.Common.{◌≡◌, ℕ, zero, suc, ◌<◌, inl, inr, List, [], ◌∷◌, Some, slice_get, refl, ap, sym, ◌∙◌, subst}
-use Rattle.cx_graphs.specs.Graphs.{In}
+use Rattle.cx_text.specs.Members.{In}
 use Rattle.cx_vnets.specs.Stale.{rank_at, HasPlace, Tells}
 
 -- nothing is marked

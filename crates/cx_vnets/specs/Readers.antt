@@ -1,7 +1,8 @@
 -- Who reads what, and nets whose values agree with what drives them.
 use Rattle.std.specs.Prelude.{◌≡◌, ℕ, ◌+◌, ◌<◌, Bool, true, false, List, Some, length, get_or, slice_get}
+use Rattle.cx_text.specs.Members.{In}
 use Rattle.cx_bits.specs.BitVector.{BitVector}
-use Rattle.cx_graphs.specs.Graphs.{In, Edges, edges_of, targets_of}
+use Rattle.cx_graphs.specs.Graphs.{Edges, edges_of, targets_of}
 use Rattle.cx_vnets.specs.declared.codes.Code.{Code}
 use Rattle.cx_vnets.specs.declared.codes.NetPosition.{NetPosition}
 use Rattle.cx_vnets.specs.declared.nets.Nets.{Nets}

@@ -1,6 +1,7 @@
 -- Nets that are read behind many gates.
 use Rattle.std.specs.Prelude.{◌≡◌, ◌≢◌, ◌⊎◌, ◌<◌, ◌≤◌, ℕ, List, Option, Some, length, slice_get}
-use Rattle.cx_graphs.specs.Graphs.{Edges, In, edges_of, targets_of}
+use Rattle.cx_text.specs.Members.{In}
+use Rattle.cx_graphs.specs.Graphs.{Edges, edges_of, targets_of}
 use Rattle.cx_vnets.specs.declared.spans.Span.{Span}
 use Rattle.cx_vnets.specs.declared.spans.Spans.{Spans}
 use Rattle.cx_vnets.specs.Gates.{IsKnownZero}

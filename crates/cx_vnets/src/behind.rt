@@ -1,7 +1,8 @@
 //! The readers of a net behind gates that may be other than 0 are marked.
 
 ghost use Rattle.std.specs.Prelude.{◌≡◌, ◌<◌, ◌≤◌, true, IfSome, Some, length, slice_get};
-ghost use Rattle.cx_graphs.specs.Graphs.{In, edges_of, targets_of};
+ghost use Rattle.cx_text.specs.Members.{In};
+ghost use Rattle.cx_graphs.specs.Graphs.{edges_of, targets_of};
 ghost use Rattle.cx_vnets.specs.Spans.{NotBehind, IsInTables};
 ghost use Rattle.cx_vnets.specs.Stale.{SameBelow, Tells, rank_at};
 

@@ -1,7 +1,7 @@
 //! Nets that are 0 where another net, their gate, is 0.
 
 ghost use Rattle.std.specs.Prelude.{◌≡◌, ◌≢◌, ◌+◌, ◌<◌, ◌≤◌, ℕ, true, IfOk, IfSome, Some, length, slice_get};
-ghost use Rattle.cx_graphs.specs.Graphs.{In};
+ghost use Rattle.cx_text.specs.Members.{In};
 ghost use Rattle.cx_vtree.specs.declared.operators.Operator.TheVariants.{And};
 ghost use Rattle.cx_vnets.specs.Gates.{GatesStand, HasGate, IsGate, IsKnownZero, IsShut, IsZero, ZerosStand};
 ghost use Rattle.cx_vnets.specs.Stale.{SameBelow, Tells, rank_at};

@@ -1,7 +1,8 @@
 //! Nets that are read behind many gates: who reads such a net is found by the gates that may be other than 0.
 
 ghost use Rattle.std.specs.Prelude.{◌≡◌, ◌⊎◌, ℕ, true, IfOk, OnOk, Some};
-ghost use Rattle.cx_graphs.specs.Graphs.{In, edges_of};
+ghost use Rattle.cx_text.specs.Members.{In};
+ghost use Rattle.cx_graphs.specs.Graphs.{edges_of};
 ghost use Rattle.cx_vnets.specs.declared.spans.Span.{Span};
 ghost use Rattle.cx_vnets.specs.Spans.{GatedStand, IsGated, IsSpan, IsWithin, SpansStand};
 

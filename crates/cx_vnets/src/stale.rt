@@ -1,7 +1,7 @@
 //! Marks by the ranks of nets: which nets may have another value than they had.
 
 ghost use Rattle.std.specs.Prelude.{◌≡◌, ◌≢◌, ◌<◌, ◌≤◌, false, length, slice_get, slice_set};
-ghost use Rattle.cx_graphs.specs.Graphs.{In};
+ghost use Rattle.cx_text.specs.Members.{In};
 ghost use Rattle.cx_vnets.specs.Stale.{AllStale, IsNextStale, SameBelow, Tells, rank_at};
 
 use cx_bits::Bits;

@@ -1,8 +1,9 @@
 //! The values of all nets in a cycle, from those of the cycle before: in the order of ranks, marked nets alone.
 
 ghost use Rattle.std.specs.Prelude.{◌≡◌, ◌+◌, ◌<◌, ◌≤◌, true, false, ℕ, List, Some, length, get_or, slice_get};
+ghost use Rattle.cx_text.specs.Members.{In};
 ghost use Rattle.cx_vnets.specs.Fits.{Fits};
-ghost use Rattle.cx_graphs.specs.Graphs.{In, edges_of, targets_of};
+ghost use Rattle.cx_graphs.specs.Graphs.{edges_of, targets_of};
 ghost use Rattle.cx_vnets.specs.Gates.{IsShut, ZerosStand};
 ghost use Rattle.cx_vnets.specs.Readers.{HearsNot, Passes, ReadersStand, Sweeping};
 ghost use Rattle.cx_vnets.specs.Search.{SameWidths};

@@ -1,9 +1,9 @@
 -- A source that is read stands in the text.
-use Rattle.std.proofs.Common.{◌≡◌, ℕ, ◌+◌, ◌<◌, ◌≤◌, ◌==◌, ◌⊎◌, ⊎_elim, Bool, true, false, ◌&&◌, List, [], ◌∷◌, ◌++◌, map, length, Option, Some, refl, ◌∙◌, ap, sym, arith, append_assoc, append-nil, length-append}
+use Rattle.std.proofs.Common.{◌≡◌, ℕ, ◌+◌, ◌<◌, ◌≤◌, ◌==◌, ◌⊎◌, ⊎_elim, true, false, ◌&&◌, List, [], ◌∷◌, ◌++◌, map, length, Option, Some, ◌∙◌, ap, sym, arith, append_assoc, append-nil, length-append}
 use Rattle.std.specs.Prelude.{codes, nat_lt, option_map}
 use Rattle.std.specs.List.{list_all}
 use Rattle.std.proofs.lemmas.Bool.{and_from, lt-ltb, eqb-true, not-false}
-use Rattle.std.proofs.lemmas.List.{map-id}
+use Rattle.std.proofs.lemmas.List.{map-id, nil_from_length}
 use Rattle.cx_vtree.specs.Layout.{is_name, port_fits, decl_fits, assign_fits, instance_fits, edge_fits, module_fits, external_fits, is_laid_out}
 use Rattle.cx_vtree.specs.Lines.{Line, ExternalLine, DeclLine, AssignLine, InstanceLine, line_text, lines_text}
 use Rattle.cx_vtree.specs.Plain.{PlainPort, PlainDecl, PlainAssign, PlainInstance, PlainEdge, PlainModule, PlainSource}
@@ -173,10 +173,6 @@ room_left (m ∷ ms) z =
     let l = length-append (module_text_of m) (joined_text module_text_of ms ++ z) in
     omega arith
 
-nothing : (xs : List ℕ) → length xs ≡ 0 → xs ≡ []
-nothing [] h = refl
-nothing (x ∷ xs) h = absurd (omega arith)
-
 no_rest : (q : Place) → is_left q ≡ false → length q.rest ≡ 0
 no_rest q h = eqb-true (length q.rest) 0 (not-false (length q.rest == 0) h)
 
@@ -184,7 +180,7 @@ at_end : (ms : List PlainModule) (p q : Place) → p.rest ≡ joined_text module
 at_end ms p q text ends =
     let room = room_left ms q.rest in
     let long = ap length text in
-    nothing q.rest (⊎_elim (λ none. no_rest q none) (λ all. let same = all in omega arith) ends)
+    nil_from_length q.rest (⊎_elim (λ none. no_rest q none) (λ all. let same = all in omega arith) ends)
 
 record ModulesFound (p : Place) (ys : List PlainModule) (q : Place) : Type 0 where
   all : List PlainModule

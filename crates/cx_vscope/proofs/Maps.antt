@@ -9,6 +9,7 @@ use Rattle.std.specs.Ordering.{nat_cmp}
 use Rattle.std.proofs.lemmas.List.Folds.{list_any-append}
 use Rattle.std.proofs.lemmas.Map.Text.{btree_map_updates_str, is_eq-slice_cmp}
 use denote.Ref.{Bor}
+use Rattle.cx_text.proofs.BoolLaws.{cond_either}
 use Rattle.cx_vtree.specs.declared.meanings.Meaning.{Meaning}
 use Rattle.cx_vtree.specs.declared.meanings.Meaning.TheVariants.{Nothing}
 use Rattle.cx_vscope.specs.declared.drafts.DraftDecl.{DraftDecl}
@@ -23,18 +24,12 @@ use Rattle.cx_vscope.specs.Scopes.{meant_by, HasAll}
 abbrev by_bytes : Bor (List ℕ) → Bor (List ℕ) → Ordering
 by_bytes x y = slice_cmp nat_cmp x.now y.now
 
-either : (b h : Bool) → cond b true h ≡ (h || (b || false))
-either true true = refl
-either true false = refl
-either false true = refl
-either false false = refl
-
 pub has_push : (s t : BTreeSet (Bor (List ℕ))) (key : Bor (List ℕ)) (names : List (List ℕ)) → HasAll s names → sorted.Updates by_bytes s t key true → HasAll t (names ++ key.now ∷ [])
 has_push s t key names had up q =
     up.0 (record { ref_ptr = (0, 0); now = q })
     ∙ ap (λ b. cond b true (sorted.contains_by (λ k. slice_cmp nat_cmp q k.now) s)) (is_eq-slice_cmp key.now q)
     ∙ ap (λ h. cond (same_name key.now q) true h) (had q)
-    ∙ either (same_name key.now q) (has_name names q)
+    ∙ cond_either (same_name key.now q) (has_name names q)
     ∙ sym (list_any-append (λ n. same_name n q) names (key.now ∷ []))
 
 chosen : (b : Bool) (v : Meaning) (o : Option Meaning) (rest : Meaning) → unwrap_or o Nothing ≡ rest → unwrap_or (cond b (Some v) o) Nothing ≡ (if b then v else rest)

@@ -3,7 +3,7 @@ use Rattle.std.proofs.Common.{◌≡◌, inl, inr, ℕ, suc, ◌+◌, ◌*◌, �
 use Rattle.cx_text.specs.declared.places.Place.{Place}
 use Rattle.cx_meaning.specs.Designs.{PlainCell, PlainComponent, PlainDesign, component_at, Timed}
 use Rattle.cx_meaning.specs.Active.{Owned, source_order}
-use Rattle.cx_meaning.specs.Sights.{In}
+use Rattle.cx_text.specs.Members.{In}
 use Rattle.cx_rules.specs.Items.{Dynamic, visit, statements_in}
 use Rattle.cx_rules.specs.Sizes.{assigns_size, groups_size}
 use Rattle.cx_rules.specs.StaticControl.{occurrences_of}
@@ -53,6 +53,10 @@ PartsHold part = (o : Owned) → In (source_order part) o → HasParts o.assign.
 pub no_timed : (part : PlainComponent) → IsFlatPart part → (n : ℕ) → IsForm part (Timed n) → ⊥
 no_timed part flat n is = let none : n < 0 = subst (λ invokes. n < length invokes) flat.no_invoke is in omega (arith, none)
 
+pub all_parts : (groups : ℕ) (list : List Owned) → ((o : Owned) → In list o → HasParts o.assign.guard) → AllParts groups list
+all_parts groups [] each = tt
+all_parts groups (o ∷ list) each = (each o (inl refl), all_parts groups list (λ x i. each x (inr i)))
+
 module _ (d : PlainDesign) (rules : IsDesign d) (k : ℕ) (within : k < length d.components) (parts : PartsHold (component_at d k)) where
   abbrev part : PlainComponent
   part = component_at d k
@@ -60,16 +64,12 @@ module _ (d : PlainDesign) (rules : IsDesign d) (k : ℕ) (within : k < length d
   abbrev low : PlainLowered
   low = lowered_component part
 
-  untimed : IsFlatPart part → Untimed (statements_in part)
+  pub untimed : IsFlatPart part → Untimed (statements_in part)
   untimed flat v i n is =
       no_timed part flat n (subst (IsForm part) is (subst (λ x. IsForm x v.form) (same_part d (length d.components) k) ((rules.components k within).statements v i).form))
 
   adds : Adds part free 0 free_timer (unlowered part) (after part part.control (unlowered part)) (length (statements_in part)) (occurrences_of part (statements_in part))
   adds = statement_adds part free 0 free_timer part.control (unlowered part)
-
-  all_parts : (list : List Owned) → ((o : Owned) → In list o → HasParts o.assign.guard) → AllParts (groups low) list
-  all_parts [] each = tt
-  all_parts (o ∷ list) each = (each o (inl refl), all_parts list (λ x i. each x (inr i)))
 
   -- TIMERS: two for each statement at most
   pub timers_few : all_timers low.islands ≤ 2 * length (statements_in part)
@@ -86,7 +86,7 @@ module _ (d : PlainDesign) (rules : IsDesign d) (k : ℕ) (within : k < length d
       let occurring : all_occurrences low.islands ≤ 0 + occurrences_of part (statements_in part) = adds.occurrences in
       let islands : length low.islands ≤ 0 + length (statements_in part) = adds.islands in
       let before : Before low.islands low.islands = λ n x e. e in
-      let own : AllParts (groups low) (driven_assigns low) = all_parts (driven_assigns low) (λ o i. parts o (in_filter (is_driven low) (source_order part) o i)) in
+      let own : AllParts (groups low) (driven_assigns low) = all_parts (groups low) (driven_assigns low) (λ o i. parts o (in_filter (is_driven low) (source_order part) o i)) in
       let some : units (driven_assigns low) ≤ units (source_order part) = units_filter (is_driven low) (source_order part) in
       let sized : length part.groups + units (source_order part) ≡ assigns_size part.always + groups_size part.groups = units_order part in
       let assigned : assigns_wires (driven_assigns low) ≤ units (driven_assigns low) = assigns_wires_few (groups low) (driven_assigns low) own in

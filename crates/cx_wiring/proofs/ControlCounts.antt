@@ -2,10 +2,11 @@
 -- control is.
 use Rattle.std.proofs.Common.{◌≡◌, inl, inr, ℕ, zero, suc, ◌+◌, ◌*◌, ◌≤◌, List, [], ◌∷◌, ◌++◌, length, Option, Some, None, slice_get, refl, ap, ◌∙◌, arith, length-append}
 use Rattle.std.proofs.lemmas.List.{length-replicate}
+use Rattle.cx_text.proofs.MemberLaws.{in_left, in_right}
 use Rattle.cx_text.specs.declared.places.Place.{Place}
 use Rattle.cx_meaning.specs.Designs.{PlainComponent, PlainForm, Empty, Enable, Seq, Par, If, While, Repeat, StaticSeq, StaticPar, StaticIf, StaticRepeat, Timed, PlainStatement, Placed, PlainStatements, no_statements, a_statement}
 use Rattle.cx_meaning.specs.Islands.{group_length, form_length}
-use Rattle.cx_meaning.specs.Sights.{In}
+use Rattle.cx_text.specs.Members.{In}
 use Rattle.cx_rules.specs.Items.{Dynamic, Visited, visit, visit_all}
 use Rattle.cx_net.specs.Nets.{PlainNetDriver}
 use Rattle.cx_static.specs.declared.islands.IslandTimer.{IslandTimer}
@@ -18,7 +19,6 @@ use Rattle.cx_wiring.specs.Control.{comb_goes, timed_drivers, arm_stand, counted
 use Rattle.cx_wiring.proofs.CountLaws.{samples_at, samples_in}
 use Rattle.cx_wiring.proofs.FitLemmas.{slice_right}
 use Rattle.cx_wiring.proofs.LoweringCounts.{total, total-append}
-use Rattle.cx_meaning.proofs.SightsLaws.{in_left, in_right}
 use Rattle.cx_text.proofs.ListLaws.{front}
 
 -- lengths of lists that are put together

@@ -14,13 +14,15 @@ use Rattle.cx_wiring.specs.IslandDrivers.{island_wires, first_of_island}
 use Rattle.cx_wiring.specs.Control.{one_turn, found_one, found_zero, arm_stand, in_last_round, in_earlier_round, counted_inside, counting, whole_stand, finishing, comb_goes, timed_drivers, arms_over, form_drivers, drivers_of, parts_drivers, arms_drivers, control_drivers}
 use Rattle.cx_wiring.specs.Wiring.{cell_in}
 use Rattle.cx_wiring.specs.Bounds.{CombNames, FormNames, StatementNames, PartsName}
-use Rattle.cx_wiring.specs.Fitting.{Are, HasFrom, IslandFits, FormFits, StatementFits, PartsFit, Drives}
+use Rattle.cx_wiring.specs.Fitting.{HasFrom, IslandFits, FormFits, StatementFits, PartsFit, Drives}
 use Rattle.cx_wiring.proofs.RoomLemmas.{Wires, first_wire, later_wires, first_wires, rest_wires}
 use Rattle.cx_wiring.proofs.CountLaws.{positions_of_few}
 use Rattle.cx_wiring.proofs.IslandTargets.{wires_at, island_within}
-use Rattle.cx_wiring.proofs.FitLemmas.{are_both, are_at, from_first, from_later, from_left, from_right, from_replicate, word_width, bits_of}
+use Rattle.cx_wiring.proofs.FitLemmas.{are_at, from_first, from_later, from_left, from_right, from_replicate, word_width, bits_of}
 use Rattle.cx_wiring.proofs.FitGuards.{IsBit, AllDrive, one_fits, connects}
 use Rattle.cx_wiring.proofs.FitIslands.{hole_width, island_fits}
+use Rattle.cx_text.specs.Members.{Each}
+use Rattle.cx_text.proofs.MemberLaws.{each_append}
 
 module _ (net : PlainNet) (part : PlainNetComponent) where
   abbrev Bits : ℕ → ℕ → Type 0
@@ -67,7 +69,7 @@ module _ (net : PlainNet) (part : PlainNetComponent) where
 
   module _ (groups : ℕ) (islands : List PlainIsland) (numbers : List ℕ) (cells : List PlainCell) (same : part.cells ≡ map (cell_in numbers) cells) (offset : (g : ℕ) → g < groups → slice_get part.wires g ≡ Some 32)
       (goes_there : (g : ℕ) → g < groups → groups + g < part.holes) (island_bits : (n : ℕ) → groups ≤ n → n < groups + island_wires islands → IsBit net part (ToWire n))
-      (islands_fit : Are (IslandFits net part groups cells) islands) where
+      (islands_fit : Each (IslandFits net part groups cells) islands) where
     comb_fits : (x : Stand) (comb : Option ℕ) → CombNames groups comb → IsBit net part (ToWire x.wire) → AllDrive net part (comb_goes groups islands x comb)
     comb_fits x None named standing = tt
     comb_fits x (Some g) named standing = (record { proper = tt; guard = standing; width = 1; target = hole_width net part (groups + g) (goes_there g named); source = one_fits net part }, tt)
@@ -103,7 +105,7 @@ module _ (net : PlainNet) (part : PlainNetComponent) where
           let later : x.position + positions_of s + length (visit_all Dynamic ss) < 2 ^ 32 = omega (arith, length-append (visit Dynamic s) (visit_all Dynamic ss)) in
           let inner = within_bits {w = x.wire} {n = wires_of s + wires_in ss} room.own in
           let first = first_wires (IsBit net part) (wires_of s) (wires_in ss) inner in
-          are_both (Drives net part) (drivers_of groups islands (inside x) s) (parts_drivers groups islands x (inside x).wire (behind islands s (inside x)) ss)
+          each_append (Drives net part) (drivers_of groups islands (inside x) s) (parts_drivers groups islands x (inside x).wire (behind islands s (inside x)) ss)
           (drivers_fit s (inside x) named.0 fits.0 (record { own = first; kept = from_left part.registers x.register rs qs room.kept; region = room.region; acts = room.acts; few = here }))
           (parts_fit x (inside x).wire (behind islands s (inside x)) ss named.1 fits.1 (end_bit {w = x.wire} {n = wires_of s + wires_in ss} room.own) (end_own s (suc (suc x.wire)) first)
           (record { own = rest_wires (IsBit net part) (wires_of s) (wires_in ss) inner; kept = from_right part.registers x.register rs qs room.kept; region = room.region; acts = room.acts; few = later }))
@@ -113,7 +115,7 @@ module _ (net : PlainNet) (part : PlainNetComponent) where
           let inner = within_bits {w = x.wire} {n = wires_in arms} room.own in
           let standing = at_bit {w = x.wire} {n = wires_in arms} room.own in (
             stands_fits x {n = wires_in arms} (arms_registers islands arms) (suc (length (visit_all Dynamic arms))) room,
-            are_both (Drives net part) (arms_drivers groups islands x (suc (suc x.wire)) x.register arms) (ends x (AllOf (exprs_of (at x ∷ arms_over groups islands (suc (suc x.wire)) x.register arms))) ∷ [])
+            each_append (Drives net part) (arms_drivers groups islands x (suc (suc x.wire)) x.register arms) (ends x (AllOf (exprs_of (at x ∷ arms_over groups islands (suc (suc x.wire)) x.register arms))) ∷ [])
                 (arms_fit x (suc (suc x.wire)) x.register arms named fits standing (end_bit {w = x.wire} {n = wires_in arms} room.own) inner room.kept few) (
                   ends_fits x {n = wires_in arms} (AllOf (exprs_of (at x ∷ arms_over groups islands (suc (suc x.wire)) x.register arms))) room.own
                       (refl, bits_of net part (at x ∷ arms_over groups islands (suc (suc x.wire)) x.register arms) (standing, over_fits (suc (suc x.wire)) x.register arms inner room.kept few)),
@@ -136,11 +138,11 @@ module _ (net : PlainNet) (part : PlainNetComponent) where
           let first = past_test x in
           let second = behind islands a (past_test x) in (
             stands_fits x {n = wires_of a + wires_of b} (rs ++ qs) (suc (length (visit Dynamic a ++ visit Dynamic b))) room,
-            are_both (Drives net part) (comb_goes groups islands x comb) _ (comb_fits x comb named.0 standing) (
+            each_append (Drives net part) (comb_goes groups islands x comb) _ (comb_fits x comb named.0 standing) (
               sets x.region first.position (found_one x test.port) room.region (refl, (standing, (fits.0, tt))) first_there,
-              are_both (Drives net part) (drivers_of groups islands first a) _ (drivers_fit a first named.1.0 fits.1 (record { own = first_own; kept = from_left part.registers x.register rs qs room.kept; region = room.region; acts = room.acts; few = here })) (
+              each_append (Drives net part) (drivers_of groups islands first a) _ (drivers_fit a first named.1.0 fits.1 (record { own = first_own; kept = from_left part.registers x.register rs qs room.kept; region = room.region; acts = room.acts; few = here })) (
                 sets x.region second.position (found_zero x test.port) room.region (refl, (standing, (fits.0, tt))) second_there,
-                are_both (Drives net part) (drivers_of groups islands second b) _
+                each_append (Drives net part) (drivers_of groups islands second b) _
                     (drivers_fit b second named.1.1 fits.2 (record { own = second_own; kept = from_right part.registers x.register rs qs room.kept; region = room.region; acts = room.acts; few = later })) (
                       ends_fits x {n = wires_of a + wires_of b} (either (end_of first.wire) (end_of second.wire)) room.own
                           (refl, (end_own a (suc (suc x.wire)) first_own, (end_own b (suc (suc x.wire) + wires_of a) second_own, tt))),
@@ -158,11 +160,11 @@ module _ (net : PlainNet) (part : PlainNetComponent) where
           let standing = at_bit {w = x.wire} {n = wires_of a} room.own in
           let body = past_test x in (
             stands_fits x {n = wires_of a} (registers_of islands a) (suc (length (visit Dynamic a))) room,
-            are_both (Drives net part) (comb_goes groups islands x comb) _ (comb_fits x comb named.0 standing) (
+            each_append (Drives net part) (comb_goes groups islands x comb) _ (comb_fits x comb named.0 standing) (
               ends_fits x {n = wires_of a} (found_zero x test.port) room.own (refl, (standing, (fits.0, tt))),
               (
                 sets x.region body.position (found_one x test.port) room.region (refl, (standing, (fits.0, tt))) there,
-                are_both (Drives net part) (drivers_of groups islands body a) _ (drivers_fit a body named.1 fits.1 (record { own = inner; kept = room.kept; region = room.region; acts = room.acts; few = here }))
+                each_append (Drives net part) (drivers_of groups islands body a) _ (drivers_fit a body named.1 fits.1 (record { own = inner; kept = room.kept; region = room.region; acts = room.acts; few = here }))
                     (sets x.region x.position (end_of body.wire) room.region (end_own a (suc (suc x.wire)) inner) back, tt),
               ),
             ),
@@ -177,7 +179,7 @@ module _ (net : PlainNet) (part : PlainNetComponent) where
           let inner = within_bits {w = x.wire} {n = wires_of a} room.own in
           let over : IsBit net part (ToWire (suc (suc (suc x.wire)))) = end_own a (suc (suc x.wire)) inner in
           let register : slice_get part.registers x.register ≡ Some 32 = from_first part.registers x.register 32 (registers_of islands a) room.kept in
-          are_both (Drives net part) (drivers_of groups islands (counted_inside x) a) (counting x n)
+          each_append (Drives net part) (drivers_of groups islands (counted_inside x) a) (counting x n)
           (drivers_fit a (counted_inside x) named fits.1 (record { own = inner; kept = from_later part.registers x.register 32 (registers_of islands a) room.kept; region = room.region; acts = room.acts; few = here })) (
             ends_fits x {n = wires_of a} (both (end_of (suc (suc x.wire))) (in_last_round x n)) room.own (refl, (over, (is_at x.register n register round, tt))),
             (
@@ -213,7 +215,7 @@ module _ (net : PlainNet) (part : PlainNetComponent) where
           let later : x.position + positions_of s + length (visit_all Dynamic ss) < 2 ^ 32 = omega (arith, length-append (visit Dynamic s) (visit_all Dynamic ss)) in
           let first = first_wires (IsBit net part) (wires_of s) (wires_in ss) room.own in (
             sets x.region x.position (end_of before) room.region over there,
-            are_both (Drives net part) (drivers_of groups islands x s) (parts_drivers groups islands seq x.wire (behind islands s x) ss)
+            each_append (Drives net part) (drivers_of groups islands x s) (parts_drivers groups islands seq x.wire (behind islands s x) ss)
                 (drivers_fit s x named.0 fits.0 (record { own = first; kept = from_left part.registers x.register rs qs room.kept; region = room.region; acts = room.acts; few = here }))
                 (parts_fit seq x.wire (behind islands s x) ss named.1 fits.1 ending (end_own s x.wire first)
                 (record { own = rest_wires (IsBit net part) (wires_of s) (wires_in ss) room.own; kept = from_right part.registers x.register rs qs room.kept; region = room.region; acts = room.acts; few = later })),
@@ -234,7 +236,7 @@ module _ (net : PlainNet) (part : PlainNetComponent) where
           let region = from_first part.registers register 32 (rs ++ qs) kept in
           let rest = from_later part.registers register 32 (rs ++ qs) kept in (
             sets register 0 (end_of par.wire) region ending (omega arith),
-            are_both (Drives net part) (drivers_of groups islands (arm_stand par wire register) s) _
+            each_append (Drives net part) (drivers_of groups islands (arm_stand par wire register) s) _
                 (drivers_fit s (arm_stand par wire register) named.0 fits.0 (record { own = first; kept = from_left part.registers (suc register) rs qs rest; region = region; acts = standing; few = from_0 })) (
                   sets register (positions_of s) (end_of wire) region (end_own s wire first) end_there,
                   arms_fit par (wire + wires_of s) (suc register + length rs) ss named.1 fits.1 standing ending (rest_wires (IsBit net part) (wires_of s) (wires_in ss) own)
@@ -243,7 +245,7 @@ module _ (net : PlainNet) (part : PlainNetComponent) where
           )
 
       over_fits : (wire register : ℕ) (ss : PlainStatements) → Bits wire (wires_in ss) → HasFrom part.registers register (arms_registers islands ss) → length (visit_all Dynamic ss) < 2 ^ 32
-          → Are (λ e. HasWidth net part e 1) (arms_over groups islands wire register ss)
+          → Each (λ e. HasWidth net part e 1) (arms_over groups islands wire register ss)
       over_fits wire register no_statements own kept few = tt
       over_fits wire register (a_statement s ss) own kept few =
           let rs = registers_of islands s in
@@ -265,7 +267,7 @@ module _ (net : PlainNet) (part : PlainNetComponent) where
         let less : positions_of s ≤ length (visit Dynamic s) = positions_of_few s in
         let there : positions_of s < 2 ^ 32 = omega arith in
         let from_0 : 0 + length (visit Dynamic s) < 2 ^ 32 = omega arith in
-        are_both (Drives net part) (drivers_of groups islands (whole_stand wire) s) (finishing wire s)
+        each_append (Drives net part) (drivers_of groups islands (whole_stand wire) s) (finishing wire s)
         (drivers_fit s (whole_stand wire) named fits (record { own = own; kept = from_later part.registers 0 32 (registers_of islands s) kept; region = region; acts = refl; few = from_0 })) (
           sets 0 (positions_of s) (end_of wire) region (end_own s wire own) there,
           (

@@ -10,9 +10,11 @@ use Rattle.cx_wiring.specs.Parts.{one, drive, connect}
 use Rattle.cx_wiring.specs.Guards.{guard_wires, part_wires, parts_wires, part_expr, parts_exprs, guard_expr, guard_drivers, part_drivers, parts_drivers}
 use Rattle.cx_wiring.specs.Assignments.{target_of, Looks, LooksAlways, LooksIn, looks_of, gate_wires, looking_wires, assign_wires, assigns_wires, go, gate_drivers, gated_drivers, looking_drivers, assign_drivers, assigns_drivers}
 use Rattle.cx_wiring.specs.Bounds.{IsProper}
-use Rattle.cx_wiring.specs.Fitting.{Are, Drives, GuardFits, GuardsFit, AssignFits, OwnerFits, OwnedFits}
+use Rattle.cx_wiring.specs.Fitting.{Drives, GuardFits, GuardsFit, AssignFits, OwnerFits, OwnedFits}
 use Rattle.cx_wiring.proofs.RoomLemmas.{Wires, first_wire, later_wires, first_wires, rest_wires}
-use Rattle.cx_wiring.proofs.FitLemmas.{are_both, word_width, bit_width}
+use Rattle.cx_wiring.proofs.FitLemmas.{word_width, bit_width}
+use Rattle.cx_text.specs.Members.{Each}
+use Rattle.cx_text.proofs.MemberLaws.{each_append}
 
 module _ (net : PlainNet) (part : PlainNetComponent) where
   -- a target of one bit
@@ -20,7 +22,7 @@ module _ (net : PlainNet) (part : PlainNetComponent) where
   IsBit t = target_width net part t ≡ Some 1
 
   abbrev pub AllDrive : List PlainNetDriver → Type 0
-  AllDrive ds = Are (Drives net part) ds
+  AllDrive ds = Each (Drives net part) ds
 
   pub one_fits : HasWidth net part one 1
   one_fits = bit_width (record { width = 1; value = 1 }) refl (omega arith)
@@ -67,13 +69,13 @@ module _ (net : PlainNet) (part : PlainNetComponent) where
           (connects wire (guard_expr offset (suc wire) Always) (first_wire IsBit {w = wire} {n = 0} own) (guard_fits Always (suc wire) fits (later_wires IsBit {w = wire} {n = 0} own)), tt)
       part_drive (Atom p) wire fits own = tt
       part_drive (Negation g) wire fits own =
-          are_both (Drives net part) (part_drivers offset (suc wire) g) (connect wire (guard_expr offset (suc wire) (Negation g)) ∷ []) (part_drive g (suc wire) fits (later_wires IsBit own))
+          each_append (Drives net part) (part_drivers offset (suc wire) g) (connect wire (guard_expr offset (suc wire) (Negation g)) ∷ []) (part_drive g (suc wire) fits (later_wires IsBit own))
           (connects wire (guard_expr offset (suc wire) (Negation g)) (first_wire IsBit own) (guard_fits (Negation g) (suc wire) fits (later_wires IsBit own)), tt)
       part_drive (All gs) wire fits own =
-          are_both (Drives net part) (parts_drivers offset (suc wire) gs) (connect wire (guard_expr offset (suc wire) (All gs)) ∷ []) (parts_drive gs (suc wire) fits (later_wires IsBit own))
+          each_append (Drives net part) (parts_drivers offset (suc wire) gs) (connect wire (guard_expr offset (suc wire) (All gs)) ∷ []) (parts_drive gs (suc wire) fits (later_wires IsBit own))
           (connects wire (guard_expr offset (suc wire) (All gs)) (first_wire IsBit own) (guard_fits (All gs) (suc wire) fits (later_wires IsBit own)), tt)
       part_drive (Any gs) wire fits own =
-          are_both (Drives net part) (parts_drivers offset (suc wire) gs) (connect wire (guard_expr offset (suc wire) (Any gs)) ∷ []) (parts_drive gs (suc wire) fits (later_wires IsBit own))
+          each_append (Drives net part) (parts_drivers offset (suc wire) gs) (connect wire (guard_expr offset (suc wire) (Any gs)) ∷ []) (parts_drive gs (suc wire) fits (later_wires IsBit own))
           (connects wire (guard_expr offset (suc wire) (Any gs)) (first_wire IsBit own) (guard_fits (Any gs) (suc wire) fits (later_wires IsBit own)), tt)
       part_drive (Compared c a b) wire fits own =
           (connects wire (guard_expr offset (suc wire) (Compared c a b)) (first_wire IsBit {w = wire} {n = 0} own) (guard_fits (Compared c a b) (suc wire) fits (later_wires IsBit {w = wire} {n = 0} own)), tt)
@@ -83,21 +85,21 @@ module _ (net : PlainNet) (part : PlainNetComponent) where
       parts_drive : (gs : PlainGuards) (wire : ℕ) → GuardsFit net part gs → Wires IsBit wire (parts_wires gs) → AllDrive (parts_drivers offset wire gs)
       parts_drive no_guards wire fits own = tt
       parts_drive (a_guard g gs) wire fits own =
-          are_both (Drives net part) (part_drivers offset wire g) (parts_drivers offset (wire + part_wires g) gs) (part_drive g wire fits.0 (first_wires IsBit (part_wires g) (parts_wires gs) own))
+          each_append (Drives net part) (part_drivers offset wire g) (parts_drivers offset (wire + part_wires g) gs) (part_drive g wire fits.0 (first_wires IsBit (part_wires g) (parts_wires gs) own))
           (parts_drive gs (wire + part_wires g) fits.1 (rest_wires IsBit (part_wires g) (parts_wires gs) own))
 
   -- ASSIGNMENTS, in a component of so many groups, each of which has an offset of 32 bits and a hole that says that it goes
   module _ (groups : ℕ) (offset : (g : ℕ) → g < groups → slice_get part.wires g ≡ Some 32) (goes : (g : ℕ) → g < groups → groups + g < part.holes) where
     gate_drive : (g wire : ℕ) (guard : PlainGuard) → g < groups → GuardFits net part guard → Wires IsBit wire (suc (guard_wires guard)) → AllDrive (gate_drivers groups g wire guard)
     gate_drive g wire guard there fits own =
-        are_both (Drives net part) (guard_drivers (OfWire g) (suc wire) guard) (drive (ToWire wire) (go groups g) (guard_expr (OfWire g) (suc wire) guard) ∷ [])
+        each_append (Drives net part) (guard_drivers (OfWire g) (suc wire) guard) (drive (ToWire wire) (go groups g) (guard_expr (OfWire g) (suc wire) guard) ∷ [])
         (guard_drive (OfWire g) (offset g there) guard (suc wire) fits (later_wires IsBit own))
         (record { proper = tt; guard = (goes g there, refl); width = 1; target = first_wire IsBit own; source = guard_fits (OfWire g) (offset g there) guard (suc wire) fits (later_wires IsBit own) }, tt)
 
     behind_gate : (g wire w : ℕ) (guard : PlainGuard) (target : PlainNetTarget) (source : PlainNetExpr) → g < groups → GuardFits net part guard → IsProper target → target_width net part target ≡ Some w
         → HasWidth net part source w → Wires IsBit wire (suc (guard_wires guard)) → AllDrive (gate_drivers groups g wire guard ++ drive target (OfWire wire) source ∷ [])
     behind_gate g wire w guard target source there fits proper wide has own =
-        are_both (Drives net part) (gate_drivers groups g wire guard) (drive target (OfWire wire) source ∷ []) (gate_drive g wire guard there fits own)
+        each_append (Drives net part) (gate_drivers groups g wire guard) (drive target (OfWire wire) source ∷ []) (gate_drive g wire guard there fits own)
         (record { proper = proper; guard = first_wire IsBit own; width = w; target = wide; source = has }, tt)
 
     gated_drive : (g wire w : ℕ) (guard : PlainGuard) (target : PlainNetTarget) (source : PlainNetExpr) → g < groups → GuardFits net part guard → IsProper target → target_width net part target ≡ Some w
@@ -125,14 +127,14 @@ module _ (net : PlainNet) (part : PlainNetComponent) where
 
     looking_drive : (l : Looks) (wire : ℕ) (a : PlainAssign) → LooksFit l → AssignFits net part a → Wires IsBit wire (looking_wires l a.guard) → AllDrive (looking_drivers groups l wire a)
     looking_drive (LooksAlways offset) wire a wide fits own =
-        are_both (Drives net part) (guard_drivers offset wire a.guard) (drive (target_of a.target) (guard_expr offset wire a.guard) (OfPort a.source.port) ∷ []) (guard_drive offset wide a.guard wire fits.guard own)
+        each_append (Drives net part) (guard_drivers offset wire a.guard) (drive (target_of a.target) (guard_expr offset wire a.guard) (OfPort a.source.port) ∷ []) (guard_drive offset wide a.guard wire fits.guard own)
         (record { proper = fits.proper; guard = guard_fits offset wide a.guard wire fits.guard own; width = fits.width; target = fits.target; source = fits.source }, tt)
     looking_drive (LooksIn g) wire a there fits own = gated_drive g wire fits.width a.guard (target_of a.target) (OfPort a.source.port) there fits.guard fits.proper fits.target fits.source own
 
     -- THE ASSIGNMENTS of a component
-    pub assigns_fit : (list : List Owned) (wire : ℕ) → Are (OwnedFits net part groups) list → Wires IsBit wire (assigns_wires list) → AllDrive (assigns_drivers groups wire list)
+    pub assigns_fit : (list : List Owned) (wire : ℕ) → Each (OwnedFits net part groups) list → Wires IsBit wire (assigns_wires list) → AllDrive (assigns_drivers groups wire list)
     assigns_fit [] wire fits own = tt
     assigns_fit (a ∷ rest) wire fits own =
-        are_both (Drives net part) (assign_drivers groups wire a) (assigns_drivers groups (wire + assign_wires a) rest)
+        each_append (Drives net part) (assign_drivers groups wire a) (assigns_drivers groups (wire + assign_wires a) rest)
         (looking_drive (looks_of a.owner a.assign.target) wire a.assign (looks_fit a.owner a.assign.target fits.0.owner) fits.0.assign (first_wires IsBit (assign_wires a) (assigns_wires rest) own))
         (assigns_fit rest (wire + assign_wires a) fits.1 (rest_wires IsBit (assign_wires a) (assigns_wires rest) own))

@@ -13,10 +13,12 @@ use Rattle.cx_wiring.specs.Parts.{both}
 use Rattle.cx_wiring.specs.Stands.{Stand, at}
 use Rattle.cx_wiring.specs.IslandDrivers.{wires_of_island, timer_cell, runs, count, island_done, sample_wire, active_wire, in_range, timer_runs, timer_drivers, begins, in_last_cycle, point_drivers, as_wanted, is_active, offset_from, occurrence_drivers, island_drivers}
 use Rattle.cx_wiring.specs.Wiring.{cell_in}
-use Rattle.cx_wiring.specs.Fitting.{Are, IsTimer, TimerFits, SampleFits, OccurrenceFits, OuterFits, PointFits, IslandFits, Drives}
-use Rattle.cx_wiring.proofs.FitLemmas.{are_both, are_at, word_width, bit_width, bits_of, timer_port}
+use Rattle.cx_wiring.specs.Fitting.{IsTimer, TimerFits, SampleFits, OccurrenceFits, OuterFits, PointFits, IslandFits, Drives}
+use Rattle.cx_wiring.proofs.FitLemmas.{are_at, word_width, bit_width, bits_of, timer_port}
 use Rattle.cx_wiring.proofs.FitGuards.{IsBit, AllDrive, one_fits, connects}
 use Rattle.cx_text.proofs.ListLaws.{there_at}
+use Rattle.cx_text.specs.Members.{Each}
+use Rattle.cx_text.proofs.MemberLaws.{each_append}
 
 module _ (net : PlainNet) (part : PlainNetComponent) where
   pub hole_width : (n : ℕ) → n < part.holes → target_width net part (ToHole n) ≡ Some 1
@@ -43,7 +45,7 @@ module _ (net : PlainNet) (part : PlainNetComponent) where
     count_fits : (t : ℕ) → t < timers → HasWidth net part (count groups x first island t) 32
     count_fits t less = timer_port net part numbers cells same (timer_cell groups x first island t) 1 32 (is_timer t less) refl
 
-    range_fits : (t from to : ℕ) → t < timers → from < 2 ^ 32 → to < 2 ^ 32 → Are (λ e. HasWidth net part e 1) (in_range groups x first island t from to)
+    range_fits : (t from to : ℕ) → t < timers → from < 2 ^ 32 → to < 2 ^ 32 → Each (λ e. HasWidth net part e 1) (in_range groups x first island t from to)
     range_fits t from to less low high =
         (runs_fits t less, ((refl, (32, count_fits t less, word_width from low)), ((refl, (32, count_fits t less, word_width to high)), tt)))
 
@@ -52,7 +54,7 @@ module _ (net : PlainNet) (part : PlainNetComponent) where
     runs_when cell None from to t out low high = (refl, (standing, (timer_port net part numbers cells same cell 2 1 t refl, tt)))
     runs_when cell (Some outer) from to t out low high = (refl, bits_of net part (in_range groups x first island outer from to) (range_fits outer from to out low high))
 
-    timers_fit : (t : ℕ) (rest : List IslandTimer) → t + length rest ≤ timers → Are (TimerFits cells timers) rest → AllDrive net part (timer_drivers groups x first island t rest)
+    timers_fit : (t : ℕ) (rest : List IslandTimer) → t + length rest ≤ timers → Each (TimerFits cells timers) rest → AllDrive net part (timer_drivers groups x first island t rest)
     timers_fit t [] few fit = tt
     timers_fit t (timer ∷ rest) few fit =
         let less : t < timers = omega arith in
@@ -76,7 +78,7 @@ module _ (net : PlainNet) (part : PlainNetComponent) where
     wanted true wire bit = bit
     wanted false wire bit = bit
 
-    samples_fit : (ss : List Sample) → Are (SampleFits (length island.points)) ss → Are (λ e. HasWidth net part e 1) (map (as_wanted groups x first island) ss)
+    samples_fit : (ss : List Sample) → Each (SampleFits (length island.points)) ss → Each (λ e. HasWidth net part e 1) (map (as_wanted groups x first island) ss)
     samples_fit [] fit = tt
     samples_fit (s ∷ ss) fit = (wanted s.wanted (sample_wire groups x first island s.point) (sample_fits s.point fit.0), samples_fit ss fit.1)
 
@@ -93,7 +95,7 @@ module _ (net : PlainNet) (part : PlainNetComponent) where
         let few : island.length - 1 < 2 ^ 32 = omega arith in
         (refl, (standing, ((refl, (32, count_fits 0 some, word_width (island.length - 1) few)), tt)))
 
-    points_fit : (n : ℕ) (rest : List PlainPoint) → n + length rest ≤ length island.points → Are (PointFits net part timers (length island.points)) rest → AllDrive net part (point_drivers groups x first island n rest)
+    points_fit : (n : ℕ) (rest : List PlainPoint) → n + length rest ≤ length island.points → Each (PointFits net part timers (length island.points)) rest → AllDrive net part (point_drivers groups x first island n rest)
     points_fit n [] few fit = tt
     points_fit n (p ∷ rest) few fit =
         let less : n < length island.points = omega arith in
@@ -113,14 +115,14 @@ module _ (net : PlainNet) (part : PlainNetComponent) where
     active_fits o fit = (
       refl,
       bits_of net part (in_range groups x first island o.timer o.from o.to ++ map (as_wanted groups x first island) o.samples)
-          (are_both (λ e. HasWidth net part e 1) (in_range groups x first island o.timer o.from o.to) (map (as_wanted groups x first island) o.samples) (range_fits o.timer o.from o.to fit.timer fit.from fit.to)
+          (each_append (λ e. HasWidth net part e 1) (in_range groups x first island o.timer o.from o.to) (map (as_wanted groups x first island) o.samples) (range_fits o.timer o.from o.to fit.timer fit.from fit.to)
           (samples_fit o.samples fit.samples)),
     )
 
     offset_fits : (o : PlainOccurrence) → OccurrenceFits groups timers (length island.points) o → HasWidth net part (offset_from groups x first island o) 32
     offset_fits o fit = (count_fits o.timer fit.timer, word_width ((2 ^ 32 - o.from) % 2 ^ 32) (mod_below (2 ^ 32 - o.from) (2 ^ 32) (omega arith)))
 
-    occurrences_fit : (n : ℕ) (rest : List PlainOccurrence) → n + length rest ≤ length island.occurrences → Are (OccurrenceFits groups timers (length island.points)) rest
+    occurrences_fit : (n : ℕ) (rest : List PlainOccurrence) → n + length rest ≤ length island.occurrences → Each (OccurrenceFits groups timers (length island.points)) rest
         → AllDrive net part (occurrence_drivers groups x first island n rest)
     occurrences_fit n [] few fit = tt
     occurrences_fit n (o ∷ rest) few fit =
@@ -143,8 +145,8 @@ module _ (net : PlainNet) (part : PlainNetComponent) where
         let no_point : 0 + length island.points ≤ length island.points = omega arith in
         let no_occurrence : 0 + length island.occurrences ≤ length island.occurrences = omega arith in (
           connects net part (suc x.wire) (both (at x) (island_done groups x first island)) ending (refl, (standing, (done, tt))),
-          are_both (Drives net part) (timer_drivers groups x first island 0 island.timers) (point_drivers groups x first island 0 island.points ++ occurrence_drivers groups x first island 0 island.occurrences)
+          each_append (Drives net part) (timer_drivers groups x first island 0 island.timers) (point_drivers groups x first island 0 island.points ++ occurrence_drivers groups x first island 0 island.occurrences)
               (timers_fit 0 island.timers no_timer fits.timers)
-              (are_both (Drives net part) (point_drivers groups x first island 0 island.points) (occurrence_drivers groups x first island 0 island.occurrences) (points_fit 0 island.points no_point fits.points)
+              (each_append (Drives net part) (point_drivers groups x first island 0 island.points) (occurrence_drivers groups x first island 0 island.occurrences) (points_fit 0 island.points no_point fits.points)
               (occurrences_fit 0 island.occurrences no_occurrence fits.occurrences)),
         )

@@ -10,34 +10,25 @@ use Rattle.cx_prim.specs.PipeRows.{timer_row}
 use Rattle.cx_prim.specs.Table.{no_row, row_of}
 use Rattle.cx_meaning.specs.declared.ports.PortRef.TheVariants as ports
 use Rattle.cx_meaning.specs.Designs.{PlainCell}
-use Rattle.cx_meaning.specs.Sights.{In}
+use Rattle.cx_text.specs.Members.{In, Each}
 use Rattle.cx_net.specs.Nets.{PlainNetExpr, exprs_of, PlainNetComponent, PlainNet}
 use Rattle.cx_net.specs.NetFits.{kind_width, port_width, HasPortWidth, HasWidth, AreBits}
 use Rattle.cx_wiring.specs.Wiring.{kind_in, cell_in}
-use Rattle.cx_wiring.specs.Fitting.{Are, HasFrom, IsTimer}
+use Rattle.cx_wiring.specs.Fitting.{HasFrom, IsTimer}
 use Rattle.cx_text.proofs.ListLaws.{front}
 
 module _ {A : Type 0} (P : A → Type 0) where
-  pub are_both : (xs ys : List A) → Are P xs → Are P ys → Are P (xs ++ ys)
-  are_both [] ys h k = k
-  are_both (x ∷ xs) ys h k = (h.0, are_both xs ys h.1 k)
-
-  pub are_at : (xs : List A) → Are P xs → (n : ℕ) (x : A) → slice_get xs n ≡ Some x → P x
+  pub are_at : (xs : List A) → Each P xs → (n : ℕ) (x : A) → slice_get xs n ≡ Some x → P x
   are_at [] h n x e = absurd cc
   are_at (y ∷ xs) h zero x e = let same : y ≡ x = cc in subst P same h.0
   are_at (y ∷ xs) h (suc n) x e = are_at xs h.1 n x e
 
-  pub are_each : (xs : List A) → ((x : A) → In xs x → P x) → Are P xs
+  pub are_each : (xs : List A) → ((x : A) → In xs x → P x) → Each P xs
   are_each [] each = tt
   are_each (x ∷ xs) each = (each x (inl refl), are_each xs (λ y i. each y (inr i)))
 
-  pub are_in : (xs : List A) → Are P xs → (x : A) → In xs x → P x
-  are_in [] h x i = absurd i
-  are_in (y ∷ xs) h x (inl e) = subst P e h.0
-  are_in (y ∷ xs) h x (inr i) = are_in xs h.1 x i
-
 module _ {A : Type 0} (P Q : A → Type 0) (more : (x : A) → P x → Q x) where
-  pub are_more : (xs : List A) → Are P xs → Are Q xs
+  pub are_more : (xs : List A) → Each P xs → Each Q xs
   are_more [] h = tt
   are_more (x ∷ xs) h = (more x h.0, are_more xs h.1)
 
@@ -82,7 +73,7 @@ pub bit_width : (b : BitVector) → b.width ≡ 1 → b.value < 2 → IsOfWidth 
 bit_width b e few = record { same_width = e; fits = record { some_bits = omega (arith, e); few_bits = omega (arith, e); in_range = subst (λ w. b.value < 2 ^ w) (sym e) few } }
 
 module _ (net : PlainNet) (part : PlainNetComponent) where
-  pub bits_of : (es : List PlainNetExpr) → Are (λ e. HasWidth net part e 1) es → AreBits net part (exprs_of es)
+  pub bits_of : (es : List PlainNetExpr) → Each (λ e. HasWidth net part e 1) es → AreBits net part (exprs_of es)
   bits_of [] h = tt
   bits_of (e ∷ es) h = (h.0, bits_of es h.1)
 

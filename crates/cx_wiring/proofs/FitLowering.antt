@@ -9,23 +9,24 @@ use Rattle.cx_prim.specs.Table.{HasRow}
 use Rattle.cx_meaning.specs.declared.ports.PlacedPort.{PlacedPort}
 use Rattle.cx_meaning.specs.Designs.{PlainCell, PlainComponent, PlainForm, Empty, Enable, Seq, Par, If, While, Repeat, StaticSeq, StaticPar, StaticIf, StaticRepeat, Timed, PlainStatement, Placed, PlainStatements, no_statements, a_statement}
 use Rattle.cx_meaning.specs.Islands.{group_length, or_zero, form_length, length_of, sum_length, max_length}
-use Rattle.cx_meaning.specs.Sights.{In}
 use Rattle.cx_rules.specs.Items.{Context, Dynamic, InStatic, Branch, Visited, visit, visit_parts, visit_all, test_in}
 use Rattle.cx_rules.specs.LimitRule.{count_in}
-use Rattle.cx_rules.specs.StaticControl.{is_static, is_in_static, may_stand, is_island, form_has_length}
+use Rattle.cx_rules.specs.StaticControl.{is_static, may_stand, is_island, form_has_length}
 use Rattle.cx_rules.specs.Wellformed.{IsForm}
-use Rattle.cx_control.proofs.StaticLemmas.{static_form}
+use Rattle.cx_laws.proofs.VisitLemmas.{AllHold, first_hold, rest_hold}
+use Rattle.cx_laws.proofs.LengthLemmas.{StandsWell, long_form}
 use Rattle.cx_net.specs.Nets.{PlainNetComponent, PlainNet}
 use Rattle.cx_net.specs.NetFits.{HasPortWidth}
 use Rattle.cx_static.specs.declared.islands.Sample.{Sample}
 use Rattle.cx_static.specs.declared.islands.IslandTimer.{IslandTimer}
 use Rattle.cx_static.specs.Islands.{PlainPoint, PlainOccurrence, PlainIsland}
 use Rattle.cx_static.specs.Lowering.{Gathered, Begin, begin_at, later, sampled, if_sampled, timer_cell, with_timer, with_point, with_occurrence, form_gathered, gathered, parts_gathered, arms_gathered, island_gathered, island_of, Lowering, with_island, after_enable, lowered_enable, form_after, after, parts_after, lowered_form, lowered, lowered_parts}
-use Rattle.cx_wiring.specs.Fitting.{Are, CellFits, IsTimer, OuterFits, TimerFits, SampleFits, OccurrenceFits, PointFits, IslandFits, FormFits, StatementFits, PartsFit}
-use Rattle.cx_wiring.proofs.FitLemmas.{are_both, are_more, slice_right}
+use Rattle.cx_wiring.specs.Fitting.{CellFits, IsTimer, OuterFits, TimerFits, SampleFits, OccurrenceFits, PointFits, IslandFits, FormFits, StatementFits, PartsFit}
+use Rattle.cx_wiring.proofs.FitLemmas.{are_more, slice_right}
 use Rattle.cx_text.proofs.NumberLaws.{false_true}
-use Rattle.cx_meaning.proofs.SightsLaws.{in_left, in_right}
 use Rattle.cx_text.proofs.ListLaws.{front}
+use Rattle.cx_text.specs.Members.{Each}
+use Rattle.cx_text.proofs.MemberLaws.{each_append}
 
 factor_some : (c n : ℕ) → 0 < c * n → (1 ≤ n) × (n ≤ c * n)
 factor_some zero n h = absurd (omega (arith, zero-mul n))
@@ -46,11 +47,11 @@ outer_in : (m n : ℕ) → m ≤ n → (outer : Option ℕ) → OuterFits m oute
 outer_in m n more None h = tt
 outer_in m n more (Some o) h = let less : o < m = h in let there : o < n = omega arith in there
 
-timers_in : (xs ys : List PlainCell) (m n : ℕ) → StandIn xs ys → m ≤ n → (ts : List IslandTimer) → Are (TimerFits xs m) ts → Are (TimerFits ys n) ts
+timers_in : (xs ys : List PlainCell) (m n : ℕ) → StandIn xs ys → m ≤ n → (ts : List IslandTimer) → Each (TimerFits xs m) ts → Each (TimerFits ys n) ts
 timers_in xs ys m n stand more ts h =
     are_more (TimerFits xs m) (TimerFits ys n) (λ t f. record { cell = timer_in xs ys stand t.cell f.cell; outer = outer_in m n more t.outer f.outer; from = f.from; to = f.to }) ts h
 
-samples_in : (m n : ℕ) → m ≤ n → (ss : List Sample) → Are (SampleFits m) ss → Are (SampleFits n) ss
+samples_in : (m n : ℕ) → m ≤ n → (ss : List Sample) → Each (SampleFits m) ss → Each (SampleFits n) ss
 samples_in m n more ss h = are_more (SampleFits m) (SampleFits n) (λ s f. let less : s.point < m = f in let there : s.point < n = omega arith in there) ss h
 
 module _ (net : PlainNet) (npart : PlainNetComponent) (part : PlainComponent) where
@@ -58,22 +59,15 @@ module _ (net : PlainNet) (npart : PlainNetComponent) (part : PlainComponent) wh
   pub record Fine (v : Visited) : Type 0 where
     pub form : IsForm part v.form
     pub no_invoke : part.invokes ≡ []
-    pub may : is_in_static v.context ≡ true → may_stand part v.context v.form ≡ true
-    pub lasts : is_static v.form ≡ true → form_has_length part v.context v.form ≡ true → 0 < form_length part v.form
+    pub stands : StandsWell part v
     pub test : (p : PlacedPort) → test_in v.form ≡ Some p → HasPortWidth net npart p.port 1
     pub short : is_island part v ≡ true → form_length part v.form < 2 ^ 32
     pub rounds : (n : ℕ) → count_in v.form ≡ Some n → n < 2 ^ 32
 
   abbrev pub AllFine : List Visited → Type 0
-  AllFine vs = (v : Visited) → In vs v → Fine v
+  AllFine = AllHold Fine
 
-  fine_first : (vs more : List Visited) → AllFine (vs ++ more) → AllFine vs
-  fine_first vs more keep v i = keep v (in_left vs more v i)
-
-  fine_rest : (vs more : List Visited) → AllFine (vs ++ more) → AllFine more
-  fine_rest vs more keep v i = keep v (in_right vs more v i)
-
-  points_in : (t m p n : ℕ) → t ≤ m → p ≤ n → (ps : List PlainPoint) → Are (PointFits net npart t p) ps → Are (PointFits net npart m n) ps
+  points_in : (t m p n : ℕ) → t ≤ m → p ≤ n → (ps : List PlainPoint) → Each (PointFits net npart t p) ps → Each (PointFits net npart m n) ps
   points_in t m p n more wide ps h =
       are_more (PointFits net npart t p) (PointFits net npart m n)
       (λ x f. let less : x.timer < t = f.timer in
@@ -88,7 +82,7 @@ module _ (net : PlainNet) (npart : PlainNetComponent) (part : PlainComponent) wh
   abbrev groups : ℕ
   groups = length part.groups
 
-  occurrences_in : (t m p n : ℕ) → t ≤ m → p ≤ n → (os : List PlainOccurrence) → Are (OccurrenceFits groups t p) os → Are (OccurrenceFits groups m n) os
+  occurrences_in : (t m p n : ℕ) → t ≤ m → p ≤ n → (os : List PlainOccurrence) → Each (OccurrenceFits groups t p) os → Each (OccurrenceFits groups m n) os
   occurrences_in t m p n more wide os h =
       are_more (OccurrenceFits groups t p) (OccurrenceFits groups m n)
       (λ x f. let less : x.timer < t = f.timer in
@@ -98,11 +92,11 @@ module _ (net : PlainNet) (npart : PlainNetComponent) (part : PlainComponent) wh
 
   -- WHAT IS GATHERED fits
   record Gathers (g : Gathered) : Type 0 where
-    cells : Are CellFits g.cells
-    timers : Are (TimerFits g.cells (length g.timers)) g.timers
-    points : Are (PointFits net npart (length g.timers) (length g.points)) g.points
-    occurrences : Are (OccurrenceFits groups (length g.timers) (length g.points)) g.occurrences
-    short : Are IsShort g.occurrences
+    cells : Each CellFits g.cells
+    timers : Each (TimerFits g.cells (length g.timers)) g.timers
+    points : Each (PointFits net npart (length g.timers) (length g.points)) g.points
+    occurrences : Each (OccurrenceFits groups (length g.timers) (length g.points)) g.occurrences
+    short : Each IsShort g.occurrences
 
   -- and no less is there than before
   record Keeps (g h : Gathered) : Type 0 where
@@ -126,7 +120,7 @@ module _ (net : PlainNet) (npart : PlainNetComponent) (part : PlainComponent) wh
   record Begins (g : Gathered) (x : Begin) (cycles : ℕ) : Type 0 where
     timer : x.timer < length g.timers
     few : x.at + cycles < 2 ^ 32
-    samples : Are (SampleFits (length g.points)) x.samples
+    samples : Each (SampleFits (length g.points)) x.samples
 
   begins_in : {g h : Gathered} (x : Begin) (m n : ℕ) → Keeps g h → n ≤ m → Begins g x m → Begins h x n
   begins_in {g} {h} x m n keeps less b =
@@ -154,8 +148,8 @@ module _ (net : PlainNet) (npart : PlainNetComponent) (part : PlainComponent) wh
       let same : length g.points ≤ length g.points = omega arith in
       record {
         gathers = record {
-          cells = are_both CellFits g.cells (timer_cell place n ∷ []) fits.cells (record { row = timer_row_there n some few; memory = λ e. absurd (false_true e) }, tt);
-          timers = are_both (TimerFits (g.cells ++ timer_cell place n ∷ []) (length (g.timers ++ timer ∷ []))) g.timers (timer ∷ [])
+          cells = each_append CellFits g.cells (timer_cell place n ∷ []) fits.cells (record { row = timer_row_there n some few; memory = λ e. absurd (false_true e) }, tt);
+          timers = each_append (TimerFits (g.cells ++ timer_cell place n ∷ []) (length (g.timers ++ timer ∷ []))) g.timers (timer ∷ [])
               (timers_in g.cells (g.cells ++ timer_cell place n ∷ []) (length g.timers) (length (g.timers ++ timer ∷ [])) stand more g.timers fits.timers)
               (record { cell = timer_there place n g.cells some few; outer = outer_in (length g.timers) (length (g.timers ++ timer ∷ [])) more outer out; from = low; to = high }, tt);
           points = points_in (length g.timers) (length (g.timers ++ timer ∷ [])) (length g.points) (length g.points) more same g.points fits.points;
@@ -178,7 +172,7 @@ module _ (net : PlainNet) (npart : PlainNetComponent) (part : PlainComponent) wh
         gathers = record {
           cells = fits.cells;
           timers = fits.timers;
-          points = are_both (PointFits net npart (length g.timers) (length (g.points ++ point ∷ []))) g.points (point ∷ [])
+          points = each_append (PointFits net npart (length g.timers) (length (g.points ++ point ∷ []))) g.points (point ∷ [])
               (points_in (length g.timers) (length g.timers) (length g.points) (length (g.points ++ point ∷ [])) same more g.points fits.points)
               (record { port = bit; timer = b.timer; at = at; samples = samples_in (length g.points) (length (g.points ++ point ∷ [])) more x.samples b.samples }, tt);
           occurrences = occurrences_in (length g.timers) (length g.timers) (length g.points) (length (g.points ++ point ∷ [])) same more g.occurrences fits.occurrences;
@@ -201,9 +195,9 @@ module _ (net : PlainNet) (npart : PlainNetComponent) (part : PlainComponent) wh
           cells = fits.cells;
           timers = fits.timers;
           points = fits.points;
-          occurrences = are_both (OccurrenceFits groups (length g.timers) (length g.points)) g.occurrences (occurrence ∷ []) fits.occurrences
+          occurrences = each_append (OccurrenceFits groups (length g.timers) (length g.points)) g.occurrences (occurrence ∷ []) fits.occurrences
               (record { group = there; timer = b.timer; from = low; to = f; samples = b.samples }, tt);
-          short = are_both IsShort g.occurrences (occurrence ∷ []) fits.short ((λ m e. let same : n ≡ m = some_same n m (sym is ∙ e) in subst (λ y. y < 2 ^ 32) same long), tt);
+          short = each_append IsShort g.occurrences (occurrence ∷ []) fits.short ((λ m e. let same : n ≡ m = some_same n m (sym is ∙ e) in subst (λ y. y < 2 ^ 32) same long), tt);
         };
         cells = λ c cell e. e;
         timers = omega arith;
@@ -214,13 +208,13 @@ module _ (net : PlainNet) (npart : PlainNetComponent) (part : PlainComponent) wh
       some_same n m e = cc
 
   length_static : part.invokes ≡ [] → (context : Context) (form : PlainForm) → may_stand part context form ≡ true → AllFine (visit_parts context form) → form_has_length part context form ≡ true
-  length_static none context form may fine = (static_form part none context form may (λ v i e. (fine v i).may e)).has
+  length_static none context form may fine = long_form part none context form may (λ v i. (fine v i).stands)
 
-  sampled_fits : (n : ℕ) (b : Bool) (ss : List Sample) → Are (SampleFits n) ss → Are (SampleFits (suc n)) (sampled n b ss)
+  sampled_fits : (n : ℕ) (b : Bool) (ss : List Sample) → Each (SampleFits n) ss → Each (SampleFits (suc n)) (sampled n b ss)
   sampled_fits n b ss h =
       let more : n ≤ suc n = omega arith in
       let less : n < suc n = omega arith in
-      are_both (SampleFits (suc n)) ss (record { point = n; wanted = b } ∷ []) (samples_in n (suc n) more ss h) (less, tt)
+      each_append (SampleFits (suc n)) ss (record { point = n; wanted = b } ∷ []) (samples_in n (suc n) more ss h) (less, tt)
 
   mutual
     form_keeps : (form : PlainForm) (context : Context) (place : Place) (x : Begin) (g : Gathered) → AllFine (visit context (Placed form place)) → Gathers g → Begins g x (form_length part form) → Keeps g (form_gathered part form x g)
@@ -243,20 +237,20 @@ module _ (net : PlainNet) (npart : PlainNetComponent) (part : PlainComponent) wh
         let begin_first : Begins (with_point test.port x g) (if_sampled (length g.points) true x) (length_of part y) = record {
           timer = b.timer;
           few = omega arith;
-          samples = subst (λ n. Are (SampleFits n) (sampled (length g.points) true x.samples)) (sym long) (sampled_fits (length g.points) true x.samples b.samples);
+          samples = subst (λ n. Each (SampleFits n) (sampled (length g.points) true x.samples)) (sym long) (sampled_fits (length g.points) true x.samples b.samples);
         } in
-        let second = keeps y Branch (if_sampled (length g.points) true x) (with_point test.port x g) (fine_first (visit Branch y) (visit Branch z) (λ v i. fine v (inr i))) first.gathers begin_first in
+        let second = keeps y Branch (if_sampled (length g.points) true x) (with_point test.port x g) (first_hold (visit Branch y) (visit Branch z) (λ v i. fine v (inr i))) first.gathers begin_first in
         let begin_second : Begins (with_point test.port x g) (if_sampled (length g.points) false x) (length_of part z) = record {
           timer = b.timer;
           few = omega arith;
-          samples = subst (λ n. Are (SampleFits n) (sampled (length g.points) false x.samples)) (sym long) (sampled_fits (length g.points) false x.samples b.samples);
+          samples = subst (λ n. Each (SampleFits n) (sampled (length g.points) false x.samples)) (sym long) (sampled_fits (length g.points) false x.samples b.samples);
         } in
-        let third = keeps z Branch (if_sampled (length g.points) false x) (gathered part y (if_sampled (length g.points) true x) (with_point test.port x g)) (fine_rest (visit Branch y) (visit Branch z) (λ v i. fine v (inr i))) second.gathers
+        let third = keeps z Branch (if_sampled (length g.points) false x) (gathered part y (if_sampled (length g.points) true x) (with_point test.port x g)) (rest_hold (visit Branch y) (visit Branch z) (λ v i. fine v (inr i))) second.gathers
         (begins_in (if_sampled (length g.points) false x) (length_of part z) (length_of part z) second (omega arith) begin_second) in
         keeps_on first (keeps_on second third)
     form_keeps (StaticRepeat written count y) context place x g fine fits b =
         let own = fine (record { context = context; form = StaticRepeat written count y; place = place }) (inl refl) in
-        let some : 0 < count * length_of part y = own.lasts refl (length_static own.no_invoke context (StaticRepeat written count y) refl (λ v i. fine v (inr i))) in
+        let some : 0 < count * length_of part y = own.stands.lasts refl (length_static own.no_invoke context (StaticRepeat written count y) refl (λ v i. fine v (inr i))) in
         let body = factor_some count (length_of part y) some in
         let one : 1 ≤ length_of part y = body.0 in
         let less : length_of part y ≤ count * length_of part y = body.1 in
@@ -281,9 +275,9 @@ module _ (net : PlainNet) (npart : PlainNetComponent) (part : PlainComponent) wh
         let f : x.at + (length_of part s + sum_length part ss) < 2 ^ 32 = b.few in
         let here : x.at + length_of part s < 2 ^ 32 = omega arith in
         let after_it : x.at + length_of part s + sum_length part ss < 2 ^ 32 = omega arith in
-        let first = keeps s InStatic x g (fine_first (visit InStatic s) (visit_all InStatic ss) fine) fits (record { timer = b.timer; few = here; samples = b.samples }) in
+        let first = keeps s InStatic x g (first_hold (visit InStatic s) (visit_all InStatic ss) fine) fits (record { timer = b.timer; few = here; samples = b.samples }) in
         keeps_on first
-        (parts_keep ss (later (length_of part s) x) (gathered part s x g) (fine_rest (visit InStatic s) (visit_all InStatic ss) fine) first.gathers
+        (parts_keep ss (later (length_of part s) x) (gathered part s x g) (rest_hold (visit InStatic s) (visit_all InStatic ss) fine) first.gathers
         (begins_in (later (length_of part s) x) (sum_length part ss) (sum_length part ss) first (omega arith) (record { timer = b.timer; few = after_it; samples = b.samples })))
 
     arms_keep : (ss : PlainStatements) (x : Begin) (g : Gathered) → AllFine (visit_all InStatic ss) → Gathers g → Begins g x (max_length part ss) → Keeps g (arms_gathered part ss x g)
@@ -292,19 +286,19 @@ module _ (net : PlainNet) (npart : PlainNetComponent) (part : PlainComponent) wh
         let f : x.at + max (length_of part s) (max_length part ss) < 2 ^ 32 = b.few in
         let here : x.at + length_of part s < 2 ^ 32 = omega arith in
         let beside : x.at + max_length part ss < 2 ^ 32 = omega arith in
-        let first = keeps s InStatic x g (fine_first (visit InStatic s) (visit_all InStatic ss) fine) fits (record { timer = b.timer; few = here; samples = b.samples }) in
+        let first = keeps s InStatic x g (first_hold (visit InStatic s) (visit_all InStatic ss) fine) fits (record { timer = b.timer; few = here; samples = b.samples }) in
         keeps_on first
-        (arms_keep ss x (gathered part s x g) (fine_rest (visit InStatic s) (visit_all InStatic ss) fine) first.gathers
+        (arms_keep ss x (gathered part s x g) (rest_hold (visit InStatic s) (visit_all InStatic ss) fine) first.gathers
         (begins_in x (max_length part ss) (max_length part ss) first (omega arith) (record { timer = b.timer; few = beside; samples = b.samples })))
 
   -- CONTROL: the islands so far fit, with the cells so far
   pub record IslandHolds (cells : List PlainCell) (island : PlainIsland) : Type 0 where
     pub fits : IslandFits net npart groups cells island
-    pub short : Are IsShort island.occurrences
+    pub short : Each IsShort island.occurrences
 
   pub record IslandsHold (l : Lowering) : Type 0 where
-    pub cells : Are CellFits l.cells
-    pub islands : Are (IslandHolds l.cells) l.islands
+    pub cells : Each CellFits l.cells
+    pub islands : Each (IslandHolds l.cells) l.islands
 
   island_in : (xs ys : List PlainCell) → StandIn xs ys → (island : PlainIsland) → IslandHolds xs island → IslandHolds ys island
   island_in xs ys stand island h =
@@ -330,7 +324,7 @@ module _ (net : PlainNet) (npart : PlainNetComponent) (part : PlainComponent) wh
       let whole = keeps_on start all in
       record {
         cells = whole.gathers.cells;
-        islands = are_both (IslandHolds (island_gathered part form l.cells).cells) l.islands (island_of (form_length part form) (island_gathered part form l.cells) ∷ [])
+        islands = each_append (IslandHolds (island_gathered part form l.cells).cells) l.islands (island_of (form_length part form) (island_gathered part form l.cells) ∷ [])
             (are_more (IslandHolds l.cells) (IslandHolds (island_gathered part form l.cells).cells) (island_in l.cells (island_gathered part form l.cells).cells whole.cells) l.islands holds.islands) (
               record {
                 fits = record {
@@ -354,7 +348,7 @@ module _ (net : PlainNet) (npart : PlainNetComponent) (part : PlainComponent) wh
         → IslandsHold (with_island part form l)
     static_holds form place l fine static island may holds =
         let own = fine (here form place) (inl refl) in
-        let some : 0 < form_length part form = own.lasts static (length_static own.no_invoke Dynamic form may (λ v i. fine v (inr i))) in
+        let some : 0 < form_length part form = own.stands.lasts static (length_static own.no_invoke Dynamic form may (λ v i. fine v (inr i))) in
         island_holds form place l fine some (own.short island) holds
 
     enable_holds : (g : ℕ) (place : Place) (o : Option ℕ) (l : Lowering) → group_length part g ≡ o → AllFine (visit Dynamic (Placed (Enable g) place)) → IslandsHold l → IslandsHold (after_enable part g o l)
@@ -377,7 +371,7 @@ module _ (net : PlainNet) (npart : PlainNetComponent) (part : PlainComponent) wh
       form_holds (Seq parts) place l fine holds = parts_hold parts l (λ v i. fine v (inr i)) holds
       form_holds (Par arms) place l fine holds = parts_hold arms l (λ v i. fine v (inr i)) holds
       form_holds (If test comb a b) place l fine holds =
-          statement_holds b (after part a l) (fine_rest (visit Dynamic a) (visit Dynamic b) (λ v i. fine v (inr i))) (statement_holds a l (fine_first (visit Dynamic a) (visit Dynamic b) (λ v i. fine v (inr i))) holds)
+          statement_holds b (after part a l) (rest_hold (visit Dynamic a) (visit Dynamic b) (λ v i. fine v (inr i))) (statement_holds a l (first_hold (visit Dynamic a) (visit Dynamic b) (λ v i. fine v (inr i))) holds)
       form_holds (While test comb a) place l fine holds = statement_holds a l (λ v i. fine v (inr i)) holds
       form_holds (Repeat count a) place l fine holds = statement_holds a l (λ v i. fine v (inr i)) holds
       form_holds (StaticSeq written parts) place l fine holds = static_holds (StaticSeq written parts) place l fine refl refl refl holds
@@ -393,7 +387,7 @@ module _ (net : PlainNet) (npart : PlainNetComponent) (part : PlainComponent) wh
       parts_hold : (ss : PlainStatements) (l : Lowering) → AllFine (visit_all Dynamic ss) → IslandsHold l → IslandsHold (parts_after part ss l)
       parts_hold no_statements l fine holds = holds
       parts_hold (a_statement s ss) l fine holds =
-          parts_hold ss (after part s l) (fine_rest (visit Dynamic s) (visit_all Dynamic ss) fine) (statement_holds s l (fine_first (visit Dynamic s) (visit_all Dynamic ss) fine) holds)
+          parts_hold ss (after part s l) (rest_hold (visit Dynamic s) (visit_all Dynamic ss) fine) (statement_holds s l (first_hold (visit Dynamic s) (visit_all Dynamic ss) fine) holds)
 
   -- tests are bits, and rounds are numbers of 32 bits, where control is lowered
   enable_lowers : (g : ℕ) (o : Option ℕ) (l : Lowering) → FormFits net npart (lowered_enable part g o l)
@@ -408,8 +402,8 @@ module _ (net : PlainNet) (npart : PlainNetComponent) (part : PlainComponent) wh
     form_lowers (Par arms) place l fine = parts_lower arms l (λ v i. fine v (inr i))
     form_lowers (If test comb a b) place l fine = (
       (fine (record { context = Dynamic; form = If test comb a b; place = place }) (inl refl)).test test refl,
-      statement_lowers a l (fine_first (visit Dynamic a) (visit Dynamic b) (λ v i. fine v (inr i))),
-      statement_lowers b (after part a l) (fine_rest (visit Dynamic a) (visit Dynamic b) (λ v i. fine v (inr i))),
+      statement_lowers a l (first_hold (visit Dynamic a) (visit Dynamic b) (λ v i. fine v (inr i))),
+      statement_lowers b (after part a l) (rest_hold (visit Dynamic a) (visit Dynamic b) (λ v i. fine v (inr i))),
     )
     form_lowers (While test comb a) place l fine =
         ((fine (record { context = Dynamic; form = While test comb a; place = place }) (inl refl)).test test refl, statement_lowers a l (λ v i. fine v (inr i)))
@@ -427,7 +421,7 @@ module _ (net : PlainNet) (npart : PlainNetComponent) (part : PlainComponent) wh
     parts_lower : (ss : PlainStatements) (l : Lowering) → AllFine (visit_all Dynamic ss) → PartsFit net npart (lowered_parts part ss l)
     parts_lower no_statements l fine = tt
     parts_lower (a_statement s ss) l fine =
-        (statement_lowers s l (fine_first (visit Dynamic s) (visit_all Dynamic ss) fine), parts_lower ss (after part s l) (fine_rest (visit Dynamic s) (visit_all Dynamic ss) fine))
+        (statement_lowers s l (first_hold (visit Dynamic s) (visit_all Dynamic ss) fine), parts_lower ss (after part s l) (rest_hold (visit Dynamic s) (visit_all Dynamic ss) fine))
 
 -- lowered control has no more statements
 module _ (part : PlainComponent) where

@@ -1,11 +1,11 @@
 -- THE NET OF AN ACCEPTED DESIGN fits.
-use Rattle.std.proofs.Common.{◌≡◌, ℕ, zero, suc, ◌+◌, ◌-◌, ◌<◌, ◌≤◌, Bool, true, false, List, [], ◌∷◌, length, replicate, Option, Some, None, slice_get, refl, ap, sym, ◌∙◌, subst, arith}
+use Rattle.std.proofs.Common.{◌≡◌, ℕ, zero, suc, ◌+◌, ◌<◌, ◌≤◌, Bool, true, false, List, [], ◌∷◌, length, replicate, Option, Some, None, slice_get, refl, ap, sym, ◌∙◌, subst, arith}
 use Rattle.std.specs.Prelude.{◌^◌, option_map, option_and_then, unwrap_or, nat_lt, nat_eq, if◌then◌else◌}
-use Rattle.std.proofs.lemmas.List.{length-replicate}
 use Rattle.std.proofs.lemmas.Option.{slice_get-map, slice_get-get_or}
+use Rattle.cx_text.proofs.MemberLaws.{in_at, of_joined, each_append}
 use Rattle.cx_meaning.specs.declared.ports.PortRef.TheVariants as ports
 use Rattle.cx_meaning.specs.Designs.{PlainKind, OfPrimitive, OfComponent, PlainCell, PlainComponent, PlainDesign, no_component, component_at}
-use Rattle.cx_meaning.specs.Sights.{In}
+use Rattle.cx_text.specs.Members.{In, Each}
 use Rattle.cx_rules.specs.Flat.{IsFlat}
 use Rattle.cx_rules.specs.Accepted.{IsAccepted}
 use Rattle.cx_rules.specs.Items.{Dynamic, visit}
@@ -26,12 +26,12 @@ use Rattle.cx_wiring.specs.Reached.{has_number, place_in, order}
 use Rattle.cx_wiring.specs.Wiring.{groups, first_of_control, first_of_assigns, bits, plain_wires, component_registers, plain_drivers, component_driven, width_in_part, kind_width, port_width, known_width, target_width, kind_in, cell_in, net_of}
 use Rattle.cx_wiring.specs.PartNets.{timer_cells, wired_in}
 use Rattle.cx_wiring.specs.Bounds.{IsProper, AllDrive}
-use Rattle.cx_wiring.specs.Fitting.{Are, HasFrom, HasRowKind, CellFits, IslandFits, Drives}
+use Rattle.cx_wiring.specs.Fitting.{HasFrom, HasRowKind, CellFits, IslandFits, Drives}
 use Rattle.cx_wiring.proofs.RoomLemmas.{drive_both, Room, Wires}
 use Rattle.cx_wiring.proofs.ControlTargets.{control_drives}
 use Rattle.cx_wiring.proofs.AssignTargets.{assigns_drive}
 use Rattle.cx_wiring.proofs.TreeTargets.{by_target_drive, all_driven}
-use Rattle.cx_wiring.proofs.NetTargets.{plain_wires_count}
+use Rattle.cx_wiring.proofs.NetTargets.{plain_wires_count, bit_wire}
 use Rattle.std.proofs.lemmas.Bool.{ne_eqb}
 use Rattle.cx_wiring.proofs.RankLemmas.{by_target_sorted}
 use Rattle.cx_wiring.proofs.DrivenLemmas.{driven_entries}
@@ -42,7 +42,7 @@ use Rattle.cx_wiring.proofs.NumberLemmas.{in_number}
 use Rattle.cx_wiring.proofs.TimerCells.{cells-lowered_component}
 use Rattle.cx_wiring.proofs.WayLemmas.{count_is, part_there, there, placed, net_long}
 use Rattle.cx_wiring.proofs.DesignNames.{control_named, islands_named, assigns_named}
-use Rattle.cx_wiring.proofs.FitLemmas.{are_both, are_at, are_each, are_more, slice_right, slice_replicate, from_whole}
+use Rattle.cx_wiring.proofs.FitLemmas.{are_at, are_each, are_more, slice_right, slice_replicate, from_whole}
 use Rattle.cx_wiring.proofs.OrderHeights.{closed, cell_first, stands_at, no_timer}
 use Rattle.cx_wiring.proofs.FitGuards.{IsBit, assigns_fit}
 use Rattle.cx_wiring.proofs.FitControl.{control_fits}
@@ -51,7 +51,6 @@ use Rattle.cx_wiring.proofs.FitLowering.{IslandHolds, IslandsHold, IsShort, stat
 use Rattle.cx_wiring.proofs.FitPorts.{net, npart, part_back}
 use Rattle.cx_wiring.proofs.FitRules.{statement_fine, groups_last, assigns_fine}
 use Rattle.cx_text.proofs.ListLaws.{there_at, front}
-use Rattle.cx_meaning.proofs.SightsLaws.{of_joined, in_at}
 
 -- the size of a component is no more than that of its design
 pub size_among : (parts : List PlainComponent) (k : ℕ) (part : PlainComponent) → slice_get parts k ≡ Some part → size_of part < sizes_of parts
@@ -91,16 +90,11 @@ module _ (d : PlainDesign) (rules : IsDesign d) (flat : IsFlat d) (accepted : Is
   inner = tree_widths (target_width (lowered_of d) low) (component_driven low)
 
   -- WIRES: of offsets, of one bit, of trees
+  plain_bit : (n : ℕ) → groups low ≤ n → n < groups low + bits low → slice_get C.wires n ≡ Some 1
+  plain_bit n from to = front (plain_wires low) inner n 1 (bit_wire (groups low) (bits low) n from to)
+
   offset_wire : (g : ℕ) → g < length part.groups → slice_get C.wires g ≡ Some 32
   offset_wire g less = front (plain_wires low) inner g 32 (front wide_wires narrow_wires g 32 (slice_replicate 32 (groups low) g less))
-
-  bit_wire : (n : ℕ) → groups low ≤ n → n < groups low + bits low → slice_get C.wires n ≡ Some 1
-  bit_wire n from to =
-      let long : length wide_wires ≡ groups low = length-replicate (groups low) 32 in
-      let same : n ≡ length wide_wires + (n - groups low) = omega (arith, long) in
-      let less : n - groups low < bits low = omega arith in
-      front (plain_wires low) inner n 1
-      (ap (slice_get (plain_wires low)) same ∙ slice_right wide_wires narrow_wires (n - groups low) ∙ slice_replicate 1 (bits low) (n - groups low) less)
 
   inner_wire : HasFrom C.wires (length (plain_wires low)) inner
   inner_wire i w e = slice_right (plain_wires low) inner i ∙ e
@@ -136,22 +130,22 @@ module _ (d : PlainDesign) (rules : IsDesign d) (flat : IsFlat d) (accepted : Is
   wires_all : bits low ≡ island_wires low.islands + wires_of low.part.control + assigns_wires (driven_assigns low)
   wires_all = refl
 
-  plain_drive : Are (Drives N C) (plain_drivers low)
+  plain_drive : Each (Drives N C) (plain_drivers low)
   plain_drive =
       let of_control : Wires (IsBit N C) (first_of_control low) (wires_of low.part.control) = record {
-        among = λ n from to. let above : groups low ≤ n = omega arith in let below : n < groups low + bits low = omega (arith, wires_all) in bit_wire n above below;
+        among = λ n from to. let above : groups low ≤ n = omega arith in let below : n < groups low + bits low = omega (arith, wires_all) in plain_bit n above below;
       } in
       let of_assigns : Wires (IsBit N C) (first_of_assigns low) (assigns_wires (driven_assigns low)) = record {
-        among = λ n from to. let above : groups low ≤ n = omega arith in let below : n < groups low + bits low = omega (arith, wires_all) in bit_wire n above below;
+        among = λ n from to. let above : groups low ≤ n = omega arith in let below : n < groups low + bits low = omega (arith, wires_all) in plain_bit n above below;
       } in
-      are_both (Drives N C) (control_drivers (groups low) low.islands (first_of_control low) low.part.control) (assigns_drivers (groups low) (first_of_assigns low) (driven_assigns low))
+      each_append (Drives N C) (control_drivers (groups low) low.islands (first_of_control low) low.part.control) (assigns_drivers (groups low) (first_of_assigns low) (driven_assigns low))
       (control_fits N C (groups low) low.islands (order (lowered_of d)) low.part.cells refl offset_wire goes_there
-      (λ n from to. let below : n < groups low + bits low = omega (arith, wires_all) in bit_wire n from below)
+      (λ n from to. let below : n < groups low + bits low = omega (arith, wires_all) in plain_bit n from below)
       (are_more (IslandHolds N C part low.part.cells) (IslandFits N C (groups low) low.part.cells) (λ island h. h.fits) low.islands islands_hold.islands)
       (first_of_control low) low.part.control (control_named d rules k within) (statement_lowers N C part part.control (unlowered part) (λ v i. statement_fine d rules flat accepted k here v i)) of_control
       (from_whole (component_registers low)) few_statements)
       (assigns_fit N C (groups low) offset_wire goes_there (driven_assigns low) (first_of_assigns low)
-      (assigns_fine d rules flat accepted k here (are_more (IslandHolds N C part low.part.cells) (λ island. Are (IsShort N C part) island.occurrences) (λ island h. h.short) low.islands islands_hold.islands)) of_assigns)
+      (assigns_fine d rules flat accepted k here (are_more (IslandHolds N C part low.part.cells) (λ island. Each (IsShort N C part) island.occurrences) (λ island h. h.short) low.islands islands_hold.islands)) of_assigns)
 
   -- no driver of a component, without those of bundles, drives a wire of a tree
   abbrev pub IsBefore : PlainNetTarget → Type 0
@@ -216,7 +210,7 @@ module _ (d : PlainDesign) (rules : IsDesign d) (flat : IsFlat d) (accepted : Is
   same_width ToDone proper before w e = cc
 
   -- ALL DRIVERS of a component drive what is there and may be driven, at one width
-  pub component_drives : Are (Drives N C) C.drivers
+  pub component_drives : Each (Drives N C) C.drivers
   component_drives =
       trees_fit N C (target_width (lowered_of d) low) (plain_drivers low) (length (plain_wires low))
       (are_driving (Drives N C) (Fits N C (target_width (lowered_of d) low)) IsBefore
@@ -231,7 +225,7 @@ module _ (d : PlainDesign) (rules : IsDesign d) (flat : IsFlat d) (accepted : Is
       inner_wire
 
   -- the drivers without those of bundles drive what may be driven, and no wire of a tree
-  plain_all : (ds : List PlainNetDriver) → Are (Drives N C) ds → AllDrive IsBefore ds → AllDrive (IsPlain (length (plain_wires low))) ds
+  plain_all : (ds : List PlainNetDriver) → Each (Drives N C) ds → AllDrive IsBefore ds → AllDrive (IsPlain (length (plain_wires low))) ds
   plain_all [] fit before = tt
   plain_all (driver ∷ ds) fit before = (plain_one driver.target fit.0.proper before.0, plain_all ds fit.1 before.1)
     where
@@ -249,7 +243,7 @@ module _ (d : PlainDesign) (rules : IsDesign d) (flat : IsFlat d) (accepted : Is
   pub drivers_plain : AllDrive (IsPlain (length (plain_wires low))) (plain_drivers low)
   drivers_plain = plain_all (plain_drivers low) plain_drive plain_before
 
-  all_proper : (ds : List PlainNetDriver) → Are (Drives N C) ds → AllDrive IsProper ds
+  all_proper : (ds : List PlainNetDriver) → Each (Drives N C) ds → AllDrive IsProper ds
   all_proper [] fit = tt
   all_proper (driver ∷ ds) fit = (fit.0.proper, all_proper ds fit.1)
 

@@ -5,13 +5,13 @@ use Rattle.std.proofs.lemmas.Bool.{ltb-true, leb-true}
 use Rattle.std.proofs.lemmas.Bool.Decides.{nat_tests}
 use Rattle.std.proofs.lemmas.List.{append_assoc, length-map}
 use Rattle.std.proofs.lemmas.Option.{slice_get-map}
+use Rattle.cx_text.proofs.MemberLaws.{in_at}
 use Rattle.cx_prim.specs.Rows.{IsOfWidth}
-use Rattle.cx_prim.specs.Table.{row_of}
 use Rattle.cx_meaning.specs.declared.ports.PortRef.{PortRef}
 use Rattle.cx_meaning.specs.declared.ports.PortRef.TheVariants as ports
 use Rattle.cx_meaning.specs.declared.kinds.PortDecl.{PortDecl}
 use Rattle.cx_meaning.specs.Designs.{PlainKind, OfPrimitive, OfComponent, PlainCell, PlainComponent, PlainDesign, component_at}
-use Rattle.cx_meaning.specs.Instances.{Instance, Cells, At, OfRow, OfInstance, part_of, cells_of, cell_at, add_cell, cells_for, tree_within}
+use Rattle.cx_meaning.specs.Instances.{Instance, part_of, cells_of, cell_at, cells_for, tree_within}
 use Rattle.cx_meaning.specs.Sights.{AnInput, AnOutput, ItsDone, output_port, part_port}
 use Rattle.cx_rules.specs.Ports.{component_of, keeps_literal, declared_width, part_width, cell_width, width_of}
 use Rattle.cx_rules.specs.ShapeRules.{is_hole}
@@ -30,31 +30,12 @@ use Rattle.cx_wiring.proofs.FitLemmas.{slice_right}
 use Rattle.cx_text.proofs.NumberLaws.{never}
 use Rattle.cx_laws.proofs.TreeLemmas.{cell_there, declared_there}
 use Rattle.cx_meaning.proofs.DesignsLemmas.{same_part}
-use Rattle.cx_meaning.proofs.SightsLaws.{in_at}
+use Rattle.cx_meaning.proofs.InstancesLemmas.{at_kind, cell_stands}
 use Rattle.cx_text.proofs.ListLaws.{there_at, front, there_below}
 use Rattle.cx_text.proofs.BoolLaws.{all_three}
 
 not_less : (a b : ℕ) → nat_lt a b ≡ false → b ≤ a
 not_less a b f = grind (arith, nat_tests)
-
--- what stands at a cell of a kind
-abbrev at_kind : (ℕ → Instance) → PlainKind → At
-at_kind child (OfPrimitive primitive) = OfRow (row_of primitive)
-at_kind child (OfComponent j) = OfInstance (child j)
-
-module _ (child : ℕ → Instance) where
-  first_at : (kind : PlainKind) (rest : Cells) → cell_at (add_cell child kind rest) 0 ≡ at_kind child kind
-  first_at (OfPrimitive primitive) rest = refl
-  first_at (OfComponent j) rest = refl
-
-  later_at : (kind : PlainKind) (rest : Cells) (c : ℕ) → cell_at (add_cell child kind rest) (suc c) ≡ cell_at rest c
-  later_at (OfPrimitive primitive) rest c = refl
-  later_at (OfComponent j) rest c = refl
-
-  stands_at_cell : (cells : List PlainCell) (c : ℕ) (cell : PlainCell) → slice_get cells c ≡ Some cell → cell_at (cells_for child cells) c ≡ at_kind child cell.kind
-  stands_at_cell [] c cell e = absurd cc
-  stands_at_cell (x ∷ cells) zero cell e = let same : x ≡ cell = cc in first_at x.kind (cells_for child cells) ∙ ap (λ (y : PlainCell). at_kind child y.kind) same
-  stands_at_cell (x ∷ cells) (suc c) cell e = later_at x.kind (cells_for child cells) c ∙ stands_at_cell cells c cell e
 
 -- THE SIGNATURE as a list: go, the inputs, the outputs, done
 abbrev widths : List PortDecl → List ℕ
@@ -135,7 +116,7 @@ module _ (d : PlainDesign) (rules : IsDesign d) (k : ℕ) (here : has_number k (
   cells_are = ap (λ m. cells_of (tree_within d m k)) below_it.1
 
   at_is : (c : ℕ) (cell : PlainCell) → slice_get part.cells c ≡ Some cell → cell_at (cells_of whole) c ≡ at_kind (tree_within d below_it.0) cell.kind
-  at_is c cell e = ap (λ cells. cell_at cells c) cells_are ∙ stands_at_cell (tree_within d below_it.0) part.cells c cell e
+  at_is c cell e = ap (λ cells. cell_at cells c) cells_are ∙ cell_stands (tree_within d below_it.0) part.cells c cell e
 
   -- the cells of the net begin with those of the component
   pub cells_is : npart.cells ≡ map (cell_in places) (lowered_component part).part.cells

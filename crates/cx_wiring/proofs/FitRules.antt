@@ -5,6 +5,7 @@ use Rattle.std.specs.Prelude.{◌^◌, nat_lt, nat_le, nat_eq, filter, option_ma
 use Rattle.std.proofs.lemmas.Bool.{ltb-true, eqb-true}
 use Rattle.std.proofs.lemmas.Bool.Decides.{nat_tests}
 use Rattle.std.proofs.lemmas.Option.{slice_get-get_or}
+use Rattle.cx_text.proofs.MemberLaws.{in_left, in_right, number_in}
 use Rattle.cx_text.specs.declared.limits.TheConstants.{REPETITIONS}
 use Rattle.cx_text.specs.declared.rules.Rule.TheVariants as told
 use Rattle.cx_meaning.specs.declared.ports.PortRef.{PortRef}
@@ -16,7 +17,7 @@ use Rattle.cx_meaning.specs.Designs.{PlainGuard, Always, Atom, Negation, All, An
 use Rattle.cx_meaning.specs.Instances.{Instance, part_of}
 use Rattle.cx_meaning.specs.Active.{Owned, source_order}
 use Rattle.cx_meaning.specs.Islands.{kind_length, group_length, form_length}
-use Rattle.cx_meaning.specs.Sights.{In}
+use Rattle.cx_text.specs.Members.{In, Each}
 use Rattle.cx_rules.specs.Flat.{IsFlat}
 use Rattle.cx_rules.specs.Accepted.{IsAccepted}
 use Rattle.cx_rules.specs.Items.{Pair, atoms_of, atoms_in, comparisons_of, comparisons_in, operands_of, operands_in, Range, ranges_of, ranges_in, sources_of, Visited, statements_in, test_in}
@@ -30,14 +31,15 @@ use Rattle.cx_rules.specs.Spots.{AnAssign, AStatement}
 use Rattle.cx_rules.specs.StaticControl.{is_island}
 use Rattle.cx_rules.specs.Wellformed.{IsDesign, IsThere, IsAssign, StandsIn, IsStatement, IsForm}
 use Rattle.cx_rules.specs.WidthRules.{differ, pairs_of, first_unequal, is_wide, first_wide, IsBadLiteral}
-use Rattle.cx_control.proofs.StaticLemmas.{all_may, static_lasts, group_lasts}
+use Rattle.cx_laws.proofs.StaticLemmas.{group_lasts}
+use Rattle.cx_laws.proofs.LengthLemmas.{stands_well}
 use Rattle.cx_net.specs.NetFits.{HasPortWidth, target_width}
 use Rattle.cx_static.specs.Islands.{PlainOccurrence, PlainIsland}
 use Rattle.cx_static.specs.Lowering.{lowered_component, lowered_of}
 use Rattle.cx_wiring.specs.Assignments.{occurs_among, occurs_in, kind_drives, owner_drives, is_driven, driven_assigns, target_of}
 use Rattle.cx_wiring.specs.Reached.{has_number, order}
 use Rattle.cx_wiring.specs.Bounds.{IsProper}
-use Rattle.cx_wiring.specs.Fitting.{Are, GuardFits, GuardsFit, AssignFits, OwnerFits, OwnedFits}
+use Rattle.cx_wiring.specs.Fitting.{GuardFits, GuardsFit, AssignFits, OwnerFits, OwnedFits}
 use Rattle.cx_wiring.proofs.DesignNames.{in_filter, stands_in}
 use Rattle.cx_wiring.proofs.WayLemmas.{there}
 use Rattle.cx_wiring.proofs.FitLemmas.{are_each}
@@ -45,7 +47,6 @@ use Rattle.cx_wiring.proofs.FitIslands.{hole_width}
 use Rattle.cx_wiring.proofs.FitLowering.{Fine, IsShort}
 use Rattle.cx_wiring.proofs.FitPorts.{whole, net, npart, part_is, port_wide, width_some}
 use Rattle.cx_text.proofs.NumberLaws.{never}
-use Rattle.cx_meaning.proofs.SightsLaws.{in_left, in_right, number_in}
 use Rattle.cx_rules.proofs.WidthRulesLemmas.{bit_width}
 
 -- WIDTHS that do not differ
@@ -110,7 +111,7 @@ good_range n from to e few = by (nat_lt from to) refl (nat_lt n to) refl e
     by false f b g h = absurd cc
 
 -- an occurrence of a group that occurs
-occurs_among_is : (P : PlainOccurrence → Type 0) (g : ℕ) (os : List PlainOccurrence) → Are P os → occurs_among g os ≡ true → (o : PlainOccurrence) × (o.group ≡ g) × P o
+occurs_among_is : (P : PlainOccurrence → Type 0) (g : ℕ) (os : List PlainOccurrence) → Each P os → occurs_among g os ≡ true → (o : PlainOccurrence) × (o.group ≡ g) × P o
 occurs_among_is P g [] all e = never e
 occurs_among_is P g (o ∷ os) all e = by (nat_eq o.group g) refl e (occurs_among_is P g os all.1)
   where
@@ -118,7 +119,7 @@ occurs_among_is P g (o ∷ os) all e = by (nat_eq o.group g) refl e (occurs_amon
     by true is f later = (o, eqb-true o.group g is, all.0)
     by false is f later = later f
 
-occurs_is : (P : PlainOccurrence → Type 0) (g : ℕ) (islands : List PlainIsland) → Are (λ island. Are P island.occurrences) islands → occurs_in g islands ≡ true → (o : PlainOccurrence) × (o.group ≡ g) × P o
+occurs_is : (P : PlainOccurrence → Type 0) (g : ℕ) (islands : List PlainIsland) → Each (λ island. Each P island.occurrences) islands → occurs_in g islands ≡ true → (o : PlainOccurrence) × (o.group ≡ g) × P o
 occurs_is P g [] all e = never e
 occurs_is P g (island ∷ islands) all e = by (occurs_among g island.occurrences) refl e (occurs_is P g islands all.1)
   where
@@ -192,8 +193,7 @@ module _ (d : PlainDesign) (rules : IsDesign d) (flat : IsFlat d) (accepted : Is
     statement_fine = record {
       form = subst (λ x. IsForm x v.form) (part_is d rules k here) is_statement.form;
       no_invoke = (flat k within).no_invoke;
-      may = λ static. all_may d accepted k within v i static;
-      lasts = λ static has. static_lasts d accepted k within flat v i static has;
+      stands = stands_well d flat accepted k within v i;
       test = test_fits;
       short = λ island. few_cycles (is_island part v) (form_length part v.form) limits_kept.1 island;
       rounds = λ n is. few_rounds (count_in v.form) limits_kept.0 n is;
@@ -341,7 +341,7 @@ module _ (d : PlainDesign) (rules : IsDesign d) (flat : IsFlat d) (accepted : Is
           }
 
   -- RANGES of a group that is driven are within its length, which is a number of 32 bits
-  module _ (short : Are (λ island. Are (IsShort (net d rules k here) (npart d rules k here) part) island.occurrences) (lowered_component part).islands) where
+  module _ (short : Each (λ island. Each (IsShort (net d rules k here) (npart d rules k here) part) island.occurrences) (lowered_component part).islands) where
     occurring : (g n : ℕ) → group_length part g ≡ Some n → occurs_in g (lowered_component part).islands ≡ true → n < 2 ^ 32
     occurring g n is occurs =
         let r = occurs_is (IsShort (net d rules k here) (npart d rules k here) part) g (lowered_component part).islands short occurs in
@@ -378,7 +378,7 @@ module _ (d : PlainDesign) (rules : IsDesign d) (flat : IsFlat d) (accepted : Is
     owner_fits (Some g) a is = is.0
 
     -- WHAT THE RULES SAY of the assignments
-    pub assigns_fine : Are (OwnedFits (net d rules k here) (npart d rules k here) (length part.groups)) (driven_assigns (lowered_component part))
+    pub assigns_fine : Each (OwnedFits (net d rules k here) (npart d rules k here) (length part.groups)) (driven_assigns (lowered_component part))
     assigns_fine =
         are_each (OwnedFits (net d rules k here) (npart d rules k here) (length part.groups)) (driven_assigns (lowered_component part))
         (λ o j.

@@ -1,5 +1,6 @@
 -- Of each driver of the net of an accepted design the target is there.
 use Rattle.std.proofs.Common.{◌≡◌, ℕ, ◌<◌, length, Option, Some, IsSome, slice_get, refl, sym, subst}
+use Rattle.cx_text.proofs.MemberLaws.{in_at}
 use Rattle.cx_meaning.specs.Designs.{PlainDesign, component_at}
 use Rattle.cx_rules.specs.Flat.{IsFlat}
 use Rattle.cx_rules.specs.Accepted.{IsAccepted}
@@ -18,7 +19,6 @@ use Rattle.cx_wiring.proofs.FitLemmas.{are_at}
 use Rattle.cx_wiring.proofs.OrderHeights.{stands_at}
 use Rattle.cx_wiring.proofs.FitNets.{component_drives}
 use Rattle.cx_text.proofs.ListLaws.{there_at}
-use Rattle.cx_meaning.proofs.SightsLaws.{in_at}
 
 is_some : (o : Option ℕ) (w : ℕ) → o ≡ Some w → IsSome o
 is_some o w e = subst IsSome (sym e) refl

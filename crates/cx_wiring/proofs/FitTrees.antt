@@ -1,5 +1,5 @@
 -- In the tree of a net that fits expressions name what is there, and each node of one bit is a node of that width on a path from main.
-use Rattle.std.proofs.Common.{◌≡◌, ℕ, zero, suc, ◌+◌, ◌-◌, ◌<◌, ◌≤◌, ◌==◌, Bool, true, false, List, [], ◌∷◌, ◌++◌, length, map, Option, Some, None, option_map, option_and_then, unwrap_or, slice_get, nat_lt, if◌then◌else◌, append_assoc, length-append, IsSome, refl, sym, ap, ◌∙◌, subst, arith}
+use Rattle.std.proofs.Common.{◌≡◌, ℕ, zero, suc, ◌+◌, ◌-◌, ◌<◌, ◌≤◌, ◌==◌, Bool, true, false, List, [], ◌∷◌, ◌++◌, length, map, Option, Some, None, option_map, option_and_then, unwrap_or, slice_get, nat_lt, if◌then◌else◌, append_assoc, length-append, IsSome, refl, sym, ap, ◌∙◌, arith}
 use Rattle.std.specs.Option.{option_map_or}
 use Rattle.std.proofs.lemmas.Bool.{eqb-true, lt-ltb, ltb-true, ltb-false}
 use Rattle.std.proofs.lemmas.List.{length-map}
@@ -19,9 +19,9 @@ use Rattle.cx_net.specs.NetMeaning.{NetState, Node, APort, AWire, AHole, TheDone
 use Rattle.cx_net.specs.NetRuns.{IsWholeLook}
 use Rattle.cx_net.specs.NetPaths.{LeadsTo, width_of_node}
 use Rattle.cx_net.specs.NetHolds.{Holds, IsWide, RowsAreWide}
-use Rattle.cx_net.specs.NetFits.{target_width, signature_widths, kind_width, HasPortWidth, HasWidth, AreBits, IsFitKind, IsFit}
+use Rattle.cx_net.specs.NetFits.{target_width, signature_widths, kind_width, HasPortWidth, HasWidth, AreBits, IsFit}
 use Rattle.cx_net.proofs.DriverLemmas.{at_kind, cell-at, part-within, there-at}
-use Rattle.cx_net.proofs.WidthLaws.{bit_is, values_wide}
+use Rattle.cx_net.proofs.WidthLaws.{bit_is, values_wide, lower_child}
 use Rattle.cx_wiring.specs.NetNames.{is_named_port, ExprNames, ExprsName, DriversName, TreeNames, CellsName}
 use Rattle.cx_wiring.specs.NetBits.{own_bit, is_bit, is_bit_below}
 use Rattle.cx_text.proofs.BoolLaws.{and_both}
@@ -222,9 +222,6 @@ TargetsThere net =
     (k : ℕ) → k < length net.components → (n : ℕ) (d : PlainNetDriver) → slice_get (net_component_at net k).drivers n ≡ Some d → IsSome (target_width net (net_component_at net k) d.target)
 
 module _ (net : PlainNet) (fit : IsFit net) (targets : TargetsThere net) where
-  lower_child : (k c : ℕ) (cell : PlainCell) (j : ℕ) → k < length net.components → slice_get (net_component_at net k).cells c ≡ Some cell → cell.kind ≡ OfComponent j → j < k
-  lower_child k c cell j here there is = subst (IsFitKind k) is ((fit.components k here).cells c cell there)
-
   driver_named : (levels k : ℕ) → k < length net.components → (n : ℕ) (d : PlainNetDriver) → slice_get (net_component_at net k).drivers n ≡ Some d
       → ExprNames (net_component_at net k) (net_cells_for (net_within net levels) (net_component_at net k).cells) d.guard × ExprNames (net_component_at net k) (net_cells_for (net_within net levels) (net_component_at net k).cells) d.source
   driver_named levels k here n d e =
@@ -240,7 +237,7 @@ module _ (net : PlainNet) (fit : IsFit net) (targets : TargetsThere net) where
   tree_named (suc levels) k lower here = (
     drivers_named (net_component_at net k) (net_cells_for (net_within net levels) (net_component_at net k).cells) (net_component_at net k).drivers (driver_named levels k here),
     cells_named (net_within net levels) (net_component_at net k).cells (λ c cell e j is.
-        let less = lower_child k c cell j here e is in
+        let less = lower_child net fit k c cell j here e is in
         tree_named levels j (omega (arith, less, lower)) (omega (arith, less, here))),
   )
 
@@ -256,7 +253,7 @@ module _ (net : PlainNet) (fit : IsFit net) (targets : TargetsThere net) where
       (k, refl, b.0, b.1)
   bit_within (c ∷ path) (suc levels) k lower here node e =
       let (cell, j, there, is, f) = bit_below (net_within net levels) (net_component_at net k).cells c path node e in
-      let less = lower_child k c cell j here there is in
+      let less = lower_child net fit k c cell j here there is in
       let (h, leads, width, stands) = bit_within path levels j (omega (arith, less, lower)) (omega (arith, less, here)) node f in
       (h, (cell, j, there, is, leads), width, there-at (net_within net levels) path (net_component_at net k).cells c cell j there is node ∙ stands)
 

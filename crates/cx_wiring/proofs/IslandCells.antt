@@ -1,6 +1,6 @@
 -- The timers of a component's islands stand behind its cells, island by island.
 use Rattle.std.proofs.Common.{◌≡◌, ℕ, zero, suc, ◌+◌, ◌*◌, ◌<◌, ◌≤◌, List, [], ◌∷◌, ◌++◌, length, Option, Some, None, slice_get, refl, sym, ap, ◌∙◌, subst, arith}
-use Rattle.cx_meaning.specs.Sights.{In}
+use Rattle.cx_text.specs.Members.{In}
 use Rattle.cx_meaning.specs.Designs.{PlainCell, PlainComponent, PlainForm, Empty, Enable, Seq, Par, If, While, Repeat, StaticSeq, StaticPar, StaticIf, StaticRepeat, Timed, PlainStatement, Placed, PlainStatements, no_statements, a_statement}
 use Rattle.cx_meaning.specs.Islands.{group_length, form_length}
 use Rattle.cx_static.specs.declared.islands.IslandTimer.{IslandTimer}
@@ -102,6 +102,14 @@ pub record IsMade (part : PlainComponent) (l : Lowering) (island : PlainIsland) 
   pub is : island ≡ island_of (form_length part form) (island_gathered part form cells)
   pub stay : (c : ℕ) (cell : PlainCell) → slice_get (island_gathered part form cells).cells c ≡ Some cell → slice_get l.cells c ≡ Some cell
 
+-- an island's lists, each timer, point and occurrence by those before it
+pub record IsListed (island : PlainIsland) : Type 0 where
+  pub some : 0 < length island.timers
+  pub first : (timer : IslandTimer) → slice_get island.timers 0 ≡ Some timer → timer.outer ≡ None
+  pub within : (n : ℕ) (timer : IslandTimer) → slice_get island.timers n ≡ Some timer → 0 < n → (outer : ℕ) × (timer.outer ≡ Some outer) × (outer < n)
+  pub points : (n : ℕ) (p : PlainPoint) → slice_get island.points n ≡ Some p → (p.timer < length island.timers) × ((s : Sample) → In p.samples s → s.point < n)
+  pub occurrences : (n : ℕ) (o : PlainOccurrence) → slice_get island.occurrences n ≡ Some o → (o.timer < length island.timers) × ((s : Sample) → In o.samples s → s.point < length island.points)
+
 module _ (part : PlainComponent) where
   island_before : (first : Lowering) (form : PlainForm) (l : Lowering) → IsBefore first l → IsBefore first (with_island part form l)
   island_before first form l b = record {
@@ -154,14 +162,6 @@ module _ (part : PlainComponent) where
   timers_lie k island is t timer at =
       let m = made k island is in
       let there = island_there part m.form m.cells t timer (subst (λ (i : PlainIsland). slice_get i.timers t ≡ Some timer) m.is at) in (there.0, m.stay timer.cell (timer_cell part.place there.0) there.1)
-
-  -- an island's lists, with the cells of the component
-  pub record IsListed (island : PlainIsland) : Type 0 where
-    pub some : 0 < length island.timers
-    pub first : (timer : IslandTimer) → slice_get island.timers 0 ≡ Some timer → timer.outer ≡ None
-    pub within : (n : ℕ) (timer : IslandTimer) → slice_get island.timers n ≡ Some timer → 0 < n → (outer : ℕ) × (timer.outer ≡ Some outer) × (outer < n)
-    pub points : (n : ℕ) (p : PlainPoint) → slice_get island.points n ≡ Some p → (p.timer < length island.timers) × ((s : Sample) → In p.samples s → s.point < n)
-    pub occurrences : (n : ℕ) (o : PlainOccurrence) → slice_get island.occurrences n ≡ Some o → (o.timer < length island.timers) × ((s : Sample) → In o.samples s → s.point < length island.points)
 
   listed_made : (form : PlainForm) (cells : List PlainCell) → IsListed (island_of (form_length part form) (island_gathered part form cells))
   listed_made form cells =

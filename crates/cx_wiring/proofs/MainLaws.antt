@@ -121,7 +121,7 @@ module _ (d : PlainLowereds) where
   highest_few levels [] each = omega arith
   highest_few levels (c ∷ cs) each = let own = each c in let rest = highest_few levels cs each in omega (arith, own, rest)
 
-  height_few : (levels k : ℕ) → height_of d levels k ≤ levels
+  pub height_few : (levels k : ℕ) → height_of d levels k ≤ levels
   height_few zero k = omega arith
   height_few (suc levels) k = highest_few levels (below d k) (height_few levels)
 

@@ -2,8 +2,9 @@
 use Rattle.std.proofs.Common.{◌≡◌, ◌⊎◌, inl, inr, ⊎_elim, ℕ, zero, suc, ◌<◌, ◌≤◌, Bool, true, false, cond, if◌then◌else◌, List, [], ◌∷◌, ◌++◌, length, nat_eq, refl, ap, sym, ◌∙◌, subst, arith}
 use Rattle.std.specs.Prelude.{filter, flat_map}
 use Rattle.std.proofs.lemmas.Bool.Decides.{eqb_tells}
+use Rattle.cx_text.proofs.MemberLaws.{of_joined}
 use Rattle.cx_meaning.specs.Designs.{PlainDesign}
-use Rattle.cx_meaning.specs.Sights.{In}
+use Rattle.cx_text.specs.Members.{In}
 use Rattle.cx_rules.specs.Wellformed.{IsDesign}
 use Rattle.cx_rules.proofs.Finite.{Distinct}
 use Rattle.cx_static.specs.Islands.{PlainLowereds}
@@ -15,7 +16,6 @@ use Rattle.cx_wiring.proofs.NumberLemmas.{number_in, in_number}
 use Rattle.cx_wiring.proofs.WayLemmas.{count_is, there, net_long}
 use Rattle.cx_wiring.proofs.DesignNames.{in_filter}
 use Rattle.cx_wiring.proofs.OrderHeights.{in_flat_map, NoneLower, AreOf, Ascends, level, level_of, none_in, levels_none, order_ascends, cell_below, closed, lower, from_main}
-use Rattle.cx_meaning.proofs.SightsLaws.{of_joined}
 
 -- DISTINCT numbers
 from_least : (a n x : ℕ) → In (numbers_from a n) x → a ≤ x

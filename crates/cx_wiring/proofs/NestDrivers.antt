@@ -19,14 +19,15 @@ use Rattle.cx_wiring.specs.Guards.{part_expr, parts_exprs, guard_expr, guard_dri
 use Rattle.cx_wiring.specs.Assignments.{target_of, Looks, LooksAlways, LooksIn, looks_of, go, gate_drivers, gated_drivers, looking_drivers, assign_wires, assign_drivers, assigns_drivers}
 use Rattle.cx_wiring.specs.Control.{one_turn, arm_stand, counted_inside, counting, whole_stand, finishing, comb_goes, timed_drivers, arms_over, form_drivers, drivers_of, parts_drivers as sequence_drivers, arms_drivers, control_drivers}
 use Rattle.cx_wiring.specs.Trees.{Driven, driven, with_driver, is_same, by_target, behind as after, tree, pairs, trees}
-use Rattle.cx_wiring.specs.Fitting.{Are}
 use Rattle.cx_wiring.specs.Nesting.{most, guards_count, GuardNests, GuardsNest, OwnedNests, PointNests, FormNests, StatementNests, PartsNest, IslandNests}
-use Rattle.cx_wiring.proofs.FitLemmas.{are_both, are_at}
+use Rattle.cx_wiring.proofs.FitLemmas.{are_at}
 use Rattle.cx_wiring.proofs.TreeDrivers.{PairsFrom, tree_are}
 use Rattle.cx_wiring.proofs.FitBundles.{by_target_are}
+use Rattle.cx_text.specs.Members.{Each}
+use Rattle.cx_text.proofs.MemberLaws.{each_append}
 
 abbrev pub Nest : List PlainNetDriver → Type 0
-Nest ds = Are IsWritableDriver ds
+Nest ds = Each IsWritableDriver ds
 
 nests : (target : PlainNetTarget) (guard source : PlainNetExpr) → StandsIn 47 guard → StandsIn 47 source → IsWritableDriver (drive target guard source)
 nests target guard source g s = record { guard = g; source = s }
@@ -82,26 +83,26 @@ module _ (offset : PlainNetExpr) (plain : StandsIn 45 offset) where
     part_nest Always wire h = (connected wire (guard_expr offset (suc wire) Always) tt, tt)
     part_nest (Atom p) wire h = tt
     part_nest (Negation g) wire h =
-        are_both IsWritableDriver (part_drivers offset (suc wire) g) (connect wire (guard_expr offset (suc wire) (Negation g)) ∷ []) (part_nest g (suc wire) h)
+        each_append IsWritableDriver (part_drivers offset (suc wire) g) (connect wire (guard_expr offset (suc wire) (Negation g)) ∷ []) (part_nest g (suc wire) h)
         (connected wire (guard_expr offset (suc wire) (Negation g)) (guard_stands (Negation g) (suc wire) h), tt)
     part_nest (All gs) wire h =
-        are_both IsWritableDriver (parts_drivers offset (suc wire) gs) (connect wire (guard_expr offset (suc wire) (All gs)) ∷ []) (parts_nest gs (suc wire) h.1)
+        each_append IsWritableDriver (parts_drivers offset (suc wire) gs) (connect wire (guard_expr offset (suc wire) (All gs)) ∷ []) (parts_nest gs (suc wire) h.1)
         (connected wire (guard_expr offset (suc wire) (All gs)) (guard_stands (All gs) (suc wire) h), tt)
     part_nest (Any gs) wire h =
-        are_both IsWritableDriver (parts_drivers offset (suc wire) gs) (connect wire (guard_expr offset (suc wire) (Any gs)) ∷ []) (parts_nest gs (suc wire) h.1)
+        each_append IsWritableDriver (parts_drivers offset (suc wire) gs) (connect wire (guard_expr offset (suc wire) (Any gs)) ∷ []) (parts_nest gs (suc wire) h.1)
         (connected wire (guard_expr offset (suc wire) (Any gs)) (guard_stands (Any gs) (suc wire) h), tt)
     part_nest (Compared c a b) wire h = (connected wire (guard_expr offset (suc wire) (Compared c a b)) (guard_stands (Compared c a b) (suc wire) h), tt)
     part_nest (Within from to) wire h = (connected wire (guard_expr offset (suc wire) (Within from to)) (guard_stands (Within from to) (suc wire) h), tt)
 
     parts_nest : (gs : PlainGuards) (wire : ℕ) → GuardsNest gs → Nest (parts_drivers offset wire gs)
     parts_nest no_guards wire h = tt
-    parts_nest (a_guard g gs) wire h = are_both IsWritableDriver (part_drivers offset wire g) _ (part_nest g wire h.0) (parts_nest gs _ h.1)
+    parts_nest (a_guard g gs) wire h = each_append IsWritableDriver (part_drivers offset wire g) _ (part_nest g wire h.0) (parts_nest gs _ h.1)
 
 exprs_count : (es : List PlainNetExpr) → parts_of (exprs_of es) ≡ length es
 exprs_count [] = refl
 exprs_count (e ∷ es) = ap suc (exprs_count es)
 
-all_stand : (levels : ℕ) (es : List PlainNetExpr) → Are (StandsIn levels) es → AllStandIn levels (exprs_of es)
+all_stand : (levels : ℕ) (es : List PlainNetExpr) → Each (StandsIn levels) es → AllStandIn levels (exprs_of es)
 all_stand levels [] h = tt
 all_stand levels (e ∷ es) h = (h.0, all_stand levels es h.1)
 
@@ -109,12 +110,12 @@ all_stand levels (e ∷ es) h = (h.0, all_stand levels es h.1)
 module _ (groups : ℕ) where
   gate_nest : (g wire : ℕ) (guard : PlainGuard) → GuardNests guard → Nest (gate_drivers groups g wire guard)
   gate_nest g wire guard h =
-      are_both IsWritableDriver (guard_drivers (OfWire g) (suc wire) guard) (drive (ToWire wire) (go groups g) (guard_expr (OfWire g) (suc wire) guard) ∷ []) (guard_nest (OfWire g) tt guard (suc wire) h)
+      each_append IsWritableDriver (guard_drivers (OfWire g) (suc wire) guard) (drive (ToWire wire) (go groups g) (guard_expr (OfWire g) (suc wire) guard) ∷ []) (guard_nest (OfWire g) tt guard (suc wire) h)
       (nests (ToWire wire) (go groups g) (guard_expr (OfWire g) (suc wire) guard) tt (guard_stands (OfWire g) tt guard (suc wire) h), tt)
 
   behind_gate : (g wire : ℕ) (guard : PlainGuard) (target : PlainNetTarget) (source : PlainNetExpr) → GuardNests guard → StandsIn 47 source → Nest (gate_drivers groups g wire guard ++ drive target (OfWire wire) source ∷ [])
   behind_gate g wire guard target source h fits =
-      are_both IsWritableDriver (gate_drivers groups g wire guard) (drive target (OfWire wire) source ∷ []) (gate_nest g wire guard h) (nests target (OfWire wire) source tt fits, tt)
+      each_append IsWritableDriver (gate_drivers groups g wire guard) (drive target (OfWire wire) source ∷ []) (gate_nest g wire guard h) (nests target (OfWire wire) source tt fits, tt)
 
   gated_nest : (g wire : ℕ) (guard : PlainGuard) (target : PlainNetTarget) (source : PlainNetExpr) → GuardNests guard → StandsIn 47 source → Nest (gated_drivers groups g wire guard target source)
   gated_nest g wire Always target source h fits = (nests target (go groups g) source tt fits, tt)
@@ -139,14 +140,14 @@ module _ (groups : ℕ) where
 
   looking_nest : (l : Looks) (wire : ℕ) (a : PlainAssign) → LooksPlain l → GuardNests a.guard → IsRead a.source.port → Nest (looking_drivers groups l wire a)
   looking_nest (LooksAlways offset) wire a plain h source =
-      are_both IsWritableDriver (guard_drivers offset wire a.guard) (drive (target_of a.target) (guard_expr offset wire a.guard) (OfPort a.source.port) ∷ []) (guard_nest offset plain a.guard wire h)
+      each_append IsWritableDriver (guard_drivers offset wire a.guard) (drive (target_of a.target) (guard_expr offset wire a.guard) (OfPort a.source.port) ∷ []) (guard_nest offset plain a.guard wire h)
       (nests (target_of a.target) (guard_expr offset wire a.guard) (OfPort a.source.port) (guard_stands offset plain a.guard wire h) source, tt)
   looking_nest (LooksIn g) wire a plain h source = gated_nest g wire a.guard (target_of a.target) (OfPort a.source.port) h source
 
-  pub assigns_nest : (list : List Owned) (wire : ℕ) → Are OwnedNests list → Nest (assigns_drivers groups wire list)
+  pub assigns_nest : (list : List Owned) (wire : ℕ) → Each OwnedNests list → Nest (assigns_drivers groups wire list)
   assigns_nest [] wire h = tt
   assigns_nest (a ∷ rest) wire h =
-      are_both IsWritableDriver (assign_drivers groups wire a) (assigns_drivers groups (wire + assign_wires a) rest)
+      each_append IsWritableDriver (assign_drivers groups wire a) (assigns_drivers groups (wire + assign_wires a) rest)
       (looking_nest (looks_of a.owner a.assign.target) wire a.assign (looks_plain a.owner a.assign.target) h.0.guard h.0.source) (assigns_nest rest (wire + assign_wires a) h.1)
 
   -- ISLANDS
@@ -164,7 +165,7 @@ module _ (groups : ℕ) where
     wanted_stands true wire = tt
     wanted_stands false wire = (omega arith, tt)
 
-    samples_stand : (ss : List Sample) → Are (StandsIn 33) (map (as_wanted groups x first island) ss)
+    samples_stand : (ss : List Sample) → Each (StandsIn 33) (map (as_wanted groups x first island) ss)
     samples_stand [] = tt
     samples_stand (s ∷ ss) = (wanted_stands s.wanted _, samples_stand ss)
 
@@ -175,7 +176,7 @@ module _ (groups : ℕ) where
         let mapped : length wants ≡ length p.samples = length-map p.samples (as_wanted groups x first island) in
         (14, omega arith, omega arith, omega arith, (tt, ((omega arith, tt, tt), all_stand 33 wants (samples_stand p.samples))))
 
-    points_nest : (n : ℕ) (rest : List PlainPoint) → Are PointNests rest → Nest (point_drivers groups x first island n rest)
+    points_nest : (n : ℕ) (rest : List PlainPoint) → Each PointNests rest → Nest (point_drivers groups x first island n rest)
     points_nest n [] h = tt
     points_nest n (p ∷ rest) h = (
       record { guard = begins_stand p h.0.few; source = h.0.port },
@@ -200,10 +201,10 @@ module _ (groups : ℕ) where
           omega arith,
           omega arith,
           omega arith,
-          all_stand 33 es (are_both (StandsIn 33) (in_range groups x first island o.timer o.from o.to) (map (as_wanted groups x first island) o.samples) (tt, ((omega arith, tt, tt), ((omega arith, tt, tt), tt))) (samples_stand o.samples)),
+          all_stand 33 es (each_append (StandsIn 33) (in_range groups x first island o.timer o.from o.to) (map (as_wanted groups x first island) o.samples) (tt, ((omega arith, tt, tt), ((omega arith, tt, tt), tt))) (samples_stand o.samples)),
         )
 
-    occurrences_nest : (n : ℕ) (rest : List PlainOccurrence) → Are (λ (o : PlainOccurrence). 3 + length o.samples ≤ most) rest → Nest (occurrence_drivers groups x first island n rest)
+    occurrences_nest : (n : ℕ) (rest : List PlainOccurrence) → Each (λ (o : PlainOccurrence). 3 + length o.samples ≤ most) rest → Nest (occurrence_drivers groups x first island n rest)
     occurrences_nest n [] h = tt
     occurrences_nest n (o ∷ rest) h =
         (record { guard = tt; source = active_stands o h.0 }, (record { guard = tt; source = tt }, (record { guard = tt; source = (omega arith, tt, tt) }, occurrences_nest (suc n) rest h.1)))
@@ -211,13 +212,13 @@ module _ (groups : ℕ) where
     island_nest : IslandNests island → Nest (island_drivers groups x first island)
     island_nest h = (
       record { guard = tt; source = (1, omega arith, omega arith, omega arith, (tt, (tt, tt))) },
-      are_both IsWritableDriver (timer_drivers groups x first island 0 island.timers) (point_drivers groups x first island 0 island.points ++ occurrence_drivers groups x first island 0 island.occurrences)
+      each_append IsWritableDriver (timer_drivers groups x first island 0 island.timers) (point_drivers groups x first island 0 island.points ++ occurrence_drivers groups x first island 0 island.occurrences)
           (timers_nest 0 island.timers)
-          (are_both IsWritableDriver (point_drivers groups x first island 0 island.points) (occurrence_drivers groups x first island 0 island.occurrences) (points_nest 0 island.points h.points) (occurrences_nest 0 island.occurrences h.occurrences)),
+          (each_append IsWritableDriver (point_drivers groups x first island 0 island.points) (occurrence_drivers groups x first island 0 island.occurrences) (points_nest 0 island.points h.points) (occurrences_nest 0 island.occurrences h.occurrences)),
     )
 
   -- CONTROL
-  module _ (islands : List PlainIsland) (held : Are IslandNests islands) where
+  module _ (islands : List PlainIsland) (held : Each IslandNests islands) where
     comb_nest : (x : Stand) (comb : Option ℕ) → Nest (comb_goes groups islands x comb)
     comb_nest x None = tt
     comb_nest x (Some g) = (record { guard = tt; source = tt }, tt)
@@ -233,7 +234,7 @@ module _ (groups : ℕ) where
         over_count (wire + wires_of (Placed form place)) (suc register + length (registers_of islands (Placed form place))) ss in
         omega (arith, length-append (visit Dynamic (Placed form place)) (visit_all Dynamic ss))
 
-    over_stand : (wire register : ℕ) (ss : PlainStatements) → Are (StandsIn 33) (arms_over groups islands wire register ss)
+    over_stand : (wire register : ℕ) (ss : PlainStatements) → Each (StandsIn 33) (arms_over groups islands wire register ss)
     over_stand wire register no_statements = tt
     over_stand wire register (a_statement s ss) = ((1, omega arith, omega arith, omega arith, ((omega arith, tt, tt), (tt, tt))), over_stand (wire + wires_of s) (suc register + length (registers_of islands s)) ss)
 
@@ -252,7 +253,7 @@ module _ (groups : ℕ) where
       form_nest (Seq (a_statement s ss)) x h acts few =
           let one : length (visit Dynamic s) ≤ most = omega (arith, length-append (visit Dynamic s) (visit_all Dynamic ss)) in
           let rest : length (visit_all Dynamic ss) ≤ most = omega (arith, length-append (visit Dynamic s) (visit_all Dynamic ss)) in
-          are_both IsWritableDriver (drivers_of groups islands (inside x) s) (sequence_drivers groups islands x (inside x).wire (behind islands s (inside x)) ss) (drivers_nest s (inside x) h.0 acts one)
+          each_append IsWritableDriver (drivers_of groups islands (inside x) s) (sequence_drivers groups islands x (inside x).wire (behind islands s (inside x)) ss) (drivers_nest s (inside x) h.0 acts one)
           (sequence_nest x (inside x).wire (behind islands s (inside x)) ss h.1 acts rest)
       form_nest (Par arms) x h acts few =
           let rest : length (visit_all Dynamic arms) ≤ most = omega arith in
@@ -260,7 +261,7 @@ module _ (groups : ℕ) where
           let count : parts_of (exprs_of (arms_over groups islands (suc (suc x.wire)) x.register arms)) ≡ length (arms_over groups islands (suc (suc x.wire)) x.register arms) =
           exprs_count (arms_over groups islands (suc (suc x.wire)) x.register arms) in (
             stand_nests x acts,
-            are_both IsWritableDriver (arms_drivers groups islands x (suc (suc x.wire)) x.register arms) (ends x (AllOf (exprs_of (at x ∷ arms_over groups islands (suc (suc x.wire)) x.register arms))) ∷ [])
+            each_append IsWritableDriver (arms_drivers groups islands x (suc (suc x.wire)) x.register arms) (ends x (AllOf (exprs_of (at x ∷ arms_over groups islands (suc (suc x.wire)) x.register arms))) ∷ [])
                 (arms_nest x (suc (suc x.wire)) x.register arms h rest) (
                   record {
                     guard = tt;
@@ -273,11 +274,11 @@ module _ (groups : ℕ) where
           let one : length (visit Dynamic a) ≤ most = omega (arith, length-append (visit Dynamic a) (visit Dynamic b)) in
           let two : length (visit Dynamic b) ≤ most = omega (arith, length-append (visit Dynamic a) (visit Dynamic b)) in (
             stand_nests x acts,
-            are_both IsWritableDriver (comb_goes groups islands x comb) _ (comb_nest x comb) (
+            each_append IsWritableDriver (comb_goes groups islands x comb) _ (comb_nest x comb) (
               record { guard = (1, omega arith, omega arith, omega arith, (tt, (h.0, tt))); source = tt },
-              are_both IsWritableDriver (drivers_of groups islands (past_test x) a) _ (drivers_nest a (past_test x) h.1 acts one) (
+              each_append IsWritableDriver (drivers_of groups islands (past_test x) a) _ (drivers_nest a (past_test x) h.1 acts one) (
                 record { guard = (1, omega arith, omega arith, omega arith, (tt, ((omega arith, h.0), tt))); source = tt },
-                are_both IsWritableDriver (drivers_of groups islands (behind islands a (past_test x)) b) _ (drivers_nest b (behind islands a (past_test x)) h.2 acts two)
+                each_append IsWritableDriver (drivers_of groups islands (behind islands a (past_test x)) b) _ (drivers_nest b (behind islands a (past_test x)) h.2 acts two)
                     (record { guard = tt; source = (1, omega arith, omega arith, omega arith, (tt, (tt, tt))) }, tt),
               ),
             ),
@@ -285,18 +286,18 @@ module _ (groups : ℕ) where
       form_nest (While test comb a) x h acts few =
           let one : length (visit Dynamic a) ≤ most = omega arith in (
             stand_nests x acts,
-            are_both IsWritableDriver (comb_goes groups islands x comb) _ (comb_nest x comb) (
+            each_append IsWritableDriver (comb_goes groups islands x comb) _ (comb_nest x comb) (
               record { guard = tt; source = (1, omega arith, omega arith, omega arith, (tt, ((omega arith, h.0), tt))) },
               (
                 record { guard = (1, omega arith, omega arith, omega arith, (tt, (h.0, tt))); source = tt },
-                are_both IsWritableDriver (drivers_of groups islands (past_test x) a) _ (drivers_nest a (past_test x) h.1 acts one) (record { guard = tt; source = tt }, tt),
+                each_append IsWritableDriver (drivers_of groups islands (past_test x) a) _ (drivers_nest a (past_test x) h.1 acts one) (record { guard = tt; source = tt }, tt),
               ),
             ),
           )
       form_nest (Repeat zero a) x h acts few = turn_nest x acts
       form_nest (Repeat (suc n) a) x h acts few =
           let one : length (visit Dynamic a) ≤ most = omega arith in
-          are_both IsWritableDriver (drivers_of groups islands (counted_inside x) a) (counting x n) (drivers_nest a (counted_inside x) h acts one) (
+          each_append IsWritableDriver (drivers_of groups islands (counted_inside x) a) (counting x n) (drivers_nest a (counted_inside x) h acts one) (
             record { guard = tt; source = (1, omega arith, omega arith, omega arith, (tt, ((omega arith, tt, tt), tt))) },
             (
               record { guard = (1, omega arith, omega arith, omega arith, (tt, ((omega arith, tt, tt), tt))); source = tt },
@@ -318,7 +319,7 @@ module _ (groups : ℕ) where
           let one : length (visit Dynamic s) ≤ most = omega (arith, length-append (visit Dynamic s) (visit_all Dynamic ss)) in
           let rest : length (visit_all Dynamic ss) ≤ most = omega (arith, length-append (visit Dynamic s) (visit_all Dynamic ss)) in (
             record { guard = tt; source = tt },
-            are_both IsWritableDriver (drivers_of groups islands x s) (sequence_drivers groups islands seq x.wire (behind islands s x) ss) (drivers_nest s x h.0 acts one) (sequence_nest seq x.wire (behind islands s x) ss h.1 acts rest),
+            each_append IsWritableDriver (drivers_of groups islands x s) (sequence_drivers groups islands seq x.wire (behind islands s x) ss) (drivers_nest s x h.0 acts one) (sequence_nest seq x.wire (behind islands s x) ss h.1 acts rest),
           )
 
       arms_nest : (par : Stand) (wire register : ℕ) (ss : PlainStatements) → PartsNest ss → length (visit_all Dynamic ss) ≤ most → Nest (arms_drivers groups islands par wire register ss)
@@ -327,13 +328,13 @@ module _ (groups : ℕ) where
           let one : length (visit Dynamic s) ≤ most = omega (arith, length-append (visit Dynamic s) (visit_all Dynamic ss)) in
           let rest : length (visit_all Dynamic ss) ≤ most = omega (arith, length-append (visit Dynamic s) (visit_all Dynamic ss)) in (
             record { guard = tt; source = tt },
-            are_both IsWritableDriver (drivers_of groups islands (arm_stand par wire register) s) _ (drivers_nest s (arm_stand par wire register) h.0 tt one)
+            each_append IsWritableDriver (drivers_of groups islands (arm_stand par wire register) s) _ (drivers_nest s (arm_stand par wire register) h.0 tt one)
                 (record { guard = tt; source = tt }, arms_nest par (wire + wires_of s) (suc register + length (registers_of islands s)) ss h.1 rest),
           )
 
     pub control_nest : (wire : ℕ) (s : PlainStatement) → StatementNests s → length (visit Dynamic s) ≤ most → Nest (control_drivers groups islands wire s)
     control_nest wire s h few =
-        are_both IsWritableDriver (drivers_of groups islands (whole_stand wire) s) (finishing wire s) (drivers_nest s (whole_stand wire) h tt few)
+        each_append IsWritableDriver (drivers_of groups islands (whole_stand wire) s) (finishing wire s) (drivers_nest s (whole_stand wire) h tt few)
         (record { guard = tt; source = tt }, (record { guard = (omega arith, tt, tt); source = tt }, (record { guard = tt; source = (omega arith, tt, tt) }, tt)))
 
 -- TREES
@@ -347,7 +348,7 @@ tree_nests target wire ds h =
     (λ n on value. record { guard = tt; source = tt }) (λ d k. record { guard = k.guard; source = k.source }) (length ds) wire ds (any_pairs wire (pairs (length ds))) h
 
 abbrev AllNest : List Driven → Type 0
-AllNest ts = Are (λ (t : Driven). Nest t.drivers) ts
+AllNest ts = Each (λ (t : Driven). Nest t.drivers) ts
 
 with_driver_nest : (d : PlainNetDriver) (ts : List Driven) → IsWritableDriver d → AllNest ts → AllNest (with_driver d ts)
 with_driver_nest d [] is h = ((is, tt), tt)
@@ -364,7 +365,7 @@ driven_nest (d ∷ ds) h = with_driver_nest d (driven ds) h.0 (driven_nest ds h.
 entries_nest : (ts : List Driven) (wire : ℕ) → AllNest ts → Nest (trees wire ts)
 entries_nest [] wire h = tt
 entries_nest (t ∷ ts) wire h =
-    are_both IsWritableDriver (tree t.target wire t.drivers) (trees (after wire (pairs (length t.drivers))) ts) (tree_nests t.target wire t.drivers h.0) (entries_nest ts (after wire (pairs (length t.drivers))) h.1)
+    each_append IsWritableDriver (tree t.target wire t.drivers) (trees (after wire (pairs (length t.drivers))) ts) (tree_nests t.target wire t.drivers h.0) (entries_nest ts (after wire (pairs (length t.drivers))) h.1)
 
 -- ALL TREES
 pub trees_nest : (ds : List PlainNetDriver) (wire : ℕ) → Nest ds → Nest (trees wire (driven (by_target ds)))

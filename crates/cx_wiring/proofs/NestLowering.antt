@@ -1,18 +1,16 @@
 -- Lowering keeps what nests: an occurrence or a point stands under no more samples than there are statements around it.
 use Rattle.std.proofs.Common.{◌≡◌, inl, inr, ℕ, suc, ◌+◌, ◌*◌, ◌≤◌, true, false, List, [], ◌∷◌, ◌++◌, length, Option, Some, None, refl, arith, length-append}
+use Rattle.cx_text.proofs.MemberLaws.{in_left, in_right, each_append}
 use Rattle.cx_text.specs.declared.places.Place.{Place}
 use Rattle.cx_meaning.specs.declared.ports.PlacedPort.{PlacedPort}
 use Rattle.cx_meaning.specs.Designs.{PlainComponent, PlainForm, Empty, Enable, Seq, Par, If, While, Repeat, StaticSeq, StaticPar, StaticIf, StaticRepeat, Timed, PlainStatement, Placed, PlainStatements, no_statements, a_statement}
 use Rattle.cx_meaning.specs.Islands.{group_length, form_length, length_of}
-use Rattle.cx_meaning.specs.Sights.{In}
+use Rattle.cx_text.specs.Members.{In, Each}
 use Rattle.cx_rules.specs.Items.{Context, Dynamic, InStatic, Branch, Visited, visit, visit_all, test_in}
 use Rattle.cx_net.specs.NetLimits.{IsRead}
 use Rattle.cx_static.specs.Islands.{PlainOccurrence}
 use Rattle.cx_static.specs.Lowering.{Gathered, Begin, begin_at, later, sampled, if_sampled, with_timer, with_point, with_occurrence, form_gathered, gathered, parts_gathered, arms_gathered, island_gathered, island_of, Lowering, with_island, after_enable, lowered_enable, form_after, after, parts_after, lowered_form, lowered, lowered_parts}
-use Rattle.cx_wiring.specs.Fitting.{Are}
 use Rattle.cx_wiring.specs.Nesting.{most, PointNests, FormNests, StatementNests, PartsNest, IslandNests}
-use Rattle.cx_wiring.proofs.FitLemmas.{are_both}
-use Rattle.cx_meaning.proofs.SightsLaws.{in_left, in_right}
 
 some_visited : (context : Context) (s : PlainStatement) → 1 ≤ length (visit context s)
 some_visited context (Placed form place) = omega arith
@@ -32,8 +30,8 @@ module _ (part : PlainComponent) where
   FewSamples o = 3 + length o.samples ≤ most
 
   record Nested (g : Gathered) : Type 0 where
-    points : Are PointNests g.points
-    occurrences : Are FewSamples g.occurrences
+    points : Each PointNests g.points
+    occurrences : Each FewSamples g.occurrences
 
   -- so many statements from here on, under these samples
   abbrev Under : Begin → ℕ → Type 0
@@ -43,7 +41,7 @@ module _ (part : PlainComponent) where
   occurrence_nests group x None g few h = h
   occurrence_nests group x (Some n) g few h =
       let less : 3 + length x.samples ≤ most = omega arith in
-      record { points = h.points; occurrences = are_both FewSamples g.occurrences (record { group = group; timer = x.timer; from = x.at; to = x.at + n; samples = x.samples } ∷ []) h.occurrences (less, tt) }
+      record { points = h.points; occurrences = each_append FewSamples g.occurrences (record { group = group; timer = x.timer; from = x.at; to = x.at + n; samples = x.samples } ∷ []) h.occurrences (less, tt) }
 
   mutual
     form_nests : (form : PlainForm) (context : Context) (place : Place) (x : Begin) (g : Gathered) → AllRead (visit context (Placed form place)) → Under x (length (visit context (Placed form place))) → Nested g → Nested (form_gathered part form x g)
@@ -71,7 +69,7 @@ module _ (part : PlainComponent) where
         let under_second : Under (if_sampled (length g.points) false x) (length (visit Branch z)) = omega arith in
         let port = read (record { context = context; form = StaticIf written test y z; place = place }) (inl refl) test refl in
         let point : Nested (with_point test.port x g) = record {
-          points = are_both PointNests g.points (record { port = test.port; timer = x.timer; at = x.at; samples = x.samples } ∷ []) h.points (record { port = port; few = own }, tt);
+          points = each_append PointNests g.points (record { port = test.port; timer = x.timer; at = x.at; samples = x.samples } ∷ []) h.points (record { port = port; few = own }, tt);
           occurrences = h.occurrences;
         } in
         nests z Branch (if_sampled (length g.points) false x) (gathered part y (if_sampled (length g.points) true x) (with_point test.port x g)) (read_rest (visit Branch y) (visit Branch z) (λ v i. read v (inr i))) under_second
@@ -103,14 +101,14 @@ module _ (part : PlainComponent) where
 
   -- CONTROL
   abbrev pub IslandsNest : Lowering → Type 0
-  IslandsNest l = Are IslandNests l.islands
+  IslandsNest l = Each IslandNests l.islands
 
   island_nests : (form : PlainForm) (place : Place) (l : Lowering) → AllRead (visit Dynamic (Placed form place)) → suc (length (visit Dynamic (Placed form place))) ≤ most → IslandsNest l → IslandsNest (with_island part form l)
   island_nests form place l read few h =
       let under : Under (begin_at 0 0 []) (length (visit Dynamic (Placed form place))) = omega arith in
       let all = form_nests form Dynamic place (begin_at 0 0 []) (with_timer part.place (form_length part form) None 0 (form_length part form) (record { cells = l.cells; timers = []; points = []; occurrences = [] })) read under
       (record { points = tt; occurrences = tt }) in
-      are_both IslandNests l.islands (island_of (form_length part form) (island_gathered part form l.cells) ∷ []) h (record { points = all.points; occurrences = all.occurrences }, tt)
+      each_append IslandNests l.islands (island_of (form_length part form) (island_gathered part form l.cells) ∷ []) h (record { points = all.points; occurrences = all.occurrences }, tt)
 
   enable_island_nests : (g : ℕ) (place : Place) (o : Option ℕ) (l : Lowering) → AllRead (visit Dynamic (Placed (Enable g) place)) → 2 ≤ most → IslandsNest l → IslandsNest (after_enable part g o l)
   enable_island_nests g place None l read few h = h

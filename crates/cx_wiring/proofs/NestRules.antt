@@ -1,13 +1,14 @@
 -- What the rules say of tests and assignments, where no expression of their net is to nest deeply: no output is read, and a guard has no
 -- more parts than the size of its component.
 use Rattle.std.proofs.Common.{◌≡◌, inl, inr, ℕ, zero, suc, ◌+◌, ◌<◌, ◌≤◌, Bool, true, false, List, [], ◌∷◌, length, Option, Some, None, get_or, refl, subst, arith}
+use Rattle.cx_text.proofs.MemberLaws.{in_left, in_right, number_in}
 use Rattle.cx_text.specs.declared.rules.Rule.TheVariants as told
 use Rattle.cx_meaning.specs.declared.ports.PortRef.{PortRef}
 use Rattle.cx_meaning.specs.declared.ports.PortRef.TheVariants as ports
 use Rattle.cx_meaning.specs.declared.ports.PlacedPort.{PlacedPort}
 use Rattle.cx_meaning.specs.Designs.{PlainGuard, Always, Atom, Negation, All, Any, Compared, Within, PlainGuards, no_guards, a_guard, PlainAssign, PlainGroup, PlainComponent, PlainDesign, component_at, group_at, no_group}
 use Rattle.cx_meaning.specs.Active.{Owned, source_order}
-use Rattle.cx_meaning.specs.Sights.{In}
+use Rattle.cx_text.specs.Members.{In, Each}
 use Rattle.cx_rules.specs.Accepted.{IsAccepted}
 use Rattle.cx_rules.specs.Items.{operands_of, operands_in, guard_nodes, nodes_in, sources_of, statements_in}
 use Rattle.cx_rules.specs.Ports.{component_of, is_target_only, path_of}
@@ -17,12 +18,10 @@ use Rattle.cx_rules.specs.Wellformed.{StandsIn}
 use Rattle.cx_net.specs.NetLimits.{IsRead}
 use Rattle.cx_static.specs.Lowering.{lowered_component}
 use Rattle.cx_wiring.specs.Assignments.{is_driven, driven_assigns}
-use Rattle.cx_wiring.specs.Fitting.{Are}
 use Rattle.cx_wiring.specs.Nesting.{most, guards_count, GuardNests, GuardsNest, OwnedNests, IsPart, AreParts, HasParts}
 use Rattle.cx_wiring.proofs.DesignNames.{in_filter, stands_in}
 use Rattle.cx_wiring.proofs.FitLemmas.{are_each}
 use Rattle.cx_wiring.proofs.NestLowering.{AllRead}
-use Rattle.cx_meaning.proofs.SightsLaws.{in_left, in_right, number_in}
 
 -- GUARDS have a node for each part
 mutual
@@ -137,7 +136,7 @@ module _ (d : PlainDesign) (accepted : IsAccepted d) (k : ℕ) (within : k < len
           (inl (record { within = within; number = n.0; is = refl; assign = o; stands = n.1; breaks = (p, j, e, (refl, refl)) })))
 
   -- the assignments that are driven
-  pub assigns_nests : size_of part ≤ most → ((o : Owned) → In (source_order part) o → HasParts o.assign.guard) → Are OwnedNests (driven_assigns (lowered_component part))
+  pub assigns_nests : size_of part ≤ most → ((o : Owned) → In (source_order part) o → HasParts o.assign.guard) → Each OwnedNests (driven_assigns (lowered_component part))
   assigns_nests small parts =
       are_each OwnedNests (driven_assigns (lowered_component part))
       (λ o j. let i = in_filter (is_driven (lowered_component part)) (source_order part) o j in

@@ -11,7 +11,7 @@ use Rattle.cx_prim.specs.PipeRows.{timer_row}
 use Rattle.cx_prim.specs.Table.{no_row, row_of}
 use Rattle.cx_meaning.specs.Designs.{PlainKind, OfPrimitive, OfComponent, PlainCell, PlainComponent, PlainDesign, component_at}
 use Rattle.cx_meaning.specs.Instances.{Instance, Cells, add_cell, cells_for, tree_within, tree_of}
-use Rattle.cx_meaning.specs.Sights.{In}
+use Rattle.cx_text.specs.Members.{In}
 use Rattle.cx_rules.specs.Flat.{IsFlat}
 use Rattle.cx_rules.specs.Accepted.{IsAccepted}
 use Rattle.cx_rules.specs.Items.{statements_in}

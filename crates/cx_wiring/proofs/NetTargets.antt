@@ -1,5 +1,5 @@
 -- Every driver of a component's net drives a register, a wire or a hole that is there; those of a statement drive what is its own.
-use Rattle.std.proofs.Common.{◌≡◌, ℕ, suc, ◌+◌, ◌≤◌, ◌<◌, ◌⊎◌, inl, inr, List, length, replicate, refl, ap₂, ◌∙◌, arith, length-append}
+use Rattle.std.proofs.Common.{◌≡◌, ℕ, suc, ◌+◌, ◌≤◌, ◌<◌, ◌⊎◌, inl, inr, List, length, replicate, refl, ap₂, ◌∙◌, arith, length-append, ◌-◌, ◌++◌, Some, slice_get}
 use Rattle.std.proofs.lemmas.List.{length-replicate}
 use Rattle.cx_meaning.specs.Designs.{PlainStatement}
 use Rattle.cx_net.specs.Nets.{PlainNetTarget, ToPort, ToRegister, ToWire, ToHole, ToDone}
@@ -16,6 +16,8 @@ use Rattle.cx_wiring.proofs.RoomLemmas.{drive_both, Room, Wires}
 use Rattle.cx_wiring.proofs.ControlTargets.{drivers_drive, control_drives}
 use Rattle.cx_wiring.proofs.AssignTargets.{assigns_drive}
 use Rattle.cx_wiring.proofs.TreeTargets.{by_target_drive, all_driven, trees_drive}
+use Rattle.cx_wiring.proofs.FitLemmas.{slice_replicate}
+use Rattle.cx_text.proofs.ListLaws.{behind}
 
 -- a target is a statement's own: a wire or a register of it, the register of its region, or it is none of control: a port, a go of
 -- a group, a wire before those of control
@@ -40,6 +42,13 @@ pub plain_wires_count : (lowered : PlainLowered) → length (plain_wires lowered
 plain_wires_count lowered =
     length-append (replicate (groups lowered) 32) (replicate (bits lowered) 1)
     ∙ ap₂ (λ (a : ℕ) (b : ℕ). a + b) (length-replicate (groups lowered) 32) (length-replicate (bits lowered) 1)
+
+-- the wires behind those of 32 bits
+pub bit_wire : (wide_ones narrow n : ℕ) → wide_ones ≤ n → n < wide_ones + narrow → slice_get {X = ℕ} (replicate wide_ones 32 ++ replicate narrow 1) n ≡ Some 1
+bit_wire wide_ones narrow n low high =
+    let count : length (replicate {A = ℕ} wide_ones 32) ≡ wide_ones = length-replicate wide_ones 32 in
+    let at : n ≡ length (replicate {A = ℕ} wide_ones 32) + (n - wide_ones) = omega (arith, count) in
+    behind (replicate wide_ones 32) (replicate narrow 1) n (n - wide_ones) at ∙ slice_replicate 1 narrow (n - wide_ones) (omega arith)
 
 module _ (d : PlainLowereds) (lowered : PlainLowered) where
   abbrev pub bounds : Bounds

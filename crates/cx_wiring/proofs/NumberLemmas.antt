@@ -1,7 +1,7 @@
 -- Numbers of a list: whether it has one says whether one is in it, and numbers that are apart are no more than there are.
 use Rattle.std.proofs.Common.{◌≡◌, inl, inr, ℕ, ◌≤◌, zero, suc, true, ◌||◌, List, [], ◌∷◌, length, nat_eq, refl, ap, sym, ◌∙◌, eq-eqb}
 use Rattle.std.proofs.lemmas.Bool.Decides.{eqb_tells}
-use Rattle.cx_meaning.specs.Sights.{In}
+use Rattle.cx_text.specs.Members.{In}
 use Rattle.cx_rules.proofs.Finite.{Distinct, distinct_few}
 use Rattle.cx_wiring.specs.Reached.{numbers_from, has_number}
 use Rattle.cx_wiring.proofs.MainLaws.{Tells}

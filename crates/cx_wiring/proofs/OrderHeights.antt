@@ -4,8 +4,9 @@ use Rattle.std.specs.Prelude.{filter, flat_map, filter_map}
 use Rattle.std.specs.List.{cons_option}
 use Rattle.std.proofs.lemmas.Bool.{eqb-true}
 use Rattle.std.proofs.lemmas.List.{append-nil}
+use Rattle.cx_text.proofs.MemberLaws.{in_at, of_joined}
 use Rattle.cx_meaning.specs.Designs.{PlainKind, OfPrimitive, OfComponent, PlainCell, PlainDesign, component_at}
-use Rattle.cx_meaning.specs.Sights.{In}
+use Rattle.cx_text.specs.Members.{In}
 use Rattle.cx_rules.specs.Wellformed.{by_cell, IsDesign}
 use Rattle.cx_net.specs.NetTree.{no_net_component, net_component_at}
 use Rattle.cx_static.specs.Islands.{PlainLowereds}
@@ -18,7 +19,6 @@ use Rattle.cx_wiring.proofs.NumberLemmas.{number_in, in_number}
 use Rattle.cx_wiring.proofs.TimerCells.{cells-lowered_component, components_of-timer_cells}
 use Rattle.cx_wiring.proofs.WayLemmas.{number_of_cell, count_is, part_there, there, IsWay, here_of, few_of_design, way_on, Reaches, step_on, alone}
 use Rattle.cx_wiring.proofs.DesignNames.{in_filter}
-use Rattle.cx_meaning.proofs.SightsLaws.{in_at, of_joined}
 
 -- LISTS of numbers
 pub in_flat_map : (f : ℕ → List ℕ) (hs : List ℕ) (x : ℕ) → In (flat_map f hs) x → (h : ℕ) × In hs h × In (f h) x

@@ -14,15 +14,15 @@ use Rattle.cx_prim.specs.Rows.{Row}
 use Rattle.cx_prim.specs.MemoryRows.{IsLayout, is_address_width, ports_named, address_ports, memory_row, sequential_memory_row}
 use Rattle.cx_prim.specs.Table.{PrimitiveRow, row_of}
 use Rattle.cx_prim.proofs.TableCases.{OfEachKind, of_row}
-use Rattle.cx_wiring.specs.Fitting.{Are}
-use Rattle.cx_wiring.proofs.FitLemmas.{are_both}
 use Rattle.cx_text.proofs.BoolLaws.{and_left, and_right}
+use Rattle.cx_text.specs.Members.{Each}
+use Rattle.cx_text.proofs.MemberLaws.{each_append}
 
 abbrev IsWide : PortRow → Type 0
 IsWide port = IsWidth port.width
 
 abbrev AreWide : Row → Type 0
-AreWide row = Are IsWide row.ports
+AreWide row = Each IsWide row.ports
 
 pub one_bit : IsWidth 1
 one_bit = record { some_bits = omega arith; few_bits = omega arith }
@@ -30,7 +30,7 @@ one_bit = record { some_bits = omega arith; few_bits = omega arith }
 pub count_bits : IsWidth 32
 count_bits = record { some_bits = omega arith; few_bits = omega arith }
 
-addresses_wide : (names : List PortName) (widths : List ℕ) → list_all is_address_width widths ≡ true → Are IsWide (ports_named names widths)
+addresses_wide : (names : List PortName) (widths : List ℕ) → list_all is_address_width widths ≡ true → Each IsWide (ports_named names widths)
 addresses_wide [] widths e = tt
 addresses_wide (name ∷ names) [] e = tt
 addresses_wide (name ∷ names) (w ∷ widths) e =
@@ -41,11 +41,11 @@ addresses_wide (name ∷ names) (w ∷ widths) e =
 
 memory_wide : (w : ℕ) (sizes address_widths : List ℕ) → IsLayout w sizes address_widths → AreWide (memory_row w sizes address_widths)
 memory_wide w sizes address_widths layout =
-    are_both IsWide (address_ports address_widths) _ (addresses_wide (Addr0 ∷ Addr1 ∷ Addr2 ∷ Addr3 ∷ []) address_widths layout.addressed) (layout.word, (one_bit, (layout.word, (one_bit, tt))))
+    each_append IsWide (address_ports address_widths) _ (addresses_wide (Addr0 ∷ Addr1 ∷ Addr2 ∷ Addr3 ∷ []) address_widths layout.addressed) (layout.word, (one_bit, (layout.word, (one_bit, tt))))
 
 sequential_wide : (w : ℕ) (sizes address_widths : List ℕ) → IsLayout w sizes address_widths → AreWide (sequential_memory_row w sizes address_widths)
 sequential_wide w sizes address_widths layout =
-    are_both IsWide (address_ports address_widths) _ (addresses_wide (Addr0 ∷ Addr1 ∷ Addr2 ∷ Addr3 ∷ []) address_widths layout.addressed) (one_bit, (one_bit, (layout.word, (layout.word, (one_bit, tt)))))
+    each_append IsWide (address_ports address_widths) _ (addresses_wide (Addr0 ∷ Addr1 ∷ Addr2 ∷ Addr3 ∷ []) address_widths layout.addressed) (one_bit, (one_bit, (layout.word, (layout.word, (one_bit, tt)))))
 
 out_wide : (operator : BinaryOperator) (w : ℕ) → IsWidth w → IsWidth (binary_out_width operator w)
 out_wide binary.Add w ok = ok
@@ -82,5 +82,5 @@ each_kind_wide = record {
 }
 
 -- THE PORTS of a primitive
-pub ports_wide : (p : PrimitiveRow) → Are (λ (port : PortRow). IsWidth port.width) (row_of p).ports
+pub ports_wide : (p : PrimitiveRow) → Each (λ (port : PortRow). IsWidth port.width) (row_of p).ports
 ports_wide p = of_row AreWide each_kind_wide p

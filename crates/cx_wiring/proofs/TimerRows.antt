@@ -12,7 +12,7 @@ use Rattle.cx_meaning.specs.declared.ports.PortRef.TheVariants as ports
 use Rattle.cx_meaning.specs.Designs.{PlainKind, OfPrimitive, OfComponent, PlainCell, PlainComponent}
 use Rattle.cx_meaning.specs.Instances.{Instance, Cells, no_cells, a_primitive, an_instance, cell_count}
 use Rattle.cx_meaning.specs.Active.{Owned}
-use Rattle.cx_meaning.specs.Sights.{In}
+use Rattle.cx_text.specs.Members.{In}
 use Rattle.cx_net.specs.Nets.{PlainNetComponent, ToPort}
 use Rattle.cx_net.specs.NetTree.{NetCells, ARow, net_cell_at}
 use Rattle.cx_net.specs.NetMeaning.{NetState, same_target}

@@ -9,17 +9,17 @@ use Rattle.cx_net.specs.NetMeaning.{same_target, drivers_to}
 use Rattle.cx_wiring.specs.Parts.{one, drive}
 use Rattle.cx_wiring.specs.Trees.{Driven, together, with_first, bundles, bundle_count, moved, bundle_drivers, behind, heads, tree_within, tree, pairs, trees}
 use Rattle.cx_wiring.specs.Bounds.{IsProper, AllDrive}
-use Rattle.cx_wiring.specs.Fitting.{Are}
 use Rattle.cx_wiring.proofs.PairCounts.{bundles_few}
 use Rattle.cx_wiring.proofs.BundleLaws.{bundles_long, heads_long, above, top_within}
 use Rattle.cx_wiring.proofs.BundleTargets.{of_first, of_second, bundles_dropped, first_on, first_value, later_wire, tree_dropped}
 use Rattle.cx_wiring.proofs.BundleReads.{NotWires, trees_below}
 use Rattle.cx_wiring.proofs.TreeLaws.{all_dropped, top, top_of, trees_stand}
 use Rattle.cx_wiring.proofs.DrivenLemmas.{AreEntries}
+use Rattle.cx_text.specs.Members.{Each}
 
 -- BUNDLES of at most 16 drivers, the first of at most so many
 abbrev AreShort : List (List PlainNetDriver) → Type 0
-AreShort bs = Are (λ (b : List PlainNetDriver). length b ≤ 16) bs
+AreShort bs = Each (λ (b : List PlainNetDriver). length b ≤ 16) bs
 
 abbrev FirstShort : ℕ → List (List PlainNetDriver) → Type 0
 FirstShort room [] = Unit {0}

@@ -3,9 +3,9 @@ use Rattle.std.proofs.Common.{◌≡◌, ℕ, zero, suc, ◌+◌, Bool, true, fa
 use Rattle.cx_net.specs.Nets.{PlainNetTarget, ToWire, PlainNetDriver}
 use Rattle.cx_wiring.specs.Trees.{is_same, goes_before, placed_among, by_target, Driven, with_driver, driven, behind, tree, pairs, trees, tree_widths}
 use Rattle.cx_wiring.specs.Bounds.{AllDrive}
-use Rattle.cx_wiring.specs.Fitting.{Are}
 use Rattle.cx_wiring.proofs.RoomLemmas.{drive_both, Wires, first_wire, later_wires, first_wires, rest_wires}
 use Rattle.cx_wiring.proofs.TreeDrivers.{entries_long, PairsFrom, tree_are}
+use Rattle.cx_text.specs.Members.{Each}
 
 module _ (P : PlainNetTarget → Type 0) where
   placed_drive : (d : PlainNetDriver) (ds : List PlainNetDriver) → P d.target → AllDrive P ds → AllDrive P (placed_among d ds)
@@ -43,11 +43,11 @@ module _ (P : PlainNetTarget → Type 0) where
       let all : Wires P wire (suc (suc (n + n))) = subst (Wires P wire) e own in
       (first_wire P all, first_wire P (later_wires P all), pairs_of_wires (suc (suc wire)) n (later_wires P (later_wires P all)))
 
-  drives_all : (ds : List PlainNetDriver) → Are (λ d. P d.target) ds → AllDrive P ds
+  drives_all : (ds : List PlainNetDriver) → Each (λ d. P d.target) ds → AllDrive P ds
   drives_all [] h = tt
   drives_all (d ∷ ds) h = (h.0, drives_all ds h.1)
 
-  any_leaves : (ds : List PlainNetDriver) → Are (λ d. Unit {0}) ds
+  any_leaves : (ds : List PlainNetDriver) → Each (λ d. Unit {0}) ds
   any_leaves [] = tt
   any_leaves (d ∷ ds) = (tt, any_leaves ds)
 

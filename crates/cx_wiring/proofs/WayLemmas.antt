@@ -7,7 +7,7 @@ use Rattle.std.proofs.lemmas.Bool.Decides.{eqb_tells}
 use Rattle.std.proofs.lemmas.List.{length-map}
 use Rattle.std.proofs.lemmas.Option.{slice_get-map, slice_get-get_or}
 use Rattle.cx_meaning.specs.Designs.{PlainCell, OfComponent, PlainDesign, no_component, component_at}
-use Rattle.cx_meaning.specs.Sights.{In}
+use Rattle.cx_text.specs.Members.{In}
 use Rattle.cx_rules.proofs.Finite.{Distinct}
 use Rattle.cx_rules.specs.Wellformed.{IsKind, LeadsTo, by_cell, by_way_of, IsDesign}
 use Rattle.cx_net.specs.Nets.{PlainNet}

@@ -2,12 +2,13 @@
 -- than there are components. What the rules say of the ports of a component holds so in each of its instances.
 use Rattle.std.proofs.Common.{◌≡◌, inl, inr, ℕ, zero, suc, ◌+◌, ◌<◌, ◌≤◌, List, [], ◌∷◌, length, refl, sym, ap, subst, arith}
 use Rattle.std.proofs.lemmas.Bool.{cases_lt}
+use Rattle.cx_text.specs.Members.{In}
 use Rattle.cx_prim.specs.Rows.{Row}
 use Rattle.cx_meaning.specs.declared.ports.PortRef.{PortRef}
 use Rattle.cx_meaning.specs.declared.ports.PortRef.TheVariants as ports
 use Rattle.cx_meaning.specs.Designs.{PlainKind, OfPrimitive, OfComponent, PlainCell, PlainComponent, PlainDesign, no_component, component_at}
 use Rattle.cx_meaning.specs.Instances.{Instance, Node, Cells, no_cells, At, Nothing, OfRow, OfInstance, cell_at, part_of, add_cell, cells_for, tree_within, tree_of, Path, instance_at, child_at}
-use Rattle.cx_meaning.specs.Sights.{In, part_port}
+use Rattle.cx_meaning.specs.Sights.{part_port}
 use Rattle.cx_prim.specs.Table.{row_of}
 use Rattle.cx_rules.specs.Ports.{is_part_output, is_cell_output, is_source_only, part_width, cell_width, written_width}
 use Rattle.cx_rules.specs.Wellformed.{IsKind, IsThere, LeadsTo, by_cell, by_way_of, IsDesign, port_count}

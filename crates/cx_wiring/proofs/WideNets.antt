@@ -2,6 +2,7 @@
 use Rattle.std.proofs.Common.{◌≡◌, ⊎_elim, ℕ, ◌<◌, true, List, ◌++◌, length, Some, slice_get, sym, subst}
 use Rattle.std.proofs.lemmas.Bool.{cases_lt}
 use Rattle.std.proofs.lemmas.List.{get_or_past}
+use Rattle.cx_text.proofs.MemberLaws.{in_at}
 use Rattle.cx_prim.specs.declared.ports.PortRow.{PortRow}
 use Rattle.cx_prim.specs.Widths.{IsWidth}
 use Rattle.cx_prim.specs.Table.{row_of}
@@ -21,7 +22,6 @@ use Rattle.cx_wiring.proofs.OrderHeights.{stands_at}
 use Rattle.cx_wiring.proofs.FitLemmas.{are_at}
 use Rattle.cx_wiring.proofs.PortWidths.{ports_wide}
 use Rattle.cx_wiring.proofs.WireWidths.{component_registers_wide, wires_wide}
-use Rattle.cx_meaning.proofs.SightsLaws.{in_at}
 use Rattle.cx_text.proofs.ListLaws.{there_at}
 
 pub rows_are_wide : RowsAreWide

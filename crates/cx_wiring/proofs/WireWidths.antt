@@ -1,8 +1,8 @@
 -- The registers and wires of the net of a component have 1 to 128 bits.
 use Rattle.std.proofs.Common.{◌≡◌, inl, inr, ℕ, zero, suc, ◌-◌, ◌<◌, Bool, true, false, if◌then◌else◌, List, [], ◌∷◌, ◌++◌, length, replicate, Option, Some, None, slice_get, refl, ap, sym, ◌∙◌, subst}
 use Rattle.std.specs.Prelude.{nat_lt, option_map, unwrap_or, All}
-use Rattle.std.proofs.lemmas.List.Elements.{All-nil, All-cons}
 use Rattle.std.proofs.lemmas.Option.{slice_get-map, slice_get-get_or}
+use Rattle.cx_text.proofs.MemberLaws.{in_at, each_append}
 use Rattle.cx_prim.specs.declared.ports.PortRow.{PortRow}
 use Rattle.cx_prim.specs.Widths.{IsWidth}
 use Rattle.cx_prim.specs.Table.{row_of}
@@ -13,38 +13,34 @@ use Rattle.cx_meaning.specs.Sights.{AnInput, AnOutput, ItsDone, output_port, par
 use Rattle.cx_rules.specs.Ports.{declared_width, part_width}
 use Rattle.cx_rules.specs.Wellformed.{IsSignature, IsDesign}
 use Rattle.cx_net.specs.Nets.{PlainNetTarget, ToPort, ToRegister, ToWire, ToHole, ToDone}
+use Rattle.cx_net.proofs.NetsLemmas.{each_all}
 use Rattle.cx_static.specs.Islands.{PlainIsland, PlainLowered}
 use Rattle.cx_static.specs.Lowering.{lowered_component, lowered_of}
 use Rattle.cx_wiring.specs.Counts.{sample_registers, form_registers, registers_of, registers_in, arms_registers}
 use Rattle.cx_wiring.specs.Trees.{Driven, pairs, pair_widths, tree_widths}
 use Rattle.cx_wiring.specs.Wiring.{groups, bits, plain_wires, component_registers, component_driven, width_in_part, kind_width, port_width, known_width, target_width}
-use Rattle.cx_wiring.specs.Fitting.{Are}
-use Rattle.cx_wiring.proofs.FitLemmas.{are_both, are_at}
+use Rattle.cx_wiring.proofs.FitLemmas.{are_at}
 use Rattle.cx_wiring.proofs.PortWidths.{ports_wide, one_bit, count_bits}
-use Rattle.cx_meaning.proofs.SightsLaws.{in_at}
 use Rattle.cx_text.proofs.ListLaws.{there_below}
+use Rattle.cx_text.specs.Members.{Each}
 
-are_replicated : (w n : ℕ) → IsWidth w → Are IsWidth (replicate n w)
+are_replicated : (w n : ℕ) → IsWidth w → Each IsWidth (replicate n w)
 are_replicated w zero wide = tt
 are_replicated w (suc n) wide = (wide, are_replicated w n wide)
 
-pub all_of : {A : Type 0} (P : A → Type 0) (xs : List A) → Are P xs → All P xs
-all_of P [] h = All-nil P
-all_of P (x ∷ xs) h = All-cons P x xs h.0 (all_of P xs h.1)
-
 -- REGISTERS
-samples_wide : (o : Option PlainIsland) → Are IsWidth (sample_registers o)
+samples_wide : (o : Option PlainIsland) → Each IsWidth (sample_registers o)
 samples_wide None = tt
 samples_wide (Some island) = are_replicated 1 (length island.points) one_bit
 
 module _ (islands : List PlainIsland) where
   mutual
-    form_wide : (form : PlainForm) → Are IsWidth (form_registers islands form)
+    form_wide : (form : PlainForm) → Each IsWidth (form_registers islands form)
     form_wide Empty = tt
     form_wide (Enable g) = tt
     form_wide (Seq parts) = parts_wide parts
     form_wide (Par arms) = arms_wide arms
-    form_wide (If test comb a b) = are_both IsWidth (registers_of islands a) (registers_of islands b) (registers_wide a) (registers_wide b)
+    form_wide (If test comb a b) = each_append IsWidth (registers_of islands a) (registers_of islands b) (registers_wide a) (registers_wide b)
     form_wide (While test comb a) = registers_wide a
     form_wide (Repeat zero a) = tt
     form_wide (Repeat (suc n) a) = (count_bits, registers_wide a)
@@ -54,18 +50,18 @@ module _ (islands : List PlainIsland) where
     form_wide (StaticRepeat written count a) = tt
     form_wide (Timed k) = samples_wide (slice_get islands k)
 
-    pub registers_wide : (s : PlainStatement) → Are IsWidth (registers_of islands s)
+    pub registers_wide : (s : PlainStatement) → Each IsWidth (registers_of islands s)
     registers_wide (Placed form place) = form_wide form
 
-    parts_wide : (ss : PlainStatements) → Are IsWidth (registers_in islands ss)
+    parts_wide : (ss : PlainStatements) → Each IsWidth (registers_in islands ss)
     parts_wide no_statements = tt
-    parts_wide (a_statement s ss) = are_both IsWidth (registers_of islands s) (registers_in islands ss) (registers_wide s) (parts_wide ss)
+    parts_wide (a_statement s ss) = each_append IsWidth (registers_of islands s) (registers_in islands ss) (registers_wide s) (parts_wide ss)
 
-    arms_wide : (ss : PlainStatements) → Are IsWidth (arms_registers islands ss)
+    arms_wide : (ss : PlainStatements) → Each IsWidth (arms_registers islands ss)
     arms_wide no_statements = tt
-    arms_wide (a_statement s ss) = (count_bits, are_both IsWidth (registers_of islands s) (arms_registers islands ss) (registers_wide s) (arms_wide ss))
+    arms_wide (a_statement s ss) = (count_bits, each_append IsWidth (registers_of islands s) (arms_registers islands ss) (registers_wide s) (arms_wide ss))
 
-pub component_registers_wide : (lowered : PlainLowered) → Are IsWidth (component_registers lowered)
+pub component_registers_wide : (lowered : PlainLowered) → Each IsWidth (component_registers lowered)
 component_registers_wide lowered = (count_bits, registers_wide lowered.islands lowered.part.control)
 
 -- PORTS of signatures
@@ -131,8 +127,8 @@ module _ (d : PlainDesign) (rules : IsDesign d) (k : ℕ) (within : k < length d
   cell_wide None p w e = absurd cc
   cell_wide (Some cell) p w e = kind_wide cell.kind p w e
 
-  plain_wide : Are IsWidth (plain_wires low)
-  plain_wide = are_both IsWidth (replicate (groups low) 32) (replicate (bits low) 1) (are_replicated 32 (groups low) count_bits) (are_replicated 1 (bits low) one_bit)
+  plain_wide : Each IsWidth (plain_wires low)
+  plain_wide = each_append IsWidth (replicate (groups low) 32) (replicate (bits low) 1) (are_replicated 32 (groups low) count_bits) (are_replicated 1 (bits low) one_bit)
 
   known_wide : (t : PlainNetTarget) (w : ℕ) → known_width (lowered_of d) low t ≡ Some w → IsWidth w
   known_wide (ToPort (ports.Cell c p)) w e = cell_wide (slice_get low.part.cells c) p w e
@@ -152,24 +148,24 @@ module _ (d : PlainDesign) (rules : IsDesign d) (k : ℕ) (within : k < length d
   target_wide : (t : PlainNetTarget) → IsWidth (target_width (lowered_of d) low t)
   target_wide t = or_one (known_width (lowered_of d) low t) (known_wide t)
 
-  pairs_wide : (w n : ℕ) → IsWidth w → Are IsWidth (pair_widths w n)
+  pairs_wide : (w n : ℕ) → IsWidth w → Each IsWidth (pair_widths w n)
   pairs_wide w zero wide = tt
   pairs_wide w (suc n) wide = (one_bit, (wide, pairs_wide w n wide))
 
-  trees_wide : (ts : List Driven) → Are IsWidth (tree_widths (target_width (lowered_of d) low) ts)
+  trees_wide : (ts : List Driven) → Each IsWidth (tree_widths (target_width (lowered_of d) low) ts)
   trees_wide [] = tt
   trees_wide (t ∷ ts) =
-      are_both IsWidth (pair_widths (target_width (lowered_of d) low t.target) (pairs (length t.drivers))) (tree_widths (target_width (lowered_of d) low) ts)
+      each_append IsWidth (pair_widths (target_width (lowered_of d) low t.target) (pairs (length t.drivers))) (tree_widths (target_width (lowered_of d) low) ts)
       (pairs_wide (target_width (lowered_of d) low t.target) (pairs (length t.drivers)) (target_wide t.target)) (trees_wide ts)
 
   -- THE WIRES of a component
-  pub wires_wide : Are IsWidth (plain_wires low ++ tree_widths (target_width (lowered_of d) low) (component_driven low))
-  wires_wide = are_both IsWidth (plain_wires low) (tree_widths (target_width (lowered_of d) low) (component_driven low)) plain_wide (trees_wide (component_driven low))
+  pub wires_wide : Each IsWidth (plain_wires low ++ tree_widths (target_width (lowered_of d) low) (component_driven low))
+  wires_wide = each_append IsWidth (plain_wires low) (tree_widths (target_width (lowered_of d) low) (component_driven low)) plain_wide (trees_wide (component_driven low))
 
-signature_are : (decls : List PortDecl) → IsSignature decls → Are (λ (decl : PortDecl). IsWidth decl.width) decls
+signature_are : (decls : List PortDecl) → IsSignature decls → Each (λ (decl : PortDecl). IsWidth decl.width) decls
 signature_are [] sign = tt
 signature_are (decl ∷ decls) sign = (let port = sign decl (inl refl) in record { some_bits = port.some_bits; few_bits = port.few_bits }, signature_are decls (λ x i. sign x (inr i)))
 
 -- the ports of a signature
 pub signature_wide : (decls : List PortDecl) → IsSignature decls → All (λ (decl : PortDecl). IsWidth decl.width) decls
-signature_wide decls sign = all_of (λ (decl : PortDecl). IsWidth decl.width) decls (signature_are decls sign)
+signature_wide decls sign = each_all (λ (decl : PortDecl). IsWidth decl.width) decls (signature_are decls sign)

@@ -5,10 +5,11 @@ use Rattle.std.specs.Prelude.{◌^◌, option_map, All}
 use Rattle.std.proofs.lemmas.Bool.{cases_lt}
 use Rattle.std.proofs.lemmas.List.{length-map}
 use Rattle.std.proofs.lemmas.Option.{slice_get-map, slice_get-get_or}
+use Rattle.cx_text.proofs.MemberLaws.{in_at, each_append}
 use Rattle.cx_prim.specs.Widths.{IsWidth}
 use Rattle.cx_meaning.specs.Designs.{PlainKind, OfPrimitive, OfComponent, PlainCell, PlainComponent, PlainDesign, no_component, component_at}
 use Rattle.cx_meaning.specs.Instances.{Instance}
-use Rattle.cx_meaning.specs.Sights.{In}
+use Rattle.cx_text.specs.Members.{In}
 use Rattle.cx_rules.specs.Flat.{IsFlat}
 use Rattle.cx_rules.specs.Accepted.{IsAccepted}
 use Rattle.cx_rules.specs.Externals.{numbers_of}
@@ -19,6 +20,7 @@ use Rattle.cx_vtree.specs.Layout.{is_word}
 use Rattle.cx_net.specs.Nets.{PlainNetComponent}
 use Rattle.cx_net.specs.NetLimits.{IsWritableDriver, IsWritableComponent, IsWritableExternal, IsWritable}
 use Rattle.cx_net.specs.NetMeaning.{NetState}
+use Rattle.cx_net.proofs.NetsLemmas.{each_all}
 use Rattle.cx_static.specs.Islands.{PlainLowered}
 use Rattle.cx_static.specs.Lowering.{unlowered, lowered_component, lowered_of}
 use Rattle.cx_wiring.specs.Assignments.{driven_assigns, assigns_drivers}
@@ -32,12 +34,12 @@ use Rattle.cx_wiring.proofs.NumberLemmas.{in_number, few_apart, length-numbers_f
 use Rattle.cx_wiring.proofs.MainLaws.{number_from, order_main}
 use Rattle.cx_wiring.proofs.TimerCells.{cells-lowered_component}
 use Rattle.cx_wiring.proofs.WayLemmas.{count_is, there, placed, net_long}
-use Rattle.cx_wiring.proofs.FitLemmas.{are_both, slice_right}
+use Rattle.cx_wiring.proofs.FitLemmas.{slice_right}
 use Rattle.cx_wiring.proofs.OrderHeights.{stands_at}
 use Rattle.cx_wiring.proofs.MainOrder.{distinct_order, main_last}
 use Rattle.cx_wiring.proofs.FitLowering.{lowered_few}
 use Rattle.cx_wiring.proofs.FitNets.{size_among, targets_few}
-use Rattle.cx_wiring.proofs.WireWidths.{all_of, component_registers_wide, wires_wide, signature_wide}
+use Rattle.cx_wiring.proofs.WireWidths.{component_registers_wide, wires_wide, signature_wide}
 use Rattle.cx_wiring.proofs.NestDrivers.{control_nest, assigns_nest, trees_nest}
 use Rattle.cx_wiring.proofs.NestLowering.{islands_nest, lowers}
 use Rattle.cx_wiring.proofs.NestRules.{tests_read, assigns_nests}
@@ -46,7 +48,7 @@ use Rattle.cx_wiring.proofs.ComponentCounts.{PartsHold, timers_few, component_fe
 use Rattle.cx_wiring.proofs.NetCounts.{net_nets, net_instances, net_words}
 use Rattle.cx_rules.proofs.SizesLemmas.{sizes_many}
 use Rattle.cx_text.proofs.ListLaws.{there_at, front}
-use Rattle.cx_meaning.proofs.SightsLaws.{in_at}
+use Rattle.cx_text.proofs.BoolLaws.{not_both}
 
 -- WHAT THE TEXT of a design gives beside the rules, where compile does not find it too large
 pub record CanBeWritten (d : PlainDesign) : Type 0 where
@@ -117,9 +119,9 @@ module _ (d : PlainDesign) (rules : IsDesign d) (flat : IsFlat d) (accepted : Is
         let few : length (visit Dynamic low.part.control) ≤ most = omega arith in
         let less : size_of part ≤ most = omega arith in
         let read = tests_read d accepted k within in
-        all_of IsWritableDriver C.drivers
+        each_all IsWritableDriver C.drivers
         (trees_nest (plain_drivers low) (length (plain_wires low))
-        (are_both IsWritableDriver (control_drivers (groups low) low.islands (first_of_control low) low.part.control) (assigns_drivers (groups low) (first_of_assigns low) (driven_assigns low))
+        (each_append IsWritableDriver (control_drivers (groups low) low.islands (first_of_control low) low.part.control) (assigns_drivers (groups low) (first_of_assigns low) (driven_assigns low))
         (control_nest (groups low) low.islands (islands_nest part part.control (unlowered part) read visits tt) (first_of_control low) low.part.control (lowers part part.control (unlowered part) read) few)
         (assigns_nest (groups low) (driven_assigns low) (first_of_assigns low) (assigns_nests d accepted k within less (can.parts k within)))))
 
@@ -132,8 +134,8 @@ module _ (d : PlainDesign) (rules : IsDesign d) (flat : IsFlat d) (accepted : Is
         record {
           input_widths = signature_wide part.inputs (rules.components k within).inputs;
           output_widths = signature_wide part.outputs (rules.components k within).outputs;
-          register_widths = all_of IsWidth (component_registers low) (component_registers_wide low);
-          wire_widths = all_of IsWidth (plain_wires low ++ tree_widths (target_width (lowered_of d) low) (component_driven low)) (wires_wide d rules k within);
+          register_widths = each_all IsWidth (component_registers low) (component_registers_wide low);
+          wire_widths = each_all IsWidth (plain_wires low ++ tree_widths (target_width (lowered_of d) low) (component_driven low)) (wires_wide d rules k within);
           few_ports = (let h : 2 + length part.inputs + length part.outputs < 2 ^ 64 = omega arith in h);
           few_registers = (let h : length C.registers < 2 ^ 64 = omega (arith, wired) in h);
           few_wires = (let h : length C.wires < 2 ^ 64 = omega (arith, wired) in h);
@@ -162,12 +164,6 @@ module _ (d : PlainDesign) (rules : IsDesign d) (flat : IsFlat d) (accepted : Is
       let free : 0 * 0 ≡ 0 = zero-mul 0 in
       let rest : cells_cost outside (timer_cells main) ≤ 0 = omega arith in
       outside_none (timer_cells main) rest
-
-  not_both : (b : Bool) → b ≡ true → b ≡ false → ⊥
-  not_both b e f = never (sym e ∙ f)
-    where
-      never : true ≡ false → ⊥
-      never g = cc
 
   -- an external cell is one of the design's own, at the same place
   own_cell : (c : ℕ) (x : PlainCell) → slice_get main_low.part.cells c ≡ Some x → x.external ≡ true → slice_get main.cells c ≡ Some x

@@ -12,10 +12,7 @@ use Rattle.cx_static.specs.declared.islands.IslandTimer.{IslandTimer}
 use Rattle.cx_static.specs.Islands.{PlainPoint, PlainOccurrence, PlainIsland}
 use Rattle.cx_wiring.specs.Assignments.{target_of}
 use Rattle.cx_wiring.specs.Bounds.{IsProper}
-
-abbrev pub Are : {A : Type 0} → (A → Type 0) → List A → Type 0
-Are P [] = Unit {0}
-Are P (x ∷ xs) = P x × Are P xs
+use Rattle.cx_text.specs.Members.{Each}
 
 -- from this entry on a list has these entries
 abbrev pub HasFrom : List ℕ → ℕ → List ℕ → Type 0
@@ -58,7 +55,7 @@ pub record OccurrenceFits (groups timers points : ℕ) (o : PlainOccurrence) : T
   pub timer : o.timer < timers
   pub from : o.from < 2 ^ 32
   pub to : o.to < 2 ^ 32
-  pub samples : Are (SampleFits points) o.samples
+  pub samples : Each (SampleFits points) o.samples
 
 module _ (net : PlainNet) (part : PlainNetComponent) where
   -- A DRIVER with a guard of one bit drives what is there and may be driven, from a source of its width
@@ -126,11 +123,11 @@ module _ (net : PlainNet) (part : PlainNetComponent) where
     pub port : HasPortWidth net part p.port 1
     pub timer : p.timer < timers
     pub at : p.at < 2 ^ 32
-    pub samples : Are (SampleFits points) p.samples
+    pub samples : Each (SampleFits points) p.samples
 
   pub record IslandFits (groups : ℕ) (cells : List PlainCell) (island : PlainIsland) : Type 0 where
     pub length_few : island.length < 2 ^ 32
     pub first : 0 < length island.timers
-    pub timers : Are (TimerFits cells (length island.timers)) island.timers
-    pub points : Are (PointFits (length island.timers) (length island.points)) island.points
-    pub occurrences : Are (OccurrenceFits groups (length island.timers) (length island.points)) island.occurrences
+    pub timers : Each (TimerFits cells (length island.timers)) island.timers
+    pub points : Each (PointFits (length island.timers) (length island.points)) island.points
+    pub occurrences : Each (OccurrenceFits groups (length island.timers) (length island.points)) island.occurrences

@@ -5,7 +5,7 @@ use Rattle.cx_meaning.specs.Designs.{PlainGuard, Always, Atom, Negation, All, An
 use Rattle.cx_meaning.specs.Active.{Owned}
 use Rattle.cx_net.specs.NetLimits.{IsRead}
 use Rattle.cx_static.specs.Islands.{PlainPoint, PlainOccurrence, PlainIsland}
-use Rattle.cx_wiring.specs.Fitting.{Are}
+use Rattle.cx_text.specs.Members.{Each}
 
 -- the most parts under one operator: 2 to the 14
 abbrev pub most : ℕ
@@ -63,8 +63,8 @@ pub record PointNests (p : PlainPoint) : Type 0 where
 
 -- an occurrence is active where its timer is in a range, of three parts, and its samples are as wanted
 pub record IslandNests (island : PlainIsland) : Type 0 where
-  pub points : Are PointNests island.points
-  pub occurrences : Are (λ (o : PlainOccurrence). 3 + length o.samples ≤ most) island.occurrences
+  pub points : Each PointNests island.points
+  pub occurrences : Each (λ (o : PlainOccurrence). 3 + length o.samples ≤ most) island.occurrences
 
 -- PARTS OF GUARDS. Always stands for an assignment without a guard, and is no part of one
 abbrev mutual

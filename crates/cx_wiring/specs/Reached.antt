@@ -1,6 +1,7 @@
 -- Which components a net has: those that main reaches, each behind those of its cells.
-use Rattle.std.specs.Prelude.{ℕ, zero, suc, Bool, false, ◌||◌, nat_eq, max, List, [], ◌∷◌, length, map, filter, flat_map, Option, Some, None, slice_get, if◌then◌else◌}
-use Rattle.cx_meaning.specs.Designs.{PlainKind, OfPrimitive, OfComponent, PlainCell}
+use Rattle.std.specs.Prelude.{ℕ, zero, suc, nat_eq, max, List, [], ◌∷◌, length, map, filter, flat_map, Option, Some, None, slice_get, if◌then◌else◌}
+use Rattle.cx_meaning.specs.Designs.{PlainCell}
+pub use Rattle.cx_meaning.specs.Designs.{component_of_kind, components_of, has_number}
 use Rattle.cx_static.specs.Islands.{PlainLowered, PlainLowereds}
 
 -- so many numbers from one on
@@ -8,21 +9,9 @@ abbrev pub numbers_from : ℕ → ℕ → List ℕ
 numbers_from n zero = []
 numbers_from n (suc k) = n ∷ numbers_from (suc n) k
 
-abbrev pub component_of_kind : PlainKind → List ℕ
-component_of_kind (OfPrimitive primitive) = []
-component_of_kind (OfComponent k) = k ∷ []
-
--- the components of cells
-abbrev pub components_of : List PlainCell → List ℕ
-components_of cells = flat_map (λ cell. component_of_kind cell.kind) cells
-
 abbrev pub cells_at : Option PlainLowered → List PlainCell
 cells_at None = []
 cells_at (Some lowered) = lowered.part.cells
-
-abbrev pub has_number : ℕ → List ℕ → Bool
-has_number k [] = false
-has_number k (n ∷ rest) = nat_eq k n || has_number k rest
 
 -- the place of a number in a list; 0 for one that is not there
 abbrev pub place_in : ℕ → List ℕ → ℕ

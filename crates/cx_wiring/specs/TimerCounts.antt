@@ -4,16 +4,12 @@ use Rattle.std.specs.Prelude.{ℕ, zero, suc, ◌-◌, ◌%◌, ◌==◌, ◌&&�
 use Rattle.cx_meaning.specs.Designs.{PlainKind, OfPrimitive, OfComponent, PlainCell}
 use Rattle.cx_meaning.specs.Islands.{or_zero}
 use Rattle.cx_static.specs.declared.islands.IslandTimer.{IslandTimer}
+use Rattle.cx_rules.specs.Wellformed.{first_number}
 
 -- of a timer of p cycles that runs while the one around it counts from the first to before the second: its count where it runs
 abbrev pub nested : ℕ → ℕ → ℕ → Option ℕ → Option ℕ
 nested from to p None = None
 nested from to p (Some c) = if nat_le from c && nat_lt c to then Some ((c - from) % p) else None
-
--- the first number of a primitive: of a timer its length
-abbrev pub first_number : List ℕ → ℕ
-first_number [] = 0
-first_number (n ∷ rest) = n
 
 abbrev pub kind_cycles : PlainKind → ℕ
 kind_cycles (OfPrimitive primitive) = first_number primitive.numbers

@@ -19,6 +19,7 @@ use Rattle.cx_wiring.proofs.TakingLemmas.{takes_append, says_either, says_equals
 use Rattle.cx_wiring_cycles.specs.Shown.{wide, Going, told, in_par, counted}
 use Rattle.cx_wiring_cycles.specs.Turning.{Turns}
 use Rattle.cx_wiring_cycles.proofs.FormTurns.{region_known}
+use Rattle.cx_text.proofs.NumberLaws.{never}
 
 pub wide_value : (a b : ℕ) → ◌≡◌ {A = Option BitVector} (Some (wide a)) (Some (wide b)) → a ≡ b
 wide_value a b e = ap (λ o. option_map_or (λ x. x.value) o 0) e
@@ -87,9 +88,6 @@ module _ (groups : ℕ) (around : NetAround) (registers : ℕ → Option BitVect
     over_is : (f : Bool) → Says around registers look (end_of wire) f → Says around registers look (arm_over wire register s) ((kept == positions_of s) || f)
     over_is f h = says_either around registers look (equals (OfRegister register) (positions_of s)) (end_of wire) (kept == positions_of s) f (says_equals around registers look (OfRegister register) (wide kept) (positions_of s) is) h
 
-    untrue : {A : Type 0} → false ≡ true → A
-    untrue e = absurd cc
-
     -- an arm that runs
     pub arm_runs : (p : P) → kept ≡ coding.number p → coding.number p < coding.size → (k : Control P) → Turns groups around registers look coding wire register 0 kept ds later goes k
         → ArmTurns coding par wire register s ds (counted next later) goes k
@@ -100,7 +98,7 @@ module _ (groups : ℕ) (around : NetAround) (registers : ℕ → Option BitVect
 
         numbers : (k : Control P) → Turns groups around registers look coding wire register 0 kept ds later goes k → (e : Bool) → Says around registers look (end_of par.wire) e → (e ≡ true → is_done k ≡ true)
             → (n : ℕ) → n < suc coding.extra → counted next later n ≡ (if e then 0 else bank_code coding k n)
-        numbers (At q) t true h over n fewer = untrue (over refl)
+        numbers (At q) t true h over n fewer = never (over refl)
         numbers (At q) t false h over zero fewer = wide_value next (coding.number q) (next_is false false h t.ends ∙ t.moves ∙ (let none : 0 + coding.number q ≡ coding.number q = omega arith in ap (λ n. Some (wide n)) none))
         numbers (At q) t false h over (suc n) fewer = t.others n (omega arith)
         numbers Done t true h over zero fewer = wide_value next 0 (next_is true true h t.ends)

@@ -1,15 +1,15 @@
 -- The samples that a cycle of an island takes hang on the ports of the static ifs that begin in it, and on no others.
 use Rattle.std.proofs.Common.{◌≡◌, ℕ, zero, suc, ◌+◌, ◌-◌, ◌%◌, ◌<◌, ◌≤◌, inl, not, nat_lt, nat_eq, Bool, true, false, if◌then◌else◌, List, [], Option, Some, None, option_map, option_and_then, refl, sym, ap, ◌∙◌, subst, arith}
 use Rattle.std.proofs.lemmas.Bool.{lt-ltb, le-ltb, eq-eqb, ne_eqb}
+use Rattle.cx_text.proofs.MemberLaws.{in_left, in_right}
 use Rattle.cx_meaning.specs.declared.ports.PortRef.{PortRef}
 use Rattle.cx_meaning.specs.Designs.{PlainComponent, PlainForm, Empty, Enable, Seq, Par, If, While, Repeat, StaticSeq, StaticPar, StaticIf, StaticRepeat, Timed, PlainStatement, Placed, PlainStatements, no_statements, a_statement}
-use Rattle.cx_meaning.specs.Sights.{In}
+use Rattle.cx_text.specs.Members.{In}
 use Rattle.cx_meaning.specs.Islands.{length_of}
 use Rattle.cx_laws.specs.Positions.{no_port, port_at}
 use Rattle.cx_laws.specs.Samples.{Samples, form_ifs, ifs_of, ifs_in, form_by, statement_by, while_by, parts_by, arms_by, begun_by}
 use Rattle.cx_control.specs.Sampling.{within_length, behind_length, where_so, taken, form_now, statement_now, parts_now, arms_now}
 use Rattle.cx_text.proofs.OptionLaws.{some_inj}
-use Rattle.cx_meaning.proofs.SightsLaws.{in_left, in_right}
 
 so_some : (b : Bool) (o : Option ℕ) (j : ℕ) → where_so b o ≡ Some j → (b ≡ true) × (o ≡ Some j)
 so_some true o j e = (refl, e)

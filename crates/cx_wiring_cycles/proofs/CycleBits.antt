@@ -4,6 +4,7 @@ use Rattle.std.proofs.lemmas.Bool.{cases_lt, lt-ltb, le-ltb, lt-leb, le-leb, eq-
 use Rattle.cx_control.specs.Sampling.{where_so, taken}
 use Rattle.cx_wiring.specs.TimerCounts.{nested}
 use Rattle.cx_wiring_cycles.proofs.IslandOffsets.{range_in, Lies, lies, before, in_it, behind, at_before, at_in, at_behind}
+use Rattle.cx_text.proofs.BoolLaws.{and_false}
 
 -- a count that is there
 abbrev pub is_there : Option ℕ → Bool
@@ -65,13 +66,9 @@ active_there from to c w (Some d) e =
     some true = refl
     some false = refl
 
-    off_right : (a : Bool) → (a && false) ≡ false
-    off_right true = refl
-    off_right false = refl
-
     by : Lies from (to - from) d → (nat_le from d && (nat_lt d to && w)) ≡ is_there (where_so w (range_in from (to - from) (Some d)))
     by (before l) = ap (λ b. b && (nat_lt d to && w)) (lt-leb from d l) ∙ none w ∙ ap (λ r. is_there (where_so w r)) (sym (at_before from (to - from) d l))
     by (behind l f) =
-        ap (λ b. nat_le from d && (b && w)) (le-ltb d to (omega arith)) ∙ off_right (nat_le from d) ∙ none w ∙ ap (λ r. is_there (where_so w r)) (sym (at_behind from (to - from) d l f))
+        ap (λ b. nat_le from d && (b && w)) (le-ltb d to (omega arith)) ∙ and_false (nat_le from d) ∙ none w ∙ ap (λ r. is_there (where_so w r)) (sym (at_behind from (to - from) d l f))
     by (in_it l f) =
         ap (λ b. b && (nat_lt d to && w)) (le-leb from d l) ∙ ap (λ b. b && w) (lt-ltb d to (omega arith)) ∙ some w ∙ ap (λ r. is_there (where_so w r)) (sym (at_in from (to - from) d l f))

@@ -20,6 +20,7 @@ use Rattle.cx_wiring.proofs.TakingLemmas.{takes_append}
 use Rattle.cx_wiring_cycles.specs.GuardPorts.{AssignHolds, AssignsHold}
 use Rattle.cx_wiring_cycles.specs.Shown.{wide}
 use Rattle.cx_wiring_cycles.proofs.AssignLaws.{ReadsBit, no_port_wire, bit_before, bit_behind, always_takes, gated_takes}
+use Rattle.cx_text.proofs.OptionLaws.{none_some}
 
 -- the assignments of the done of g stand in g, and their guards look at no offset
 module _ (v : Values) (at : ℕ → BitVector) (g : ℕ) where
@@ -62,9 +63,6 @@ module _ (groups : ℕ) (islands : List PlainIsland) (named : IslandsName groups
           let is = own (eqb-true q g e) in
           first bit refl ∙ ap (λ b. Some (if b then v a.assign.source.port else Flowing rest)) is.1
           ∙ acts (offset_of (group g) a.owner) (ap (offset_of (group g)) is.0 ∙ ap (λ b. if b then Some 0 else None) (eq-eqb g g refl))
-
-  none_some : (h : ℕ) → ◌≡◌ {A = Option ℕ} None (Some h) → ⊥
-  none_some h e = cc
 
   some_is : (h k : ℕ) → ◌≡◌ {A = Option ℕ} (Some h) (Some k) → h ≡ k
   some_is h k e = cc

@@ -7,7 +7,7 @@ use Rattle.cx_bits.specs.BitVector.{BitVector}
 use Rattle.cx_meaning.specs.declared.ports.PortRef.{PortRef}
 use Rattle.cx_meaning.specs.declared.ports.PortRef.TheVariants as ports
 use Rattle.cx_meaning.specs.Designs.{PlainComponent, Timed, Placed}
-use Rattle.cx_meaning.specs.Sights.{In}
+use Rattle.cx_text.specs.Members.{In}
 use Rattle.cx_net.specs.Nets.{OfWire, ToRegister}
 use Rattle.cx_net.specs.NetMeaning.{Node, APort, AWire, NetAround, truth_bit, same_target}
 use Rattle.cx_static.specs.declared.islands.Sample.{Sample}
@@ -68,7 +68,7 @@ module _ (part : PlainComponent) (named : IslandsName (groups (lowered_component
     abbrev is_it : slice_get (lowered_component part).islands k ≡ Some n.taken.there.0
     is_it = n.taken.there.1
 
-    abbrev lists : IsListed part n.taken.there.0
+    abbrev lists : IsListed n.taken.there.0
     lists = listed part k n.taken.there.0 n.taken.there.1
 
     its_timer : (t : ℕ) → t < length n.taken.there.0.timers → (timer : IslandTimer) × (slice_get n.taken.there.0.timers t ≡ Some timer)

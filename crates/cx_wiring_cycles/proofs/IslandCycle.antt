@@ -5,7 +5,7 @@ use Rattle.cx_meaning.specs.declared.ports.PortRef.{PortRef}
 use Rattle.cx_meaning.specs.Designs.{PlainCell, PlainComponent, PlainForm}
 use Rattle.cx_meaning.specs.Islands.{or_zero, form_length}
 use Rattle.cx_meaning.specs.Active.{Entry}
-use Rattle.cx_meaning.specs.Sights.{In}
+use Rattle.cx_text.specs.Members.{In}
 use Rattle.cx_control.specs.Sampling.{taken, form_now}
 use Rattle.cx_laws.specs.Positions.{FormIfs, entry_at, no_entry}
 use Rattle.cx_laws.specs.Samples.{form_ifs, form_by}
@@ -18,7 +18,6 @@ use Rattle.cx_static.specs.Lowering.{Gathered, begin_at, island_gathered, island
 use Rattle.cx_wiring.specs.Parts.{drive}
 use Rattle.cx_wiring.specs.Stands.{Stand, at}
 use Rattle.cx_wiring.specs.IslandDrivers as wired
-use Rattle.cx_wiring.specs.IslandDrivers.{island_drivers}
 use Rattle.cx_wiring.specs.Takings.{value, Says}
 use Rattle.cx_wiring.specs.TimerCounts.{nested, cycles_at, counts_in}
 use Rattle.cx_wiring.proofs.TakingLemmas.{true_bit, takes_known}
@@ -31,6 +30,7 @@ use Rattle.cx_wiring_cycles.proofs.TimerHolds.{counts_hold, counts_first}
 use Rattle.cx_wiring_cycles.proofs.CycleBits.{is_there, nested_there, taken_there, active_there}
 use Rattle.cx_wiring_cycles.proofs.IslandValues.{IslandLooks, live, sample, active, all_wanted, sample_wire, live_first, live_within, says_begins, active_is}
 use Rattle.cx_text.proofs.ListLaws.{there_below, there_at}
+use Rattle.cx_text.proofs.OptionLaws.{some_inj}
 
 -- a timer within comes behind the one around it
 pub outer_before : (part : PlainComponent) (form : PlainForm) (front : List PlainCell) (n : ℕ) (timer : IslandTimer) → slice_get (island_gathered part form front).timers n ≡ Some timer → (o : ℕ) → timer.outer ≡ Some o → o < n
@@ -41,10 +41,7 @@ outer_before part form front zero timer e o f = let none : timer.outer ≡ None 
 outer_before part form front (suc n) timer e o f =
     let w = (island_listed part form front).within (suc n) timer e (omega arith) in
     let less : w.0 < suc n = TimerFits.before w.2 in
-    let is : w.0 ≡ o = same w.0 o (sym w.1 ∙ f) in omega arith
-  where
-    same : (a b : ℕ) → ◌≡◌ {A = Option ℕ} (Some a) (Some b) → a ≡ b
-    same a b g = cc
+    let is : w.0 ≡ o = some_inj w.0 o (sym w.1 ∙ f) in omega arith
 
 module _ (part : PlainComponent) (form : PlainForm) (front : List PlainCell) (groups : ℕ) (x : Stand) (first : ℕ) (around : NetAround) (registers : ℕ → Option BitVector) (look : Node → Option BitVector) (count : ℕ → ℕ) (done : Bool)
     (looks : IslandLooks groups x first (island_of (form_length part form) (island_gathered part form front)) around registers look count done) (t : ℕ) (less : t < form_length part form) (cycles : ℕ → ℕ)

@@ -1,5 +1,6 @@
 -- The goes of an island are those of its groups: what is active in one of its cycles.
 use Rattle.std.proofs.Common.{◌≡◌, ◌⊎◌, inl, inr, ℕ, suc, ◌+◌, ◌-◌, ◌%◌, nat_eq, nat_lt, Bool, true, false, if◌then◌else◌, List, [], ◌∷◌, ◌++◌, Some, is_some, refl, sym, ap, subst}
+use Rattle.cx_text.proofs.MemberLaws.{in_either, in_left, in_right}
 use Rattle.cx_meaning.specs.declared.kinds.GroupKind.{GroupKind}
 use Rattle.cx_meaning.specs.declared.kinds.GroupKind.TheVariants as kinds
 use Rattle.cx_meaning.specs.Designs.{PlainComponent, PlainForm, Empty, Enable, Seq, Par, If, While, Repeat, StaticSeq, StaticPar, StaticIf, StaticRepeat, Timed, PlainStatement, Placed, PlainStatements, no_statements, a_statement, group_at}
@@ -8,7 +9,7 @@ use Rattle.cx_meaning.specs.Instances.{Cells}
 use Rattle.cx_meaning.specs.Islands.{length_of}
 use Rattle.cx_meaning.specs.Active.{Entry, offset_in}
 use Rattle.cx_meaning.specs.Control.{groups_in, groups_of, groups_in_all}
-use Rattle.cx_meaning.specs.Sights.{In}
+use Rattle.cx_text.specs.Members.{In}
 use Rattle.cx_laws.specs.Positions.{entry_at, no_entry}
 use Rattle.cx_laws.specs.Samples.{Samples, ifs_of, form_by, statement_by, while_by, parts_by, arms_by, active_by}
 use Rattle.cx_lockstep.specs.Worlds.{Machine}
@@ -19,7 +20,6 @@ use Rattle.cx_control.specs.Controls.{coded_below}
 use Rattle.cx_net.specs.NetMeaning.{truth_bit}
 use Rattle.cx_wiring_cycles.specs.Shown.{Going, told}
 use Rattle.cx_wiring_cycles.proofs.BegunSamples.{in_then}
-use Rattle.cx_meaning.proofs.SightsLaws.{in_either, in_left, in_right}
 
 -- the groups of entries go
 abbrev pub goings : List Entry → List Going

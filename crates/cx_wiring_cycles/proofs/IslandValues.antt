@@ -6,7 +6,7 @@ use Rattle.cx_bits.specs.BitVector.{BitVector}
 use Rattle.cx_meaning.specs.declared.ports.PortRef.TheVariants as ports
 use Rattle.cx_meaning.specs.declared.ports.Comparison.{Comparison}
 use Rattle.cx_meaning.specs.declared.ports.Comparison.TheVariants.{Less, AtLeast}
-use Rattle.cx_meaning.specs.Sights.{In}
+use Rattle.cx_text.specs.Members.{In}
 use Rattle.cx_meaning.specs.Truths.{compares}
 use Rattle.cx_net.specs.Nets.{PlainNetExpr, OfPort, OfRegister, OfWire, Inverse, AllOf, Compares, exprs_of, ToPort, ToRegister, ToWire, ToHole, PlainNetDriver}
 use Rattle.cx_net.specs.NetMeaning.{Node, APort, AWire, NetAround, both_known, is_true, truth_bit, zero_wide, all_expr, same_target}

@@ -1,8 +1,9 @@
 -- What holds at the leaves that run holds where control stands.
 use Rattle.std.proofs.Common.{ℕ, zero, suc, inl, Bool, List, Option, Some, None, refl}
+use Rattle.cx_text.proofs.MemberLaws.{in_left, in_right}
 use Rattle.cx_meaning.specs.declared.ports.PortRef.{PortRef}
 use Rattle.cx_meaning.specs.Designs.{PlainComponent, PlainForm, Empty, Enable, Seq, Par, If, While, Repeat, StaticSeq, StaticPar, StaticIf, StaticRepeat, Timed, PlainStatement, Placed, PlainStatements, no_statements, a_statement}
-use Rattle.cx_meaning.specs.Sights.{In}
+use Rattle.cx_text.specs.Members.{In}
 use Rattle.cx_meaning.specs.Islands.{group_length}
 use Rattle.cx_lockstep.specs.Worlds.{Store, Control, At, Done, Machine}
 use Rattle.cx_lockstep.specs.Machines.{First, Second, left_of, right_of, AtTest, InThen, InElse, AtHead, InBody}
@@ -13,7 +14,6 @@ use Rattle.cx_control.specs.StatementCodings.{LeafCodings}
 use Rattle.cx_static.specs.Islands.{PlainIsland}
 use Rattle.cx_wiring_cycles.specs.Shown.{FormAgrees, StatementAgrees, PartsAgree, ArmsAgree, enable_agrees}
 use Rattle.cx_wiring_cycles.specs.AtLeaves.{AnyTest, AnyGroup, enable_holds, FormHolds, PartsHold, ArmsHold, IslandsHold, enable_saw, FormSaw, StatementSaw, PartsSaw, ArmsSaw}
-use Rattle.cx_meaning.proofs.SightsLaws.{in_left, in_right}
 
 at_both : {P : Type 0} (f g h : P → Type 0) → ((p : P) → f p → g p → h p) → (k : Control P) → at_fine f k → at_fine g k → at_fine h k
 at_both f g h e (At p) a b = e p a b

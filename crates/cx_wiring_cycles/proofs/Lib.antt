@@ -33,6 +33,7 @@ pub mod GuardLaws
 pub mod AssignLaws
 pub mod HoleLaws
 pub mod ComponentLaws
+pub mod NodeTakes
 pub mod CycleLaws
 pub mod IdleNumbers
 pub mod IslandIdles

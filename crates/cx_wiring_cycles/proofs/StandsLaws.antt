@@ -7,7 +7,7 @@ use Rattle.cx_bits.specs.BitVector.{BitVector}
 use Rattle.cx_meaning.specs.declared.ports.PortRef.{PortRef}
 use Rattle.cx_meaning.specs.Designs.{PlainComponent, PlainForm, Empty, Enable, Seq, Par, If, While, Repeat, StaticSeq, StaticPar, StaticIf, StaticRepeat, Timed, PlainStatement, Placed, PlainStatements, no_statements, a_statement, list_of}
 use Rattle.cx_meaning.specs.Answers.{Test, Holds, Fails, Unclear}
-use Rattle.cx_meaning.specs.Sights.{In}
+use Rattle.cx_text.specs.Members.{In}
 use Rattle.cx_meaning.specs.Islands.{group_length}
 use Rattle.cx_lockstep.specs.Worlds.{Store, Control, At, Done, Machine, step, is_done}
 use Rattle.cx_lockstep.specs.Machines.{First, Second, InIf, AtTest, InThen, InElse, AtHead, InBody, in_round, next_round, within, second_start, by_test, join}

@@ -11,6 +11,7 @@ use Rattle.cx_wiring.specs.Takings.{Says, takes, AllIdle}
 use Rattle.cx_wiring.proofs.TakingLemmas.{takes_append, passes, idle_passes}
 use Rattle.cx_wiring_cycles.specs.Shown.{wide, Going}
 use Rattle.cx_wiring_cycles.specs.Turning.{Turns, Moves, Enters}
+use Rattle.cx_text.proofs.BoolLaws.{either_zero}
 
 -- NUMBERS beside each other
 pub beside_same : (c d : ℕ) (a b f g : ℕ → ℕ) → ((j : ℕ) → j < c → a j ≡ f j) → ((j : ℕ) → j < d → b j ≡ g j) → (n : ℕ) → n < c + d → beside c a b n ≡ beside c f g n
@@ -31,11 +32,7 @@ beside_later c d a b f g same j less =
     ∙ same (c + j) (omega arith) ∙ ap (λ t. if t then f (c + j) else g ((c + j) - c)) (le-ltb (c + j) c (omega arith)) ∙ ap g back
 
 pub beside_zero : (c : ℕ) (n : ℕ) → beside c zeros zeros n ≡ 0
-beside_zero c n = choice (nat_lt n c)
-  where
-    choice : (t : Bool) → ◌≡◌ {A = ℕ} (if t then 0 else 0) 0
-    choice true = refl
-    choice false = refl
+beside_zero c n = either_zero (nat_lt n c)
 
 pub zero_first : (c d : ℕ) (a b : ℕ → ℕ) → ((n : ℕ) → n < c + d → beside c a b n ≡ 0) → (j : ℕ) → j < c → a j ≡ 0
 zero_first c d a b same = beside_first c d a b zeros zeros (λ n less. same n less ∙ sym (beside_zero c n))

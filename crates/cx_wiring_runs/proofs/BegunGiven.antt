@@ -1,5 +1,6 @@
 -- Where the ports of the static ifs that begin are the same in the net as the machine sees them, its islands take the same samples.
 use Rattle.std.proofs.Common.{◌≡◌, ℕ, Bool, Option, Some, None}
+use Rattle.cx_text.specs.Members.{In}
 use Rattle.cx_meaning.specs.declared.kinds.GroupKind.{GroupKind}
 use Rattle.cx_meaning.specs.declared.kinds.GroupKind.TheVariants as kinds
 use Rattle.cx_meaning.specs.declared.ports.PortRef.{PortRef}
@@ -7,7 +8,7 @@ use Rattle.cx_meaning.specs.Designs.{PlainComponent, PlainDesign, PlainForm, Ena
 use Rattle.cx_meaning.specs.Instances as instances
 use Rattle.cx_meaning.specs.Instances.{Cells}
 use Rattle.cx_meaning.specs.Active.{nothing}
-use Rattle.cx_meaning.specs.Sights.{In, seen}
+use Rattle.cx_meaning.specs.Sights.{seen}
 use Rattle.cx_meaning.specs.Islands.{group_length}
 use Rattle.cx_laws.specs.Samples.{says, begun_by}
 use Rattle.cx_lockstep.specs.Worlds.{Machine}

@@ -1,12 +1,13 @@
 -- In a cycle without a fault the ports of the static ifs that begin have in the net of a node what its machine takes, whatever goes there.
 use Rattle.std.proofs.Common.{◌≡◌, ℕ, [], ◌∷◌}
+use Rattle.cx_text.specs.Members.{In}
 use Rattle.cx_text.specs.declared.places.Place.{Place}
 use Rattle.cx_meaning.specs.declared.ports.PortRef.{PortRef}
 use Rattle.cx_meaning.specs.Designs.{PlainComponent, PlainDesign, PlainForm}
 use Rattle.cx_meaning.specs.Instances as instances
 use Rattle.cx_meaning.specs.Instances.{Cells, OfRow, cell_at}
 use Rattle.cx_meaning.specs.Active.{nothing}
-use Rattle.cx_meaning.specs.Sights.{In, seen}
+use Rattle.cx_meaning.specs.Sights.{seen}
 use Rattle.cx_laws.specs.Samples.{Samples, says, begun_by}
 use Rattle.cx_lockstep.specs.Worlds.{Machine}
 use Rattle.cx_lockstep.specs.Running.{AnIsland, running}

@@ -38,6 +38,7 @@ use Rattle.cx_net.specs.Nets.{ToPort}
 use Rattle.cx_prim.specs.CellStates.{Timer}
 use Rattle.cx_prim.specs.PipeRows.{timer_idle}
 use Rattle.cx_meaning.specs.declared.ports.PortRef.TheVariants as ports
+use Rattle.cx_text.proofs.OptionLaws.{same_some}
 
 -- the leaves of an instance have as many numbers as their codings
 module _ (i : Instance) (children : ℕ → Coded) where
@@ -58,10 +59,7 @@ module _ (i : Instance) (children : ℕ → Coded) where
 
 -- the go of an instance that has one is 0 or 1
 go_is : (o : Option BitVector) (b : Bool) → o ≡ Some (truth_bit b) → (x : BitVector) → o ≡ Some x → is_true x ≡ false → b ≡ false
-go_is o b e x f off = sym (true_bit b) ∙ ap is_true (same (truth_bit b) x (sym e ∙ f)) ∙ off
-  where
-    same : (x y : BitVector) → ◌≡◌ {A = Option BitVector} (Some x) (Some y) → x ≡ y
-    same x y g = cc
+go_is o b e x f off = sym (true_bit b) ∙ ap is_true (same_some (truth_bit b) x (sym e ∙ f)) ∙ off
 
 module _ (d : PlainDesign) (of_island : PlainComponent → NetState → ℕ → ℕ → ℕ → ℕ) (part : PlainComponent) (cells : Cells) (fine : IsFineNode d of_island part cells) (v : NetState) (around : NetAround) (look : NetLook)
     (solves : Solves (block (wired_in d) timers_of (component_numbers of_island) (instances.Node part cells)) around v look) where

@@ -34,7 +34,7 @@ use Rattle.cx_wiring_cycles.proofs.IslandReads.{IsUntimed}
 use Rattle.cx_wiring_cycles.proofs.SizeLaws.{size_is, enable_one, island_one}
 use Rattle.cx_wiring_runs.specs.BlockNumbers.{component_numbers}
 use Rattle.cx_meaning.specs.Active.{Owned}
-use Rattle.cx_meaning.specs.Sights.{In}
+use Rattle.cx_text.specs.Members.{In}
 use Rattle.cx_wiring_runs.specs.Blocks.{block, Solves, TellsDone}
 
 -- the tests of a statement and the holes of its groups are bits, where ports of one bit and all holes are

@@ -1,14 +1,14 @@
 -- THE HOLE OF A GROUP THAT CALLS is in the net what its machine takes it for, where the done of the cell that it calls is.
 use Rattle.std.proofs.Common.{◌≡◌, ℕ, suc, ◌+◌, ◌<◌, inl, inr, Bool, true, false, ◌||◌, if◌then◌else◌, List, [], ◌∷◌, length, Option, Some, None, unwrap_or, refl, sym, ap, ◌∙◌, subst, arith}
 use Rattle.std.specs.Prelude.{slice_get}
+use Rattle.cx_text.specs.Members.{In}
 use Rattle.cx_text.specs.declared.places.Place.{Place}
 use Rattle.cx_bits.specs.BitVector.{BitVector}
-use Rattle.cx_prim.specs.Rows.{Row, is_enable_side}
+use Rattle.cx_prim.specs.Rows.{Row}
 use Rattle.cx_prim.specs.RegisterRow.{register_output, register_row}
 use Rattle.cx_prim.specs.CellStates as states
 use Rattle.cx_prim.specs.CellStates.{CellState}
-use Rattle.cx_prim.specs.declared.ports.Side.{Side}
-use Rattle.cx_prim.specs.declared.ports.Side.TheVariants as sides
+use Rattle.cx_prim.proofs.PortsLemmas.{is_enable_side-Enable}
 use Rattle.cx_meaning.specs.declared.ports.PortRef.{PortRef}
 use Rattle.cx_meaning.specs.declared.ports.PortRef.TheVariants as ports
 use Rattle.cx_meaning.specs.declared.sights.Seen.TheVariants.{Value}
@@ -17,7 +17,7 @@ use Rattle.cx_meaning.specs.Designs.{PlainAssign, PlainComponent, PlainDesign, E
 use Rattle.cx_meaning.specs.Instances.{Instance, Node, Cells, OfRow, cell_at, part_of}
 use Rattle.cx_meaning.specs.Active.{Owned, group, same_port, source_order}
 use Rattle.cx_meaning.specs.Truths.{One, truth_of}
-use Rattle.cx_meaning.specs.Sights.{In, of_option, seen}
+use Rattle.cx_meaning.specs.Sights.{of_option, seen}
 use Rattle.cx_meaning.specs.Calls.{enables_at, enables_primitive, captures_in, called, captures}
 use Rattle.cx_rules.specs.Items.{Dynamic}
 use Rattle.cx_rules.specs.Ports.{width_of}
@@ -165,13 +165,6 @@ module _ (d : PlainDesign) (numbers : Instance → NetState → ℕ → ℕ) (pa
           each w (inr never) = absurd never
       by false f = false_from_ne_true hole (λ h. true_false_also (sym (wants (sym hole_set ∙ h) (done_port c form.child) (subst (λ l. In l (done_port c form.child)) (sym alone) (inl refl))) ∙ ap is_set (done_value ∙ ap truth_bit f)))
 
-  -- A GROUP THAT CAPTURES
-  enable_side : (side : Side) → is_enable_side side ≡ true → side ≡ sides.Enable
-  enable_side sides.Enable f = refl
-  enable_side sides.Plain f = absurd cc
-  enable_side sides.Output f = absurd cc
-  enable_side sides.Registered f = absurd cc
-
   abbrev capture_rules : CaptureRules (Node part cells) g c
   capture_rules = record {
     child = form.child;
@@ -179,7 +172,7 @@ module _ (d : PlainDesign) (numbers : Instance → NetState → ℕ → ℕ) (pa
     acyclic = control.rules.groups g there;
     deeper = (control.rules.circles).1;
     own_hole = own_hole;
-    no_enable = λ o j none r p row target at enables. rules.kept.quiet o r p row j none target at (enable_side (side_of row p) enables);
+    no_enable = λ o j none r p row target at enables. rules.kept.quiet o r p row j none target at (is_enable_side-Enable (side_of row p) enables);
     right_done = form.right_done;
     right_enable = λ a j r p row target at enables. form.right_enable a j r p row target at enables;
     registers = λ r cell stands_so is_reg. form.registers r cell stands_so is_reg;

@@ -5,8 +5,9 @@ use Rattle.cx_bits.specs.BitVector.{BitVector}
 use Rattle.cx_prim.specs.Rows.{Row}
 use Rattle.cx_meaning.specs.Designs.{PlainComponent, Enable, Placed}
 use Rattle.cx_meaning.specs.Instances as instances
-use Rattle.cx_meaning.specs.Instances.{Instance, Cells, no_cells, a_primitive, an_instance, OfRow, OfInstance, cell_at}
-use Rattle.cx_meaning.specs.Sights.{In}
+use Rattle.cx_meaning.specs.Instances.{Instance, Cells, no_cells, a_primitive, an_instance, OfInstance, cell_at}
+use Rattle.cx_text.specs.Members.{In}
+use Rattle.cx_text.proofs.OptionLaws.{same_some}
 use Rattle.cx_meaning.specs.Calls.{called}
 use Rattle.cx_lockstep.specs.Worlds.{Control, At, Done, Machine, is_done}
 use Rattle.cx_lockstep.specs.Statements.{LeafMachines}
@@ -31,10 +32,7 @@ use Rattle.cx_wiring_runs.proofs.ChildLooks.{child_solves}
 
 -- a bit that is known to be a value
 pub bit_is : (o : Option BitVector) (b t : Bool) (x : BitVector) → o ≡ Some (truth_bit b) → o ≡ Some x → is_true x ≡ t → b ≡ t
-bit_is o b t x e f is = sym (true_bit b) ∙ ap is_true (same (truth_bit b) x (sym e ∙ f)) ∙ is
-  where
-    same : (x y : BitVector) → ◌≡◌ {A = Option BitVector} (Some x) (Some y) → x ≡ y
-    same x y g = cc
+bit_is o b t x e f is = sym (true_bit b) ∙ ap is_true (same_some (truth_bit b) x (sym e ∙ f)) ∙ is
 
 module _ (wired : PlainComponent → PlainNetComponent) (timers : PlainComponent → List Row) (numbers : Instance → NetState → ℕ → ℕ) where
   done_of : (child : Instance) → is_bit (net_of_instance wired timers numbers child) [] TheDone ≡ true

@@ -3,6 +3,7 @@
 use Rattle.std.proofs.Common.{◌≡◌, ℕ, inl, inr, ◌⊎◌, Bool, true, false, ◌&&◌, ◌||◌, not, if◌then◌else◌, List, [], ◌∷◌, Some, None, refl, sym, ap, ap₂, ◌∙◌, subst}
 use Rattle.std.specs.Prelude.{map}
 use Rattle.std.proofs.lemmas.Bool.{eq-eqb}
+use Rattle.cx_text.specs.Members.{In}
 use Rattle.cx_bits.specs.BitVector.{BitVector}
 use Rattle.cx_prim.specs.Rows.{Row, is_enable_side}
 use Rattle.cx_meaning.specs.declared.ports.PortRef.{PortRef}
@@ -13,7 +14,7 @@ use Rattle.cx_meaning.specs.Rows.{side_of}
 use Rattle.cx_meaning.specs.Instances.{Instance, OfRow, cell_at, cells_of, part_of}
 use Rattle.cx_meaning.specs.Active.{Active, Owned, Acting, group, same_port, offset_of, source_order, drivers}
 use Rattle.cx_meaning.specs.Truths.{One, Zero, truth_of, truth_of_bit, not_truth, and_truth, or_truth}
-use Rattle.cx_meaning.specs.Sights.{Look, In, guard_truth, all_truth, any_truth}
+use Rattle.cx_meaning.specs.Sights.{Look, guard_truth, all_truth, any_truth}
 use Rattle.cx_rules.specs.CallShape.{go_port, done_port, register_done, one, is_atom, is_always, is_negated, is_right_go, is_right_enable, is_register_enable, with_target, captured, wanted_dones, conjuncts, are_dones, is_right_done_assign, is_right_done}
 use Rattle.cx_rules.proofs.FoundLemmas.{same_is}
 use Rattle.cx_control.specs.Flows.{Values, zero_of, is_set, guard_on, all_on, any_on, first_on}

@@ -5,7 +5,7 @@ use Rattle.cx_prim.specs.Rows.{Row}
 use Rattle.cx_meaning.specs.declared.ports.PortRef.TheVariants as ports
 use Rattle.cx_meaning.specs.Designs.{PlainComponent}
 use Rattle.cx_meaning.specs.Instances as instances
-use Rattle.cx_meaning.specs.Instances.{Instance, Cells, no_cells, a_primitive, an_instance, Nothing, OfRow, OfInstance, cell_at}
+use Rattle.cx_meaning.specs.Instances.{Instance, Cells, OfInstance, cell_at}
 use Rattle.cx_meaning.specs.Sights.{AnInput, output_port}
 use Rattle.cx_net.specs.Nets.{PlainNetComponent}
 use Rattle.cx_net.specs.NetTree.{NetInstance, AChild, net_part, net_cell_at, NetCells, no_net_cells, a_row, a_child}
@@ -14,6 +14,7 @@ use Rattle.cx_wiring.specs.NetBits.{input_width, input_width_below}
 use Rattle.cx_wiring.specs.PartNets.{net_of_instance, net_of_cells}
 use Rattle.cx_wiring_runs.specs.Blocks.{block, block_below, Solves}
 use Rattle.cx_rules.proofs.PortsLemmas.{declared_less}
+use Rattle.cx_wiring_values.proofs.PortsKnown.{child_stands}
 
 input_at : (cells : NetCells) (c : ℕ) (child : NetInstance) → net_cell_at cells c ≡ AChild child → (n : ℕ) → input_width_below cells c n ≡ input_width child n
 input_at no_net_cells c child is n = absurd cc
@@ -43,22 +44,11 @@ input_bit child n e =
     ap₂ (λ a b. a && (b == 1)) (input_port child n 1 e) wide
 
 module _ (wired : PlainComponent → PlainNetComponent) (timers : PlainComponent → List Row) (numbers : Instance → NetState → ℕ → ℕ) where
-  pub child_stands : (cells : Cells) (more : List Row) (c : ℕ) (child : Instance) → cell_at cells c ≡ OfInstance child
-      → net_cell_at (net_of_cells wired timers numbers cells more) c ≡ AChild (net_of_instance wired timers numbers child)
-  child_stands no_cells more c child is = absurd cc
-  child_stands (a_primitive row rest) more zero child is = absurd cc
-  child_stands (a_primitive row rest) more (suc c) child is = child_stands rest more c child is
-  child_stands (an_instance kid rest) more zero child is = same kid child is
-    where
-      same : (x y : Instance) → OfInstance x ≡ OfInstance y → AChild (net_of_instance wired timers numbers x) ≡ AChild (net_of_instance wired timers numbers y)
-      same x y e = let f : x ≡ y = cc in ap (λ z. AChild (net_of_instance wired timers numbers z)) f
-  child_stands (an_instance kid rest) more (suc c) child is = child_stands rest more c child is
-
   -- THE LOOK OF A CHILD
   pub child_solves : (part : PlainComponent) (cells : Cells) (around : NetAround) (v : NetState) (look : NetLook) → Solves (block wired timers numbers (instances.Node part cells)) around v look
       → (c : ℕ) (child : Instance) → cell_at cells c ≡ OfInstance child → Solves (block_below wired timers numbers cells (timers part) c) (around_child c (look [])) (below_cell c v) (λ q. look (c ∷ q))
   child_solves part cells around v look solves c child is =
-      let stands = child_stands cells (timers part) c child is in
+      let stands = child_stands wired timers numbers cells (timers part) c child is in
       record {
         whole = λ path n t. solves.whole (c ∷ path) n t;
         by_rule = λ path n t. solves.by_rule (c ∷ path) n t;

@@ -12,9 +12,9 @@ use Rattle.cx_meaning.specs.Designs.{PlainComponent, PlainDesign, PlainForm, Ena
 use Rattle.cx_meaning.specs.Instances as instances
 use Rattle.cx_meaning.specs.Instances.{Instance, Cells, OfInstance, cell_at, Path, State, idle_below}
 use Rattle.cx_meaning.specs.Active.{capture}
-use Rattle.cx_meaning.specs.Sights.{In}
+use Rattle.cx_text.specs.Members.{In}
 use Rattle.cx_meaning.specs.Cycles.{Fault, Ended, Goes, Faults, cycle}
-use Rattle.cx_meaning.specs.Control.{group_drives, drives, groups_in, groups_drive}
+use Rattle.cx_meaning.specs.Control.{form_drives, group_drives, drives, groups_in, groups_drive}
 use Rattle.cx_meaning.specs.Islands.{group_length, kind_length, is_one, turn_of}
 use Rattle.cx_meaning.specs.Calls.{called, captures}
 use Rattle.cx_meaning.specs.Running.{leaves, control_below}
@@ -28,7 +28,7 @@ use Rattle.cx_lockstep.proofs.WriteLaws.{Alone, alone}
 use Rattle.cx_control.specs.Codings.{Coding}
 use Rattle.cx_control.specs.Spots.{Spot, Cell, Number, Holds, Kept, cells_in, held_in, spots_of, reads_spot}
 use Rattle.cx_control.specs.Numbers.{world_of, Rests}
-use Rattle.cx_control.specs.Leaves.{Coded, code_of, child_at, leaf_drives, written, turn_writes, turn_faults, inputs_now, captured_now, hole_now, capture_now, child_writes, child_faults, leaf_machines}
+use Rattle.cx_control.specs.Leaves.{Coded, code_of, child_at, written, turn_writes, turn_faults, inputs_now, captured_now, hole_now, capture_now, child_writes, child_faults, leaf_machines}
 use Rattle.cx_control.specs.Controls.{coded_control, coded_below, leaf_codings}
 use Rattle.cx_control.specs.Standing.{bare, bare_under, Calling, runs, at_end, captured, GoodAt, good_below}
 use Rattle.cx_control.specs.InstanceRules.{Stands}
@@ -269,17 +269,17 @@ module _ (d : PlainDesign) (numbers : Instance → NetState → ℕ → ℕ) (pa
             idle = inr (shows.below c [] 0 ∙ code 0);
             cells_stay = λ path. cell_stays path (cycle (instances.Node part cells) (held_in s) (capture g c) (cells_in s)) refl;
             numbers_stay = λ path n. captured_write (Number (c ∷ path) n) drives_it
-                ∙ turn_number (instances.Node part cells) (coded_below cells) s (leaf_drives part (Enable g)) (capture_now (instances.Node part cells) (coded_below cells c) g c (captures (instances.Node part cells) g) s) (c ∷ path) n;
+                ∙ turn_number (instances.Node part cells) (coded_below cells) s (form_drives part (Enable g)) (capture_now (instances.Node part cells) (coded_below cells c) g c (captures (instances.Node part cells) g) s) (c ∷ path) n;
           })
             where
               at_its_end : child_at (coded_below cells c) c s ≡ Done
               at_its_end = keeps.decoded part cells control islands below kept g place c its_stands e s Done tt code
 
               captured_write : (x : Spot) → spots_of (drives part (Placed (Enable g) place)) x ≡ true
-                  → M.writes p s x ≡ turn_writes (leaf_drives part (Enable g)) (capture_now (instances.Node part cells) (coded_below cells c) g c (captures (instances.Node part cells) g) s) x
+                  → M.writes p s x ≡ turn_writes (form_drives part (Enable g)) (capture_now (instances.Node part cells) (coded_below cells c) g c (captures (instances.Node part cells) g) s) x
               captured_write x f =
                   write_of Done at_its_end x f
-                  ∙ ap (λ b. if b then turn_writes (leaf_drives part (Enable g)) (capture_now (instances.Node part cells) (coded_below cells c) g c (captures (instances.Node part cells) g) s) x else None) caps
+                  ∙ ap (λ b. if b then turn_writes (form_drives part (Enable g)) (capture_now (instances.Node part cells) (coded_below cells c) g c (captures (instances.Node part cells) g) s) x else None) caps
 
               turn_clean : turn_faults (capture_now (instances.Node part cells) (coded_below cells c) g c (captures (instances.Node part cells) g) s) ≡ false
               turn_clean =
@@ -291,7 +291,7 @@ module _ (d : PlainDesign) (numbers : Instance → NetState → ℕ → ℕ) (pa
               cell_stays path (Faults fault) is = true_false true refl (ap (λ t. turn_faults (turn_of t)) (sym is) ∙ turn_clean)
               cell_stays path (Goes left) is =
                   ap (λ o. edge_of o (idle_below cells c path (s (Cell (c ∷ path)))))
-                  (captured_write (Cell (c ∷ path)) drives_it ∙ ap (λ t. turn_writes (leaf_drives part (Enable g)) (turn_of t) (Cell (c ∷ path))) is ∙ ap (λ b. written b left (Cell (c ∷ path))) drives_it)
+                  (captured_write (Cell (c ∷ path)) drives_it ∙ ap (λ t. turn_writes (form_drives part (Enable g)) (turn_of t) (Cell (c ∷ path))) is ∙ ap (λ b. written b left (Cell (c ∷ path))) drives_it)
                   ∙ control.rules.children child (held_in s) (capture g c) (cells_in s) left c at is path
                   ∙ sym (keeps.end_rests part cells control islands below kept g place c its_stands e (bare s) code gd path)
 

@@ -16,15 +16,15 @@ use Rattle.cx_wiring.specs.PartNets.{timers_of, wired_in, net_of_instance, net_o
 use Rattle.cx_wiring.specs.NetBits.{is_bit, is_bit_below}
 use Rattle.cx_wiring.specs.Wiring.{groups, bits, plain_wires, first_of_control, net_of}
 use Rattle.cx_wiring.proofs.NetTrees.{net_tree-net_of}
+use Rattle.cx_wiring.proofs.NetTargets.{bit_wire}
 use Rattle.cx_wiring_values.proofs.GroundTree.{Down}
 use Rattle.cx_wiring_values.proofs.GroundedNets.{grounded_where}
-use Rattle.cx_wiring_runs.proofs.NodeTimers.{bit_wire}
 use Rattle.cx_wiring_runs.proofs.DesignHolds.{comes_bits}
 use Rattle.cx_text.proofs.ListLaws.{front}
 
 module _ (d : PlainDesign) where
   -- numbers of instances are not asked for
-  abbrev unnumbered : Instance → NetState → ℕ → ℕ
+  abbrev pub unnumbered : Instance → NetState → ℕ → ℕ
   unnumbered i v n = 0
 
   bit_child : (cells : Cells) (more : List Row) (c : ℕ) (kid : Instance) → cell_at cells c ≡ OfInstance kid → (path : Path) (node : Node)
@@ -36,7 +36,7 @@ module _ (d : PlainDesign) where
   bit_child (an_instance child rest) more (suc c) kid at path node = bit_child rest more c kid at path node
 
   -- the wires of islands are of one bit
-  wire_bit : (i : Instance) (path : Path) (part : PlainComponent) (cells : Cells) → Down d unnumbered i path (instances.Node part cells) → (n : ℕ) → groups (lowered_component part) ≤ n → n < first_of_control (lowered_component part)
+  pub wire_bit : (i : Instance) (path : Path) (part : PlainComponent) (cells : Cells) → Down d unnumbered i path (instances.Node part cells) → (n : ℕ) → groups (lowered_component part) ≤ n → n < first_of_control (lowered_component part)
       → is_bit (net_of_instance (wired_in d) timers_of unnumbered i) path (AWire n) ≡ true
   wire_bit i [] part cells down n low high =
       subst (λ j. is_bit (net_of_instance (wired_in d) timers_of unnumbered j) [] (AWire n) ≡ true) (sym down)

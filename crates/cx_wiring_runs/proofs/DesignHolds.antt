@@ -43,7 +43,7 @@ module _ (d : PlainDesign) (design : IsDesign d) (flat : IsFlat d) (accepted : I
   abbrev tree : NetInstance
   tree = net_of_instance (wired_in d) timers_of (component_numbers of_island) (tree_of d)
 
-  same : net_tree (net_of (lowered_of d)) ≡ net_of_instance (wired_in d) timers_of (component_numbers of_island) (tree_of d)
+  pub same : net_tree (net_of (lowered_of d)) ≡ net_of_instance (wired_in d) timers_of (component_numbers of_island) (tree_of d)
   same = net_tree-net_of d design (component_numbers of_island)
 
   -- the state holds what the net can
@@ -73,24 +73,23 @@ module _ (d : PlainDesign) (design : IsDesign d) (flat : IsFlat d) (accepted : I
   some_value None i = absurd cc
   some_value (Some x) i = (x, refl)
 
-  -- A WHOLE LOOK SOLVES
-  pub design_solves : (v : NetState) (look : NetLook) → HoldsNet v → IsWholeLook (net_of_instance (wired_in d) timers_of (component_numbers of_island) (tree_of d)) true v look
-      → Solves (block (wired_in d) timers_of (component_numbers of_island) (tree_of d)) (outside true) v look
-  design_solves v look holds whole = record {
+  -- A WHOLE LOOK SOLVES, whatever go is
+  pub design_solves : (go : Bool) (v : NetState) (look : NetLook) → HoldsNet v → IsWholeLook (net_of_instance (wired_in d) timers_of (component_numbers of_island) (tree_of d)) go v look
+      → Solves (block (wired_in d) timers_of (component_numbers of_island) (tree_of d)) (outside go) v look
+  design_solves go v look holds whole = record {
     whole = λ path n t. some_value (look path n) (whole.whole path n t);
-    by_rule = λ path n t. whole_solves (net_of_instance (wired_in d) timers_of (component_numbers of_island) (tree_of d)) names true v look whole path n t;
-    bits = λ path n t. bits true v look holds whole path n t;
-    go = (true, refl);
+    by_rule = λ path n t. whole_solves (net_of_instance (wired_in d) timers_of (component_numbers of_island) (tree_of d)) names go v look whole path n t;
+    bits = λ path n t. bits go v look holds whole path n t;
+    go = (go, refl);
     inputs = λ n w e. absurd (no_input n w e);
     bit_inputs = λ n e. absurd (no_input n 1 e);
   }
 
   -- AN EDGE
-  pub design_holds_on : (v : NetState) (look : NetLook) → HoldsNet v → IsWholeLook (net_of_instance (wired_in d) timers_of (component_numbers of_island) (tree_of d)) true v look
-      → HoldsNet (net_after (net_of_instance (wired_in d) timers_of (component_numbers of_island) (tree_of d)) false true v look)
+  pub design_holds_on : (go : Bool) (v : NetState) (look : NetLook) → HoldsNet v → IsWholeLook (net_of_instance (wired_in d) timers_of (component_numbers of_island) (tree_of d)) go v look → HoldsNet (net_after (net_of_instance (wired_in d) timers_of (component_numbers of_island) (tree_of d)) false go v look)
   design_holds_on =
-      subst (λ t. (v : NetState) (look : NetLook) → HoldsNet v → IsWholeLook t true v look → HoldsNet (net_after t false true v look)) same
-      (laws.holds_on (net_of (lowered_of d)) (net_fits d design flat accepted) (net_wide d design) rows_are_wide true)
+      subst (λ t. (go : Bool) (v : NetState) (look : NetLook) → HoldsNet v → IsWholeLook t go v look → HoldsNet (net_after t false go v look)) same
+      (laws.holds_on (net_of (lowered_of d)) (net_fits d design flat accepted) (net_wide d design) rows_are_wide)
 
   -- THE RESET
   first_holds : (words : List (List ℕ)) (look : NetLook) → AreWords d words → HoldsNet (net_after (net_tree (net_of (lowered_of d))) true false (net_start (net_tree (net_of (lowered_of d))) words) look)

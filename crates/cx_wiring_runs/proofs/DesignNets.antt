@@ -1,5 +1,5 @@
 -- THE NET OF AN ACCEPTED DESIGN REALISES IT, from what the machine of its control and the first state of its cells keep.
-use Rattle.std.proofs.Common.{◌≡◌, ℕ, List}
+use Rattle.std.proofs.Common.{true, ◌≡◌, ℕ, List}
 use Rattle.cx_meaning.specs.Designs.{PlainComponent, PlainDesign}
 use Rattle.cx_meaning.specs.Instances.{Instance, Cells, OfInstance, cell_at, Path, tree_of, instance_at, start, IsSettled}
 use Rattle.cx_rules.specs.Flat.{IsFlat}
@@ -27,7 +27,7 @@ use Rattle.cx_wiring_runs.proofs.DesignGrounded.{design_grounded}
 
 module _ (d : PlainDesign) where
   -- EACH NODE gives its control and its ports
-  nodes : (part : PlainComponent) (cells : Cells) (given : NodeGiven d of_island (λ component inside. Begun d component inside) part cells)
+  pub nodes : (part : PlainComponent) (cells : Cells) (given : NodeGiven d of_island (λ component inside. Begun d component inside) part cells)
       → ((c : ℕ) (child : Instance) → cell_at cells c ≡ OfInstance child → BlockLaws (block_below (wired_in d) timers_of (component_numbers of_island) cells (timers_of part) c))
       → NodeGives d of_island (λ component inside. Begun d component inside) part cells given.rules given.own
   nodes part cells given children = record {
@@ -38,10 +38,10 @@ module _ (d : PlainDesign) where
 
   module _ (design : IsDesign d) (flat : IsFlat d) (accepted : IsAccepted d) (rules : (path : Path) → ControlRules (instance_at (tree_of d) path)) (islands : (path : Path) → IslandRules (instance_at (tree_of d) path))
       (settled : (words : List (List ℕ)) → IsSettled (tree_of d) (start (tree_of d) words)) where
-    cells_hold : CellsHold d of_island (λ component inside. Begun d component inside) (HoldsNet d design flat accepted) nodes design flat accepted rules islands settled
+    pub cells_hold : CellsHold d of_island (λ component inside. Begun d component inside) (HoldsNet d design flat accepted) nodes design flat accepted rules islands settled
     cells_hold = record {
-      whole_solves = design_solves d design flat accepted;
-      holds_on = design_holds_on d design flat accepted;
+      whole_solves = design_solves d design flat accepted true;
+      holds_on = design_holds_on d design flat accepted true;
       holds_first = design_holds_first d design flat accepted;
       islands_first = islands_start d design flat accepted;
     }

@@ -42,6 +42,18 @@ use Rattle.cx_wiring_runs.proofs.StartCells.{cells_start, words_same, external_t
 use Rattle.cx_wiring_runs.proofs.DesignEdges.{NodeGiven, NodeGives, design_blocks}
 use Rattle.cx_meaning.proofs.InstancesLemmas.{here}
 
+-- CONTROL AT THE ROOT: its codes begin with 0, and it keeps its children resting
+module _ (d : PlainDesign) (rules : (path : Path) → ControlRules (instance_at (tree_of d) path)) where
+  pub root_region : IsRegion (Coded.machine (coded_control (tree_of d))) (Coded.coding (coded_control (tree_of d)))
+  root_region = control_coded (tree_of d) (subst ControlRules (here (tree_of d)) (rules []))
+
+  pub start_zero : (n : ℕ) → code_of (coded_control (tree_of d)) (Machine.start (Coded.machine (coded_control (tree_of d)))) n ≡ 0
+  start_zero = (region_bank_is (Coded.machine (coded_control (tree_of d))) (Coded.coding (coded_control (tree_of d))) root_region.coded root_region.front).zeros_at
+
+  pub root_keeps : ((path : Path) → IslandRules (instance_at (tree_of d) path))
+      → Keeps (coded_control (tree_of d)) (good_control (tree_of d)) (λ path v. idle_at (tree_of d) path v) (λ path n v. number_idle_at (tree_of d) path n v)
+  root_keeps islands = control_keeps (tree_of d) rules (λ path. islands_do (instance_at (tree_of d) path) (rules path) (islands path))
+
 module _ (d : PlainDesign) (of_island : PlainComponent → NetState → ℕ → ℕ → ℕ → ℕ)
     (Begun : (part : PlainComponent) (cells : Cells) → Machine.Place (Coded.machine (coded_control (instances.Node part cells))) → Kept → NetState → NetAround → NetLook → Type 0) (Holds : NetState → Type 0)
     (nodes : (part : PlainComponent) (cells : Cells) (given : NodeGiven d of_island Begun part cells)
@@ -61,12 +73,6 @@ module _ (d : PlainDesign) (of_island : PlainComponent → NetState → ℕ → 
         (net_start (net_of_instance (wired_in d) timers_of (component_numbers of_island) (tree_of d)) words) look)
 
   module _ (cells_hold : CellsHold) where
-    region : IsRegion (Coded.machine (coded_control (tree_of d))) (Coded.coding (coded_control (tree_of d)))
-    region = control_coded (tree_of d) (subst ControlRules (here (tree_of d)) (rules []))
-
-    start_zero : (n : ℕ) → code_of (coded_control (tree_of d)) (Machine.start (Coded.machine (coded_control (tree_of d)))) n ≡ 0
-    start_zero = (region_bank_is (Coded.machine (coded_control (tree_of d))) (Coded.coding (coded_control (tree_of d))) region.coded region.front).zeros_at
-
     abbrev first_state : List (List ℕ) → NetLook → NetState
     first_state words look = net_after (net_of_instance (wired_in d) timers_of (component_numbers of_island) (tree_of d)) true false (net_start (net_of_instance (wired_in d) timers_of (component_numbers of_island) (tree_of d)) words) look
 
@@ -76,20 +82,20 @@ module _ (d : PlainDesign) (of_island : PlainComponent → NetState → ℕ → 
     root_laws : RootLaws (wired_in d) timers_of (component_numbers of_island) d Holds
     root_laws = record {
       block_laws = design_blocks d of_island Begun nodes design flat accepted rules islands;
-      keeps = keeps_it;
-      below = region.coded.below;
+      keeps = root_keeps d rules islands;
+      below = (root_region d rules).coded.below;
       whole_solves = cells_hold.whole_solves;
       holds_on = cells_hold.holds_on;
       starts = λ words look fits whole. (
         record {
-          fine = region.coded.starts;
-          good = keeps_it.started (bare (shown unheld (start (tree_of d) words))) (record { cells = settled words; numbers = λ c path n. refl });
+          fine = (root_region d rules).coded.starts;
+          good = (root_keeps d rules islands).started (bare (shown unheld (start (tree_of d) words))) (record { cells = settled words; numbers = λ c path n. refl });
           no_input = λ n x e. absurd cc;
         },
         record {
           shown_so = record {
             cells = λ path there. cells_start d (component_numbers of_island) (tree_of d) look words path there;
-            own = λ n. zero_first words look [] n ∙ sym (start_zero n);
+            own = λ n. zero_first words look [] n ∙ sym (start_zero d rules n);
             below = λ c path n. zero_first words look (c ∷ path) n;
           };
           holds = cells_hold.holds_first words look fits;
@@ -97,9 +103,6 @@ module _ (d : PlainDesign) (of_island : PlainComponent → NetState → ℕ → 
       );
       words = λ s v same. words_same d (component_numbers of_island) (tree_of d) (λ path. s (Cell path)) v (external_there d design) same;
     }
-      where
-        keeps_it : Keeps (coded_control (tree_of d)) (good_control (tree_of d)) (λ path v. idle_at (tree_of d) path v) (λ path n v. number_idle_at (tree_of d) path n v)
-        keeps_it = control_keeps (tree_of d) rules (λ path. islands_do (instance_at (tree_of d) path) (rules path) (islands path))
 
     -- WHAT ONE EDGE OWES
     pub edge_keeps : EdgeKeeps d (net_tree (net_of (lowered_of d))) (GoodRoot (wired_in d) timers_of (component_numbers of_island) d Holds) (ShowsRoot (wired_in d) timers_of (component_numbers of_island) d Holds)

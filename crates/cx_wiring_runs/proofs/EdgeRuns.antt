@@ -13,6 +13,7 @@ use Rattle.cx_net.specs.NetMeaning.{NetState, NetLook}
 use Rattle.cx_net.specs.NetEdges.{net_after}
 use Rattle.cx_net.specs.NetRuns as nets
 use Rattle.cx_net.specs.NetRuns.{IsWholeLook, NetRunsFrom, ends, spent, goes_on, Comes, at_next, AreWords, net_start, net_words}
+use Rattle.cx_text.proofs.NumberLaws.{true_false}
 
 module _ (d : PlainDesign) (tree : NetInstance) where
   abbrev pub Place : Type 0
@@ -45,9 +46,6 @@ module _ (d : PlainDesign) (tree : NetInstance) where
 
     abbrev pub Quiet : Moment (design_machine d) → Type 0
     Quiet m = IsQuiet (design_machine d) m
-
-    true_false : true ≡ false → ⊥
-    true_false e = cc
 
     -- the net has a look in each state that it comes to
     module _ (loaded : List (List ℕ)) (looks : (v : NetState) → Comes tree loaded true v → (look : NetLook) × IsWholeLook tree true v look) where

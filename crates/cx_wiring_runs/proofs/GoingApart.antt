@@ -2,13 +2,14 @@
 -- every form. So what all leaves and tests owe of themselves gives what the machine of the statement sees.
 use Rattle.std.proofs.Common.{◌≡◌, ◌⊎◌, inl, inr, ℕ, zero, suc, Bool, true, false, ◌==◌, if◌then◌else◌, List, [], ◌∷◌, ◌++◌, Option, Some, None, refl, sym, ap, ◌∙◌, subst}
 use Rattle.std.proofs.lemmas.Bool.{eq-eqb, eqb-true}
+use Rattle.cx_text.proofs.MemberLaws.{in_either, in_left, in_right}
 use Rattle.cx_bits.specs.BitVector.{BitVector}
 use Rattle.cx_text.specs.declared.places.Place.{Place}
 use Rattle.cx_meaning.specs.declared.ports.PortRef.{PortRef}
 use Rattle.cx_meaning.specs.declared.ports.PlacedPort.{PlacedPort}
 use Rattle.cx_meaning.specs.Designs.{PlainForm, Empty, Enable, Seq, Par, If, While, Repeat, StaticSeq, StaticPar, StaticIf, StaticRepeat, Timed, PlainStatement, Placed, PlainStatements, no_statements, a_statement, list_of}
 use Rattle.cx_meaning.specs.Instances.{Instance, part_of}
-use Rattle.cx_meaning.specs.Sights.{In}
+use Rattle.cx_text.specs.Members.{In}
 use Rattle.cx_meaning.specs.Cycles.{Fault}
 use Rattle.cx_meaning.specs.Control.{with_comb, groups_in, groups_of, groups_in_all, group_drives, drives}
 use Rattle.cx_meaning.specs.Islands.{group_length}
@@ -32,7 +33,7 @@ use Rattle.cx_control.proofs.StandLaws.{parts_stand, part_reads, are_apart}
 use Rattle.cx_net.specs.NetMeaning.{truth_bit}
 use Rattle.cx_static.specs.Islands.{PlainIsland}
 use Rattle.cx_wiring_cycles.specs.Shown.{Going, told, comb_going, in_par, enable_going, going, parts_going, arms_going, enable_agrees, TestAgrees, StatementAgrees, PartsAgree, ArmsAgree}
-use Rattle.cx_meaning.proofs.SightsLaws.{behind_comb, in_either, in_left, in_right}
+use Rattle.cx_meaning.proofs.SightsLaws.{behind_comb}
 use Rattle.cx_meaning.proofs.ControlLaws.{groups_drive_in}
 use Rattle.cx_wiring_cycles.proofs.FormTurns.{told_append}
 

@@ -2,6 +2,7 @@
 -- an island, or the comb group of a test.
 use Rattle.std.proofs.Common.{◌≡◌, ℕ, zero, suc, ◌⊎◌, inl, inr, ◌==◌, not, Bool, true, false, if◌then◌else◌, List, [], ◌∷◌, Option, Some, None, refl, sym, subst}
 use Rattle.std.proofs.lemmas.Bool.{eqb-true}
+use Rattle.cx_text.proofs.MemberLaws.{in_either, in_left, in_right}
 use Rattle.cx_text.specs.declared.places.Place.{Place}
 use Rattle.cx_bits.specs.BitVector.{BitVector}
 use Rattle.cx_meaning.specs.declared.ports.PortRef.{PortRef}
@@ -9,7 +10,7 @@ use Rattle.cx_rules.specs.Items.{is_comb}
 use Rattle.cx_rules.specs.Wellformed.{IsForm, IsWith}
 use Rattle.cx_meaning.specs.Designs.{group_at, PlainComponent, PlainForm, Empty, Enable, Seq, Par, If, While, Repeat, StaticSeq, StaticPar, StaticIf, StaticRepeat, Timed, PlainStatement, Placed, PlainStatements, no_statements, a_statement, list_of}
 use Rattle.cx_meaning.specs.Islands.{group_length}
-use Rattle.cx_meaning.specs.Sights.{In}
+use Rattle.cx_text.specs.Members.{In}
 use Rattle.cx_lockstep.specs.Worlds.{Store, Control, At, Done, Machine, is_done}
 use Rattle.cx_lockstep.specs.Machines.{First, Second, InPar, left_of, right_of, AtTest, InThen, InElse, AtHead, InBody}
 use Rattle.cx_lockstep.specs.Statements.{LeafMachines, machine_of, parts_machine, arms_machine}
@@ -20,7 +21,6 @@ use Rattle.cx_control.specs.StatementCodings.{LeafCodings}
 use Rattle.cx_net.specs.NetMeaning.{truth_bit}
 use Rattle.cx_static.specs.Islands.{PlainIsland}
 use Rattle.cx_wiring_cycles.specs.Shown.{Going, told, comb_going, enable_going, going, parts_going, arms_going, in_par, enable_agrees, StatementAgrees, PartsAgree, ArmsAgree}
-use Rattle.cx_meaning.proofs.SightsLaws.{in_either, in_left, in_right}
 
 -- what is told of a group is the last word, or that of one of the list
 pub told_in : (g : ℕ) (later : Option BitVector) (xs : List Going) → (told g later xs ≡ later) ⊎ ((x : Going) × In xs x × (x.group ≡ g) × (told g later xs ≡ Some (truth_bit x.goes)))

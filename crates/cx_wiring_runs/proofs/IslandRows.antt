@@ -11,12 +11,12 @@ use Rattle.cx_meaning.specs.Active.{Active, Entry, entries, nothing}
 use Rattle.cx_meaning.specs.Sights.{seen}
 use Rattle.cx_meaning.specs.Cycles.{Ended, Goes, Faults, Fault, cycle}
 use Rattle.cx_meaning.specs.Islands.{kind_length, turn_of, first_unclear, unless_unclear}
-use Rattle.cx_meaning.specs.Control.{drives}
+use Rattle.cx_meaning.specs.Control.{form_drives, drives}
 use Rattle.cx_rules.specs.Items.{Dynamic}
 use Rattle.cx_rules.specs.Footprints.{Reads, driven}
 use Rattle.cx_rules.specs.Circles.{IsAcyclic}
 use Rattle.cx_laws.specs.Samples.{Samples, active_by, begun_by}
-use Rattle.cx_frames.proofs.StatementFrames.{visited}
+use Rattle.cx_laws.proofs.VisitLemmas.{visited}
 use Rattle.cx_frames.proofs.CircleFrames.{group_acyclic}
 use Rattle.cx_control.specs.Apart.{IsApart}
 use Rattle.cx_control.specs.Flows.{Values}
@@ -25,7 +25,7 @@ use Rattle.cx_control.proofs.TogetherLemmas.{together_acyclic}
 use Rattle.cx_lockstep.specs.Worlds.{Machine, edge_of}
 use Rattle.cx_lockstep.specs.Running.{Running, AGroup, AnIsland, leaf_of, leaf_writes, leaf_faults}
 use Rattle.cx_control.specs.Spots.{Cell, Kept, cells_in, held_in}
-use Rattle.cx_control.specs.Leaves.{Coded, InIsland, Cycle, LastTurn, turn_writes, turn_faults, written, leaf_drives, sampled_now, island_writes, island_faults, kind_machine, leaf_machines}
+use Rattle.cx_control.specs.Leaves.{Coded, InIsland, Cycle, LastTurn, turn_writes, turn_faults, written, sampled_now, island_writes, island_faults, kind_machine, leaf_machines}
 use Rattle.cx_control.specs.Controls.{coded_control, coded_below}
 use Rattle.cx_control.specs.Standing.{RestsAt, bare}
 use Rattle.cx_control.specs.InstanceRules.{Stands}
@@ -72,7 +72,7 @@ module _ (d : PlainDesign) (numbers : Instance → NetState → ℕ → ℕ) (pa
       abbrev os : List Entry
       os = active_by part (sampled_now (Node part cells) form t kept s) t form
 
-      of_cycle : (e : Ended) → cycle (Node part cells) (held_in s) (entries os) (cells_in s) ≡ e → turn_faults (turn_of e) ≡ false → StepsTo part cells around v look s p c row (turn_writes (leaf_drives part form) (turn_of e) (Cell (c ∷ [])))
+      of_cycle : (e : Ended) → cycle (Node part cells) (held_in s) (entries os) (cells_in s) ≡ e → turn_faults (turn_of e) ≡ false → StepsTo part cells around v look s p c row (turn_writes (form_drives part form) (turn_of e) (Cell (c ∷ [])))
       of_cycle (Faults fault) is fine = true_false_also fine
       of_cycle (Goes after) is fine =
           cell_steps d numbers part cells rules around v look solves (cells_in s) same (held_in s) (Placed form place) (entries os) apart (near os) (island_acyclic form place stands t (sampled_now (Node part cells) form t kept s)) (control.rules.circles).1
@@ -80,7 +80,7 @@ module _ (d : PlainDesign) (numbers : Instance → NetState → ℕ → ℕ) (pa
           ∙ sym (ap (λ b. edge_of (written b after (Cell (c ∷ []))) (row.idle (s (Cell (c ∷ []))))) drives_it)
 
       of_unclear : (o : Option Fault) → turn_faults (unless_unclear o (cycle (Node part cells) (held_in s) (entries os) (cells_in s))) ≡ false
-          → StepsTo part cells around v look s p c row (turn_writes (leaf_drives part form) (unless_unclear o (cycle (Node part cells) (held_in s) (entries os) (cells_in s))) (Cell (c ∷ [])))
+          → StepsTo part cells around v look s p c row (turn_writes (form_drives part form) (unless_unclear o (cycle (Node part cells) (held_in s) (entries os) (cells_in s))) (Cell (c ∷ [])))
       of_unclear (Some fault) fine = true_false_also fine
       of_unclear None fine = of_cycle (cycle (Node part cells) (held_in s) (entries os) (cells_in s)) refl fine
 

@@ -6,7 +6,7 @@ use Rattle.std.specs.Prelude.{nat_lt}
 use Rattle.cx_text.specs.declared.places.Place.{Place}
 use Rattle.cx_meaning.specs.Designs.{PlainComponent, PlainForm, Empty, Enable, Seq, Par, If, While, Repeat, StaticSeq, StaticPar, StaticIf, StaticRepeat, Timed, PlainStatement, Placed, PlainStatements, no_statements, a_statement, list_of}
 use Rattle.cx_meaning.specs.Active.{Active, Entry, nothing, entries, offset_in}
-use Rattle.cx_meaning.specs.Sights.{In}
+use Rattle.cx_text.specs.Members.{In}
 use Rattle.cx_meaning.specs.Islands.{length_of}
 use Rattle.cx_laws.specs.Positions.{entry_at, no_entry}
 use Rattle.cx_laws.specs.Samples.{Samples, ifs_of, form_by, statement_by, while_by, parts_by, arms_by, active_by}

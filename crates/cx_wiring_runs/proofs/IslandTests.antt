@@ -2,6 +2,8 @@
 -- state, so no group that goes disturbs them.
 use Rattle.std.proofs.Common.{◌≡◌, ◌⊎◌, inl, inr, ℕ, zero, suc, ◌+◌, ◌-◌, ◌%◌, Bool, true, false, if◌then◌else◌, List, [], ◌∷◌, Option, Some, None, unwrap_or, refl, sym, ap, ◌∙◌, subst}
 use Rattle.std.specs.Prelude.{nat_lt}
+use Rattle.cx_text.proofs.MemberLaws.{in_either, in_left, in_right}
+use Rattle.cx_text.specs.Members.{In}
 use Rattle.cx_text.specs.declared.places.Place.{Place}
 use Rattle.cx_bits.specs.BitVector.{BitVector}
 use Rattle.cx_prim.specs.Rows.{Row}
@@ -14,7 +16,7 @@ use Rattle.cx_meaning.specs.Designs.{PlainComponent, PlainDesign, PlainForm, Emp
 use Rattle.cx_meaning.specs.Instances.{Instance, Node, Cells, OfRow, OfInstance, cell_at}
 use Rattle.cx_meaning.specs.Active.{nothing, entries}
 use Rattle.cx_meaning.specs.Truths.{truth_of, truth_of_bit}
-use Rattle.cx_meaning.specs.Sights.{Look, In, Sees, seen}
+use Rattle.cx_meaning.specs.Sights.{Look, Sees, seen}
 use Rattle.cx_meaning.specs.Cycles.{Ended, Fault, cycle}
 use Rattle.cx_meaning.specs.Control.{groups_of}
 use Rattle.cx_meaning.specs.Islands.{length_of, is_one, fault_of, first_unclear, unless_unclear}
@@ -24,7 +26,7 @@ use Rattle.cx_rules.specs.Footprints.{Reads, tested, at_once, by_way_of}
 use Rattle.cx_rules.proofs.FoundLemmas.{seen_found}
 use Rattle.cx_laws.specs.Positions.{no_port, port_at}
 use Rattle.cx_laws.specs.Samples.{Samples, says, ifs_of, form_by, statement_by, while_by, parts_by, arms_by, begun_by, active_by}
-use Rattle.cx_frames.proofs.StatementFrames.{visited}
+use Rattle.cx_laws.proofs.VisitLemmas.{visited}
 use Rattle.cx_control.specs.Flows.{Values, Reaches, is_set}
 use Rattle.cx_lockstep.specs.Worlds.{Machine}
 use Rattle.cx_control.specs.Spots.{Cell, Kept, cells_in, held_in}
@@ -45,7 +47,6 @@ use Rattle.cx_wiring_runs.proofs.NodePorts.{bit_says}
 use Rattle.cx_wiring_runs.proofs.SeamFlows.{Nearby, reach_reads, rested_seen}
 use Rattle.cx_wiring_runs.proofs.NodeSeam.{NodeRest}
 use Rattle.cx_rules.proofs.ItemsLemmas.{tests_flat}
-use Rattle.cx_meaning.proofs.SightsLaws.{in_left, in_right, in_either}
 
 -- A PORT THAT BEGINS is the test of a static if of the island
 record IsTest (visits : List Visited) (port : PortRef) : Type 0 where

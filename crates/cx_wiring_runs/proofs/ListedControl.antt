@@ -1,10 +1,11 @@
 -- WHAT THE CONTROL OF AN INSTANCE IS LOWERED TO keeps what runs.
 use Rattle.std.proofs.Common.{inl, inr, ℕ, Option, Some, None, List, length, option_map, unwrap_or, refl, sym, ap, ◌∙◌}
+use Rattle.cx_text.proofs.MemberLaws.{in_left, in_right}
 use Rattle.cx_text.specs.declared.places.Place.{Place}
 use Rattle.cx_meaning.specs.Designs.{PlainCell, PlainComponent, PlainForm, Empty, Enable, Seq, Par, If, While, Repeat, StaticSeq, StaticPar, StaticIf, StaticRepeat, Timed, PlainStatement, Placed, PlainStatements, no_statements, a_statement}
 use Rattle.cx_meaning.specs.Instances.{Instance, part_of}
 use Rattle.cx_meaning.specs.Islands.{form_length, group_length}
-use Rattle.cx_meaning.specs.Sights.{In}
+use Rattle.cx_text.specs.Members.{In}
 use Rattle.cx_rules.specs.Items.{Dynamic, Visited, statements_in, visit, visit_all}
 use Rattle.cx_laws.specs.Positions.{HasNoEmptyIf}
 use Rattle.cx_control.specs.InstanceRules.{Stands}
@@ -16,7 +17,6 @@ use Rattle.cx_wiring.proofs.GatherLaws.{island_there}
 use Rattle.cx_wiring.proofs.IslandCells.{IsBefore, itself, both_before, before_after, before_parts}
 use Rattle.cx_wiring_runs.specs.Listed.{IslandLowers, EnableLowers, FormLowers, StatementLowers, PartsLower, KeepsWhatRuns}
 use Rattle.cx_wiring_runs.proofs.ListedRuns.{SameCycles, lists_run}
-use Rattle.cx_meaning.proofs.SightsLaws.{in_left, in_right}
 use Rattle.cx_text.proofs.ListLaws.{get_end}
 
 module _ (i : Instance) (rules : IslandRules i) (no_empty : (v : Visited) → In (statements_in (part_of i)) v → HasNoEmptyIf (part_of i) v.form) where

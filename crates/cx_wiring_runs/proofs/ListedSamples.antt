@@ -5,7 +5,7 @@ use Rattle.std.proofs.lemmas.Bool.{lt-ltb, le-ltb, le-leb, lt-leb, eq-eqb, ne_eq
 use Rattle.cx_meaning.specs.declared.ports.PortRef.{PortRef}
 use Rattle.cx_meaning.specs.Active.{Entry}
 use Rattle.cx_meaning.specs.Islands.{port_if}
-use Rattle.cx_meaning.specs.Sights.{In}
+use Rattle.cx_text.specs.Members.{In}
 use Rattle.cx_laws.specs.Positions.{entry_at, port_at}
 use Rattle.cx_laws.specs.Samples.{Samples, with_sample}
 use Rattle.cx_control.specs.Sampling.{taken, where_so}

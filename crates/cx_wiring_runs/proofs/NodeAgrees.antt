@@ -4,6 +4,8 @@ use Rattle.std.proofs.Common.{◌≡◌, ◌⊎◌, inl, inr, ⊎_elim, ℕ, ◌
 use Rattle.std.specs.Prelude.{is_some, nat_eq, option_map, flat_map}
 use Rattle.std.proofs.lemmas.Bool.{eq-eqb, eqb-true}
 use Rattle.std.proofs.lemmas.Option.{slice_get-get_or}
+use Rattle.cx_text.proofs.MemberLaws.{in_left}
+use Rattle.cx_text.specs.Members.{In}
 use Rattle.cx_text.specs.declared.places.Place.{Place}
 use Rattle.cx_bits.specs.BitVector.{BitVector}
 use Rattle.cx_prim.specs.Rows.{Row}
@@ -19,7 +21,7 @@ use Rattle.cx_meaning.specs.Instances.{Instance, Node, Cells, OfRow, OfInstance,
 use Rattle.cx_meaning.specs.Active.{Active, Entry, nothing, group, comb, only_at, entries, offset_in}
 use Rattle.cx_meaning.specs.Truths.{Truth, One, Zero, truth_of}
 use Rattle.cx_meaning.specs.Truths as truths
-use Rattle.cx_meaning.specs.Sights.{unheld, In, Sees, seen, AnOutput, part_port}
+use Rattle.cx_meaning.specs.Sights.{unheld, Sees, seen, AnOutput, part_port}
 use Rattle.cx_meaning.specs.Cycles.{Ended, Goes, Faults, Fault, cycle}
 use Rattle.cx_meaning.specs.Islands.{kind_length, group_length, turn_of}
 use Rattle.cx_meaning.specs.Control.{groups_in, groups_of, group_drives, drives}
@@ -66,7 +68,6 @@ use Rattle.cx_wiring_runs.proofs.NodeSeam.{NodeRest, NodeSeam, entries_at, KindG
 use Rattle.cx_wiring_runs.proofs.IslandSets.{active_own}
 use Rattle.cx_wiring_runs.proofs.GoingApart.{enable_named, IsGoing, GoesFor, LeafStands, leaf_stands, agrees}
 use Rattle.cx_text.proofs.BoolLaws.{and_left}
-use Rattle.cx_meaning.proofs.SightsLaws.{in_left}
 use Rattle.cx_laws.proofs.TreeLemmas.{output_there}
 use Rattle.cx_meaning.proofs.DesignsLemmas.{driver_there}
 use Rattle.cx_bits.proofs.BitVectorLemmas.{some_is}

@@ -3,6 +3,7 @@ use Rattle.std.proofs.Common.{◌≡◌, ◌⊎◌, inl, inr, ℕ, suc, ◌+◌,
 use Rattle.std.specs.Prelude.{nat_lt, nat_eq}
 use Rattle.std.proofs.lemmas.Bool.{lt-ltb, ltb-true}
 use Rattle.std.proofs.lemmas.Bool.Decides.{eqb_tells}
+use Rattle.cx_text.specs.Members.{In}
 use Rattle.cx_text.specs.declared.places.Place.{Place}
 use Rattle.cx_bits.specs.BitVector.{BitVector}
 use Rattle.cx_prim.specs.Rows.{Row}
@@ -11,7 +12,7 @@ use Rattle.cx_meaning.specs.declared.sights.Seen.TheVariants.{Value, Undefined}
 use Rattle.cx_meaning.specs.Designs.{PlainComponent, PlainDesign, PlainStatement, Enable, Placed, group_at}
 use Rattle.cx_meaning.specs.Instances.{Instance, Node, Cells, OfRow, OfInstance, cell_at, part_of, under}
 use Rattle.cx_meaning.specs.Active.{Active, Owned, nothing, group, source_order, offset_of}
-use Rattle.cx_meaning.specs.Sights.{unheld, In, Sees, seen, AnOutput, ItsDone, part_port}
+use Rattle.cx_meaning.specs.Sights.{unheld, Sees, seen, AnOutput, ItsDone, part_port}
 use Rattle.cx_meaning.specs.Islands.{kind_length}
 use Rattle.cx_meaning.specs.Control.{groups_of, group_drives}
 use Rattle.cx_meaning.specs.Calls.{called, captures}

@@ -1,6 +1,7 @@
 -- What an accepted design gives the cells of each node: rows are lawful, nothing continuous enables a primitive or drives a component
 -- cell. So in a cycle in which no group goes each primitive makes its idle step and no child has go.
-use Rattle.std.proofs.Common.{◌≡◌, ℕ, ◌+◌, ◌<◌, ◌^◌, inl, inr, ⊎_elim, true, false, [], ◌∷◌, length, Option, Some, None, refl, sym, ap, ◌∙◌, subst, arith}
+use Rattle.std.proofs.Common.{◌≡◌, ℕ, ◌+◌, ◌<◌, ◌^◌, inl, inr, ⊎_elim, true, false, [], ◌∷◌, length, Option, Some, None, refl, ap, ◌∙◌, subst, arith}
+use Rattle.cx_text.proofs.MemberLaws.{number_in}
 use Rattle.cx_bits.specs.BitVector.{BitVector}
 use Rattle.cx_prim.specs.declared.ports.Side.TheVariants as sides
 use Rattle.cx_prim.specs.Rows.{Row, IsLawful}
@@ -11,7 +12,7 @@ use Rattle.cx_meaning.specs.Designs.{PlainComponent, PlainDesign, no_component, 
 use Rattle.cx_meaning.specs.Instances as instances
 use Rattle.cx_meaning.specs.Instances.{Instance, Cells, At, OfRow, OfInstance, part_of, cells_of, cell_at, Path, tree_of, instance_at}
 use Rattle.cx_meaning.specs.Active.{Owned, source_order}
-use Rattle.cx_meaning.specs.Sights.{In}
+use Rattle.cx_text.specs.Members.{In}
 use Rattle.cx_meaning.specs.Control.{group_drives}
 use Rattle.cx_rules.specs.Items.{Visited, statements_in, is_plain}
 use Rattle.cx_rules.specs.LimitRule.{OnRepeat, word_of, count_in, is_too_many}
@@ -24,11 +25,12 @@ use Rattle.cx_rules.specs.Flat.{IsFlat}
 use Rattle.cx_rules.specs.Accepted.{IsAccepted}
 use Rattle.cx_rules.specs.Ports.{component_of}
 use Rattle.cx_rules.specs.Wellformed.{IsForm, IsDesign, port_count}
+use Rattle.cx_rules.proofs.ItemsLemmas.{bare_form}
 use Rattle.cx_frames.specs.Rests.{IsUndriven}
 use Rattle.cx_frames.proofs.RuleLemmas.{kept_instance}
 use Rattle.cx_control.proofs.InstanceLemmas.{instance_rows}
 use Rattle.cx_control.proofs.BesideLemmas.{StandsFor, of_component, of_nothing, instance_stands, keeps_calls}
-use Rattle.cx_control.proofs.ShapeLemmas.{drives_driving, none_outside, plain_group}
+use Rattle.cx_control.proofs.ShapeLemmas.{none_outside, plain_if_driven}
 use Rattle.cx_control.proofs.DesignRules.{instance_part}
 use Rattle.cx_net.specs.NetMeaning.{NetState, NetLook, NetAround, APort, AHole, truth_bit, around_child}
 use Rattle.cx_net.specs.NetEdges.{inputs_from}
@@ -42,7 +44,6 @@ use Rattle.cx_wiring_runs.proofs.WireSolves.{wires_solve}
 use Rattle.cx_wiring_runs.proofs.CellEdges as edges
 use Rattle.cx_wiring_runs.proofs.NodeIdles.{OwesIdle, node_idles}
 use Rattle.cx_meaning.proofs.DesignsLemmas.{same_part}
-use Rattle.cx_meaning.proofs.SightsLaws.{number_in}
 
 pub record CellRules (i : Instance) : Type 0 where
   pub lawful : (c : ℕ) (row : Row) → cell_at (cells_of i) c ≡ OfRow row → IsLawful row
@@ -60,8 +61,8 @@ cell_rules d design flat accepted path = record {
   lawful = λ c row at. let p = instance_rows d path c row at in subst IsLawful p.1 (row_of_lawful p.0);
   no_enable = λ o c p row i owner target at side. (kept_instance d design accepted path).quiet o c p row i owner target at side;
   no_part = λ o c p child i owner target at. outside (instance_stands d path) o c p child i owner target at;
-  plain_part = λ g c child at drives. plain_if_driven (instance_stands d path) g c child at drives;
-  forms = instance_part d design accepted (λ part. (v : Visited) → In (statements_in part) v → IsForm part v.form) (λ k within v i. subst (λ part. IsForm part v.form) (same_part d (length d.components) k) ((design.components k within).statements v i).form) (λ v i. nothing v i) path;
+  plain_part = λ g c child at drives. plain_if_driven d accepted path g c child at drives;
+  forms = instance_part d design accepted (λ part. (v : Visited) → In (statements_in part) v → IsForm part v.form) (λ k within v i. subst (λ part. IsForm part v.form) (same_part d (length d.components) k) ((design.components k within).statements v i).form) bare_form path;
   rounds = instance_part d design accepted (λ part. (v : Visited) → In (statements_in part) v → (n : ℕ) → count_in v.form ≡ Some n → n < 2 ^ 32) (λ k within v i n e. few k within v i n e) (λ v i n e. no_rounds v i n e) path;
 }
   where
@@ -70,17 +71,6 @@ cell_rules d design flat accepted path = record {
     outside (of_component k l beside) o c p child i owner target at =
         none_outside (instance_at (tree_of d) path) (component_of d k) (keeps_calls d accepted k l (instance_at (tree_of d) path) beside) o (subst (λ part. In (source_order part) o) beside.same i) owner c p child target at
     outside (of_nothing none) o c p child i owner target at = subst (λ (part : PlainComponent). In (source_order part) o) none i
-
-    untrue : {A : Type 0} → false ≡ true → A
-    untrue e = absurd cc
-
-    plain_if_driven : StandsFor d (instance_at (tree_of d) path) → (g c : ℕ) (child : Instance) → cell_at (cells_of (instance_at (tree_of d) path)) c ≡ OfInstance child → group_drives (part_of (instance_at (tree_of d) path)) g c ≡ true
-        → is_plain (group_at (part_of (instance_at (tree_of d) path)) g).kind ≡ true
-    plain_if_driven (of_component k l beside) g c child at drives =
-        let it = drives_driving (cells_of (instance_at (tree_of d) path)) (group_at (part_of (component_of d k)) g).assigns c (sym (ap (λ part. group_drives part g c) beside.same) ∙ drives) in
-        ap (λ part. is_plain (group_at part g).kind) beside.same
-        ∙ plain_group (instance_at (tree_of d) path) (component_of d k) (keeps_calls d accepted k l (instance_at (tree_of d) path) beside) g it.assign it.is_in c it.port child it.target at
-    plain_if_driven (of_nothing none) g c child at drives = untrue (sym (ap (λ part. group_drives part g c) none) ∙ drives)
 
     -- too many rounds break the limit
     few : (k : ℕ) → k < length d.components → (v : Visited) → In (statements_in (component_at d k)) v → (n : ℕ) → count_in v.form ≡ Some n → n < 2 ^ 32
@@ -106,10 +96,6 @@ cell_rules d design flat accepted path = record {
         none : {A : Type 0} → ◌≡◌ {A = Option ℕ} None (Some n) → A
         none f = absurd cc
     no_rounds v (inr i) n e = absurd i
-
-    nothing : (v : Visited) → In (statements_in no_component) v → IsForm no_component v.form
-    nothing v (inl e) = subst (λ (x : Visited). IsForm no_component x.form) e tt
-    nothing v (inr i) = absurd i
 
 module _ (d : PlainDesign) (numbers : Instance → NetState → ℕ → ℕ) (part : PlainComponent) (cells : Cells) (rules : NodeRules d (instances.Node part cells)) (own : CellRules (instances.Node part cells)) where
   module _ (v : NetState) (around : NetAround) (look : NetLook) (solves : Solves (block (wired_in d) timers_of numbers (instances.Node part cells)) around v look) where

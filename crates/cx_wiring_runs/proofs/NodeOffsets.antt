@@ -7,7 +7,8 @@ use Rattle.cx_meaning.specs.Designs.{PlainComponent, PlainDesign, PlainForm, Tim
 use Rattle.cx_meaning.specs.Instances as instances
 use Rattle.cx_meaning.specs.Instances.{Cells}
 use Rattle.cx_meaning.specs.Active.{Entry, offset_in}
-use Rattle.cx_meaning.specs.Sights.{In}
+use Rattle.cx_text.specs.Members.{In}
+use Rattle.cx_text.proofs.OptionLaws.{none_some}
 use Rattle.cx_lockstep.specs.Worlds.{Machine}
 use Rattle.cx_lockstep.specs.Statements.{LeafMachines, machine_of}
 use Rattle.cx_lockstep.specs.Running.{Running, running}
@@ -73,9 +74,6 @@ pub told_among : {A : Type 0} (f : A → List Entry) (g o : ℕ) (later : Option
 told_among f g o later [] r i e only = absurd i
 told_among f g o later (x ∷ rs) r i e only = by (offset_in (f x) g) refl i (λ j. told_among f g o later rs r j e (λ q k m h. only q k (inr m) h))
   where
-    none_some : (k : ℕ) → ◌≡◌ {A = Option ℕ} None (Some k) → ⊥
-    none_some k h = cc
-
     by : (u : Option ℕ) → offset_in (f x) g ≡ u → In (x ∷ rs) r → (In rs r → offset_told g later (flat_map f rs) ≡ Some (wide o)) → offset_told g later (f x ++ flat_map f rs) ≡ Some (wide o)
     by (Some k) h j rest = told_here g o later (f x) (flat_map f rs) (ap (λ y. offset_in (f y) g) (only x k (inl refl) h) ∙ e)
     by None h (inl same) rest = absurd (none_some o (sym h ∙ ap (λ y. offset_in (f y) g) same ∙ e))

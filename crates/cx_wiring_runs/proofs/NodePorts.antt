@@ -3,15 +3,16 @@
 use Rattle.std.proofs.Common.{◌≡◌, inl, inr, ℕ, zero, suc, ◌+◌, ◌<◌, ◌==◌, Bool, true, false, ◌&&◌, ◌||◌, not, cond, if◌then◌else◌, List, [], ◌∷◌, length, Option, Some, None, unwrap_or, refl, sym, ap, ap₂, ◌∙◌, arith, length-append}
 use Rattle.std.specs.Prelude.{filter}
 use Rattle.std.proofs.lemmas.Bool.{lt-ltb, ltb-true}
+use Rattle.cx_text.proofs.MemberLaws.{in_left, in_right}
+use Rattle.cx_text.specs.Members.{In}
 use Rattle.cx_bits.specs.BitVector.{BitVector}
-use Rattle.cx_prim.specs.Rows.{Row}
 use Rattle.cx_meaning.specs.declared.ports.PortRef.{PortRef}
 use Rattle.cx_meaning.specs.declared.ports.PortRef.TheVariants as ports
 use Rattle.cx_meaning.specs.declared.ports.PlacedPort.{PlacedPort}
 use Rattle.cx_meaning.specs.Designs.{PlainGuard, Always, Atom, Negation, All, Any, Compared, Within, PlainGuards, no_guards, a_guard, PlainComponent, PlainDesign}
-use Rattle.cx_meaning.specs.Instances.{Instance, Node, Cells, no_cells, a_primitive, an_instance, At, Nothing, OfRow, OfInstance, cell_at, part_of}
+use Rattle.cx_meaning.specs.Instances.{Instance, Node, Cells, At, Nothing, OfRow, OfInstance, cell_at, part_of}
 use Rattle.cx_meaning.specs.Active.{Owned, source_order}
-use Rattle.cx_meaning.specs.Sights.{In, PartPort, Go, AnInput, AnOutput, ItsDone, part_port}
+use Rattle.cx_meaning.specs.Sights.{PartPort, Go, AnInput, AnOutput, ItsDone, part_port}
 use Rattle.cx_rules.specs.Ports.{keeps_literal, declared_width, part_width, cell_width, written_width}
 use Rattle.cx_rules.specs.Items.{atoms_of, atoms_in, operands_of, operands_in, Range, ranges_of, ranges_in}
 use Rattle.cx_rules.specs.ShapeRules.{is_hole}
@@ -19,8 +20,8 @@ use Rattle.cx_rules.specs.WidthRules.{IsBadLiteral}
 use Rattle.cx_rules.specs.Wellformed.{port_count}
 use Rattle.cx_control.specs.Flows.{Values, is_set, guard_on, all_on, any_on, zero_of}
 use Rattle.cx_net.specs.Nets.{OfPort}
-use Rattle.cx_net.specs.NetTree.{NetCells, ARow, AChild, net_cell_at, net_part}
-use Rattle.cx_net.specs.NetMeaning.{NetState, APort, AWire, AHole, NetLook, NetAround, is_true, truth_bit, child_port_width, net_part_port, net_at_width, is_port_of, registers_of}
+use Rattle.cx_net.specs.NetTree.{NetCells, AChild, net_cell_at}
+use Rattle.cx_net.specs.NetMeaning.{NetState, APort, AWire, AHole, NetLook, NetAround, is_true, truth_bit, child_port_width, net_at_width, is_port_of, registers_of}
 use Rattle.cx_static.specs.Lowering.{lowered_component, lowered_of}
 use Rattle.cx_wiring.specs.Assignments.{owner_drives, is_driven, driven_assigns}
 use Rattle.cx_wiring.specs.Trees.{tree_widths}
@@ -34,12 +35,11 @@ use Rattle.cx_wiring.proofs.DesignNames.{in_filter}
 use Rattle.cx_wiring_cycles.specs.GuardPorts.{GuardPorts, PartsPorts, GroupSays, OwnerSays, AssignHolds, AssignsHold}
 use Rattle.cx_wiring_cycles.proofs.HoleLaws.{HoleFits, HolesFit}
 use Rattle.cx_wiring_values.proofs.InstancePorts.{IsNamed, PortRules}
+use Rattle.cx_wiring_values.proofs.PortsKnown.{child_stands, row_stands, part_port_same}
 use Rattle.cx_wiring_runs.specs.Blocks.{block, Solves}
 use Rattle.cx_wiring_runs.specs.PortValues.{has_port, value_beyond, port_value, goes_now, offset_now}
-use Rattle.cx_wiring_runs.proofs.ChildLooks.{child_stands}
 use Rattle.cx_bits.proofs.BitVectorLemmas.{some_is}
 use Rattle.cx_text.proofs.BoolLaws.{and_true_also}
-use Rattle.cx_meaning.proofs.SightsLaws.{in_left, in_right}
 use Rattle.cx_laws.proofs.TreeLemmas.{declared_there}
 
 pub known : (o : Option BitVector) (z x : BitVector) → o ≡ Some x → o ≡ Some (unwrap_or o z)
@@ -102,17 +102,6 @@ module _ {A : Type 0} (p : A → Bool) where
   filter_passes (x ∷ xs) y i = filter_one x xs (filter p xs) y (p x) refl (filter_passes xs y) i
 
 module _ (d : PlainDesign) (numbers : Instance → NetState → ℕ → ℕ) where
-  pub row_stands : (cells : Cells) (more : List Row) (c : ℕ) (row : Row) → cell_at cells c ≡ OfRow row → net_cell_at (net_of_cells (wired_in d) timers_of numbers cells more) c ≡ ARow row
-  row_stands no_cells more c row e = absurd cc
-  row_stands (a_primitive r rest) more zero row e = let f : r ≡ row = cc in ap ARow f
-  row_stands (a_primitive r rest) more (suc c) row e = row_stands rest more c row e
-  row_stands (an_instance child rest) more zero row e = absurd cc
-  row_stands (an_instance child rest) more (suc c) row e = row_stands rest more c row e
-
-  pub part_port_same : (child : Instance) (p : ℕ) → net_part_port (net_part (net_of_instance (wired_in d) timers_of numbers child)) p ≡ part_port (part_of child) p
-  part_port_same (Node q kids) zero = refl
-  part_port_same (Node q kids) (suc p) = refl
-
   part_port_width : (q : PlainComponent) (port : PartPort) → child_port_width (wired_in d q) port ≡ unwrap_or (part_width q port) 1
   part_port_width q Go = refl
   part_port_width q (AnInput n) = refl
@@ -121,7 +110,7 @@ module _ (d : PlainDesign) (numbers : Instance → NetState → ℕ → ℕ) whe
 
   -- a port of a component cell is as wide in the net
   pub child_wide : (child : Instance) (p : ℕ) → net_at_width (AChild (net_of_instance (wired_in d) timers_of numbers child)) p ≡ unwrap_or (part_width (part_of child) (part_port (part_of child) p)) 1
-  child_wide (Node q kids) p = ap (child_port_width (wired_in d q)) (part_port_same (Node q kids) p) ∙ part_port_width q (part_port q p)
+  child_wide (Node q kids) p = ap (child_port_width (wired_in d q)) (part_port_same d numbers (Node q kids) p) ∙ part_port_width q (part_port q p)
 
   module _ (part : PlainComponent) (cells : Cells) where
     abbrev CN : NetCells
@@ -136,12 +125,12 @@ module _ (d : PlainDesign) (numbers : Instance → NetState → ℕ → ℕ) whe
     -- a port of a cell of the instance is one of the net
     pub port_stands : (c p : ℕ) (at : At) → cell_at cells c ≡ at → p < port_count at → is_port_of (net_cell_at (net_of_cells (wired_in d) timers_of numbers cells (timers_of part)) c) p ≡ true
     port_stands c p Nothing e less = absurd (omega arith)
-    port_stands c p (OfRow row) e less = ap (λ x. is_port_of x p) (row_stands cells (timers_of part) c row e) ∙ lt-ltb p (length row.ports) less
+    port_stands c p (OfRow row) e less = ap (λ x. is_port_of x p) (row_stands (wired_in d) timers_of numbers cells (timers_of part) c row e) ∙ lt-ltb p (length row.ports) less
     port_stands c p (OfInstance child) e less = ap (λ x. is_port_of x p) (child_here c child e) ∙ child_port child p less
 
     port_narrow : (c p : ℕ) (at : At) → cell_at cells c ≡ at → cell_width at p ≡ Some 1 → (net_at_width (net_cell_at (net_of_cells (wired_in d) timers_of numbers cells (timers_of part)) c) p == 1) ≡ true
     port_narrow c p Nothing e one = absurd cc
-    port_narrow c p (OfRow row) e one = ap (λ x. net_at_width x p == 1) (row_stands cells (timers_of part) c row e) ∙ ap (λ o. unwrap_or o 1 == 1) one
+    port_narrow c p (OfRow row) e one = ap (λ x. net_at_width x p == 1) (row_stands (wired_in d) timers_of numbers cells (timers_of part) c row e) ∙ ap (λ o. unwrap_or o 1 == 1) one
     port_narrow c p (OfInstance child) e one = ap (λ x. net_at_width x p == 1) (child_here c child e) ∙ ap (λ w. w == 1) (child_wide child p) ∙ ap (λ o. unwrap_or o 1 == 1) one
 
     -- A PORT OF ONE BIT is one of the net

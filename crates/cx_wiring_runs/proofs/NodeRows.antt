@@ -4,6 +4,7 @@ use Rattle.std.proofs.Common.{◌≡◌, ◌⊎◌, inl, inr, ◌⊎◌, ℕ, �
 use Rattle.std.specs.Prelude.{nat_eq}
 use Rattle.std.proofs.lemmas.Bool.{eq-eqb}
 use Rattle.std.proofs.lemmas.Bool.Decides.{eqb_tells}
+use Rattle.cx_text.specs.Members.{In}
 use Rattle.cx_text.specs.declared.places.Place.{Place}
 use Rattle.cx_bits.specs.BitVector.{BitVector}
 use Rattle.cx_prim.specs.CellStates.{CellState}
@@ -19,10 +20,10 @@ use Rattle.cx_meaning.specs.Instances.{Instance, Node, Cells, OfRow, OfInstance,
 use Rattle.cx_meaning.specs.Active.{Active, Owned, nothing, group, capture, source_order, offset_of, drivers}
 use Rattle.cx_meaning.specs.Truths.{Truth, One, Zero, truth_of}
 use Rattle.cx_meaning.specs.Truths as truths
-use Rattle.cx_meaning.specs.Sights.{unheld, In, Sees, seen, AnOutput, part_port}
+use Rattle.cx_meaning.specs.Sights.{unheld, Sees, seen, AnOutput, part_port}
 use Rattle.cx_meaning.specs.Cycles.{Ended, Goes, Faults, Fault, cycle}
 use Rattle.cx_meaning.specs.Islands.{kind_length, group_length, turn_of, is_one}
-use Rattle.cx_meaning.specs.Control.{group_drives, drives}
+use Rattle.cx_meaning.specs.Control.{form_drives, group_drives, drives}
 use Rattle.cx_meaning.specs.Calls.{hole_turn, called, captures}
 use Rattle.cx_rules.specs.Items.{Dynamic, is_comb}
 use Rattle.cx_rules.specs.Ports.{width_of}
@@ -37,7 +38,7 @@ use Rattle.cx_lockstep.specs.Statements.{LeafMachines}
 use Rattle.cx_lockstep.specs.Running.{Running, AGroup, AnIsland, leaf_of, leaf_writes, running}
 use Rattle.cx_lockstep.proofs.RunningLaws.{no_faults}
 use Rattle.cx_control.specs.Spots.{Spot, Cell, Number, Holds, Kept, cells_in, held_in, pull}
-use Rattle.cx_control.specs.Leaves.{Coded, child_at, turn_next, turn_writes, turn_faults, written, leaf_drives, captured_now, inputs_now, hole_now, child_writes, child_faults, called_machine, kind_machine, leaf_machines}
+use Rattle.cx_control.specs.Leaves.{Coded, child_at, turn_next, turn_writes, turn_faults, written, captured_now, inputs_now, hole_now, child_writes, child_faults, called_machine, kind_machine, leaf_machines}
 use Rattle.cx_control.specs.Controls.{coded_control, coded_below}
 use Rattle.cx_control.specs.Standing.{RestsAt, bare, bare_under, Calling, runs, at_end, captured, GoodAt, good_below}
 use Rattle.cx_control.specs.InstanceRules.{Stands}
@@ -151,7 +152,7 @@ module _ (d : PlainDesign) (numbers : Instance → NetState → ℕ → ℕ) (pa
             rests_at x child reads at_x = seam.group_rests g place stand m x child reads at_x (λ calls. none_some x (sym none ∙ calls))
 
         of_cycle : hole ≡ false → (e : Ended) → cycle (Node part cells) (held_in s) (group g) (cells_in s) ≡ e → turn_faults (turn_of e) ≡ false
-            → StepsTo part cells around v look s p c row (turn_writes (leaf_drives part (Enable g)) (turn_of e) (Cell (c ∷ [])))
+            → StepsTo part cells around v look s p c row (turn_writes (form_drives part (Enable g)) (turn_of e) (Cell (c ∷ [])))
         of_cycle off (Faults fault) is fine = true_false_also fine
         of_cycle off (Goes after) is fine =
             cell_steps d numbers part cells rules around v look solves (cells_in s) same (held_in s) (Placed (Enable g) place) (group g) (apart off) near (control.rules.groups g there) (control.rules.circles).1 c row (after (c ∷ [])) (driven drives_it) at
@@ -163,7 +164,7 @@ module _ (d : PlainDesign) (numbers : Instance → NetState → ℕ → ℕ) (pa
         never_ends (Faults fault) = refl
 
         of_truth : (u : Truth) → hole ≡ is_done (turn_next (hole_turn g (cycle (Node part cells) (held_in s) (group g) (cells_in s)) u)) → turn_faults (hole_turn g (cycle (Node part cells) (held_in s) (group g) (cells_in s)) u) ≡ false
-            → StepsTo part cells around v look s p c row (turn_writes (leaf_drives part (Enable g)) (hole_turn g (cycle (Node part cells) (held_in s) (group g) (cells_in s)) u) (Cell (c ∷ [])))
+            → StepsTo part cells around v look s p c row (turn_writes (form_drives part (Enable g)) (hole_turn g (cycle (Node part cells) (held_in s) (group g) (cells_in s)) u) (Cell (c ∷ [])))
         of_truth One ends_so fine = ends ends_so
         of_truth Zero ends_so fine = of_cycle (ends_so ∙ never_ends (cycle (Node part cells) (held_in s) (group g) (cells_in s))) (cycle (Node part cells) (held_in s) (group g) (cells_in s)) refl fine
         of_truth truths.Conflict ends_so fine = true_false_also fine
@@ -251,10 +252,10 @@ module _ (d : PlainDesign) (numbers : Instance → NetState → ℕ → ℕ) (pa
           captures_now : child_at (coded_below cells x) x s ≡ Done → ((e : ℕ) (path : _) (n : ℕ) → s (Number (x ∷ e ∷ path) n) ≡ 0) → captures (Node part cells) g ≡ true
               → StepsTo part cells around v look s p c row (Machine.writes (LeafMachines.enable (leaf_machines (Node part cells) (coded_below cells)) g) stand s (Cell (c ∷ [])))
           captures_now is zeros caps =
-              steps_as (turn_writes (leaf_drives part (Enable g)) (turn_of (cycle (Node part cells) (held_in s) (capture g x) (cells_in s))) (Cell (c ∷ [])))
+              steps_as (turn_writes (form_drives part (Enable g)) (turn_of (cycle (Node part cells) (held_in s) (capture g x) (cells_in s))) (Cell (c ∷ [])))
               (Machine.writes (LeafMachines.enable (leaf_machines (Node part cells) (coded_below cells)) g) stand s (Cell (c ∷ [])))
               (writes_so Done is
-              ∙ ap (λ b. if b then turn_writes (leaf_drives part (Enable g)) (turn_of (cycle (Node part cells) (held_in s) (capture g x) (cells_in s))) (Cell (c ∷ [])) else None) caps)
+              ∙ ap (λ b. if b then turn_writes (form_drives part (Enable g)) (turn_of (cycle (Node part cells) (held_in s) (capture g x) (cells_in s))) (Cell (c ∷ [])) else None) caps)
               (of_capture (cycle (Node part cells) (held_in s) (capture g x) (cells_in s)) refl fine)
             where
               fine : turn_faults (turn_of (cycle (Node part cells) (held_in s) (capture g x) (cells_in s))) ≡ false
@@ -297,7 +298,7 @@ module _ (d : PlainDesign) (numbers : Instance → NetState → ℕ → ℕ) (pa
               capture_apart : IsApart part (Placed (Enable g) place) (capture g x) Now
               capture_apart = record { its_own = (apart off_in_net).its_own; same = (apart off_in_net).same }
 
-              of_capture : (z : Ended) → cycle (Node part cells) (held_in s) (capture g x) (cells_in s) ≡ z → turn_faults (turn_of z) ≡ false → StepsTo part cells around v look s p c row (turn_writes (leaf_drives part (Enable g)) (turn_of z) (Cell (c ∷ [])))
+              of_capture : (z : Ended) → cycle (Node part cells) (held_in s) (capture g x) (cells_in s) ≡ z → turn_faults (turn_of z) ≡ false → StepsTo part cells around v look s p c row (turn_writes (form_drives part (Enable g)) (turn_of z) (Cell (c ∷ [])))
               of_capture (Faults fault) f g2 = true_false_also g2
               of_capture (Goes after) f g2 =
                   cell_steps d numbers part cells rules around v look solves (cells_in s) same (held_in s) (Placed (Enable g) place) (capture g x) capture_apart near_capture

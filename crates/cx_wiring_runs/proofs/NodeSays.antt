@@ -9,7 +9,7 @@ use Rattle.cx_meaning.specs.Designs.{PlainCell, PlainComponent, PlainDesign, Pla
 use Rattle.cx_meaning.specs.Instances as instances
 use Rattle.cx_meaning.specs.Instances.{Instance, Cells, OfInstance, cell_at}
 use Rattle.cx_meaning.specs.Active.{Entry, offset_in}
-use Rattle.cx_meaning.specs.Sights.{In}
+use Rattle.cx_text.specs.Members.{In}
 use Rattle.cx_meaning.specs.Islands.{kind_length, group_length}
 use Rattle.cx_lockstep.specs.Worlds.{At, Machine}
 use Rattle.cx_lockstep.specs.Statements.{LeafMachines}

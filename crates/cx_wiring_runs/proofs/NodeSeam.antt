@@ -2,6 +2,7 @@
 -- what it reads and does not call.
 use Rattle.std.proofs.Common.{◌≡◌, ◌⊎◌, ℕ, true, false, List, [], ◌∷◌, Option, Some, None, unwrap_or}
 use Rattle.std.specs.Prelude.{is_some}
+use Rattle.cx_text.specs.Members.{In}
 use Rattle.cx_text.specs.declared.places.Place.{Place}
 use Rattle.cx_bits.specs.BitVector.{BitVector}
 use Rattle.cx_prim.specs.CellStates.{CellState}
@@ -13,7 +14,7 @@ use Rattle.cx_meaning.specs.Instances.{Instance, Node, Cells, OfInstance, cell_a
 use Rattle.cx_meaning.specs.declared.kinds.GroupKind.{GroupKind}
 use Rattle.cx_meaning.specs.declared.kinds.GroupKind.TheVariants as kinds
 use Rattle.cx_meaning.specs.Active.{Entry, nothing, group, entries, offset_in}
-use Rattle.cx_meaning.specs.Sights.{unheld, In, Sees, AnOutput, part_port}
+use Rattle.cx_meaning.specs.Sights.{unheld, Sees, AnOutput, part_port}
 use Rattle.cx_meaning.specs.Islands.{kind_length, group_length}
 use Rattle.cx_meaning.specs.Control.{group_drives, drives}
 use Rattle.cx_meaning.specs.Calls.{called}

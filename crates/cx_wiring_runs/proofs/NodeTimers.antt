@@ -1,7 +1,6 @@
 -- The timers of a node of the tree: what their ports show of their states, and what an edge makes of these.
-use Rattle.std.proofs.Common.{◌≡◌, ℕ, zero, suc, ◌+◌, ◌-◌, ◌<◌, ◌≤◌, ◌==◌, Bool, true, false, if◌then◌else◌, [], ◌∷◌, ◌++◌, length, replicate, Option, Some, unwrap_or, slice_get, refl, sym, ap, ◌∙◌, arith}
+use Rattle.std.proofs.Common.{◌≡◌, ℕ, zero, suc, ◌<◌, ◌≤◌, ◌==◌, Bool, true, false, if◌then◌else◌, [], ◌∷◌, Option, Some, unwrap_or, slice_get, refl, sym, ap, ◌∙◌, arith}
 use Rattle.std.specs.Option.{option_map_or}
-use Rattle.std.proofs.lemmas.List.{length-replicate}
 use Rattle.cx_text.specs.declared.places.Place.{Place}
 use Rattle.cx_bits.specs.BitVector.{BitVector}
 use Rattle.cx_prim.specs.CellStates.{CellState}
@@ -25,18 +24,19 @@ use Rattle.cx_wiring.specs.Wiring.{groups, first_of_control, bits, plain_wires}
 use Rattle.cx_wiring.specs.PartNets.{wired_in, timers_of, net_of_cells}
 use Rattle.cx_wiring.specs.Takings.{takes, AllConnect, AreRegisters}
 use Rattle.cx_wiring.proofs.TimerRows.{EachTimer, IsTimerIn, timer_rows}
+use Rattle.cx_wiring.proofs.NetTargets.{bit_wire}
 use Rattle.cx_wiring_cycles.specs.Standing.{IsIn, IsStopped, Away}
 use Rattle.cx_wiring_cycles.specs.IslandTakes.{IslandNexts}
 use Rattle.cx_wiring_cycles.specs.Shown.{wide}
 use Rattle.cx_wiring_cycles.specs.IslandNumbers.{count_in, done_bit}
 use Rattle.cx_wiring_cycles.proofs.TimerStates.{IsTimer, is_timer}
-use Rattle.cx_wiring_cycles.proofs.CycleLaws.{timer_goes}
+use Rattle.cx_wiring_cycles.proofs.NodeTakes.{timer_goes}
 use Rattle.cx_wiring_cycles.proofs.KnowLaws.{Known}
 use Rattle.cx_wiring_cycles.proofs.IslandAway as islands
 use Rattle.cx_wiring_runs.specs.BlockNumbers.{component_numbers}
 use Rattle.cx_wiring_runs.specs.Blocks.{block, Solves, after_edge}
 use Rattle.cx_wiring_runs.proofs.BlockTells.{IsFineNode, R, hole_now, port_now}
-use Rattle.cx_text.proofs.ListLaws.{behind as slice_get-append, front}
+use Rattle.cx_text.proofs.ListLaws.{front}
 
 -- the edge of a row among cells
 row_below : (cells : NetCells) (at c : ℕ) (row : Row) (look : NetLook) (d : CellState) → net_cell_at cells at ≡ ARow row → cell_below false cells at c look [] d ≡ row.next d (inputs_from look c 0 row.ports)
@@ -54,18 +54,6 @@ timer_next p c look d b e =
     by : (b : Bool) → (if ((truth_bit b).value == 1) then timer_go p d else timer_idle d) ≡ (if b then timer_go p d else timer_idle d)
     by true = refl
     by false = refl
-
-one_bit : (k j : ℕ) → j < k → (w : ℕ) → slice_get {X = ℕ} (replicate k w) j ≡ Some w
-one_bit zero j less w = absurd (omega arith)
-one_bit (suc k) zero less w = refl
-one_bit (suc k) (suc j) less w = one_bit k j (omega arith) w
-
--- the wires behind those of 32 bits
-pub bit_wire : (wide_ones narrow n : ℕ) → wide_ones ≤ n → n < wide_ones + narrow → slice_get {X = ℕ} (replicate wide_ones 32 ++ replicate narrow 1) n ≡ Some 1
-bit_wire wide_ones narrow n low high =
-    let count : length (replicate {A = ℕ} wide_ones 32) ≡ wide_ones = length-replicate wide_ones 32 in
-    let behind : n ≡ length (replicate {A = ℕ} wide_ones 32) + (n - wide_ones) = omega (arith, count) in
-    slice_get-append (replicate wide_ones 32) (replicate narrow 1) n (n - wide_ones) behind ∙ one_bit narrow (n - wide_ones) (omega arith) 1
 
 module _ (d : PlainDesign) (of_island : PlainComponent → NetState → ℕ → ℕ → ℕ → ℕ) (part : PlainComponent) (cells : Cells) (fine : IsFineNode d of_island part cells) (v : NetState) (around : NetAround) (look : NetLook)
     (solves : Solves (block (wired_in d) timers_of (component_numbers of_island) (instances.Node part cells)) around v look) where
@@ -147,4 +135,4 @@ module _ (d : PlainDesign) (of_island : PlainComponent → NetState → ℕ → 
   pub go_takes : EachTimer part (λ timer. look [] (APort (ports.Cell timer.cell 0)) ≡ takes around registers_now (look []) (ToPort (ports.Cell timer.cell 0)) (Some (truth_bit false))
       (drivers_of (groups (lowered_component part)) (lowered_component part).islands (whole_stand (first_of_control (lowered_component part))) (lowered part part.control (unlowered part))))
   go_takes =
-      timer_goes (lowered_of d) part fine.islands_named net_cells around v look (λ n t. solves.by_rule [] n t) (λ n t. solves.whole [] n t) fine.plain fine.targets rows
+      timer_goes (lowered_of d) part net_cells around v look (λ n t. solves.by_rule [] n t) fine.plain fine.targets rows

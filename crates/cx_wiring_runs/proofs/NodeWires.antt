@@ -7,7 +7,7 @@ use Rattle.cx_meaning.specs.Designs.{PlainComponent, PlainDesign, PlainForm, Ena
 use Rattle.cx_meaning.specs.Instances as instances
 use Rattle.cx_meaning.specs.Instances.{Cells, OfInstance, Instance, cell_at}
 use Rattle.cx_meaning.specs.Active.{Entry, offset_in}
-use Rattle.cx_meaning.specs.Sights.{In}
+use Rattle.cx_text.specs.Members.{In}
 use Rattle.cx_meaning.specs.Islands.{group_length}
 use Rattle.cx_meaning.specs.Control.{groups_of, group_drives, drives}
 use Rattle.cx_meaning.specs.Running.{leaves, control_below}

@@ -2,9 +2,10 @@
 use Rattle.std.proofs.Common.{◌≡◌, ◌⊎◌, inl, inr, ℕ, suc, ◌+◌, ◌-◌, ◌*◌, ◌%◌, Bool, true, false, ◌||◌, if◌then◌else◌, List, [], ◌∷◌, ◌++◌, length, Option, Some, None, refl, sym, ap, ◌∙◌, subst}
 use Rattle.std.specs.Prelude.{is_some, nat_eq, nat_lt}
 use Rattle.std.proofs.lemmas.Bool.{eq-eqb}
+use Rattle.cx_text.proofs.MemberLaws.{in_either}
 use Rattle.cx_meaning.specs.Designs.{PlainCell, PlainComponent, PlainForm, Empty, Enable, Seq, Par, If, While, Repeat, StaticSeq, StaticPar, StaticIf, StaticRepeat, Timed, PlainStatement, Placed, PlainStatements, no_statements, a_statement}
 use Rattle.cx_meaning.specs.Active.{Entry, offset_in}
-use Rattle.cx_meaning.specs.Sights.{In}
+use Rattle.cx_text.specs.Members.{In}
 use Rattle.cx_meaning.specs.Islands.{group_length, length_of, form_length}
 use Rattle.cx_laws.specs.Positions.{entry_at, no_entry}
 use Rattle.cx_laws.specs.Samples.{Samples, ifs_of, form_by, statement_by, while_by, parts_by, arms_by, active_by}
@@ -12,7 +13,6 @@ use Rattle.cx_static.specs.Islands.{PlainOccurrence, PlainIsland}
 use Rattle.cx_static.specs.Lowering.{Begin, Gathered, later, begin_at, if_sampled, with_occurrence, with_point, with_timer, form_gathered, gathered, parts_gathered, arms_gathered, island_gathered}
 use Rattle.cx_wiring.specs.Assignments.{occurs_among, occurs_in}
 use Rattle.cx_meaning.proofs.ActiveLemmas.{entry_of}
-use Rattle.cx_meaning.proofs.SightsLaws.{in_either}
 
 occurs_first : (g : ℕ) (xs ys : List PlainOccurrence) → occurs_among g xs ≡ true → occurs_among g (xs ++ ys) ≡ true
 occurs_first g [] ys e = absurd cc

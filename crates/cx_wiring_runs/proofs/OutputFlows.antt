@@ -15,7 +15,7 @@ use Rattle.cx_rules.specs.Accepted.{IsAccepted}
 use Rattle.cx_rules.specs.Wellformed.{IsDesign}
 use Rattle.cx_rules.specs.Ports.{declared_width}
 use Rattle.cx_control.specs.Flows.{zero_of}
-use Rattle.cx_control.proofs.DesignRuns.{joined}
+use Rattle.cx_meaning.proofs.InstancesLemmas.{instance_along}
 use Rattle.cx_net.specs.NetMeaning.{NetState, below_cell, APort, TheDone, NetLook, NetAround, around_child, is_true, truth_bit}
 use Rattle.cx_static.specs.Lowering.{lowered, unlowered}
 use Rattle.cx_wiring.specs.Counts.{positions_of}
@@ -64,7 +64,7 @@ all_seams d design flat accepted = all_nodes (SeamAt d) (tree_of d) (λ path. at
 pub seams_at : (d : PlainDesign) → IsDesign d → IsFlat d → IsAccepted d → (path : Path) → AllNodes (SeamAt d) (instance_at (tree_of d) path)
 seams_at d design flat accepted path =
     all_nodes (SeamAt d) (instance_at (tree_of d) path)
-    (λ more. at_node d (instance_at (instance_at (tree_of d) path) more) (subst (SeamRules d) (sym (joined (tree_of d) path more)) (seam_rules d design flat accepted (path ++ more))))
+    (λ more. at_node d (instance_at (instance_at (tree_of d) path) more) (subst (SeamRules d) (sym (instance_along (tree_of d) path more)) (seam_rules d design flat accepted (path ++ more))))
 
 -- a primitive's cell is one of the design
 pub row_cell : (cells : Cells) (c : ℕ) (row : Row) → cell_at cells c ≡ OfRow row → has_cell_below cells c [] ≡ true

@@ -9,7 +9,7 @@ use Rattle.cx_meaning.specs.declared.sights.Seen.TheVariants.{Value}
 use Rattle.cx_meaning.specs.Designs.{PlainComponent, PlainDesign}
 use Rattle.cx_meaning.specs.Instances as instances
 use Rattle.cx_meaning.specs.Instances.{Instance, Cells, OfRow, OfInstance, cell_at}
-use Rattle.cx_meaning.specs.Sights.{In}
+use Rattle.cx_text.specs.Members.{In}
 use Rattle.cx_meaning.specs.Islands.{kind_length, group_length}
 use Rattle.cx_meaning.specs.Calls.{called, captures}
 use Rattle.cx_lockstep.specs.Worlds.{At, Machine, edge_of, is_done}

@@ -8,7 +8,7 @@ use Rattle.cx_meaning.specs.Rows.{side_of}
 use Rattle.cx_meaning.specs.Designs.{PlainComponent, PlainDesign, group_at}
 use Rattle.cx_meaning.specs.Instances.{Instance, Node, Cells, OfRow, cell_at}
 use Rattle.cx_meaning.specs.Active.{Active, Owned, source_order, offset_of, drivers}
-use Rattle.cx_meaning.specs.Sights.{In}
+use Rattle.cx_text.specs.Members.{In}
 use Rattle.cx_meaning.specs.Control.{group_drives}
 use Rattle.cx_rules.specs.Items.{is_comb}
 use Rattle.cx_rules.specs.Ports.{width_of}

@@ -2,11 +2,12 @@
 use Rattle.std.proofs.Common.{◌≡◌, ◌⊎◌, inl, inr, ℕ, zero, suc, ◌<◌, true, List, [], ◌∷◌, ◌++◌, length, Some, refl, sym, ap, ◌∙◌, subst}
 use Rattle.std.specs.Prelude.{option_map, slice_get}
 use Rattle.std.proofs.lemmas.Option.{slice_get-get_or}
+use Rattle.cx_text.proofs.MemberLaws.{in_either}
 use Rattle.cx_text.specs.declared.places.Place.{Place}
 use Rattle.cx_meaning.specs.declared.kinds.GroupKind.{GroupKind}
 use Rattle.cx_meaning.specs.declared.kinds.GroupKind.TheVariants as kinds
 use Rattle.cx_meaning.specs.Designs.{PlainCell, PlainComponent, PlainForm, Empty, Enable, Seq, Par, If, While, Repeat, StaticSeq, StaticPar, StaticIf, StaticRepeat, Timed, PlainStatement, Placed, PlainStatements, no_statements, a_statement, group_at, no_group}
-use Rattle.cx_meaning.specs.Sights.{In}
+use Rattle.cx_text.specs.Members.{In}
 use Rattle.cx_meaning.specs.Islands.{group_length, form_length}
 use Rattle.cx_lockstep.specs.Worlds.{Control, At, Done, Machine}
 use Rattle.cx_lockstep.specs.Machines.{First, Second, InPar, left_of, right_of, AtTest, InThen, InElse, AtHead, InBody}
@@ -16,7 +17,6 @@ use Rattle.cx_static.specs.Lowering.{island_gathered, island_of, Lowering, after
 use Rattle.cx_wiring.specs.Assignments.{occurs_among, occurs_in, kind_drives, owner_drives}
 use Rattle.cx_wiring.proofs.IslandCells.{lowers, parts_lower}
 use Rattle.cx_wiring_runs.proofs.Occurrences.{island_first, island_last}
-use Rattle.cx_meaning.proofs.SightsLaws.{in_either}
 
 module _ {X : Type 0} {V : X → Type 0} {F : Type 0} (leaves : LeafMachines X V F) (part : PlainComponent) (g : ℕ) where
   abbrev Occurs : Lowering → Type 0

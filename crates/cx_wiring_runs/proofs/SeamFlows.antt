@@ -3,6 +3,8 @@
 use Rattle.std.proofs.Common.{◌≡◌, ◌⊎◌, inl, inr, ℕ, ◌+◌, ◌<◌, Bool, true, false, [], ◌∷◌, length, arith, Option, Some, None, option_map, unwrap_or, refl, sym, ap, ◌∙◌, subst}
 use Rattle.std.specs.Prelude.{nat_eq, if◌then◌else◌}
 use Rattle.std.proofs.lemmas.Bool.{eqb-true, lt-ltb}
+use Rattle.cx_text.specs.Members.{In}
+use Rattle.cx_text.proofs.OptionLaws.{none_some}
 use Rattle.cx_bits.specs.BitVector.{BitVector}
 use Rattle.cx_prim.specs.declared.ports.Side.{Side}
 use Rattle.cx_prim.specs.declared.ports.Side.TheVariants as sides
@@ -15,7 +17,7 @@ use Rattle.cx_meaning.specs.Rows.{side_of}
 use Rattle.cx_meaning.specs.Designs.{PlainComponent, PlainDesign, PlainStatement, group_at}
 use Rattle.cx_meaning.specs.Instances.{Instance, Node, Cells, At, Nothing, OfRow, OfInstance, cell_at, part_of, State, under}
 use Rattle.cx_meaning.specs.Active.{Active, nothing, group, only_at, Owned, source_order, offset_of}
-use Rattle.cx_meaning.specs.Sights.{Held, unheld, In, Sees, by_step, seen, bit_of, is_done_cell, PartPort, Go, AnInput, AnOutput, ItsDone, part_port}
+use Rattle.cx_meaning.specs.Sights.{Held, unheld, Sees, by_step, seen, bit_of, is_done_cell, PartPort, Go, AnInput, AnOutput, ItsDone, part_port}
 use Rattle.cx_meaning.specs.Cycles.{Next, cell_outcome}
 use Rattle.cx_meaning.specs.Control.{groups_of}
 use Rattle.cx_rules.specs.Ports.{declared_width, cell_width, width_of, is_source_only}
@@ -129,9 +131,6 @@ module _ (d : PlainDesign) (numbers : Instance → NetState → ℕ → ℕ) (pa
 
     plain : (c : ℕ) (row : Row) → cell_at cells c ≡ OfRow row → (n m : ℕ) → row.reads n m ≡ true → side_of row m ≡ sides.Plain
     plain c row at n m w = (row_has_ports d (Node part cells) rules c row at).reads_plain n m w
-
-    none_some : (h : ℕ) → ◌≡◌ {A = Option ℕ} None (Some h) → ⊥
-    none_some h e = cc
 
     -- A PORT THAT IS STILL hangs on no group
     still_port : ((Still (Node part cells) p → ⊥) → ⊥) → Undisturbed (Node part cells) held act now st (around_of (Node part cells) around v look) p

@@ -1,5 +1,6 @@
 -- After the edge with reset the cells of a design's net are those of the start, and the words of its memories are those of the design.
 use Rattle.std.proofs.Common.{◌≡◌, inl, inr, slice_get, Some, ℕ, zero, suc, ◌+◌, ◌<◌, Bool, true, false, if◌then◌else◌, List, [], ◌∷◌, ◌++◌, length, map, refl, sym, ap, ◌∙◌, arith, length-append}
+use Rattle.cx_text.proofs.MemberLaws.{in_at}
 use Rattle.cx_text.specs.Loading.{PlainRow}
 use Rattle.cx_prim.specs.CellStates as cell_states
 use Rattle.cx_prim.specs.CellStates.{CellState, Stateless, Register, Memory, SequentialMemory, Multiplier, Divider, Timer, with_words}
@@ -8,7 +9,7 @@ use Rattle.cx_prim.specs.Table.{PrimitiveRow}
 use Rattle.cx_meaning.specs.Designs.{PlainKind, OfPrimitive, OfComponent, PlainCell, PlainComponent, PlainDesign, component_at}
 use Rattle.cx_meaning.specs.Instances as instances
 use Rattle.cx_meaning.specs.Instances.{Instance, Cells, no_cells, a_primitive, an_instance, Path, State, just, start, start_at, start_below, loaded_at, externals_from, words_of, part_of, add_cell, cells_for, tree_within, tree_of}
-use Rattle.cx_meaning.specs.Sights.{In}
+use Rattle.cx_text.specs.Members.{In}
 use Rattle.cx_rules.specs.Wellformed.{IsExternal, IsDesign}
 use Rattle.cx_rules.specs.Externals.{if_external, rows_of}
 use Rattle.cx_net.specs.NetTree.{NetInstance}
@@ -22,7 +23,6 @@ use Rattle.cx_wiring.specs.PartNets.{timer_cells, wired_in, timers_of, net_of_in
 use Rattle.cx_wiring.proofs.TimerCells.{cells-lowered_component}
 use Rattle.cx_wiring.proofs.ExternalLaws.{rows_of-lowered_component}
 use Rattle.cx_wiring_runs.specs.Blocks.{has_cell, has_cell_below}
-use Rattle.cx_meaning.proofs.SightsLaws.{in_at}
 use Rattle.cx_rules.proofs.SizesLemmas.{rows-both}
 
 -- A RESET leaves a start that was loaded

@@ -18,10 +18,11 @@ use Rattle.cx_net.specs.NetTree.{net_component_at, net_within, net_tree}
 use Rattle.cx_net.specs.NetMeaning.{NetLook}
 use Rattle.cx_net.specs.NetEdges.{cell_after, net_after}
 use Rattle.cx_net.specs.NetRuns.{net_start_at, started, net_start}
-use Rattle.cx_net.specs.NetFits.{IsFitKind, IsExternalKind, IsFit}
+use Rattle.cx_net.specs.NetFits.{IsExternalKind, IsFit}
 use Rattle.cx_net.specs.NetPaths.{LeadsTo}
 use Rattle.cx_net.specs.NetHolds.{Holds}
 use Rattle.cx_net.proofs.DriverLemmas.{part-within, start-at, state-at}
+use Rattle.cx_net.proofs.WidthLaws.{lower_child}
 use Rattle.cx_wiring_runs.proofs.StartCells.{with_own, itself}
 use Rattle.cx_prim.proofs.CellStatesLemmas.{memory_with, sequential_with}
 use Rattle.cx_meaning.proofs.InstancesLemmas.{just_same}
@@ -101,9 +102,6 @@ module _ (c : ℕ) (d : CellState) where
           subst (Loads cell) (sym (ap (λ t. if t then with_words m.words d else loaded_at (externals_from (suc b) cs) (words_loaded ms) c d) (other_cell b c (omega (arith, place))))) r
 
 module _ (net : PlainNet) (fit : IsFit net) where
-  lower_child : (k c : ℕ) (cell : PlainCell) (j : ℕ) → k < length net.components → slice_get (net_component_at net k).cells c ≡ Some cell → cell.kind ≡ OfComponent j → j < k
-  lower_child k c cell j here there is = subst (IsFitKind k) is ((fit.components k here).cells c cell there)
-
   -- a cell starts as its row
   starts : (path : Path) (levels k : ℕ) → k < levels → k < length net.components → (h c : ℕ) (cell : PlainCell) (p : PrimitiveRow) → LeadsTo net k path h → slice_get (net_component_at net h).cells c ≡ Some cell → cell.kind ≡ OfPrimitive p
       → net_start_at (net_within net levels k) (path ++ c ∷ []) ≡ (row_of p).start
@@ -111,7 +109,7 @@ module _ (net : PlainNet) (fit : IsFit net) where
   starts [] (suc levels) k lower here h c cell p leads there is =
       start-at (net_within net levels) (OfPrimitive p) (net_component_at net k).cells c cell [] (subst (λ g. slice_get (net_component_at net g).cells c ≡ Some cell) (sym leads) there) is
   starts (e ∷ path) (suc levels) k lower here h c cell p (outer, child, at, kind, leads) there is =
-      let less = lower_child k e outer child here at kind in
+      let less = lower_child net fit k e outer child here at kind in
       start-at (net_within net levels) (OfComponent child) (net_component_at net k).cells e outer (path ++ c ∷ []) at kind
       ∙ starts path levels child (omega (arith, less, lower)) (omega (arith, less, here)) h c cell p leads there is
 
@@ -122,7 +120,7 @@ module _ (net : PlainNet) (fit : IsFit net) where
   resets [] (suc levels) k look d lower here h c cell p leads there is =
       state-at (net_within net levels) true look d (OfPrimitive p) (net_component_at net k).cells c c cell [] (subst (λ g. slice_get (net_component_at net g).cells c ≡ Some cell) (sym leads) there) is
   resets (e ∷ path) (suc levels) k look d lower here h c cell p (outer, child, at, kind, leads) there is =
-      let less = lower_child k e outer child here at kind in
+      let less = lower_child net fit k e outer child here at kind in
       state-at (net_within net levels) true look d (OfComponent child) (net_component_at net k).cells e e outer (path ++ c ∷ []) at kind
       ∙ resets path levels child (λ q. look (e ∷ q)) d (omega (arith, less, lower)) (omega (arith, less, here)) h c cell p leads there is
 

@@ -1,6 +1,7 @@
 -- What rests on state leads to what rests on state, under whatever set: continuous assignments alone drive on the way. So what a done
 -- assignment looks at hangs on no group.
 use Rattle.std.proofs.Common.{◌≡◌, ℕ, true, false, None, refl, sym, ap, ◌∙◌, subst}
+use Rattle.cx_text.specs.Members.{In}
 use Rattle.cx_prim.specs.declared.ports.Side.{Side}
 use Rattle.cx_prim.specs.declared.ports.Side.TheVariants as sides
 use Rattle.cx_prim.specs.Rows.{Row, is_output_side}
@@ -10,7 +11,7 @@ use Rattle.cx_meaning.specs.Rows.{side_of}
 use Rattle.cx_meaning.specs.Designs.{PlainAssign, group_at}
 use Rattle.cx_meaning.specs.Instances.{Instance, OfRow, OfInstance, part_of, cells_of, cell_at}
 use Rattle.cx_meaning.specs.Active.{Active, Owned, source_order}
-use Rattle.cx_meaning.specs.Sights.{In, PartPort, AnOutput, ItsDone, part_port}
+use Rattle.cx_meaning.specs.Sights.{PartPort, AnOutput, ItsDone, part_port}
 use Rattle.cx_rules.specs.Ports.{is_part_output, is_cell_output, is_source_only}
 use Rattle.cx_rules.specs.ShapeRules.{is_hole}
 use Rattle.cx_rules.specs.Footprints.{AssignNames, Rests, literal_rests, input_rests, registered_rests, output_rests, done_rests, combinational_rests, SideLeads, PartLeads, CellLeads, Leads, Depends, at_once, by_way_of}

@@ -4,6 +4,7 @@ use Rattle.std.proofs.Common.{◌≡◌, inl, inr, ℕ, zero, suc, ◌+◌, ◌-
 use Rattle.std.specs.Prelude.{nat_lt}
 use Rattle.std.proofs.lemmas.Bool.{lt-ltb, ltb-true, ltb-false, le-ltb}
 use Rattle.std.proofs.lemmas.Option.{slice_get-map, slice_get-get_or}
+use Rattle.cx_text.specs.Members.{In}
 use Rattle.cx_bits.specs.BitVector.{BitVector}
 use Rattle.cx_prim.specs.declared.ports.PortRow.{PortRow}
 use Rattle.cx_prim.specs.declared.ports.Side.{Side}
@@ -19,7 +20,7 @@ use Rattle.cx_meaning.specs.Rows.{side_from, side_of}
 use Rattle.cx_meaning.specs.Designs.{PlainCell, PlainComponent, PlainDesign, component_at, no_component, group_at, no_group}
 use Rattle.cx_meaning.specs.Instances.{Instance, Node, Cells, At, Nothing, OfRow, OfInstance, cell_at, part_of}
 use Rattle.cx_meaning.specs.Active.{Active, group, Owned, Acting, acting, offset_of, if_acting, if_target, same_port, source_order, drivers}
-use Rattle.cx_meaning.specs.Sights.{In, PartPort, Go, AnInput, AnOutput, ItsDone, output_port, part_port}
+use Rattle.cx_meaning.specs.Sights.{PartPort, Go, AnInput, AnOutput, ItsDone, output_port, part_port}
 use Rattle.cx_rules.specs.Ports.{declared_width, part_width, cell_width, width_of}
 use Rattle.cx_rules.specs.ShapeRules.{is_hole}
 use Rattle.cx_rules.specs.Wellformed.{IsThere}
@@ -42,9 +43,10 @@ use Rattle.cx_wiring_cycles.proofs.PortLaws.{driven_port, driven_hole}
 use Rattle.cx_wiring_values.proofs.TimerPlaces.{cell_no_timer, output_no_timer}
 use Rattle.cx_wiring_values.proofs.InstancePorts.{RowOf, ChildOf}
 use Rattle.cx_wiring_values.proofs.NodeRules.{NodeRules}
+use Rattle.cx_wiring_values.proofs.PortsKnown.{row_stands, part_port_same}
 use Rattle.cx_wiring_runs.specs.Blocks.{block, Solves}
 use Rattle.cx_wiring_runs.specs.PortValues.{own_offset, around_of, has_port, value_beyond, port_value, goes_now, offset_now, active_now, WiresSolve}
-use Rattle.cx_wiring_runs.proofs.NodePorts.{known, any_offset, row_stands, part_port_same, child_wide, child_here, port_stands, assigns_hold, holes_fit}
+use Rattle.cx_wiring_runs.proofs.NodePorts.{known, any_offset, child_wide, child_here, port_stands, assigns_hold, holes_fit}
 use Rattle.cx_text.proofs.ListLaws.{front}
 
 -- what is known, whatever stands where it is not
@@ -255,12 +257,12 @@ module _ (d : PlainDesign) (numbers : Instance → NetState → ℕ → ℕ) (pa
         lawful = subst IsLawful of_row.is (row_of_lawful of_row.primitive)
 
         ruled : (q : ℕ) → nat_lt q (length row.ports) ≡ true → (x : BitVector) × (look [] (APort (ports.Cell c q)) ≡ Some x)
-        ruled q l = solves.whole [] (APort (ports.Cell c q)) (ap (λ x. is_port_of x q) (row_stands d numbers cells (timers_of part) c row e) ∙ l)
+        ruled q l = solves.whole [] (APort (ports.Cell c q)) (ap (λ x. is_port_of x q) (row_stands (wired_in d) timers_of numbers cells (timers_of part) c row e) ∙ l)
 
         is_row : look [] (APort (ports.Cell c p)) ≡ row_node (wired_in d part) (net_of_cells (wired_in d) timers_of numbers cells (timers_of part)) around s (look []) (λ k. look (k ∷ [])) row c p (side_of row p)
         is_row =
-            solves.by_rule [] (APort (ports.Cell c p)) (ap (λ x. is_port_of x p) (row_stands d numbers cells (timers_of part) c row e) ∙ less)
-            ∙ ap (cell_node (wired_in d part) (net_of_cells (wired_in d) timers_of numbers cells (timers_of part)) around s (look []) (λ k. look (k ∷ [])) c p) (row_stands d numbers cells (timers_of part) c row e)
+            solves.by_rule [] (APort (ports.Cell c p)) (ap (λ x. is_port_of x p) (row_stands (wired_in d) timers_of numbers cells (timers_of part) c row e) ∙ less)
+            ∙ ap (cell_node (wired_in d part) (net_of_cells (wired_in d) timers_of numbers cells (timers_of part)) around s (look []) (λ k. look (k ∷ [])) c p) (row_stands (wired_in d) timers_of numbers cells (timers_of part) c row e)
 
         abbrev of_side : Side → Option BitVector
         of_side side = row_node (wired_in d part) (net_of_cells (wired_in d) timers_of numbers cells (timers_of part)) around s (look []) (λ k. look (k ∷ [])) row c p side

@@ -2,12 +2,14 @@
 -- where the ports that its active assignments name have values.
 use Rattle.std.proofs.Common.{◌≡◌, ℕ, suc, ◌+◌, ◌<◌, ◌≤◌, inl, inr, Bool, true, false, if◌then◌else◌, List, [], ◌∷◌, ◌++◌, Option, Some, option_and_then, refl, sym, ap, ◌∙◌, arith}
 use Rattle.std.proofs.lemmas.Bool.{eq-eqb, ne_eqb}
+use Rattle.cx_text.specs.Members.{In}
+use Rattle.cx_text.proofs.OptionLaws.{same_some}
 use Rattle.cx_bits.specs.BitVector.{BitVector}
 use Rattle.cx_meaning.specs.declared.ports.PortRef.{PortRef}
 use Rattle.cx_meaning.specs.declared.ports.PortRef.TheVariants as ports
 use Rattle.cx_meaning.specs.Designs.{PlainGuard, Always, Atom, Negation, All, Any, Compared, Within, PlainAssign}
 use Rattle.cx_meaning.specs.Active.{Owned}
-use Rattle.cx_meaning.specs.Sights.{In, GuardNames}
+use Rattle.cx_meaning.specs.Sights.{GuardNames}
 use Rattle.cx_rules.specs.Footprints.{AssignNames}
 use Rattle.cx_net.specs.Nets.{PlainNetExpr, OfPort, OfWire, PlainNetTarget, ToWire, PlainNetDriver}
 use Rattle.cx_net.specs.NetMeaning.{Node, AWire, AHole, NetAround, is_true, truth_bit, same_target}
@@ -124,9 +126,6 @@ module _ (groups : ℕ) (islands : List PlainIsland) (named : IslandsName groups
 
   module _ (g : ℕ) (offset : KnownExpr around registers look (OfWire g)) (hole : BitVector) (hole_is : look (AHole (groups + g)) ≡ Some hole) (source : PortRef) (source_known : is_true hole ≡ true → KnownExpr around registers look (OfPort source))
       (wire : ℕ) (low : groups + island_wires islands ≤ wire) (target : PlainNetTarget) where
-    some_is : (x y : BitVector) → ◌≡◌ {A = Option BitVector} (Some x) (Some y) → x ≡ y
-    some_is x y e = cc
-
     module _ (guard : PlainGuard) (names : is_true hole ≡ true → (q : PortRef) → GuardNames guard q → KnownExpr around registers look (OfPort q)) where
       -- the gate, and that the group goes where it is 1
       gate_known : GateReads g wire guard → KnownExpr around registers look (OfWire wire) × (On around registers look (OfWire wire) → is_true hole ≡ true)
@@ -138,7 +137,7 @@ module _ (groups : ℕ) (islands : List PlainIsland) (named : IslandsName groups
               ∙ ap (λ b. if b then V (guard_expr (OfWire g) (suc wire) guard) else Some (truth_bit false)) e
 
           no_bit : (b : BitVector) → ◌≡◌ {A = Option BitVector} (Some (truth_bit false)) (Some b) → is_true b ≡ true → ⊥
-          no_bit b e on = let wrong : false ≡ true = ap is_true (some_is (truth_bit false) b e) ∙ on in absurd (cc)
+          no_bit b e on = let wrong : false ≡ true = ap is_true (same_some (truth_bit false) b e) ∙ on in absurd (cc)
 
           choice : (t : Bool) → is_true hole ≡ t → KnownExpr around registers look (OfWire wire) × (On around registers look (OfWire wire) → is_true hole ≡ true)
           choice true e = (
@@ -165,7 +164,7 @@ module _ (groups : ℕ) (islands : List PlainIsland) (named : IslandsName groups
           all_append F (gate_drivers groups g wire guard) _ (all_append F (guard_drivers (OfWire g) (suc wire) guard) _ k.1 (record { guard = (hole, hole_is); source = λ on. k.0 }, tt)) (gate_fed reads, tt)
 
     go_fed : F (drive target (go groups g) (OfPort source))
-    go_fed = record { guard = (hole, hole_is); source = λ on. source_known (ap is_true (some_is hole on.0 (sym hole_is ∙ on.1)) ∙ on.2) }
+    go_fed = record { guard = (hole, hole_is); source = λ on. source_known (ap is_true (same_some hole on.0 (sym hole_is ∙ on.1)) ∙ on.2) }
 
     abbrev Names : PlainGuard → Type 0
     Names guard = (q : PortRef) → GuardNames guard q → KnownExpr around registers look (OfPort q)

@@ -1,12 +1,13 @@
 -- In an accepted design what an assignment of an output names is no input of the signature and leads to none, in each instance.
 use Rattle.std.proofs.Common.{◌≡◌, ◌⊎◌, inl, inr, ℕ, ◌<◌, length, refl, ◌∙◌, subst}
+use Rattle.cx_text.proofs.MemberLaws.{number_in}
 use Rattle.cx_text.specs.declared.rules.Rule.TheVariants as rules
 use Rattle.cx_meaning.specs.declared.ports.PortRef.{PortRef}
 use Rattle.cx_meaning.specs.declared.ports.PortRef.TheVariants as ports
 use Rattle.cx_meaning.specs.Designs.{PlainComponent, PlainDesign, component_at}
 use Rattle.cx_meaning.specs.Instances.{Instance, part_of, tree_of, Path, instance_at}
 use Rattle.cx_meaning.specs.Active.{nothing, Owned, source_order}
-use Rattle.cx_meaning.specs.Sights.{In}
+use Rattle.cx_text.specs.Members.{In}
 use Rattle.cx_rules.specs.Ports.{component_of, path_of}
 use Rattle.cx_rules.specs.Footprints.{AssignNames, Depends}
 use Rattle.cx_rules.specs.ShapeRules.{LeadsToInput}
@@ -14,7 +15,6 @@ use Rattle.cx_rules.specs.Spots.{AnAssign}
 use Rattle.cx_rules.specs.Accepted.{IsAccepted}
 use Rattle.cx_control.proofs.BesideLemmas.{IsBeside, StandsFor, of_component, of_nothing, instance_stands, depends_too}
 use Rattle.cx_meaning.proofs.DesignsLemmas.{same_part}
-use Rattle.cx_meaning.proofs.SightsLaws.{number_in}
 
 abbrev pub OutputsFree : Instance → Type 0
 OutputsFree i = (o : Owned) (n : ℕ) (q : PortRef) → In (source_order (part_of i)) o → o.assign.target ≡ ports.Output n → AssignNames o.assign q → (m : ℕ) → (q ≡ ports.Input m) ⊎ Depends i nothing q (ports.Input m) → ⊥

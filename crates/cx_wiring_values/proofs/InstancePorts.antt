@@ -1,21 +1,22 @@
 -- What the rules of acceptance say of the ports of an instance: those that its assignments and tests name are there and no holes, its
 -- literals fit, what stands alone in a guard or a test is of one bit, and a guard looks at the offset of its group where that is static.
-use Rattle.std.proofs.Common.{◌≡◌, inl, inr, ℕ, zero, suc, ◌<◌, Bool, true, false, not, ◌||◌, if◌then◌else◌, List, [], ◌∷◌, ◌++◌, length, Option, Some, None, refl, sym, ap, ◌∙◌, subst, arith}
+use Rattle.std.proofs.Common.{◌≡◌, inl, inr, ℕ, zero, suc, ◌<◌, Bool, true, false, not, ◌||◌, if◌then◌else◌, List, [], ◌∷◌, length, Option, Some, None, refl, sym, ap, ◌∙◌, subst, arith}
 use Rattle.std.specs.Prelude.{nat_eq, slice_get}
 use Rattle.std.proofs.lemmas.Bool.{eqb-true}
+use Rattle.cx_text.proofs.MemberLaws.{number_in}
 use Rattle.cx_text.specs.declared.rules.Rule.TheVariants as rules
 use Rattle.cx_prim.specs.Rows.{Row}
 use Rattle.cx_prim.specs.Table.{PrimitiveRow, row_of}
 use Rattle.cx_meaning.specs.declared.ports.PortRef.{PortRef}
 use Rattle.cx_meaning.specs.declared.ports.PortRef.TheVariants as ports
 use Rattle.cx_meaning.specs.declared.ports.PlacedPort.{PlacedPort}
-use Rattle.cx_meaning.specs.Designs.{PlainGuard, Always, Atom, Negation, All, Any, Compared, Within, PlainGuards, no_guards, a_guard, PlainKind, OfPrimitive, OfComponent, PlainCell, PlainComponent, PlainDesign, no_component, component_at, group_at}
+use Rattle.cx_meaning.specs.Designs.{PlainKind, OfPrimitive, OfComponent, PlainCell, PlainComponent, PlainDesign, component_at, group_at}
 use Rattle.cx_meaning.specs.Instances.{Instance, OfRow, OfInstance, cell_at, cells_of, part_of, add_cell, cells_for, tree_within, tree_of, Path, instance_at}
 use Rattle.cx_meaning.specs.Active.{Owned, source_order}
-use Rattle.cx_meaning.specs.Sights.{In}
+use Rattle.cx_text.specs.Members.{In}
 use Rattle.cx_meaning.specs.Islands.{group_length}
 use Rattle.cx_rules.specs.Ports.{component_of, written_width, is_source_only, path_of}
-use Rattle.cx_rules.specs.Items.{atoms_of, atoms_in, operands_of, operands_in, Range, ranges_of, sources_of, Visited, statements_in, test_in}
+use Rattle.cx_rules.specs.Items.{atoms_of, Range, ranges_of, sources_of, Visited, statements_in, test_in}
 use Rattle.cx_rules.specs.WidthRules.{differ, is_wide, first_wide, IsBadLiteral}
 use Rattle.cx_rules.specs.ShapeRules.{is_hole, some_target, owner_length, is_bad_range}
 use Rattle.cx_rules.specs.Spots.{AnAssign, AStatement, AGroup}
@@ -26,9 +27,9 @@ use Rattle.cx_wiring.proofs.WholeInstances.{IsWhole, of_component, of_nothing, i
 use Rattle.cx_wiring.proofs.DesignNames.{stands_in}
 use Rattle.cx_laws.proofs.TreeLemmas.{cell_there, declared_there}
 use Rattle.cx_rules.proofs.ShapeRulesLemmas.{some_in}
-use Rattle.cx_rules.proofs.ItemsLemmas.{bare_test}
-use Rattle.cx_meaning.proofs.SightsLaws.{in_left, in_right, number_in}
+use Rattle.cx_rules.proofs.ItemsLemmas.{bare_test, atoms_are_operands, bare_form}
 use Rattle.cx_meaning.proofs.DesignsLemmas.{same_part}
+use Rattle.cx_meaning.proofs.InstancesLemmas.{instance_is, row_is}
 
 -- a port that a statement or an assignment names
 pub record IsNamed (i : Instance) (p : PortRef) : Type 0 where
@@ -93,12 +94,6 @@ pub record PortRules (d : PlainDesign) (i : Instance) : Type 0 where
 
 -- CELLS
 module _ (d : PlainDesign) (n : ℕ) where
-  row_is : (a b : Row) → OfRow a ≡ OfRow b → a ≡ b
-  row_is a b e = cc
-
-  instance_is : (a b : Instance) → OfInstance a ≡ OfInstance b → a ≡ b
-  instance_is a b e = cc
-
   row_at : (cells : List PlainCell) (c : ℕ) (row : Row) → cell_at (cells_for (tree_within d n) cells) c ≡ OfRow row
       → (cell : PlainCell) × (p : PrimitiveRow) × (slice_get cells c ≡ Some cell) × (cell.kind ≡ OfPrimitive p) × (row_of p ≡ row)
   row_at [] c row e = absurd (cc)
@@ -140,26 +135,6 @@ narrow o w e f = let equal : w ≡ 1 = eqb-true w 1 (unnot (nat_eq w 1) (ap (λ 
     unnot true g = refl
     unnot false g = absurd (cc)
 
--- a port alone in a guard is one of its operands
-mutual
-  atom_operand : (g : PlainGuard) (p : PlacedPort) → In (atoms_of g) p → In (operands_of g) p
-  atom_operand Always p i = absurd i
-  atom_operand (Atom q) p i = i
-  atom_operand (Negation g) p i = atom_operand g p i
-  atom_operand (All gs) p i = atoms_operand gs p i
-  atom_operand (Any gs) p i = atoms_operand gs p i
-  atom_operand (Compared c a b) p i = absurd i
-  atom_operand (Within from to) p i = absurd i
-
-  atoms_operand : (gs : PlainGuards) (p : PlacedPort) → In (atoms_in gs) p → In (operands_in gs) p
-  atoms_operand no_guards p i = absurd i
-  atoms_operand (a_guard g gs) p i = either (atoms_of g) i (λ j. in_left (operands_of g) (operands_in gs) p (atom_operand g p j)) (λ j. in_right (operands_of g) (operands_in gs) p (atoms_operand gs p j))
-    where
-      either : (xs : List PlacedPort) → In (xs ++ atoms_in gs) p → (In xs p → In (operands_of g ++ operands_in gs) p) → (In (atoms_in gs) p → In (operands_of g ++ operands_in gs) p) → In (operands_of g ++ operands_in gs) p
-      either [] j f h = h j
-      either (x ∷ xs) (inl e) f h = f (inl e)
-      either (x ∷ xs) (inr j) f h = either xs j (λ k. f (inr k)) h
-
 wide_among : (i : Instance) (ps : List PlacedPort) (p : PlacedPort) → In ps p → is_wide i p.port ≡ true → (q : PortRef) × (first_wide i ps ≡ Some q)
 wide_among i [] p j e = absurd j
 wide_among i (x ∷ xs) p (inl same) e = (x.port, ap (λ b. if b then Some x.port else first_wide i xs) (ap (λ y. is_wide i y.port) same ∙ e))
@@ -190,7 +165,7 @@ module _ (d : PlainDesign) (design : IsDesign d) (flat : IsFlat d) (accepted : I
     }
 
     atom : (p : PlacedPort) → In (atoms_of o.assign.guard) p → written_width (component_of d k) p.port ≡ Some 1
-    atom p j = let w = written_there (component_of d k) p.port (is.sources p (inr (atom_operand o.assign.guard p j))) in narrow (written_width (component_of d k) p.port) w.0 w.1 (by (is_wide (component_of d k) p.port) refl)
+    atom p j = let w = written_there (component_of d k) p.port (is.sources p (inr (atoms_are_operands o.assign.guard p j))) in narrow (written_width (component_of d k) p.port) w.0 w.1 (by (is_wide (component_of d k) p.port) refl)
       where
         by : (b : Bool) → is_wide (component_of d k) p.port ≡ b → b ≡ false
         by false e = refl
@@ -331,10 +306,6 @@ pub some_components : (k n : ℕ) → k < n → (m : ℕ) × (n ≡ suc m)
 some_components k zero h = absurd (omega arith)
 some_components k (suc m) h = (m, refl)
 
-no_form : (v : Visited) → In (statements_in no_component) v → IsForm no_component v.form
-no_form v (inl e) = subst (λ w. IsForm no_component w.form) e tt
-no_form v (inr i) = absurd i
-
 -- EVERY INSTANCE of an accepted design's tree
 pub port_rules : (d : PlainDesign) → IsDesign d → IsFlat d → IsAccepted d → (path : Path) → PortRules d (instance_at (tree_of d) path)
 port_rules d design flat accepted path = by (instance_whole d design path)
@@ -342,7 +313,7 @@ port_rules d design flat accepted path = by (instance_whole d design path)
     by : {i : Instance} → IsWhole d i → PortRules d i
     by (of_component m k within) = let n = some_components k (length d.components) within in tree_rules d design flat accepted k within m n.0 n.1
     by of_nothing = record {
-      forms = no_form;
+      forms = bare_form;
       assigns = λ o i. absurd i;
       tests = λ v p i e. absurd (bare_test v p i e);
       rows = λ c row e. absurd (cc);

@@ -3,13 +3,14 @@
 use Rattle.std.proofs.Common.{◌≡◌, ℕ, zero, suc, ◌+◌, ◌-◌, ◌<◌, ◌≤◌, inl, inr, ◌==◌, not, nat_lt, Bool, true, false, if◌then◌else◌, List, [], ◌∷◌, length, Option, Some, None, unwrap_or, slice_get, refl, sym, ap, ◌∙◌, subst, arith}
 use Rattle.std.proofs.lemmas.Bool.{eqb-true, ltb-true, cases_lt}
 use Rattle.std.proofs.lemmas.Bool.Decides.{nat_tests}
+use Rattle.cx_text.proofs.MemberLaws.{in_at}
 use Rattle.cx_bits.specs.BitVector.{BitVector}
 use Rattle.cx_text.specs.declared.places.Place.{Place}
 use Rattle.cx_meaning.specs.declared.ports.PortRef.TheVariants as ports
 use Rattle.cx_meaning.specs.Designs.{PlainComponent, PlainCell, PlainForm, Timed, Placed}
 use Rattle.cx_meaning.specs.Islands.{form_length}
 use Rattle.cx_meaning.specs.Active.{Active, nothing}
-use Rattle.cx_meaning.specs.Sights.{In}
+use Rattle.cx_text.specs.Members.{In}
 use Rattle.cx_net.specs.Nets.{OfPort, OfWire, Inverse, ToHole, PlainNetDriver}
 use Rattle.cx_net.specs.NetMeaning.{Node, APort, AWire, NetAround, is_true, truth_bit}
 use Rattle.cx_static.specs.declared.islands.Sample.{Sample}
@@ -30,7 +31,6 @@ use Rattle.cx_wiring_values.proofs.TogetherGoes.{IsOn, GoesIn, Holes, IsleGoes}
 use Rattle.cx_wiring_values.proofs.StaticGoes as static
 use Rattle.cx_wiring_values.proofs.IslandKnown.{IslandGiven, runs_known, sample_known, active_known}
 use Rattle.cx_text.proofs.BoolLaws.{and_both}
-use Rattle.cx_meaning.proofs.SightsLaws.{in_at}
 use Rattle.cx_text.proofs.ListLaws.{there_below, there_at}
 use Rattle.cx_text.proofs.NumberLaws.{never}
 
@@ -88,7 +88,7 @@ module _ (groups : ℕ) (x : Stand) (first : ℕ) (island : PlainIsland) (around
   -- an enable that is active acts
   acts_of : (part : PlainComponent) (n : ℕ) (o : PlainOccurrence) → slice_get island.occurrences n ≡ Some o → values.active groups x first island around registers look count done looks n ≡ true → Acts part o
   acts_of part n o e on =
-      let l = IslandGiven.occurrences given n o e in
+      let l = (IslandGiven.listed given).occurrences n o e in
       let all = sym (values.active_is groups x first island around registers look count done looks n o e l.0 l.1) ∙ on in
       let a = and_both _ _ all in
       let b = and_both _ _ a.1 in
@@ -112,9 +112,9 @@ module _ (groups : ℕ) (x : Stand) (first : ℕ) (island : PlainIsland) (around
       none_number a f = cc
 
       within_outer : (t : ℕ) → slice_get island.timers t ≡ Some timer → timer.outer ≡ Some outer → outer < length island.timers
-      within_outer zero f o = absurd (none_number outer (sym (IslandGiven.first_timer given timer f) ∙ o))
+      within_outer zero f o = absurd (none_number outer (sym ((IslandGiven.listed given).first timer f) ∙ o))
       within_outer (suc t) f o =
-          let k = IslandGiven.within given (suc t) timer f (omega arith) in
+          let k = (IslandGiven.listed given).within (suc t) timer f (omega arith) in
           let same : k.0 ≡ outer = same_number k.0 outer (sym k.1 ∙ o) in
           let less : suc t < length island.timers = there_below island.timers (suc t) timer f in
           let small : k.0 < suc t = k.2 in omega arith
@@ -167,12 +167,12 @@ module _ (groups : ℕ) (x : Stand) (first : ℕ) (island : PlainIsland) (around
   -- WHERE THE FIRST TIMER runs control stands at the island
   stands_there : live 0 ≡ true → On around registers look (at x)
   stands_there on =
-      let k = there_at island.timers 0 (IslandGiven.some given) in
-      let r = IslandGiven.reads given (first + 0) (omega arith) (let s = IslandGiven.some given in omega arith) in
-      let known = runs_known groups x first island around registers look given 0 (IslandGiven.some given) in
+      let k = there_at island.timers 0 ((IslandGiven.listed given).some) in
+      let r = IslandGiven.reads given (first + 0) (omega arith) (let s = (IslandGiven.listed given).some in omega arith) in
+      let known = runs_known groups x first island around registers look given 0 ((IslandGiven.listed given).some) in
       let source : look (AWire (first + 0)) ≡ value around registers look (both (at x) (Inverse (OfPort (ports.Cell k.0.cell 2)))) =
       r.1 ∙ values.timer_wire groups x first island around registers look (IslandGiven.high given) (IslandGiven.groups_low given) r.0 0 k.0 k.1
-      ∙ ap (λ o. value around registers look (wired.timer_runs groups x first island k.0.cell o k.0.from k.0.to)) (IslandGiven.first_timer given k.0 k.1) in
+      ∙ ap (λ o. value around registers look (wired.timer_runs groups x first island k.0.cell o k.0.from k.0.to)) ((IslandGiven.listed given).first k.0 k.1) in
       let is_on : is_true known.0 ≡ true = sym (ap (λ o. is_true (unwrap_or o (record { width = 1; value = 0 }))) known.1) ∙ on in
       let t = two_true around registers look (at x) (Inverse (OfPort (ports.Cell k.0.cell 2))) known.0 (IslandGiven.at_known given) (known_inverse around registers look (OfPort (ports.Cell k.0.cell 2)) (IslandGiven.dones given 0 k.0 k.1)) (sym source ∙ known.1) is_on in
       ((IslandGiven.at_known given).0, (IslandGiven.at_known given).1, t.0 (IslandGiven.at_known given).0 (IslandGiven.at_known given).1)

@@ -1,11 +1,11 @@
 -- The wires of an island have values where control's wire at its statement has one, its timers show their counts, and its samples and the
 -- ports of its static ifs have values; so its drivers are fed.
-use Rattle.std.proofs.Common.{◌≡◌, ℕ, zero, suc, ◌+◌, ◌-◌, ◌^◌, ◌%◌, ◌<◌, ◌≤◌, inl, inr, Bool, true, false, if◌then◌else◌, List, [], ◌∷◌, ◌++◌, length, map, Option, Some, None, option_map, unwrap_or, slice_get, refl, sym, ap, ◌∙◌, subst, arith}
+use Rattle.std.proofs.Common.{◌≡◌, ℕ, zero, suc, ◌+◌, ◌-◌, ◌^◌, ◌%◌, ◌<◌, ◌≤◌, inl, inr, Bool, true, false, if◌then◌else◌, List, [], ◌∷◌, ◌++◌, length, map, Option, Some, option_map, unwrap_or, slice_get, refl, sym, ap, ◌∙◌, subst, arith}
 use Rattle.cx_bits.specs.BitVector.{BitVector}
 use Rattle.cx_bits.specs.Operators.{and_of, sum_of}
 use Rattle.cx_meaning.specs.declared.ports.PortRef.TheVariants as ports
 use Rattle.cx_meaning.specs.declared.ports.Comparison.TheVariants.{Less, AtLeast}
-use Rattle.cx_meaning.specs.Sights.{In}
+use Rattle.cx_text.specs.Members.{In}
 use Rattle.cx_meaning.specs.Truths.{compares}
 use Rattle.cx_net.specs.Nets.{PlainNetExpr, OfPort, OfWire, OfRegister, Inverse, AllOf, Compares, exprs_of, PlainNetTarget, ToPort, ToRegister, ToWire, ToHole, PlainNetDriver}
 use Rattle.cx_net.specs.NetMeaning.{Node, APort, AWire, NetAround, truth_bit, all_expr}
@@ -17,6 +17,7 @@ use Rattle.cx_wiring.specs.Stands.{Stand, at}
 use Rattle.cx_wiring.specs.IslandDrivers as wired
 use Rattle.cx_wiring.specs.IslandDrivers.{wires_of_island, timer_drivers, point_drivers, occurrence_drivers, island_drivers}
 use Rattle.cx_wiring.specs.Takings.{value, takes}
+use Rattle.cx_wiring.proofs.IslandCells.{IsListed}
 use Rattle.cx_wiring_cycles.proofs.IslandValues as values
 use Rattle.cx_wiring_values.proofs.KnownLemmas.{Known, known_as, known_both, KnownExpr, Fed, known_two, known_equals, known_inverse, AllOfThem, all_append, fed_takes}
 use Rattle.cx_wiring_values.proofs.GuardsKnown.{fed_connect}
@@ -31,11 +32,7 @@ module _ (groups : ℕ) (x : Stand) (first : ℕ) (island : PlainIsland) (around
 
   -- WHAT IS KNOWN beside its own wires
   pub record IslandGiven : Type 0 where
-    pub some : 0 < length island.timers
-    pub first_timer : (timer : IslandTimer) → slice_get island.timers 0 ≡ Some timer → timer.outer ≡ None
-    pub within : (n : ℕ) (timer : IslandTimer) → slice_get island.timers n ≡ Some timer → 0 < n → (outer : ℕ) × (timer.outer ≡ Some outer) × (outer < n)
-    pub points : (n : ℕ) (p : PlainPoint) → slice_get island.points n ≡ Some p → (p.timer < length island.timers) × ((s : Sample) → In p.samples s → s.point < n)
-    pub occurrences : (n : ℕ) (o : PlainOccurrence) → slice_get island.occurrences n ≡ Some o → (o.timer < length island.timers) × ((s : Sample) → In o.samples s → s.point < length island.points)
+    pub listed : IsListed island
     pub reads : (n : ℕ) → first ≤ n → n < first + wires_of_island island → (o : Option BitVector) × (look (AWire n) ≡ takes around registers look (ToWire n) o (island_drivers groups x first island))
     pub high : first + wires_of_island island ≤ suc x.wire
     pub groups_low : (j : ℕ) (v : PlainOccurrence) → slice_get island.occurrences j ≡ Some v → v.group < first
@@ -54,7 +51,7 @@ module _ (groups : ℕ) (x : Stand) (first : ℕ) (island : PlainIsland) (around
     count_known t less = let k = there_at island.timers t less in its_port t 1 k.0 k.1 (given.counts t k.0 k.1)
 
     done_known : K (wired.island_done groups x first island)
-    done_known = let k = there_at island.timers 0 given.some in its_port 0 2 k.0 k.1 (given.dones 0 k.0 k.1)
+    done_known = let k = there_at island.timers 0 given.listed.some in its_port 0 2 k.0 k.1 (given.dones 0 k.0 k.1)
 
     -- a conjunction of parts
     all_known : (e : PlainNetExpr) (es : List PlainNetExpr) → K e → Known (all_expr around registers look (exprs_of es)) → Known (all_expr around registers look (exprs_of (e ∷ es)))
@@ -75,11 +72,11 @@ module _ (groups : ℕ) (x : Stand) (first : ℕ) (island : PlainIsland) (around
     -- TIMERS, each after the one around it
     runs_source : (t : ℕ) (timer : IslandTimer) → slice_get island.timers t ≡ Some timer → ((u : ℕ) → u < t → K (wired.runs groups x first island u)) → K (wired.timer_runs groups x first island timer.cell timer.outer timer.from timer.to)
     runs_source zero timer e earlier =
-        let none = given.first_timer timer e in
+        let none = given.listed.first timer e in
         subst (λ o. K (wired.timer_runs groups x first island timer.cell o timer.from timer.to)) (sym none)
         (known_two around registers look (at x) (Inverse (OfPort (ports.Cell timer.cell 2))) given.at_known (known_inverse around registers look (OfPort (ports.Cell timer.cell 2)) (given.dones 0 timer e)))
     runs_source (suc t) timer e earlier =
-        let outer = given.within (suc t) timer e (omega arith) in
+        let outer = given.listed.within (suc t) timer e (omega arith) in
         let less : suc t < length island.timers = there_below island.timers (suc t) timer e in
         let small : outer.0 < suc t = outer.2 in
         subst (λ o. K (wired.timer_runs groups x first island timer.cell o timer.from timer.to)) (sym outer.1)
@@ -107,7 +104,7 @@ module _ (groups : ℕ) (x : Stand) (first : ℕ) (island : PlainIsland) (around
 
     begins_source : (n : ℕ) (p : PlainPoint) → slice_get island.points n ≡ Some p → ((m : ℕ) → m < n → K (OfWire (wired.sample_wire groups x first island m))) → K (wired.begins groups x first island p)
     begins_source n p e earlier =
-        let l = given.points n p e in
+        let l = given.listed.points n p e in
         all_known (wired.runs groups x first island p.timer) (equals (wired.count groups x first island p.timer) p.at ∷ map (wired.as_wanted groups x first island) p.samples) (runs_known p.timer l.0)
         (all_known (equals (wired.count groups x first island p.timer) p.at) (map (wired.as_wanted groups x first island) p.samples) (known_equals around registers look (wired.count groups x first island p.timer) p.at (count_known p.timer l.0))
         (wanted_known p.samples (λ s i. earlier s.point (l.1 s i))))
@@ -131,7 +128,7 @@ module _ (groups : ℕ) (x : Stand) (first : ℕ) (island : PlainIsland) (around
     -- ENABLES
     active_source : (n : ℕ) (o : PlainOccurrence) → slice_get island.occurrences n ≡ Some o → K (wired.is_active groups x first island o)
     active_source n o e =
-        let l = given.occurrences n o e in
+        let l = given.listed.occurrences n o e in
         range_known o.timer o.from o.to (map (wired.as_wanted groups x first island) o.samples) l.0 (runs_known o.timer l.0) (wanted_known o.samples (λ s i. sample_known s.point (l.1 s i)))
 
     pub active_known : (n : ℕ) → n < length island.occurrences → K (OfWire (wired.active_wire groups x first island n))
@@ -172,7 +169,7 @@ module _ (groups : ℕ) (x : Stand) (first : ℕ) (island : PlainIsland) (around
             fed_connect around registers look (wired.sample_wire groups x first island n) _ (given.kept n less),
             (
               fed_drive (ToRegister (x.register + n)) (wired.in_last_cycle groups x first island) (literal 1 0)
-                  (known_two around registers look (at x) (equals (wired.count groups x first island 0) (island.length - 1)) given.at_known (known_equals around registers look (wired.count groups x first island 0) (island.length - 1) (count_known 0 given.some))) (_, refl),
+                  (known_two around registers look (at x) (equals (wired.count groups x first island 0) (island.length - 1)) given.at_known (known_equals around registers look (wired.count groups x first island 0) (island.length - 1) (count_known 0 given.listed.some))) (_, refl),
               (
                 fed_drive (ToRegister (x.register + n)) (wired.begins groups x first island p) (OfPort p.port) begins (given.ports_known n p e),
                 points_fed (suc n) rest (λ j v f. let next : suc n + j ≡ n + suc j = omega arith in ap (slice_get island.points) next ∙ there (suc j) v f),
@@ -187,7 +184,7 @@ module _ (groups : ℕ) (x : Stand) (first : ℕ) (island : PlainIsland) (around
         let none : n + 0 ≡ n = omega arith in
         let e : slice_get island.occurrences n ≡ Some o = ap (slice_get island.occurrences) (sym none) ∙ there 0 o refl in
         let less : n < length island.occurrences = there_below island.occurrences n o e in
-        let l = given.occurrences n o e in (
+        let l = given.listed.occurrences n o e in (
           fed_connect around registers look (wired.active_wire groups x first island n) _ (active_source n o e),
           (
             fed_drive (ToHole (groups + o.group)) (OfWire (wired.active_wire groups x first island n)) one (active_known n less) (truth_bit true, refl),

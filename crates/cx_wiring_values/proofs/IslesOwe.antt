@@ -1,6 +1,6 @@
 -- What the islands of a component owe, where each stands: their drivers are fed, what goes in them is together, and no other driver of
 -- control drives the offset of a group.
-use Rattle.std.proofs.Common.{◌≡◌, ℕ, zero, suc, ◌+◌, ◌<◌, ◌≤◌, ◌==◌, Bool, true, false, List, length, replicate, take, Option, Some, None, option_map, unwrap_or, slice_get, refl, sym, ap, ◌∙◌, subst, arith}
+use Rattle.std.proofs.Common.{◌≡◌, ℕ, zero, suc, ◌+◌, ◌<◌, ◌≤◌, ◌==◌, Bool, true, List, length, replicate, take, Option, Some, None, option_map, unwrap_or, slice_get, refl, sym, ap, ◌∙◌, subst, arith}
 use Rattle.std.proofs.lemmas.Bool.{eqb-true}
 use Rattle.cx_bits.specs.BitVector.{BitVector}
 use Rattle.cx_text.specs.declared.places.Place.{Place}
@@ -36,6 +36,7 @@ use Rattle.cx_wiring_values.proofs.TogetherGoes.{IsleGoes, IsleEnable, FormIsles
 use Rattle.cx_wiring_values.proofs.IslandKnown.{IslandGiven, island_fed, end_source_known}
 use Rattle.cx_wiring_values.proofs.IslandGoes.{isle_goes}
 use Rattle.cx_text.proofs.ListLaws.{get_end}
+use Rattle.cx_text.proofs.NumberLaws.{never}
 
 -- registers from one on have values
 register_known : (registers : ℕ → Option BitVector) (around : NetAround) (look : Node → Option BitVector) (kept : ℕ → ℕ) (m r : ℕ) → AreRegisters around registers look kept r (replicate m 1) → (n : ℕ) → n < m → Known (registers (r + n))
@@ -94,14 +95,9 @@ module _ (part : PlainComponent) (named : IslandsName (groups (lowered_component
 
     its_given : IslandGiven (groups (lowered_component part)) x (first_of_island (groups (lowered_component part)) (lowered_component part).islands k) taken.there.0 around registers look
     its_given =
-        let lists = listed part k taken.there.0 taken.there.1 in
         let bounds = end_below in
         record {
-          some = lists.some;
-          first_timer = lists.first;
-          within = lists.within;
-          points = lists.points;
-          occurrences = lists.occurrences;
+          listed = listed part k taken.there.0 taken.there.1;
           reads = λ n l h. taken.wires taken.there.0 taken.there.1 n l h;
           high = omega arith;
           groups_low = λ j v e. let less : v.group < G = named_at G taken.there.0.occurrences (subst (IslandNames G) taken.there.1 (names_at G I k named)) j v e in omega arith;
@@ -163,9 +159,6 @@ module _ (part : PlainComponent) (named : IslandsName (groups (lowered_component
     fits : ArmsIslands Fits (lowered_component part).islands par wire register (lowered_parts part ss l)
     offsets : Offsets (arms_drivers (groups (lowered_component part)) (lowered_component part).islands par wire register (lowered_parts part ss l))
 
-  untrue : {A : Type 0} → false ≡ true → A
-  untrue e = absurd cc
-
   -- a wire of control is none of an offset
   far : {A : Type 0} (n g : ℕ) → g < groups (lowered_component part) → groups (lowered_component part) + island_wires (lowered_component part).islands ≤ n → (n == g) ≡ true → A
   far n g less low e = let f : n ≡ g = eqb-true n g e in absurd (omega (arith, f, less, low))
@@ -175,10 +168,10 @@ module _ (part : PlainComponent) (named : IslandsName (groups (lowered_component
 
   comb_far : (x : Stand) (c : Option ℕ) → Offsets (comb_goes (groups (lowered_component part)) (lowered_component part).islands x c)
   comb_far x None g less = tt
-  comb_far x (Some h) g less = ((λ e. untrue e), tt)
+  comb_far x (Some h) g less = ((λ e. never e), tt)
 
   counting_far : (x : Stand) (n : ℕ) → groups (lowered_component part) + island_wires (lowered_component part).islands ≤ x.wire → Offsets (counting x n)
-  counting_far x n low g less = ((λ e. far (suc x.wire) g less (omega arith) e), ((λ e. untrue e), ((λ e. untrue e), ((λ e. untrue e), tt))))
+  counting_far x n low g less = ((λ e. far (suc x.wire) g less (omega arith) e), ((λ e. never e), ((λ e. never e), ((λ e. never e), tt))))
 
   stands_known : (x : Stand) → Standing x.acts x.region → KnownExpr around registers look (both x.acts (equals (OfRegister x.region) x.position))
   stands_known x s = known_two around registers look x.acts (equals (OfRegister x.region) x.position) (Standing.acts_known s) (known_equals around registers look (OfRegister x.region) x.position (Standing.register_known s))
@@ -218,7 +211,7 @@ module _ (part : PlainComponent) (named : IslandsName (groups (lowered_component
           isles = subst (λ o. IsleEnable part (groups (lowered_component part)) (lowered_component part).islands around registers look (groups (lowered_component part) + island_wires (lowered_component part).islands) kept g place o l x) (sym e) tt;
           fits = subst (λ o. FormIslands Fits (lowered_component part).islands x (lowered_enable part g o l)) (sym e) tt;
           offsets = subst (λ o. Offsets (form_drivers (groups (lowered_component part)) (lowered_component part).islands x (lowered_enable part g o l))) (sym e)
-              (λ h less. ((λ f. far x.wire h less low f), ((λ f. far (suc x.wire) h less (omega arith) f), ((λ f. untrue f), tt))));
+              (λ h less. ((λ f. far x.wire h less low f), ((λ f. far (suc x.wire) h less (omega arith) f), ((λ f. never f), tt))));
         }
         by (Some n) e c k b isles =
             let r = isle_passed (Enable g) place l x s low c k b isles in
@@ -260,9 +253,9 @@ module _ (part : PlainComponent) (named : IslandsName (groups (lowered_component
           offsets = λ g less. (
             (λ e. far x.wire g less low e),
             all_to_append F (ToWire g) (comb_goes G I x cg) _ (comb_far x cg g less) (
-              (λ e. untrue e),
+              (λ e. never e),
               all_to_append F (ToWire g) (drivers_of G I (past_test x) (lowered part a l)) _ (Passed.offsets one g less)
-                  ((λ e. untrue e), all_to_append F (ToWire g) (drivers_of G I (behind I (lowered part a l) (past_test x)) (lowered part d (after part a l))) _ (Passed.offsets other g less) ((λ e. far (suc x.wire) g less (omega arith) e), tt)),
+                  ((λ e. never e), all_to_append F (ToWire g) (drivers_of G I (behind I (lowered part a l) (past_test x)) (lowered part d (after part a l))) _ (Passed.offsets other g less) ((λ e. far (suc x.wire) g less (omega arith) e), tt)),
             ),
           );
         }
@@ -276,7 +269,7 @@ module _ (part : PlainComponent) (named : IslandsName (groups (lowered_component
           offsets = λ g less. (
             (λ e. far x.wire g less low e),
             all_to_append F (ToWire g) (comb_goes G I x cg) _ (comb_far x cg g less)
-                ((λ e. far (suc x.wire) g less (omega arith) e), ((λ e. untrue e), all_to_append F (ToWire g) (drivers_of G I (past_test x) (lowered part a l)) _ (Passed.offsets body g less) ((λ e. untrue e), tt))),
+                ((λ e. far (suc x.wire) g less (omega arith) e), ((λ e. never e), all_to_append F (ToWire g) (drivers_of G I (past_test x) (lowered part a l)) _ (Passed.offsets body g less) ((λ e. never e), tt))),
           );
         }
     form_pass (Repeat zero a) place l x u s low c k b isles = record { isles = tt; fits = tt; offsets = turn_far x low }
@@ -311,7 +304,7 @@ module _ (part : PlainComponent) (named : IslandsName (groups (lowered_component
         record {
           isles = (Passed.isles first, PartsPassed.isles rest);
           fits = (Passed.fits first, PartsPassed.fits rest);
-          offsets = λ g less. ((λ e. untrue e), all_to_append F (ToWire g) (drivers_of G I x (lowered part t l)) _ (Passed.offsets first g less) (PartsPassed.offsets rest g less));
+          offsets = λ g less. ((λ e. never e), all_to_append F (ToWire g) (drivers_of G I x (lowered part t l)) _ (Passed.offsets first g less) (PartsPassed.offsets rest g less));
         }
 
     arms_pass : (ts : PlainStatements) (l : Lowering) (par : Stand) (wire register : ℕ) → NoneTimed ts → KnownExpr around registers look (at par) → groups (lowered_component part) + island_wires (lowered_component part).islands ≤ wire
@@ -327,5 +320,5 @@ module _ (part : PlainComponent) (named : IslandsName (groups (lowered_component
         record {
           isles = (Passed.isles first, ArmsPassed.isles rest);
           fits = (Passed.fits first, ArmsPassed.fits rest);
-          offsets = λ g less. ((λ e. untrue e), all_to_append F (ToWire g) (drivers_of G I (arm_stand par wire register) (lowered part t l)) _ (Passed.offsets first g less) ((λ e. untrue e), ArmsPassed.offsets rest g less));
+          offsets = λ g less. ((λ e. never e), all_to_append F (ToWire g) (drivers_of G I (arm_stand par wire register) (lowered part t l)) _ (Passed.offsets first g less) ((λ e. never e), ArmsPassed.offsets rest g less));
         }

@@ -1,8 +1,6 @@
 -- The islands of an instance are as they owe, where its go and its inputs have values and its cells show theirs.
-use Rattle.std.proofs.Common.{◌≡◌, ℕ, ◌+◌, ◌<◌, ◌≤◌, Bool, true, false, List, [], ◌∷◌, ◌++◌, length, Option, Some, option_map, unwrap_or, slice_get, refl, sym, ap, ◌∙◌, arith}
+use Rattle.std.proofs.Common.{◌≡◌, ℕ, ◌+◌, ◌<◌, ◌≤◌, Bool, true, false, List, [], ◌∷◌, ◌++◌, length, Option, Some, slice_get, refl, ap, ◌∙◌, arith}
 use Rattle.cx_bits.specs.BitVector.{BitVector}
-use Rattle.cx_prim.specs.declared.ports.PortRow.{PortRow}
-use Rattle.cx_prim.specs.Rows.{Row}
 use Rattle.cx_prim.specs.PipeRows.{timer_row}
 use Rattle.cx_meaning.specs.declared.ports.PortRef.TheVariants as ports
 use Rattle.cx_meaning.specs.Designs.{PlainComponent, PlainDesign, PlainStatement}
@@ -11,21 +9,20 @@ use Rattle.cx_meaning.specs.Instances.{Instance, Cells}
 use Rattle.cx_rules.specs.Items.{test_in}
 use Rattle.cx_net.specs.Nets.{PlainNetExpr, OfPort, OfWire, ToPort, ToWire, PlainNetDriver}
 use Rattle.cx_net.specs.NetTree.{NetCells}
-use Rattle.cx_net.specs.NetMeaning.{NetState, Node, APort, AWire, NetLook, NetAround, truth_bit, zero_wide, same_target, own_step, is_own_node, is_port_of, cell_node, drivers_to, chain as first_true}
+use Rattle.cx_net.specs.NetMeaning.{NetState, Node, APort, AWire, NetLook, NetAround, truth_bit, same_target, own_step, is_own_node, is_port_of, cell_node}
 use Rattle.cx_static.specs.Islands.{PlainPoint, PlainIsland}
 use Rattle.cx_static.specs.Lowering.{lowered, lowered_component, lowered_of, unlowered}
 use Rattle.cx_wiring.specs.Control.{whole_stand, finishing, drivers_of}
 use Rattle.cx_wiring.specs.Assignments.{driven_assigns, assigns_drivers}
 use Rattle.cx_wiring.specs.Bounds.{AllDrive}
-use Rattle.cx_wiring.specs.Wiring.{groups, first_of_control, first_of_assigns, bits, plain_wires, plain_drivers, target_width, port_width}
+use Rattle.cx_wiring.specs.Wiring.{groups, first_of_control, first_of_assigns, bits, plain_wires, plain_drivers}
 use Rattle.cx_wiring.specs.PartNets.{timers_of, wired_in, net_of_cells}
 use Rattle.cx_wiring.specs.Takings.{takes}
 use Rattle.cx_wiring.proofs.AssignTargets.{assigns_drive}
 use Rattle.cx_wiring.proofs.NetTargets.{plain_wires_count}
-use Rattle.cx_wiring.proofs.TakingLemmas.{takes_append, others_pass}
 use Rattle.std.proofs.lemmas.Bool.{ne_eqb}
 use Rattle.cx_wiring.proofs.IslandCells.{itself}
-use Rattle.cx_wiring.proofs.TimerRows.{EachTimer, IsTimerIn, timer_rows, row_of_timer, assigns_skip}
+use Rattle.cx_wiring.proofs.TimerRows.{EachTimer, IsTimerIn, timer_rows}
 use Rattle.cx_wiring_cycles.specs.Shown.{wide}
 use Rattle.cx_wiring_cycles.specs.IslandNumbers.{count_in, done_bit}
 use Rattle.cx_wiring_cycles.specs.IslandTakes.{StatementIslands, TakesIsland}
@@ -33,12 +30,13 @@ use Rattle.cx_wiring_cycles.proofs.AssignLaws.{no_port_wire}
 use Rattle.cx_wiring_cycles.proofs.ConnectLaws.{Reads, read_before}
 use Rattle.cx_wiring_cycles.proofs.IslandStands.{islands_take}
 use Rattle.cx_wiring_cycles.proofs.TimerStates.{IsTimer, is_timer}
+use Rattle.cx_wiring_cycles.proofs.NodeTakes as takings
+use Rattle.cx_wiring_cycles.proofs.NodeTakes.{wire_takes}
 use Rattle.cx_wiring_values.proofs.TimerRules.{TimerRules}
 use Rattle.cx_wiring_values.proofs.InstancePorts.{IsNamed, TestRules, PortRules}
 use Rattle.cx_wiring_values.proofs.NodeRules.{NodeRules}
 use Rattle.cx_wiring_values.proofs.SeamRules.{RestRules, SeamRules}
 use Rattle.cx_wiring_values.proofs.KnownLemmas.{Known, known_as, KnownExpr, Fed, AllTo, all_to_append, all_to_other, fed_takes}
-use Rattle.cx_wiring_values.proofs.NodeReads.{wire_takes, takes_all}
 use Rattle.cx_wiring_values.proofs.PortsKnown.{R, rests_known, known_stable}
 use Rattle.cx_wiring_values.proofs.NodeKnown.{NetShows, IslandsOwe, shows, registers_are, control_connects}
 use Rattle.cx_wiring_values.proofs.IslesOwe.{Passed, statement_pass}
@@ -104,20 +102,7 @@ module _ (d : PlainDesign) (part : PlainComponent) (cells : Cells) (numbers : In
 
   -- the go of each takes what control gives it
   timer_goes : EachTimer part (λ timer. look [] (APort (ports.Cell timer.cell 0)) ≡ takes around Reg (look []) (ToPort (ports.Cell timer.cell 0)) (Some (truth_bit false)) SD)
-  timer_goes k island is t timer at =
-      let row = rows k island is t timer at in
-      let width : target_width (lowered_of d) (lowered_component part) (ToPort (ports.Cell timer.cell 0)) ≡ 1 =
-      ap (λ o. unwrap_or (port_width (lowered_of d) (lowered_component part) o 0) 1) (IsTimerIn.there row)
-      ∙ ap (λ (r : Row). unwrap_or (option_map (λ (x : PortRow). x.width) (slice_get r.ports 0)) 1) (row_of_timer (IsTimerIn.cycles row) (IsTimerIn.some row) (IsTimerIn.few row)) in
-      solves (APort (ports.Cell timer.cell 0)) (ap (λ a. is_port_of a 0) (IsTimerIn.in_net row))
-      ∙ ap (λ a. cell_node (wired_in d part) NC around s (look []) (λ c. look (c ∷ [])) timer.cell 0 a) (IsTimerIn.in_net row)
-      ∙ ap (λ w. first_true around Reg (look []) (zero_wide w) (drivers_to (ToPort (ports.Cell timer.cell 0)) (wired_in d part).drivers)) (sym width)
-      ∙ takes_all (lowered_of d) part NC around s look solves (NodeRules.plain (SeamRules.node seam)) (ToPort (ports.Cell timer.cell 0)) tt (λ m from. refl)
-      ∙ ap (λ w. takes around Reg (look []) (ToPort (ports.Cell timer.cell 0)) (Some (zero_wide w)) (plain_drivers (lowered_component part))) width
-      ∙ takes_append around Reg (look []) (ToPort (ports.Cell timer.cell 0)) (Some (zero_wide 1)) (SD ++ FD) AD
-      ∙ ap (λ z. takes around Reg (look []) (ToPort (ports.Cell timer.cell 0)) z (SD ++ FD))
-      (others_pass around Reg (look []) (ToPort (ports.Cell timer.cell 0)) (Some (zero_wide 1)) AD (assigns_skip part (TimerRules.targets (NodeRules.timers (SeamRules.node seam))) k island is t timer at))
-      ∙ takes_append around Reg (look []) (ToPort (ports.Cell timer.cell 0)) (Some (zero_wide 1)) SD FD
+  timer_goes = takings.timer_goes (lowered_of d) part NC around s look solves (NodeRules.plain (SeamRules.node seam)) (TimerRules.targets (NodeRules.timers (SeamRules.node seam))) rows
 
   -- WIRES take what control gives them
   wires_read : (n : ℕ) → n < first_of_control (lowered_component part) → Reads (groups (lowered_component part)) (lowered_component part).islands (NodeRules.islands_named (SeamRules.node seam)) around Reg (look []) n SD

@@ -1,6 +1,7 @@
 -- Every node of an instance has a value, where its go and its inputs have, its cells show theirs, and its islands are as they owe.
-use Rattle.std.proofs.Common.{◌≡◌, ℕ, suc, ◌+◌, ◌<◌, inl, inr, true, false, List, [], ◌∷◌, length, Option, Some, None, option_map, unwrap_or, slice_get, refl, sym, ap, ◌∙◌, subst, arith}
+use Rattle.std.proofs.Common.{◌≡◌, ℕ, ◌+◌, ◌<◌, inl, inr, true, false, List, [], ◌∷◌, length, Option, Some, None, option_map, unwrap_or, slice_get, refl, sym, ap, ◌∙◌, subst, arith}
 use Rattle.std.proofs.lemmas.Bool.{eqb-true, lt-ltb, ltb-true, cases_lt, ne_eqb}
+use Rattle.cx_text.specs.Members.{In}
 use Rattle.cx_bits.specs.BitVector.{BitVector}
 use Rattle.cx_prim.specs.declared.ports.PortRow.{PortRow}
 use Rattle.cx_prim.specs.declared.ports.Side.{Side}
@@ -13,7 +14,7 @@ use Rattle.cx_meaning.specs.Designs.{PlainComponent, PlainDesign, PlainStatement
 use Rattle.cx_meaning.specs.Instances as instances
 use Rattle.cx_meaning.specs.Instances.{Instance, Cells, part_of}
 use Rattle.cx_meaning.specs.Active.{Active, Owned, source_order}
-use Rattle.cx_meaning.specs.Sights.{In, PartPort, Go, AnInput, AnOutput, ItsDone}
+use Rattle.cx_meaning.specs.Sights.{PartPort, Go, AnInput, AnOutput, ItsDone}
 use Rattle.cx_rules.specs.Circles.{IsAcyclic}
 use Rattle.cx_control.specs.Together.{IsTogether}
 use Rattle.cx_net.specs.Nets.{PlainNetExpr, OfPort, OfWire, OfHole, OfGo, OfRegister, PlainNetTarget, ToPort, ToWire, ToHole, ToDone, PlainNetDriver}
@@ -40,17 +41,20 @@ use Rattle.cx_wiring.proofs.AssignTargets.{assigns_drive}
 use Rattle.cx_wiring.proofs.NetTargets.{plain_wires_count}
 use Rattle.cx_wiring_cycles.proofs.ConnectLaws.{read_before, statement_connects}
 use Rattle.cx_wiring_cycles.specs.IslandTakes.{StatementIslands}
+use Rattle.cx_wiring_cycles.proofs.NodeTakes as takings
+use Rattle.cx_wiring_cycles.proofs.NodeTakes.{wire_takes, hole_takes, done_takes}
 use Rattle.cx_wiring_values.proofs.InstancePorts.{IsNamed, TestRules, AssignRules, PortRules}
 use Rattle.cx_wiring_values.proofs.NodeRules.{NodeRules, control_tests}
 use Rattle.cx_control.proofs.InstanceLemmas.{KeepsPorts}
 use Rattle.cx_wiring_values.proofs.SeamRules.{RestRules, SeamRules}
 use Rattle.cx_wiring_values.proofs.FreeOutputs.{OutputsFree}
 use Rattle.cx_wiring_values.proofs.KnownLemmas.{Known, known_as, KnownExpr, On, Fed, known_equals, AllTo, all_to_append, all_to_other, all_to_map, AllOfThem, all_append, all_any_target, fed_takes, on_takes}
-use Rattle.cx_wiring_values.proofs.NodeReads.{target_known, wire_takes, hole_takes, done_takes, inner_wires_known}
+use Rattle.cx_wiring_values.proofs.NodeReads.{target_known, inner_wires_known}
 use Rattle.cx_wiring_values.proofs.AssignsKnown.{LookFed, NamesKnown, assigns_fed, assigns_all}
 use Rattle.cx_wiring_values.proofs.TogetherGoes.{IsOn, Goes, StatementIsles, statement_goes}
 use Rattle.cx_wiring_values.proofs.ControlFed.{Whole, statement_whole}
-use Rattle.cx_wiring_values.proofs.PortsKnown.{R, IsFed, all_read, CellsShow, rests_known, named_there, stands, always_fed, output_driven, known_stable, ports_known, row_at, child_at_cell, gathered, port_of}
+use Rattle.cx_laws.proofs.SeenLemmas.{side_there}
+use Rattle.cx_wiring_values.proofs.PortsKnown.{R, IsFed, all_read, CellsShow, rests_known, named_there, stands, always_fed, output_driven, known_stable, ports_known, row_stands, child_stands, gathered}
 use Rattle.cx_wiring_values.proofs.RowPorts.{HasRowPorts}
 use Rattle.cx_wiring_values.proofs.WholeLooks.{part_output}
 use Rattle.cx_net.proofs.NetsLemmas.{no_port_hole}
@@ -76,10 +80,10 @@ module _ (d : PlainDesign) (part : PlainComponent) (cells : Cells) (numbers : In
     (net_shows : NetShows (net_of_cells (wired_in d) timers_of numbers cells (timers_of part)) s look) where
   abbrev pub shows : CellsShow d part cells numbers (SeamRules.node seam) around s look solves
   shows = record {
-    rows = λ c row is. NetShows.rows net_shows c row (row_at (wired_in d) timers_of numbers cells (timers_of part) c row is);
-    registered = λ c row n port is. NetShows.registered net_shows c row n port (row_at (wired_in d) timers_of numbers cells (timers_of part) c row is);
-    outputs = λ c child n is less. NetShows.outputs net_shows c (net_of_instance (wired_in d) timers_of numbers child) n (child_at_cell (wired_in d) timers_of numbers cells (timers_of part) c child is) (same_outputs child n less);
-    dones = λ c child is. NetShows.dones net_shows c (net_of_instance (wired_in d) timers_of numbers child) (child_at_cell (wired_in d) timers_of numbers cells (timers_of part) c child is);
+    rows = λ c row is. NetShows.rows net_shows c row (row_stands (wired_in d) timers_of numbers cells (timers_of part) c row is);
+    registered = λ c row n port is. NetShows.registered net_shows c row n port (row_stands (wired_in d) timers_of numbers cells (timers_of part) c row is);
+    outputs = λ c child n is less. NetShows.outputs net_shows c (net_of_instance (wired_in d) timers_of numbers child) n (child_stands (wired_in d) timers_of numbers cells (timers_of part) c child is) (same_outputs child n less);
+    dones = λ c child is. NetShows.dones net_shows c (net_of_instance (wired_in d) timers_of numbers child) (child_stands (wired_in d) timers_of numbers cells (timers_of part) c child is);
   }
     where
       same_outputs : (child : Instance) (n : ℕ) → n < length (part_of child).outputs → n < length (net_part (net_of_instance (wired_in d) timers_of numbers child)).outputs
@@ -122,16 +126,8 @@ module _ (d : PlainDesign) (part : PlainComponent) (cells : Cells) (numbers : In
   AD = assigns_drivers (groups (lowered_component part)) (first_of_assigns (lowered_component part)) (driven_assigns (lowered_component part))
 
   -- REGISTERS that are there
-  registers_from : (ws : List ℕ) (n : ℕ) → ((i w : ℕ) → slice_get ws i ≡ Some w → slice_get (component_registers (lowered_component part)) (n + i) ≡ Some w) → AreRegisters around Reg (look []) (s.register []) n ws
-  registers_from [] n h = tt
-  registers_from (w ∷ ws) n h =
-      let none : n + 0 ≡ n = omega arith in (
-        ap (λ o. option_map (λ v. record { width = v; value = s.register [] n }) o) (ap (slice_get (component_registers (lowered_component part))) (sym none) ∙ h 0 w refl),
-        registers_from ws (suc n) (λ i v e. let more : n + suc i ≡ suc n + i = omega arith in ap (slice_get (component_registers (lowered_component part))) (sym more) ∙ h (suc i) v e),
-      )
-
   pub registers_are : AreRegisters around Reg (look []) (s.register []) 0 (component_registers (lowered_component part))
-  registers_are = registers_from (component_registers (lowered_component part)) 0 (λ i w e. let same : 0 + i ≡ i = omega arith in ap (slice_get (component_registers (lowered_component part))) same ∙ e)
+  registers_are = takings.registers_are (lowered_of d) part NC around s look solves (NodeRules.plain (SeamRules.node seam))
 
   -- WIRES of control have the values of their drivers' sources
   pub control_connects : AllConnect around Reg (look []) (groups (lowered_component part) + island_wires (lowered_component part).islands) SD
@@ -316,7 +312,7 @@ module _ (d : PlainDesign) (part : PlainComponent) (cells : Cells) (numbers : In
             let g = gathered (λ q. look [] (APort (ports.Cell c q))) (row.reads p) 0 row.ports (λ q low high wanted. inputs_known q (omega arith) wanted) in
             (_, ap (option_map (λ ins. unwrap_or (row.output (s.cell (c ∷ [])) ins p) (zero_wide (net_at_width (ARow row) p)))) g.1)
         by sides.Registered f =
-            let r = port_of d part cells numbers (SeamRules.node seam) around s look solves row.ports p less in
+            let r = side_there row.ports p less in
             NetShows.registered net_shows c row p r.0 is r.1 (sym r.2 ∙ f)
 
     any_row_port : (c p : ℕ) (row : Row) → net_cell_at NC c ≡ ARow row → p < length row.ports → Known (look [] (APort (ports.Cell c p)))

@@ -1,29 +1,29 @@
 -- What each target of a component's net has where its nodes solve their rules, whether they have values or not: what its drivers give it.
 -- A target whose drivers are fed has a value, and so have the wires of all trees where all drivers are fed.
-use Rattle.std.proofs.Common.{◌≡◌, ℕ, zero, suc, ◌+◌, ◌<◌, ◌≤◌, ◌⊎◌, inl, inr, Bool, true, false, not, if◌then◌else◌, List, [], ◌∷◌, ◌++◌, length, flat_map, Option, Some, None, option_map, option_and_then, unwrap_or, slice_get, refl, sym, ap, ◌∙◌, subst, arith, length-append}
+use Rattle.std.proofs.Common.{◌≡◌, ℕ, zero, suc, ◌+◌, ◌<◌, ◌≤◌, ◌⊎◌, inl, inr, Bool, true, false, not, if◌then◌else◌, List, [], ◌∷◌, ◌++◌, length, flat_map, Option, Some, option_map, option_and_then, refl, sym, ap, subst, arith}
 use Rattle.std.specs.Prelude.{nat_lt}
-use Rattle.std.proofs.lemmas.Bool.{lt-ltb, cases_lt, ne_eqb}
+use Rattle.std.proofs.lemmas.Bool.{cases_lt}
 use Rattle.cx_bits.specs.BitVector.{BitVector}
 use Rattle.cx_meaning.specs.Designs.{PlainComponent}
-use Rattle.cx_net.specs.Nets.{PlainNetTarget, ToWire, ToHole, ToDone, PlainNetDriver}
+use Rattle.cx_net.specs.Nets.{PlainNetTarget, ToWire, PlainNetDriver}
 use Rattle.cx_net.specs.NetTree.{NetCells}
-use Rattle.cx_net.specs.NetMeaning.{NetState, Node, AWire, AHole, TheDone, NetLook, NetAround, is_true, truth_bit, zero_wide, drivers_to, registers_of, own_step, is_own_node, chain as first_true}
+use Rattle.cx_net.specs.NetMeaning.{NetState, Node, AWire, NetLook, NetAround, is_true, truth_bit, zero_wide, drivers_to, registers_of, own_step, is_own_node, chain as first_true}
 use Rattle.cx_static.specs.Islands.{PlainLowereds}
 use Rattle.cx_static.specs.Lowering.{lowered_component}
 use Rattle.cx_wiring.specs.Parts.{one, drive}
 use Rattle.cx_wiring.specs.Bounds.{AllDrive}
 use Rattle.cx_wiring.specs.Trees.{Driven, goes_before, placed_among, by_target, together, bundles, bundle_count, switches, moved, behind, heads, pairs_within, pairs, tree_widths}
-use Rattle.cx_wiring.specs.Wiring.{groups, plain_wires, plain_drivers, component_registers, component_driven, target_width, net_component}
-use Rattle.cx_wiring.specs.Takings.{value, takes}
+use Rattle.cx_wiring.specs.Wiring.{plain_wires, plain_drivers, component_registers, component_driven, target_width, net_component}
+use Rattle.cx_wiring.specs.Takings.{value}
 use Rattle.cx_wiring.proofs.OrderLaws.{driven_keeps}
 use Rattle.cx_wiring.proofs.BundleLaws.{joined, joined_bundles, bundles_long, later_pairs, pairs_if, WhereTrue, BundlesHold, TreeHolds, KnownFrom}
 use Rattle.cx_wiring.proofs.DrivenLemmas.{IsProper}
 use Rattle.cx_wiring.proofs.TreeDrivers.{entries_long}
 use Rattle.cx_wiring.proofs.TreeLaws.{NoWireFrom, AllHold}
-use Rattle.cx_wiring.proofs.BundleReads.{TakeTheirs}
-use Rattle.cx_wiring.proofs.ComponentTakes.{IsPlain, target_takes, trees_all_hold}
+use Rattle.cx_wiring.proofs.ComponentTakes.{IsPlain, trees_all_hold}
 use Rattle.cx_wiring_values.proofs.KnownLemmas.{Known, known_as, AllTo, AllOfThem, Fed, fed_takes, any_undriven}
-use Rattle.cx_text.proofs.ListLaws.{behind as slice_get-append, front, there_at}
+use Rattle.cx_text.proofs.ListLaws.{there_at}
+use Rattle.cx_wiring_cycles.proofs.NodeTakes.{all_wires, reads, takes_all}
 
 -- what holds of all drivers holds of those in the order of targets, and of those of each target
 module _ (P : PlainNetDriver → Type 0) where
@@ -150,59 +150,12 @@ module _ (d : PlainLowereds) (part : PlainComponent) (cells : NetCells) (around 
   abbrev G : PlainNetTarget → BitVector → Option BitVector
   G t z = first_true around (registers_of (net_component d (lowered_component part)) cells around s (look []) (λ c. look (c ∷ []))) (look []) z (drivers_to t (net_component d (lowered_component part)).drivers)
 
-  wire_has : (n w : ℕ) → slice_get (net_component d (lowered_component part)).wires n ≡ Some w → n < length (net_component d (lowered_component part)).wires → look [] (AWire n) ≡ G (ToWire n) (zero_wide w)
-  wire_has n w is less =
-      solves (AWire n) (lt-ltb n (length (net_component d (lowered_component part)).wires) less)
-      ∙ ap (λ o. option_and_then (λ w. G (ToWire n) (zero_wide w)) o) is
-
-  pub all_wires : length (net_component d (lowered_component part)).wires ≡ length (plain_wires (lowered_component part)) + length (tree_widths (target_width d (lowered_component part)) (component_driven (lowered_component part)))
-  all_wires = length-append (plain_wires (lowered_component part)) (tree_widths (target_width d (lowered_component part)) (component_driven (lowered_component part)))
-
-  widths_from : (ws : List ℕ) (n : ℕ) → ((i w : ℕ) → slice_get ws i ≡ Some w → i < length ws → look [] (AWire (n + i)) ≡ G (ToWire (n + i)) (zero_wide w))
-      → TakeTheirs around (registers_of (net_component d (lowered_component part)) cells around s (look []) (λ c. look (c ∷ []))) (look []) n ws (net_component d (lowered_component part)).drivers
-  widths_from [] n h = tt
-  widths_from (w ∷ ws) n h =
-      let none : n + 0 ≡ n = omega arith in (
-        subst (λ m. look [] (AWire m) ≡ G (ToWire m) (zero_wide w)) none (h 0 w refl (omega arith)),
-        widths_from ws (suc n) (λ i v e less. let more : n + suc i ≡ suc n + i = omega arith in subst (λ m. look [] (AWire m) ≡ G (ToWire m) (zero_wide v)) more (h (suc i) v e (omega arith))),
-      )
-
-  reads : TakeTheirs around (registers_of (net_component d (lowered_component part)) cells around s (look []) (λ c. look (c ∷ []))) (look []) (length (plain_wires (lowered_component part)))
-      (tree_widths (target_width d (lowered_component part)) (component_driven (lowered_component part))) (net_component d (lowered_component part)).drivers
-  reads = widths_from (tree_widths (target_width d (lowered_component part)) (component_driven (lowered_component part))) (length (plain_wires (lowered_component part)))
-      (λ i w e less. let all : length (net_component d (lowered_component part)).wires ≡ length (plain_wires (lowered_component part)) + length (tree_widths (target_width d (lowered_component part)) (component_driven (lowered_component part))) = all_wires in
-      wire_has (length (plain_wires (lowered_component part)) + i) w
-      (slice_get-append (plain_wires (lowered_component part)) (tree_widths (target_width d (lowered_component part)) (component_driven (lowered_component part))) (length (plain_wires (lowered_component part)) + i) i refl ∙ e) (omega arith))
-
-  -- A TARGET that is no wire of a tree takes what the leaves of its tree give it
-  pub takes_all : (t : PlainNetTarget) → IsProper t → NoWireFrom t (length (plain_wires (lowered_component part)))
-      → G t (zero_wide (target_width d (lowered_component part) t)) ≡ takes around R (look []) t (Some (zero_wide (target_width d (lowered_component part) t))) (plain_drivers (lowered_component part))
-  takes_all t proper free = target_takes d (lowered_component part) around R (look []) plain reads t proper free
-
-  -- and has a value where they are fed, whatever stands where none drives
+  -- A TARGET that is no wire of a tree has a value where its drivers are fed, whatever stands where none drives
   pub target_known : (t : PlainNetTarget) → IsProper t → NoWireFrom t (length (plain_wires (lowered_component part)))
       → AllTo (Fed around R (look [])) t (plain_drivers (lowered_component part)) → (z : BitVector) → Known (G t z)
   target_known t proper free fed z =
       any_undriven around R (look []) (zero_wide (target_width d (lowered_component part) t)) z (drivers_to t (net_component d (lowered_component part)).drivers)
-      (known_as _ _ (takes_all t proper free) (fed_takes around R (look []) t (Some (zero_wide (target_width d (lowered_component part) t))) (plain_drivers (lowered_component part)) fed (zero_wide (target_width d (lowered_component part) t), refl)))
-
-  -- a wire that is none of a tree, a hole, the done
-  pub wire_takes : (n : ℕ) → n < length (plain_wires (lowered_component part))
-      → look [] (AWire n) ≡ takes around R (look []) (ToWire n) (Some (zero_wide (target_width d (lowered_component part) (ToWire n)))) (plain_drivers (lowered_component part))
-  wire_takes n there =
-      let all : length (net_component d (lowered_component part)).wires ≡ length (plain_wires (lowered_component part)) + length (tree_widths (target_width d (lowered_component part)) (component_driven (lowered_component part))) = all_wires in
-      let k = there_at (plain_wires (lowered_component part)) n there in
-      wire_has n k.0 (front (plain_wires (lowered_component part)) _ n k.0 k.1) (omega arith)
-      ∙ ap (λ w. G (ToWire n) (zero_wide w)) (sym (ap (λ o. unwrap_or o 1) k.1))
-      ∙ takes_all (ToWire n) tt (λ m from. ne_eqb m n (λ e. omega arith))
-
-  pub hole_takes : (n : ℕ) → n < groups (lowered_component part) + groups (lowered_component part) → look [] (AHole n) ≡ takes around R (look []) (ToHole n) (Some (zero_wide 1)) (plain_drivers (lowered_component part))
-  hole_takes n there =
-      let is = lt-ltb n (groups (lowered_component part) + groups (lowered_component part)) there in
-      solves (AHole n) is ∙ ap (λ b. if b then G (ToHole n) (zero_wide 1) else None) is ∙ takes_all (ToHole n) tt (λ m from. refl)
-
-  pub done_takes : look [] TheDone ≡ takes around R (look []) ToDone (Some (zero_wide 1)) (plain_drivers (lowered_component part))
-  done_takes = solves TheDone refl ∙ takes_all ToDone tt (λ m from. refl)
+      (known_as _ _ (takes_all d part cells around s look solves plain t proper free) (fed_takes around R (look []) t (Some (zero_wide (target_width d (lowered_component part) t))) (plain_drivers (lowered_component part)) fed (zero_wide (target_width d (lowered_component part) t), refl)))
 
   -- registers that are there have values
   pub register_known : (n : ℕ) → n < length (component_registers (lowered_component part)) → Known (R n)
@@ -212,8 +165,8 @@ module _ (d : PlainLowereds) (part : PlainComponent) (cells : NetCells) (around 
   pub inner_wires_known : AllOfThem (Fed around R (look [])) (plain_drivers (lowered_component part))
       → (m : ℕ) → length (plain_wires (lowered_component part)) ≤ m → m < length (net_component d (lowered_component part)).wires → Known (look [] (AWire m))
   inner_wires_known fed m low high =
-      let all : length (net_component d (lowered_component part)).wires ≡ length (plain_wires (lowered_component part)) + length (tree_widths (target_width d (lowered_component part)) (component_driven (lowered_component part))) = all_wires in
+      let all : length (net_component d (lowered_component part)).wires ≡ length (plain_wires (lowered_component part)) + length (tree_widths (target_width d (lowered_component part)) (component_driven (lowered_component part))) = all_wires d part cells around s look solves plain in
       trees_known around R (look []) (target_width d (lowered_component part)) (component_driven (lowered_component part)) (length (plain_wires (lowered_component part)))
       (each_driven (Fed around R (look [])) (component_driven (lowered_component part))
       (subst (AllOfThem (Fed around R (look []))) (sym (driven_keeps (by_target (plain_drivers (lowered_component part))))) (by_target_all (Fed around R (look [])) (plain_drivers (lowered_component part)) fed)))
-      (trees_all_hold d (lowered_component part) around R (look []) plain reads) m low (omega (arith, high, all))
+      (trees_all_hold d (lowered_component part) around R (look []) plain (reads d part cells around s look solves plain)) m low (omega (arith, high, all))

@@ -1,13 +1,14 @@
 -- What an accepted design gives each node of its tree: the rules of its ports, the groups that it names, targets that have ranks of
 -- their own, and tests of one bit.
 use Rattle.std.proofs.Common.{◌≡◌, inl, inr, ℕ, zero, suc, ◌+◌, ◌≤◌, false, List, [], ◌∷◌, ◌++◌, length, Option, Some, None, refl, arith}
+use Rattle.cx_text.proofs.MemberLaws.{in_left, in_right}
 use Rattle.cx_meaning.specs.declared.ports.PortRef.{PortRef}
 use Rattle.cx_meaning.specs.declared.ports.PortRef.TheVariants as ports
 use Rattle.cx_meaning.specs.declared.ports.PlacedPort.{PlacedPort}
 use Rattle.cx_meaning.specs.Designs.{PlainDesign, PlainComponent, no_component, component_at, PlainForm, Empty, Enable, Seq, Par, If, While, Repeat, StaticSeq, StaticPar, StaticIf, StaticRepeat, Timed, PlainStatement, Placed, PlainStatements, no_statements, a_statement}
 use Rattle.cx_meaning.specs.Instances.{Instance, cells_of, part_of, Path, tree_within, tree_of, instance_at}
 use Rattle.cx_meaning.specs.Active.{Owned, source_order}
-use Rattle.cx_meaning.specs.Sights.{In}
+use Rattle.cx_text.specs.Members.{In}
 use Rattle.cx_meaning.specs.Islands.{group_length}
 use Rattle.cx_rules.specs.Items.{Context, Dynamic, below_dynamic, Visited, visit, visit_parts, visit_all, test_in}
 use Rattle.cx_rules.specs.Flat.{IsFlat}
@@ -36,7 +37,6 @@ use Rattle.cx_wiring_cycles.proofs.ControlPorts.{OfTimers, control_free}
 use Rattle.cx_wiring_cycles.proofs.AssignLaws.{no_port_wire}
 use Rattle.cx_wiring_values.proofs.TimerRules.{TimerRules, timer_rules, no_timer_rules}
 use Rattle.cx_wiring_values.proofs.InstancePorts.{IsTarget, PortRules, port_rules}
-use Rattle.cx_meaning.proofs.SightsLaws.{in_left, in_right}
 
 -- TARGETS have ranks of their own, and are no wires of rests
 module _ (P Q : PlainNetTarget → Type 0) where

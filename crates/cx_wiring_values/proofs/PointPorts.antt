@@ -1,17 +1,17 @@
 -- The port of each point of a component's islands is the test of a static if of its control.
 use Rattle.std.proofs.Common.{◌≡◌, inl, inr, ℕ, ◌+◌, ◌*◌, true, false, List, [], length, Option, Some, None, slice_get, refl, sym, ap, subst}
+use Rattle.cx_text.proofs.MemberLaws.{in_left, in_right}
 use Rattle.cx_text.specs.declared.places.Place.{Place}
 use Rattle.cx_meaning.specs.declared.ports.PortRef.{PortRef}
 use Rattle.cx_meaning.specs.declared.ports.PlacedPort.{PlacedPort}
 use Rattle.cx_meaning.specs.Designs.{PlainComponent, PlainForm, Empty, Enable, Seq, Par, If, While, Repeat, StaticSeq, StaticPar, StaticIf, StaticRepeat, Timed, PlainStatement, Placed, PlainStatements, no_statements, a_statement}
-use Rattle.cx_meaning.specs.Sights.{In}
+use Rattle.cx_text.specs.Members.{In}
 use Rattle.cx_meaning.specs.Islands.{group_length, form_length, length_of}
 use Rattle.cx_rules.specs.Items.{Context, Dynamic, InStatic, Branch, Visited, visit, visit_parts, visit_all, statements_in}
 use Rattle.cx_static.specs.Islands.{PlainPoint, PlainIsland}
 use Rattle.cx_static.specs.Lowering.{Gathered, Begin, begin_at, later, if_sampled, with_timer, with_point, with_occurrence, form_gathered, gathered, parts_gathered, arms_gathered, lowered_component}
 use Rattle.cx_wiring.proofs.GatherLaws.{IsFound, earlier, last, found}
 use Rattle.cx_wiring.proofs.IslandCells.{IsMade, FormMakes, StatementMakes, PartsMake, made_well}
-use Rattle.cx_meaning.proofs.SightsLaws.{in_left, in_right}
 
 module _ (part : PlainComponent) (Q : PortRef → Type 0) where
   -- THE TESTS of static ifs in a statement keep it

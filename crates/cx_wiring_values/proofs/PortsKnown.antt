@@ -1,9 +1,12 @@
 -- The ports of an instance have values where what they hang on has: those that rest on state by how they rest, and all of them under what
 -- goes, since nothing leads in a circle under it.
-use Rattle.std.proofs.Common.{◌≡◌, ℕ, zero, suc, ◌+◌, ◌-◌, ◌<◌, ◌≤◌, ◌⊎◌, inl, inr, Bool, true, false, if◌then◌else◌, List, [], ◌∷◌, ◌++◌, length, replicate, Option, Some, None, option_map, option_and_then, unwrap_or, slice_get, refl, sym, ap, ◌∙◌, subst, arith}
-use Rattle.std.proofs.lemmas.Bool.{lt-ltb, ltb-true, ne_eqb}
+use Rattle.std.proofs.Common.{◌≡◌, ℕ, zero, suc, ◌+◌, ◌<◌, ◌≤◌, ◌⊎◌, inl, inr, Bool, true, false, if◌then◌else◌, List, [], ◌∷◌, ◌++◌, length, Option, Some, None, option_map, option_and_then, unwrap_or, slice_get, refl, sym, ap, ◌∙◌, subst, arith, ⊎_elim}
+use Rattle.std.proofs.lemmas.Bool.{lt-ltb, ltb-true}
 use Rattle.std.proofs.lemmas.Bool.Decides.{nat_tests}
-use Rattle.std.proofs.lemmas.List.{length-replicate}
+use Rattle.cx_text.proofs.MemberLaws.{in_left, in_right}
+use Rattle.cx_text.specs.Members.{In}
+use Rattle.cx_text.proofs.OptionLaws.{none_is_some}
+use Rattle.cx_text.proofs.NumberLaws.{before_more}
 use Rattle.cx_bits.specs.BitVector.{BitVector}
 use Rattle.cx_prim.specs.declared.ports.PortRow.{PortRow}
 use Rattle.cx_prim.specs.declared.ports.Side.{Side}
@@ -11,35 +14,31 @@ use Rattle.cx_prim.specs.declared.ports.Side.TheVariants as sides
 use Rattle.cx_prim.specs.Rows.{Inputs, Row}
 use Rattle.cx_meaning.specs.declared.ports.PortRef.{PortRef}
 use Rattle.cx_meaning.specs.declared.ports.PortRef.TheVariants as ports
-use Rattle.cx_meaning.specs.Rows.{side_from, side_of}
+use Rattle.cx_meaning.specs.Rows.{side_of}
 use Rattle.cx_meaning.specs.Designs.{PlainComponent, PlainDesign}
 use Rattle.cx_meaning.specs.Instances as instances
-use Rattle.cx_meaning.specs.Instances.{Instance, Cells, no_cells, a_primitive, an_instance, At, Nothing, OfRow, OfInstance, part_of, cells_of, cell_at}
+use Rattle.cx_meaning.specs.Instances.{Instance, Cells, no_cells, a_primitive, an_instance, At, Nothing, OfRow, OfInstance, part_of, cell_at}
 use Rattle.cx_meaning.specs.Active.{Active, nothing, Owned, source_order, offset_of, same_port, drivers}
-use Rattle.cx_meaning.specs.Sights.{In, PartPort, Go, AnInput, AnOutput, ItsDone, part_port}
+use Rattle.cx_meaning.specs.Sights.{PartPort, Go, AnInput, AnOutput, ItsDone, part_port, numbered}
 use Rattle.cx_rules.specs.Footprints.{AssignNames, Mentions, Rests, literal_rests, input_rests, registered_rests, output_rests, done_rests, combinational_rests, SideLeads, PartLeads, CellLeads, Leads, Depends, at_once, by_way_of}
 use Rattle.cx_rules.specs.Circles.{IsAcyclic}
 use Rattle.cx_rules.specs.Wellformed.{IsThere, port_count}
 use Rattle.cx_rules.proofs.FoundLemmas.{same_is, source_in}
 use Rattle.cx_control.proofs.UnionLemmas.{stands_acting}
-use Rattle.cx_net.specs.Nets.{PlainNetExpr, OfPort, OfWire, ToPort, ToWire, PlainNetDriver, PlainNetComponent}
+use Rattle.cx_net.specs.Nets.{PlainNetExpr, OfPort, OfWire, ToPort, PlainNetDriver, PlainNetComponent}
 use Rattle.cx_net.specs.NetTree.{NetCells, ARow, AChild, net_part, net_cell_at}
 use Rattle.cx_net.specs.NetMeaning.{NetState, Node, APort, AHole, TheDone, NetLook, NetAround, is_true, zero_wide, same_target, gather_known, registers_of, driven_node, row_node, child_node, cell_node, own_step, is_port_of, is_own_node, net_part_port, net_at_width}
 use Rattle.cx_static.specs.Islands.{PlainIsland}
 use Rattle.cx_static.specs.Lowering.{lowered, lowered_component, lowered_of, unlowered}
 use Rattle.cx_wiring.specs.Control.{control_drivers}
-use Rattle.cx_wiring.specs.Assignments.{target_of, looks_of, is_driven, driven_assigns, assigns_wires, assigns_drivers}
-use Rattle.cx_wiring.specs.Bounds.{AllDrive}
-use Rattle.cx_wiring.specs.Wiring.{groups, first_of_control, first_of_assigns, bits, plain_wires, plain_drivers, target_width}
+use Rattle.cx_wiring.specs.Assignments.{target_of, looks_of, is_driven, driven_assigns, assigns_drivers}
+use Rattle.cx_wiring.specs.Wiring.{groups, first_of_control, first_of_assigns, plain_drivers}
 use Rattle.cx_wiring.specs.PartNets.{timers_of, wired_in, net_of_instance, net_of_cells}
-use Rattle.cx_wiring.specs.Takings.{takes}
-use Rattle.cx_wiring.proofs.TakingLemmas.{takes_append, others_pass}
-use Rattle.cx_wiring.proofs.ControlTargets.{control_drives}
 use Rattle.cx_wiring.proofs.DrivenLemmas.{IsProper}
-use Rattle.cx_wiring.proofs.NetTargets.{plain_wires_count}
 use Rattle.cx_wiring.proofs.DesignNames.{in_filter}
 use Rattle.cx_wiring_cycles.proofs.ControlPorts.{OfTimers, control_free}
-use Rattle.cx_wiring_cycles.proofs.AssignLaws.{ReadsBit, no_port_wire, same_cell, same_output}
+use Rattle.cx_wiring_cycles.proofs.AssignLaws.{same_cell, same_output}
+use Rattle.cx_wiring_cycles.proofs.NodeTakes.{assign_reads}
 use Rattle.cx_wiring_values.proofs.TimerPlaces.{cell_no_timer, output_no_timer}
 use Rattle.cx_wiring_values.proofs.WholeLooks.{part_output}
 use Rattle.cx_wiring_values.proofs.InstancePorts.{IsNamed, AssignRules, PortRules}
@@ -47,27 +46,30 @@ use Rattle.cx_wiring_values.proofs.NodeRules.{NodeRules}
 use Rattle.cx_wiring_values.proofs.KnownLemmas.{Known, known_as, KnownExpr, Fed, AllTo, all_to_append, all_to_other}
 use Rattle.cx_wiring_values.proofs.CircleInduction.{acyclic_induction}
 use Rattle.cx_wiring_values.proofs.RowPorts.{HasRowPorts}
-use Rattle.cx_wiring_values.proofs.NodeReads.{target_known, wire_takes}
+use Rattle.cx_wiring_values.proofs.NodeReads.{target_known}
 use Rattle.cx_wiring_values.proofs.AssignsKnown.{AssignsRead, assigns_read, LookFed, GoesKnown, NamesKnown, assigns_fed}
-use Rattle.cx_text.proofs.ListLaws.{one_of, behind}
-use Rattle.cx_meaning.proofs.SightsLaws.{in_left, in_right}
 use Rattle.cx_rules.proofs.ForeignLemmas.{OwnerOf, continuous, of_group, owner_of}
+use Rattle.cx_laws.proofs.SeenLemmas.{side_there}
 
 -- CELLS OF THE NET are those of the instance, and timers behind them
 module _ (W : PlainComponent → PlainNetComponent) (T : PlainComponent → List Row) (N : Instance → NetState → ℕ → ℕ) where
-  pub row_at : (cells : Cells) (more : List Row) (c : ℕ) (row : Row) → cell_at cells c ≡ OfRow row → net_cell_at (net_of_cells W T N cells more) c ≡ ARow row
-  row_at no_cells more c row is = absurd cc
-  row_at (a_primitive r rest) more zero row is = let f : r ≡ row = cc in ap ARow f
-  row_at (a_primitive r rest) more (suc c) row is = row_at rest more c row is
-  row_at (an_instance kid rest) more zero row is = absurd cc
-  row_at (an_instance kid rest) more (suc c) row is = row_at rest more c row is
+  pub row_stands : (cells : Cells) (more : List Row) (c : ℕ) (row : Row) → cell_at cells c ≡ OfRow row → net_cell_at (net_of_cells W T N cells more) c ≡ ARow row
+  row_stands no_cells more c row is = absurd cc
+  row_stands (a_primitive r rest) more zero row is = let f : r ≡ row = cc in ap ARow f
+  row_stands (a_primitive r rest) more (suc c) row is = row_stands rest more c row is
+  row_stands (an_instance kid rest) more zero row is = absurd cc
+  row_stands (an_instance kid rest) more (suc c) row is = row_stands rest more c row is
 
-  pub child_at_cell : (cells : Cells) (more : List Row) (c : ℕ) (child : Instance) → cell_at cells c ≡ OfInstance child → net_cell_at (net_of_cells W T N cells more) c ≡ AChild (net_of_instance W T N child)
-  child_at_cell no_cells more c child is = absurd cc
-  child_at_cell (a_primitive row rest) more zero child is = absurd cc
-  child_at_cell (a_primitive row rest) more (suc c) child is = child_at_cell rest more c child is
-  child_at_cell (an_instance kid rest) more zero child is = let f : kid ≡ child = cc in ap (λ z. AChild (net_of_instance W T N z)) f
-  child_at_cell (an_instance kid rest) more (suc c) child is = child_at_cell rest more c child is
+  pub child_stands : (cells : Cells) (more : List Row) (c : ℕ) (child : Instance) → cell_at cells c ≡ OfInstance child → net_cell_at (net_of_cells W T N cells more) c ≡ AChild (net_of_instance W T N child)
+  child_stands no_cells more c child is = absurd cc
+  child_stands (a_primitive row rest) more zero child is = absurd cc
+  child_stands (a_primitive row rest) more (suc c) child is = child_stands rest more c child is
+  child_stands (an_instance kid rest) more zero child is = let f : kid ≡ child = cc in ap (λ z. AChild (net_of_instance W T N z)) f
+  child_stands (an_instance kid rest) more (suc c) child is = child_stands rest more c child is
+
+pub part_port_same : (d : PlainDesign) (numbers : Instance → NetState → ℕ → ℕ) (child : Instance) (p : ℕ) → net_part_port (net_part (net_of_instance (wired_in d) timers_of numbers child)) p ≡ part_port (part_of child) p
+part_port_same d numbers (instances.Node q qs) zero = refl
+part_port_same d numbers (instances.Node q qs) (suc p) = refl
 
 -- the inputs that are wanted
 pub gathered : (look : ℕ → Option BitVector) (wanted : ℕ → Bool) (p : ℕ) (rows : List PortRow) → ((q : ℕ) → p ≤ q → q < p + length rows → wanted q ≡ true → Known (look q)) → (inputs : Inputs) × (gather_known look wanted p rows ≡ Some inputs)
@@ -89,45 +91,23 @@ gathered look wanted p (row ∷ rest) h = choice (wanted p) refl (gathered look 
 -- what is not unknown is known
 pub known_stable : (o : Option BitVector) → ((Known o → ⊥) → ⊥) → Known o
 known_stable (Some b) h = (b, refl)
-known_stable None h = absurd (h (λ k. no k.0 k.1))
-  where
-    no : (b : BitVector) → ◌≡◌ {A = Option BitVector} None (Some b) → ⊥
-    no b e = cc
-
--- ports of cells, so many of each
-abbrev first_ports : ℕ → ℕ → List PortRef
-first_ports c zero = []
-first_ports c (suc n) = ports.Cell c n ∷ first_ports c n
+known_stable None h = absurd (h (λ k. none_is_some k.0 k.1))
 
 abbrev cell_ports : (ℕ → ℕ) → ℕ → List PortRef
 cell_ports count zero = []
-cell_ports count (suc c) = first_ports c (count c) ++ cell_ports count c
+cell_ports count (suc c) = numbered c (count c) ++ cell_ports count c
 
-before : (p n : ℕ) → p < suc n → (p ≡ n) ⊎ (p < n)
-before zero zero h = inl refl
-before zero (suc n) h = inr (omega arith)
-before (suc p) zero h = absurd (omega arith)
-before (suc p) (suc n) h = up (before p n (omega arith))
-  where
-    up : (p ≡ n) ⊎ (p < n) → (suc p ≡ suc n) ⊎ (suc p < suc n)
-    up (inl e) = inl (ap suc e)
-    up (inr l) = inr (omega arith)
-
-first_port_in : (c n p : ℕ) → p < n → In (first_ports c n) (ports.Cell c p)
+first_port_in : (c n p : ℕ) → p < n → In (numbered c n) (ports.Cell c p)
 first_port_in c zero p h = absurd (omega arith)
-first_port_in c (suc n) p h = choice (before p n h) (λ l. first_port_in c n p l)
-  where
-    choice : (p ≡ n) ⊎ (p < n) → (p < n → In (first_ports c n) (ports.Cell c p)) → In (first_ports c (suc n)) (ports.Cell c p)
-    choice (inl e) later = inl (ap (ports.Cell c) (sym e))
-    choice (inr l) later = inr (later l)
+first_port_in c (suc n) p h = ⊎_elim (λ l. inr (first_port_in c n p l)) (λ e. inl (ap (ports.Cell c) (sym e))) (before_more n p (omega (arith, h)))
 
 cell_port_in : (count : ℕ → ℕ) (n c p : ℕ) → c < n → p < count c → In (cell_ports count n) (ports.Cell c p)
 cell_port_in count zero c p less there = absurd (omega arith)
-cell_port_in count (suc n) c p less there = choice (before c n less) (λ l. cell_port_in count n c p l there)
-  where
-    choice : (c ≡ n) ⊎ (c < n) → (c < n → In (cell_ports count n) (ports.Cell c p)) → In (cell_ports count (suc n)) (ports.Cell c p)
-    choice (inl e) later = in_left (first_ports n (count n)) (cell_ports count n) _ (subst (λ m. In (first_ports m (count m)) (ports.Cell c p)) e (first_port_in c (count c) p there))
-    choice (inr l) later = in_right (first_ports n (count n)) (cell_ports count n) _ (later l)
+cell_port_in count (suc n) c p less there =
+    ⊎_elim
+    (λ l. in_right (numbered n (count n)) (cell_ports count n) _ (cell_port_in count n c p l there))
+    (λ e. in_left (numbered n (count n)) (cell_ports count n) _ (subst (λ m. In (numbered m (count m)) (ports.Cell c p)) e (first_port_in c (count c) p there)))
+    (before_more n c (omega (arith, less)))
 
 -- WHAT LEADS from ports of cells
 module _ (part : PlainComponent) (cells : Cells) (act : Active) where
@@ -166,32 +146,9 @@ module _ (d : PlainDesign) (part : PlainComponent) (cells : Cells) (numbers : In
   AD = assigns_drivers (groups (lowered_component part)) (first_of_assigns (lowered_component part)) (driven_assigns (lowered_component part))
 
   -- ASSIGNMENTS: their wires
-  wide_one : (n : ℕ) → groups (lowered_component part) ≤ n → n < groups (lowered_component part) + bits (lowered_component part) → slice_get (plain_wires (lowered_component part)) n ≡ Some 1
-  wide_one n low high =
-      let wide : ℕ = 32 in
-      let count : length (replicate (groups (lowered_component part)) wide) ≡ groups (lowered_component part) = length-replicate (groups (lowered_component part)) wide in
-      let at : n ≡ length (replicate (groups (lowered_component part)) 32) + (n - groups (lowered_component part)) = omega (arith, count, low) in
-      behind (replicate (groups (lowered_component part)) 32) (replicate (bits (lowered_component part)) 1) n (n - groups (lowered_component part)) at
-      ∙ one_of (bits (lowered_component part)) (n - groups (lowered_component part)) (omega arith)
-
-  bit_reads : (n : ℕ) → first_of_assigns (lowered_component part) ≤ n → n < first_of_assigns (lowered_component part) + assigns_wires (driven_assigns (lowered_component part))
-      → ReadsBit (groups (lowered_component part)) (lowered_component part).islands (NodeRules.islands_named rules) around R (look []) n AD
-  bit_reads n low high =
-      let width : target_width (lowered_of d) (lowered_component part) (ToWire n) ≡ 1 = ap (λ o. unwrap_or o 1) (wide_one n (omega arith) (omega arith)) in
-      let count : length (plain_wires (lowered_component part)) ≡ groups (lowered_component part) + bits (lowered_component part) = plain_wires_count (lowered_component part) in
-      let there : n < length (plain_wires (lowered_component part)) = omega arith in
-      wire_takes (lowered_of d) part NC around s look solves (NodeRules.plain rules) n there
-      ∙ ap (λ w. takes around R (look []) (ToWire n) (Some (zero_wide w)) (plain_drivers (lowered_component part))) width
-      ∙ takes_append around R (look []) (ToWire n) (Some (zero_wide 1)) CD AD
-      ∙ others_pass around R (look []) (ToWire n) (takes around R (look []) (ToWire n) (Some (zero_wide 1)) AD) CD skip
-    where
-      skip : AllDrive (λ u. same_target u (ToWire n) ≡ false) CD
-      skip =
-          control_drives (λ u. same_target u (ToWire n) ≡ false) (no_port_wire n) (groups (lowered_component part)) (lowered_component part).islands (λ m less. ne_eqb m n (λ e. omega arith)) (λ g less. refl) (NodeRules.islands_named rules) refl
-          (first_of_control (lowered_component part)) (lowered part part.control (unlowered part)) (NodeRules.control_named rules) (record { wire_in = λ m l h. ne_eqb m n (λ e. omega arith); register_in = λ m l h. refl })
-
   pub all_read : AssignsRead (groups (lowered_component part)) (lowered_component part).islands (NodeRules.islands_named rules) around R (look []) (first_of_assigns (lowered_component part)) (driven_assigns (lowered_component part))
-  all_read = assigns_read (groups (lowered_component part)) (lowered_component part).islands (NodeRules.islands_named rules) around R (look []) (driven_assigns (lowered_component part)) (first_of_assigns (lowered_component part)) (NodeRules.assigns_named rules) bit_reads
+  all_read = assigns_read (groups (lowered_component part)) (lowered_component part).islands (NodeRules.islands_named rules) around R (look []) (driven_assigns (lowered_component part)) (first_of_assigns (lowered_component part)) (NodeRules.assigns_named rules)
+      (assign_reads (lowered_of d) part NC around s look solves (NodeRules.plain rules) (NodeRules.islands_named rules) (NodeRules.control_named rules))
 
   abbrev pub IsFed : Owned → Type 0
   IsFed a = LookFed (groups (lowered_component part)) (lowered_component part).islands (NodeRules.islands_named rules) around R (look []) (looks_of a.owner a.assign.target) a.assign
@@ -221,14 +178,10 @@ module _ (d : PlainDesign) (part : PlainComponent) (cells : Cells) (numbers : In
   -- WHAT STANDS AT CELLS
   row_has : (c p : ℕ) (row : Row) (side : Side) → cell_at cells c ≡ OfRow row → side_of row p ≡ side → p < length row.ports → look [] (APort (ports.Cell c p)) ≡ row_node (wired_in d part) NC around s (look []) (λ e. look (e ∷ [])) row c p side
   row_has c p row side is e less =
-      let stands = row_at (wired_in d) timers_of numbers cells (timers_of part) c row is in
+      let stands = row_stands (wired_in d) timers_of numbers cells (timers_of part) c row is in
       solves (APort (ports.Cell c p)) (ap (λ x. is_port_of x p) stands ∙ lt-ltb p (length row.ports) less)
       ∙ ap (λ x. cell_node (wired_in d part) NC around s (look []) (λ e. look (e ∷ [])) c p x) stands
       ∙ ap (row_node (wired_in d part) NC around s (look []) (λ e. look (e ∷ [])) row c p) e
-
-  same_ports : (child : Instance) (p : ℕ) → net_part_port (net_part (net_of_instance (wired_in d) timers_of numbers child)) p ≡ part_port (part_of child) p
-  same_ports (instances.Node q qs) zero = refl
-  same_ports (instances.Node q qs) (suc p) = refl
 
   child_count : (child : Instance) → 2 + length (net_part (net_of_instance (wired_in d) timers_of numbers child)).inputs + length (net_part (net_of_instance (wired_in d) timers_of numbers child)).outputs
       ≡ 2 + length (part_of child).inputs + length (part_of child).outputs
@@ -237,13 +190,13 @@ module _ (d : PlainDesign) (part : PlainComponent) (cells : Cells) (numbers : In
   child_has : (c p : ℕ) (child : Instance) (port : PartPort) → cell_at cells c ≡ OfInstance child → part_port (part_of child) p ≡ port → p < 2 + length (part_of child).inputs + length (part_of child).outputs
       → look [] (APort (ports.Cell c p)) ≡ child_node (wired_in d part) NC around s (look []) (λ e. look (e ∷ [])) (net_of_instance (wired_in d) timers_of numbers child) c p port
   child_has c p child port is e less =
-      let stands = child_at_cell (wired_in d) timers_of numbers cells (timers_of part) c child is in
+      let stands = child_stands (wired_in d) timers_of numbers cells (timers_of part) c child is in
       let count = child_count child in
       solves (APort (ports.Cell c p))
       (ap (λ x. is_port_of x p) stands
       ∙ lt-ltb p (2 + length (net_part (net_of_instance (wired_in d) timers_of numbers child)).inputs + length (net_part (net_of_instance (wired_in d) timers_of numbers child)).outputs) (subst (λ n. p < n) (sym count) less))
       ∙ ap (λ x. cell_node (wired_in d part) NC around s (look []) (λ e. look (e ∷ [])) c p x) stands
-      ∙ ap (child_node (wired_in d part) NC around s (look []) (λ e. look (e ∷ [])) (net_of_instance (wired_in d) timers_of numbers child) c p) (same_ports child p ∙ e)
+      ∙ ap (child_node (wired_in d part) NC around s (look []) (λ e. look (e ∷ [])) (net_of_instance (wired_in d) timers_of numbers child) c p) (part_port_same d numbers child p ∙ e)
 
   row_there : (c p : ℕ) (row : Row) → cell_at cells c ≡ OfRow row → IsThere (instances.Node part cells) (ports.Cell c p) → p < length row.ports
   row_there c p row is there = subst (λ x. p < port_count x) is there.1
@@ -258,15 +211,10 @@ module _ (d : PlainDesign) (part : PlainComponent) (cells : Cells) (numbers : In
     pub outputs : (c : ℕ) (child : Instance) (n : ℕ) → cell_at cells c ≡ OfInstance child → n < length (part_of child).outputs → Known (look (c ∷ []) (APort (ports.Output n)))
     pub dones : (c : ℕ) (child : Instance) → cell_at cells c ≡ OfInstance child → Known (look (c ∷ []) TheDone)
 
-  pub port_of : (list : List PortRow) (p : ℕ) → p < length list → (port : PortRow) × (slice_get list p ≡ Some port) × (side_from list p ≡ port.side)
-  port_of [] p h = absurd (omega arith)
-  port_of (port ∷ list) zero h = (port, refl, refl)
-  port_of (port ∷ list) (suc p) h = port_of list p (omega arith)
-
   module _ (shows : CellsShow) where
     registered_known : (c p : ℕ) (row : Row) → cell_at cells c ≡ OfRow row → side_of row p ≡ sides.Registered → p < length row.ports → Known (look [] (APort (ports.Cell c p)))
     registered_known c p row is side less =
-        let r = port_of row.ports p less in
+        let r = side_there row.ports p less in
         known_as _ _ (row_has c p row sides.Registered is side less) (CellsShow.registered shows c row p r.0 is r.1 (sym r.2 ∙ side))
 
     -- an output whose inputs have values
@@ -281,7 +229,7 @@ module _ (d : PlainDesign) (part : PlainComponent) (cells : Cells) (numbers : In
         known_as _ _ (child_has c p child (AnOutput n) is port less) (CellsShow.outputs shows c child n is (of_child child port))
       where
         of_child : (child : Instance) → part_port (part_of child) p ≡ AnOutput n → n < length (part_of child).outputs
-        of_child (instances.Node q qs) e = ltb-true n (length q.outputs) (part_output (wired_in d q) p n (same_ports (instances.Node q qs) p ∙ e))
+        of_child (instances.Node q qs) e = ltb-true n (length q.outputs) (part_output (wired_in d q) p n (part_port_same d numbers (instances.Node q qs) p ∙ e))
 
     child_done : (c p : ℕ) (child : Instance) → cell_at cells c ≡ OfInstance child → part_port (part_of child) p ≡ ItsDone → p < 2 + length (part_of child).inputs + length (part_of child).outputs → Known (look [] (APort (ports.Cell c p)))
     child_done c p child is port less = known_as _ _ (child_has c p child ItsDone is port less) (CellsShow.dones shows c child is)

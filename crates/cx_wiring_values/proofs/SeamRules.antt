@@ -2,6 +2,8 @@
 -- names may lead, and that what a done or an output looks at rests on state.
 use Rattle.std.specs.Prelude.{is_some}
 use Rattle.std.proofs.Common.{◌≡◌, inl, inr, ℕ, suc, ◌<◌, true, false, ◌||◌, [], length, Option, Some, refl, sym, ap, ◌∙◌, subst}
+use Rattle.cx_text.proofs.MemberLaws.{number_in}
+use Rattle.cx_text.specs.Members.{In}
 use Rattle.cx_text.specs.declared.rules.Rule.TheVariants as rules
 use Rattle.cx_prim.specs.Rows.{Row, is_enable_side, IsLawful}
 use Rattle.cx_prim.proofs.TableLaws.{row_of_lawful}
@@ -16,7 +18,7 @@ use Rattle.cx_meaning.specs.Control.{groups_in}
 use Rattle.cx_meaning.specs.declared.ports.PlacedPort.{PlacedPort}
 use Rattle.cx_meaning.specs.Instances.{Instance, Node, Cells, OfRow, OfInstance, cell_at, cells_of, part_of, cells_for, tree_within, tree_of, Path, instance_at}
 use Rattle.cx_meaning.specs.Active.{Owned, source_order}
-use Rattle.cx_meaning.specs.Sights.{In, part_port}
+use Rattle.cx_meaning.specs.Sights.{part_port}
 use Rattle.cx_rules.specs.Ports.{enables_cell, is_primitive_enable, is_part_port, component_of, path_of}
 use Rattle.cx_rules.specs.StaticControl.{is_static}
 use Rattle.cx_rules.specs.Items.{Dynamic, Visited, statements_in, is_comb}
@@ -26,8 +28,8 @@ use Rattle.cx_rules.specs.Spots.{AStatement, AnAssign}
 use Rattle.cx_rules.specs.Flat.{IsFlat}
 use Rattle.cx_rules.specs.Accepted.{IsAccepted}
 use Rattle.cx_rules.specs.Wellformed.{IsDesign}
-use Rattle.cx_frames.proofs.StatementFrames.{visited}
-use Rattle.cx_control.proofs.StaticLemmas.{IsStatic, static_form, static_may, all_may}
+use Rattle.cx_laws.proofs.StaticLemmas.{IsStatic, static_form, static_may, all_may}
+use Rattle.cx_laws.proofs.VisitLemmas.{visited}
 use Rattle.cx_frames.proofs.RuleLemmas.{IsKept, kept_instance}
 use Rattle.cx_control.proofs.InstanceLemmas.{KeepsPorts, instance_ports}
 use Rattle.cx_wiring.proofs.WholeInstances.{IsWhole, of_component, of_nothing, instance_whole, AreAlike, nothings, rows, instances, cells_alike}
@@ -35,7 +37,6 @@ use Rattle.cx_wiring_values.proofs.InstancePorts.{RowOf, some_components}
 use Rattle.cx_wiring_values.proofs.NodeRules.{NodeRules, node_rules}
 use Rattle.cx_wiring_values.proofs.RowPorts.{HasRowPorts, row_ports}
 use Rattle.cx_meaning.proofs.DesignsLemmas.{same_part}
-use Rattle.cx_meaning.proofs.SightsLaws.{number_in}
 
 -- a port that does not rest is named by no such assignment
 pub record RestRules (i : Instance) : Type 0 where

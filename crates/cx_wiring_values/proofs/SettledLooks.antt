@@ -1,17 +1,18 @@
 -- A look at the nodes of a net that has been filled by rules until no rule gives a value more: it solves the rules of all nodes, and
 -- what it has is right. So a node has a value where no look that solves the rules can be without one.
-use Rattle.std.proofs.Common.{◌≡◌, ℕ, zero, suc, ◌+◌, ◌≤◌, ◌<◌, ◌⊎◌, inl, inr, Bool, true, List, [], ◌∷◌, ◌++◌, length, map, Option, Some, None, refl, sym, ap, subst, arith}
+use Rattle.std.proofs.Common.{◌≡◌, ℕ, zero, suc, ◌+◌, ◌≤◌, ◌<◌, ◌⊎◌, inl, inr, Bool, true, List, [], ◌∷◌, ◌++◌, length, map, Option, Some, None, refl, sym, ap, subst, arith, ⊎_elim}
 use Rattle.std.proofs.lemmas.Bool.{ltb-true}
+use Rattle.cx_text.proofs.MemberLaws.{in_image, in_left, in_right}
 use Rattle.cx_bits.specs.BitVector.{BitVector}
 use Rattle.cx_meaning.specs.declared.ports.PortRef.TheVariants as ports
 use Rattle.cx_meaning.specs.Instances.{Path}
-use Rattle.cx_meaning.specs.Sights.{In}
+use Rattle.cx_text.specs.Members.{In}
+use Rattle.cx_text.proofs.NumberLaws.{before_more}
 use Rattle.cx_net.specs.Nets.{PlainNetComponent}
 use Rattle.cx_net.specs.NetTree.{NetInstance, NetNode, NetCells, no_net_cells, a_row, a_child, net_part, net_cell_at}
 use Rattle.cx_net.specs.NetMeaning.{NetState, Node, APort, AWire, AHole, TheDone, NetLook, net_step, outside, NetHas, by_rule, is_port_of, is_own_node, is_node, is_node_below}
 use Rattle.cx_wiring_values.proofs.GrowLemmas.{Less, less_self, none_is_some}
 use Rattle.cx_wiring_values.proofs.RiseLemmas.{step_rises}
-use Rattle.cx_meaning.proofs.SightsLaws.{in_image, in_left, in_right}
 
 -- THE NODES of a tree, each with its path
 record NodeAt : Type 0 where
@@ -27,21 +28,7 @@ first_nodes (suc n) f = f n ∷ first_nodes n f
 
 first_in : (n : ℕ) (f : ℕ → Node) (k : ℕ) → k < n → In (first_nodes n f) (f k)
 first_in zero f k less = absurd (omega arith)
-first_in (suc n) f k less = choice (split k n less) (λ l. first_in n f k l)
-  where
-    split : (p n : ℕ) → p < suc n → (p ≡ n) ⊎ (p < n)
-    split zero zero h = inl refl
-    split zero (suc n) h = inr (omega arith)
-    split (suc p) zero h = absurd (omega arith)
-    split (suc p) (suc n) h = up (split p n (omega arith))
-      where
-        up : (p ≡ n) ⊎ (p < n) → (suc p ≡ suc n) ⊎ (suc p < suc n)
-        up (inl e) = inl (ap suc e)
-        up (inr l) = inr (omega arith)
-
-    choice : (k ≡ n) ⊎ (k < n) → (k < n → In (first_nodes n f) (f k)) → In (first_nodes (suc n) f) (f k)
-    choice (inl e) later = inl (ap f (sym e))
-    choice (inr l) later = inr (later l)
+first_in (suc n) f k less = ⊎_elim (λ l. inr (first_in n f k l)) (λ e. inl (ap f (sym e))) (before_more n k (omega (arith, less)))
 
 abbrev port_nodes : NetCells → ℕ → List Node
 port_nodes no_net_cells c = []

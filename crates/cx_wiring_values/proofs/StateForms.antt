@@ -5,12 +5,12 @@ use Rattle.std.specs.List.{list_all}
 use Rattle.cx_bits.specs.BitVector.{BitVector}
 use Rattle.cx_bits.specs.Operators.{bit_of, quotient_of, remainder_of}
 use Rattle.cx_prim.specs.declared.ports.PortRow.{PortRow}
-use Rattle.cx_prim.specs.declared.ports.Side.{Side}
 use Rattle.cx_prim.specs.declared.ports.Side.TheVariants.{Output, Registered}
 use Rattle.cx_prim.specs.CellStates as states
 use Rattle.cx_prim.specs.CellStates.{CellState, StateShape, with_words, words_of}
 use Rattle.cx_prim.specs.Rows.{Inputs, is_output_side, is_on, Row, reset}
 use Rattle.cx_prim.specs.CombinationalRows.{combinational_row}
+use Rattle.cx_prim.specs.declared.ports.Side.{Side}
 use Rattle.cx_prim.specs.CombinationalLaws.{passes_at}
 use Rattle.cx_prim.specs.RegisterRow.{register_row, register_output, register_next}
 use Rattle.cx_prim.specs.MemoryRows.{IsLayout, memory_row, memory_output, memory_read, sequential_memory_row, sequential_output}
@@ -19,10 +19,6 @@ use Rattle.cx_prim.specs.PipeRows.{multiplier_row, multiplier_output, left_of, r
 use Rattle.cx_prim.specs.Table.{PrimitiveRow, no_row, row_of}
 use Rattle.cx_prim.proofs.TableCases.{OfEachKind, of_row}
 use Rattle.cx_wiring_values.proofs.KnownLemmas.{Known}
-
-abbrev is_unregistered : Side → Bool
-is_unregistered Registered = false
-is_unregistered _ = true
 
 abbrev pub has_form : StateShape → CellState → Bool
 has_form states.NoState state = true
@@ -57,6 +53,10 @@ reset_keeps row state keeps = words_keep row.shape (words_of state) row.start ke
 by_test : (shape : StateShape) (b : Bool) (x y : CellState) → has_form shape x ≡ true → has_form shape y ≡ true → has_form shape (if b then x else y) ≡ true
 by_test shape true x y h k = h
 by_test shape false x y h k = k
+
+abbrev is_unregistered : Side → Bool
+is_unregistered Registered = false
+is_unregistered _ = true
 
 unregistered : (ports : List PortRow) → list_all (λ port. is_unregistered port.side) ports ≡ true → (n : ℕ) (port : PortRow) → slice_get ports n ≡ Some port → port.side ≡ Registered → ⊥
 unregistered ports none n port at registered =

@@ -2,11 +2,12 @@
 -- samples are: of parts that follow each other the count is in the range of one, and a static if has one sample.
 use Rattle.std.proofs.Common.{◌≡◌, ℕ, ◌+◌, ◌*◌, ◌<◌, ◌≤◌, ◌⊎◌, inl, inr, max, Bool, true, false, List, [], ◌∷◌, length, Option, Some, None, slice_get, if◌then◌else◌, refl, sym, ap, ◌∙◌, subst, arith}
 use Rattle.std.proofs.lemmas.Bool.{cases_lt, eq-eqb}
+use Rattle.cx_text.proofs.MemberLaws.{in_either, in_left, in_right}
 use Rattle.cx_text.specs.declared.places.Place.{Place}
 use Rattle.cx_meaning.specs.declared.ports.PlacedPort.{PlacedPort}
 use Rattle.cx_meaning.specs.Designs.{PlainComponent, PlainForm, Empty, Enable, Seq, Par, If, While, Repeat, StaticSeq, StaticPar, StaticIf, StaticRepeat, Timed, PlainStatement, Placed, PlainStatements, no_statements, a_statement, list_of}
 use Rattle.cx_meaning.specs.Active.{Active, nothing, entries}
-use Rattle.cx_meaning.specs.Sights.{In}
+use Rattle.cx_text.specs.Members.{In}
 use Rattle.cx_meaning.specs.Islands.{or_zero, group_length, form_length, length_of, sum_length, max_length}
 use Rattle.cx_control.specs.Together.{union, IsTogether, at_rest, at_offset, in_static_seq, in_static_par, in_static_then, in_static_else, in_static_repeat, AreTogether, no_arm, an_arm}
 use Rattle.cx_static.specs.declared.islands.Sample.{Sample}
@@ -15,7 +16,6 @@ use Rattle.cx_static.specs.Islands.{PlainOccurrence}
 use Rattle.cx_static.specs.Lowering.{Gathered, Begin, begin_at, later, sampled, if_sampled, with_timer, with_point, with_occurrence, form_gathered, gathered, parts_gathered, arms_gathered}
 use Rattle.cx_wiring.proofs.GatherLaws.{grows, parts_grow, arms_grow}
 use Rattle.cx_wiring_values.proofs.TogetherGoes.{IsOn, union_left, union_right}
-use Rattle.cx_meaning.proofs.SightsLaws.{in_either, in_left, in_right}
 use Rattle.cx_text.proofs.ListLaws.{get_end, front as slice_left}
 
 module _ (part : PlainComponent) (live : ℕ → Bool) (count : ℕ → ℕ) (sample : ℕ → Bool) (final : List IslandTimer) where

@@ -17,6 +17,7 @@ use Rattle.cx_wiring.specs.NetNames.{DriversName, TreeNames, CellsName}
 use Rattle.cx_wiring_values.proofs.GrowLemmas.{Less, less_self, none_is_some, grows_map, grows_then, gather_grows, AroundLess, chain_grows, names_to}
 use Rattle.cx_net.proofs.NetTreeLemmas.{at_child}
 use Rattle.cx_bits.proofs.BitVectorLemmas.{some_is}
+use Rattle.cx_lockstep.specs.Machines.{first_some}
 
 -- an output of a component cell is one of the component
 output_there : (outputs n m : ℕ) → output_port outputs n ≡ AnOutput m → nat_lt m outputs ≡ true
@@ -127,20 +128,16 @@ mutual
   below_grows (a_child child rest) names zero a b s look more around less path n t = step_grows child names.0 a b s look more (around child refl) less path n t
   below_grows (a_child child rest) names (suc c) a b s look more around less path n t = below_grows rest names.1 c a b s look more around less path n t
 
-abbrev first_known : {A : Type 0} → Option A → Option A → Option A
-first_known None o = o
-first_known (Some v) o = Some v
-
-first_less : {A : Type 0} (a b : Option A) → Less a (first_known a b)
+first_less : {A : Type 0} (a b : Option A) → Less a (first_some a b)
 first_less None b x e = none_is_some x e
 first_less (Some v) b x e = e
 
-second_less : {A : Type 0} (a b : Option A) → ((x y : A) → a ≡ Some x → b ≡ Some y → x ≡ y) → Less b (first_known a b)
+second_less : {A : Type 0} (a b : Option A) → ((x y : A) → a ≡ Some x → b ≡ Some y → x ≡ y) → Less b (first_some a b)
 second_less None b h y e = e
 second_less (Some x) b h y e = ap Some (h x y refl e)
 
 abbrev joined : NetLook → NetLook → NetLook
-joined look more q n = first_known (look q n) (more q n)
+joined look more q n = first_some (look q n) (more q n)
 
 abbrev HasOne : Option BitVector → Type 0
 HasOne o = (v : BitVector) × (o ≡ Some v)

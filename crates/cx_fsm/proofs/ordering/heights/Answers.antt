@@ -2,8 +2,9 @@ use Rattle.std.proofs.Common.{◌≡◌, ◌+◌, ◌≤◌, suc, ◌∙◌, sym
 use Rattle.std.proofs.lemmas.Slice.Eq.{bytes_eq-Decides}
 use Rattle.cx_static.specs.PlainLowered.{plain_lowereds}
 use Rattle.cx_wiring.specs.Reached.{count, height_of}
+use Rattle.cx_wiring.proofs.MainLaws.{height_few}
 use Rattle.cx_fsm.specs.Rounds.{HasHeights, raised}
-use Rattle.cx_fsm.proofs.RoundLemmas.{counted, raised_more, raised_all, height_few, height_within}
+use Rattle.cx_fsm.proofs.RoundLemmas.{counted, raised_more, raised_all, height_within}
 use Rattle.cx_fsm.proofs.ordering.heights.Goals as goal
 
 pub returns-then-eq-clause-value : goal.returns-then-eq-clause-value

@@ -2,7 +2,8 @@ use Rattle.std.proofs.Common.{◌≡◌, ◌∷◌, ◌+◌, [], ◌∙◌, sym,
 use Rattle.std.proofs.lemmas.List.{drop_all, map_push}
 use Rattle.cx_design.specs.PlainForms.{plain_component, plain_statement, plain_statements}
 use Rattle.cx_static.specs.PlainLowered.{plain_lowering}
-use Rattle.cx_static.proofs.ControlLemmas.{joined_none, lowered_more, after_more}
+use Rattle.cx_static.proofs.ControlLemmas.{lowered_more, after_more}
+use Rattle.cx_meaning.proofs.DesignsLemmas.{joined_none}
 use Rattle.cx_text.proofs.ListLaws.{drop_item}
 use Rattle.cx_static.proofs.control.+control.Goals as goal
 

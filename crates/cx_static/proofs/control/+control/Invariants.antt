@@ -2,7 +2,7 @@ use Rattle.std.proofs.Common.{◌≡◌, drop, map}
 use Rattle.cx_design.specs.PlainForms.{plain_component, plain_statement, plain_statements}
 use Rattle.cx_static.specs.Lowering.{parts_after, lowered_parts}
 use Rattle.cx_static.specs.PlainLowered.{plain_lowering}
-use Rattle.cx_static.proofs.ControlLemmas.{joined}
+use Rattle.cx_meaning.proofs.DesignsLemmas.{joined}
 use Rattle.cx_static.proofs.control.+control.Given as goal
 
 -- the statements so far, and those that are left, are all; so are the islands

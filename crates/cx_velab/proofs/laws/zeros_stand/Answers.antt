@@ -4,9 +4,9 @@ use Rattle.cx_vtree.specs.InstanceTree.{same_name, decls_at}
 use Rattle.cx_vnets.specs.Stores.{plain_words}
 use Rattle.cx_vnets.specs.Numbers.{nets_before, arrays_before}
 use Rattle.cx_velab.specs.Zeros.{widths_at}
-use Rattle.cx_velab.proofs.ZeroLemmas.{zeros_at, zero_arrays_at, zero_arrays_count, held_stands, array_stands, zero_word, zero_count, mapped_some, outside_zero}
+use Rattle.cx_velab.proofs.ZeroLemmas.{zeros_at, zero_arrays_at, zero_arrays_count, held_stands, array_stands, zero_word, zero_count, outside_zero}
 use Rattle.cx_velab.proofs.EvenLemmas.{zeros_fit}
-use Rattle.cx_text.proofs.ListLaws.{length-map}
+use Rattle.cx_text.proofs.ListLaws.{at_map, length-map}
 use Rattle.cx_velab.proofs.laws.zeros_stand.Goals as goal
 
 pub returns-clause-widths : goal.returns-clause-widths
@@ -25,7 +25,7 @@ returns-clause-values c = λ tree s apart bits nets arrays. record {
       let z = array_stands (decls_at tree i) a name at in
       let same : z.0 ≡ a = apart.arrays i z.0 a name z.3 at in
       let there = zero_arrays_at tree i z.0 _ z.4 in
-      let x = mapped_some plain_words s.arrays.items (arrays_before tree i + z.0) _ (ap (λ l. slice_get l (arrays_before tree i + z.0)) arrays ∙ there) in (
+      let x = at_map plain_words s.arrays.items (arrays_before tree i + z.0) _ (ap (λ l. slice_get l (arrays_before tree i + z.0)) arrays ∙ there) in (
         x.0,
         subst (λ j. slice_get s.arrays.items (arrays_before tree i + j) ≡ Some x.0) same x.1,
         record { size = zero_count x.0 z.1 z.2 x.2 ∙ sym z.5; each = λ index. zero_word x.0 z.1 z.2 index x.2 ∙ sym (z.6 index) },

@@ -1,5 +1,6 @@
 use Rattle.std.proofs.Common.{◌+◌, ◌≤◌, ◌∙◌, length, refl, arith}
-use Rattle.cx_graphs.specs.Graphs.{In, edges_of, targets_of}
+use Rattle.cx_text.specs.Members.{In}
+use Rattle.cx_graphs.specs.Graphs.{edges_of, targets_of}
 use Rattle.cx_vnets.specs.Spans.{NotBehind}
 use Rattle.cx_vnets.specs.Stale.{rank_at}
 use Rattle.cx_vnets.proofs.SpanLemmas.{behind_last, behind_more, behind_none}

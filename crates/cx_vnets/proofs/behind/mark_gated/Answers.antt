@@ -1,5 +1,5 @@
 use Rattle.std.proofs.Common.{◌≤◌, List, ℕ, sym, ◌∙◌, subst}
-use Rattle.cx_graphs.specs.Graphs.{In}
+use Rattle.cx_text.specs.Members.{In}
 use Rattle.cx_vnets.specs.Stale.{Tells, rank_at}
 use Rattle.cx_graphs.proofs.Members.{targets_are}
 use Rattle.cx_vnets.proofs.behind.mark_gated.Goals as goal

@@ -1,5 +1,6 @@
 use Rattle.std.proofs.Common.{◌≤◌, ◌∙◌, List, ℕ, Vec, Global, subst}
-use Rattle.cx_graphs.specs.Graphs.{In, edges_of}
+use Rattle.cx_text.specs.Members.{In}
+use Rattle.cx_graphs.specs.Graphs.{edges_of}
 use Rattle.cx_vnets.specs.Spans.{NotBehind}
 use Rattle.cx_vnets.specs.Stale.{Tells, rank_at}
 use Rattle.cx_vnets.proofs.StaleLemmas.{tells_more}

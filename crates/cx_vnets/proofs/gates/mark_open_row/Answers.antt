@@ -1,7 +1,7 @@
 use Rattle.std.proofs.Common.{◌≡◌, ℕ, ◌+◌, ◌<◌, ◌≤◌, ⊎_elim, Some, get_or, slice_get, ap, sym, ◌∙◌, arith}
 use Rattle.std.proofs.lemmas.Bool.{cases_lt}
 use Rattle.std.proofs.lemmas.Option.{same_Some, slice_get-get_or, slice_get_within}
-use Rattle.cx_graphs.specs.Graphs.{In}
+use Rattle.cx_text.specs.Members.{In}
 use Rattle.cx_vnets.specs.Gates.{IsShut}
 use Rattle.cx_vnets.specs.Stale.{rank_at}
 use Rattle.cx_vnets.proofs.StaleLemmas.{member_at, tells_more, tells_so}

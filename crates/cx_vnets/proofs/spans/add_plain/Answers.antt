@@ -1,5 +1,5 @@
 use Rattle.std.proofs.Common.{List, [], ◌∷◌, ℕ, inl, sym, subst}
-use Rattle.cx_graphs.specs.Graphs.{In}
+use Rattle.cx_text.specs.Members.{In}
 use Rattle.cx_graphs.proofs.EdgeLemmas.{in_end}
 use Rattle.cx_graphs.proofs.Marks.{in_left}
 use Rattle.cx_vnets.proofs.spans.add_plain.Goals as goal

@@ -1,6 +1,6 @@
 use Rattle.std.proofs.Common.{◌≡◌, ℕ, ◌<◌, ◌≤◌, Some, slice_get, arith}
 use Rattle.std.proofs.lemmas.Option.{slice_get_within}
-use Rattle.cx_graphs.specs.Graphs.{In}
+use Rattle.cx_text.specs.Members.{In}
 use Rattle.cx_vnets.specs.Stale.{rank_at}
 use Rattle.cx_vnets.proofs.StaleLemmas.{member_at, tells_so}
 use Rattle.cx_vnets.proofs.stale.mark_row.Goals as goal

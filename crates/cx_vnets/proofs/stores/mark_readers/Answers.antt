@@ -1,6 +1,7 @@
 use Rattle.std.proofs.Common.{◌<◌, ◌≤◌, sym, ◌∙◌, subst, arith}
 use Rattle.std.proofs.lemmas.List.{length-map}
-use Rattle.cx_graphs.specs.Graphs.{In, edges_of}
+use Rattle.cx_text.specs.Members.{In}
+use Rattle.cx_graphs.specs.Graphs.{edges_of}
 use Rattle.cx_vnets.specs.Readers.{IsListed}
 use Rattle.cx_vnets.specs.Stale.{rank_at}
 use Rattle.cx_vnets.proofs.StaleLemmas.{tells_so}

@@ -1,5 +1,6 @@
 use Rattle.std.proofs.Common.{◌≡◌, ◌≤◌, true, false, get_or, ◌∙◌}
-use Rattle.cx_graphs.specs.Graphs.{In, edges_of, targets_of}
+use Rattle.cx_text.specs.Members.{In}
+use Rattle.cx_graphs.specs.Graphs.{edges_of, targets_of}
 use Rattle.cx_vnets.specs.Gates.{IsShut}
 use Rattle.cx_vnets.specs.Readers.{HearsNot, Passes}
 use Rattle.cx_vnets.specs.Stale.{rank_at}

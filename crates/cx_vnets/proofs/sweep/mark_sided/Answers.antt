@@ -1,5 +1,6 @@
 use Rattle.std.proofs.Common.{◌≡◌, ◌+◌, ◌≤◌}
-use Rattle.cx_graphs.specs.Graphs.{In, edges_of, targets_of}
+use Rattle.cx_text.specs.Members.{In}
+use Rattle.cx_graphs.specs.Graphs.{edges_of, targets_of}
 use Rattle.cx_vnets.specs.Stale.{rank_at}
 use Rattle.cx_vnets.proofs.StaleLemmas.{tells_none, tells_so}
 use Rattle.cx_vnets.proofs.sweep.mark_sided.Goals as goal
