@@ -4,7 +4,7 @@ use Rattle.cx_meaning.specs.declared.ports.PortRef.{PortRef}
 use Rattle.cx_meaning.specs.declared.ports.PortRef.TheVariants as ports
 use Rattle.cx_meaning.specs.Designs.{PlainAssign, PlainComponent}
 use Rattle.cx_meaning.specs.Instances.{Instance, At, Nothing, OfRow, OfInstance, part_of, cells_of, cell_at}
-use Rattle.cx_meaning.specs.Sights.{In}
+use Rattle.cx_text.specs.Members.{In}
 use Rattle.cx_rules.specs.Ports.{is_instance, is_part_port}
 use Rattle.cx_rules.specs.ShapeRules.{some_target}
 use Rattle.cx_rules.specs.CallShape.{is_port_of, Calls}
@@ -12,10 +12,7 @@ use Rattle.cx_callees.specs.Callees.{PlainCallee, callee_at, callee_of, if_dynam
 use Rattle.cx_callees.proofs.TargetLemmas.{callee, callee_or, target_of, none_some}
 use Rattle.cx_text.proofs.NumberLaws.{from_eq, equal}
 use Rattle.cx_text.proofs.BoolLaws.{or_left, or_right}
-
-abbrev number_or : ℕ → Option ℕ → ℕ
-number_or n None = n
-number_or n (Some m) = m
+use Rattle.cx_text.proofs.OptionLaws.{some_is}
 
 abbrev part_or : Instance → At → PlainComponent
 part_or i Nothing = part_of i
@@ -79,7 +76,7 @@ module _ (i : Instance) where
       choice true e (inl s) f g = inr (last_is last l.cell e ∙ ap (λ (v : PlainCallee). Some v.cell) s)
       choice true e (inr j) f g = f j
       choice false e (inl s) f g = inl (l, inl refl, ap (λ v. v.cell) s)
-      choice false e (inr j) f g = ⊎_elim (λ r. inl (r.0, inr r.1, r.2)) (λ s. inl (l, inl refl, ap (number_or 0) s)) (g j)
+      choice false e (inr j) f g = ⊎_elim (λ r. inl (r.0, inr r.1, r.2)) (λ s. inl (l, inl refl, some_is _ _ s)) (g j)
 
   pub driven_by : (assigns : List PlainAssign) (a : PlainAssign) (c p : ℕ) → In assigns a → a.target ≡ ports.Cell c p → some_target (is_port_of c) assigns ≡ true
   driven_by [] a c p j e = absurd j

@@ -1,11 +1,12 @@
 -- The list of breaks has the breaks of the rules on combinational cycles, and no others.
 use Rattle.std.proofs.Common.{◌≡◌, ◌+◌, ◌<◌, ℕ, zero, suc, Bool, true, false, List, [], ◌∷◌, ◌++◌, Option, Some, None, length, drop, slice_get, add-one, ◌⊎◌, inl, inr, ⊎_elim, refl, sym, ap, ◌∙◌, subst, arith}
 use Rattle.std.proofs.lemmas.Option.{slice_get_within}
+use Rattle.cx_text.proofs.MemberLaws.{in_either, in_left, in_right}
 use Rattle.cx_text.specs.declared.places.Place.{Place}
 use Rattle.cx_text.specs.declared.rules.Rule.{Rule}
 use Rattle.cx_text.specs.declared.rules.Rule.TheVariants as rule
 use Rattle.cx_meaning.specs.Designs.{PlainComponent, PlainDesign, PlainGroup, component_at, group_at}
-use Rattle.cx_meaning.specs.Sights.{In}
+use Rattle.cx_text.specs.Members.{In}
 use Rattle.cx_rules.specs.Ports.{component_of}
 use Rattle.cx_rules.specs.Spots.{Part, Itself, AGroup, Spot, OnGroup}
 use Rattle.cx_rules.specs.RaceRule.{BreaksCombCycle, GroupBreaksCombCycle}
@@ -13,7 +14,7 @@ use Rattle.cx_rules.specs.Accepted.{Breaks, stage_of, key_of, comes_before}
 use Rattle.cx_design_parts.specs.Breaks.{Broken, key, earlier, first_of}
 use Rattle.cx_design_parts.specs.Numbered.{numbered}
 use Rattle.cx_design_parts.specs.Answers.{AreBreaks, AreBreaksBy, StageBreaks}
-use Rattle.cx_design_parts.proofs.Lists.{first_append, in_left, in_right, in_either, in_numbered, numbered_in}
+use Rattle.cx_design_parts.proofs.Lists.{first_append, in_numbered, numbered_in}
 use Rattle.cx_design_parts.proofs.Families.{Either, breaks_of_either, breaks_of_same, breaks_of_stage}
 use Rattle.cx_comb.specs.Circles.{AreCircles}
 use Rattle.cx_comb.specs.CombBreaks.{told_if, whole_break, group_break, group_breaks, component_breaks, CombBreaks, BreaksBefore, BreaksAt}

@@ -1,7 +1,8 @@
 -- The circles of groups, one after the other, and what their search asks.
 use Rattle.std.proofs.Common.{◌≡◌, ℕ, zero, suc, ◌<◌, Bool, true, ⊎_elim, Some, List, [], ◌∷◌, ◌++◌, length, replicate, slice_get, refl, sym, ◌∙◌, subst}
 use Rattle.std.specs.Prelude.{◌↔◌, IsTrue}
-use Rattle.cx_graphs.specs.Graphs.{In, Edges, IsGraph, edges_of, targets_of}
+use Rattle.cx_text.specs.Members.{In}
+use Rattle.cx_graphs.specs.Graphs.{Edges, IsGraph, edges_of, targets_of}
 use Rattle.cx_graphs.specs.Ways.{LeadsWithin}
 use Rattle.cx_graphs.proofs.Lists.{get_last, some_is}
 use Rattle.cx_meaning.specs.declared.ports.PortRef.{PortRef}

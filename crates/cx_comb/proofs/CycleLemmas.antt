@@ -3,9 +3,10 @@ use Rattle.std.proofs.Common.{◌≡◌, ℕ, ◌<◌, Bool, inl, inr, ⊎_elim,
 use Rattle.std.specs.Prelude.{◌↔◌, IsTrue}
 use denote.Struct.Props.{props}
 use Rattle.std.proofs.Math.Logic.{∥∥₁_elim}
-use Rattle.cx_graphs.specs.Graphs.{In, Edges, targets_of, Marked}
+use Rattle.cx_text.proofs.MemberLaws.{in_either, in_left, in_right}
+use Rattle.cx_text.specs.Members.{In}
+use Rattle.cx_graphs.specs.Graphs.{Edges, targets_of, Marked}
 use Rattle.cx_graphs.specs.Ways.{Targets, Way, edge, further, HasCircle, HasCircleFrom, both}
-use Rattle.cx_graphs.proofs.Lists.{in_before, in_behind, in_one}
 use Rattle.cx_meaning.specs.declared.ports.PortRef.{PortRef}
 use Rattle.cx_meaning.specs.Designs.{PlainDesign}
 use Rattle.cx_meaning.specs.Instances.{Instance}
@@ -17,7 +18,7 @@ use Rattle.cx_rules.specs.Wellformed.{IsDesign}
 use Rattle.cx_design_leads.specs.Nodes.{node_of}
 use Rattle.cx_design_leads.specs.Edges.{Between, HasEdges, LeadsInGroup}
 use Rattle.cx_design_leads.proofs.NodeLemmas.{distinct}
-use Rattle.cx_design_leads.proofs.DriverLemmas.{leads_by_group, by_group_leads}
+use Rattle.cx_design_leads.proofs.WayLemmas.{way_depends, node_way, bare_between, group_sound, group_all}
 use Rattle.cx_design_leads.proofs.ThereLemmas.{leads_there}
 use Rattle.cx_design_leads.proofs.EdgeLemmas.{driven_from}
 use Rattle.cx_comb.specs.Pruning.{IsPruned}
@@ -25,40 +26,12 @@ use Rattle.cx_comb.proofs.PruneLemmas.{circle_kept, pruned_circle}
 use Rattle.cx_text.proofs.OptionLaws.{some_is}
 
 module _ (i : Instance) (act : Active) (targets : Targets) (sound : (m n : ℕ) → In (targets m) n → Between i (Leads i act) m n) where
-  record Chain (m n : ℕ) : Type 0 where
-    from : PortRef
-    to : PortRef
-    is_from : node_of i from ≡ Some m
-    is_to : node_of i to ≡ Some n
-    depends : Depends i act from to
-
-  way_depends : {m n : ℕ} → Way targets m n → Chain m n
-  way_depends {m} {n} (edge e) = let b = sound m n e in record { from = b.from; to = b.to; is_from = b.is_from; is_to = b.is_to; depends = at_once b.leads }
-  way_depends {m} {n} (further k e w) =
-      let b = sound m k e in
-      let r = way_depends w in
-      record {
-        from = b.from;
-        to = r.to;
-        is_from = b.is_from;
-        is_to = r.is_to;
-        depends = by_way_of b.to b.leads (subst (λ p. Depends i act p r.to) (sym (distinct i b.to r.from k b.is_to r.is_from)) r.depends);
-      }
-
   pub circle_cycle : HasCircle targets → HasCycle i act
   circle_cycle (n, w) =
-      let r = way_depends w in (r.from, subst (λ p. Depends i act r.from p) (sym (distinct i r.from r.to n r.is_from r.is_to)) r.depends)
+      let r = way_depends i act targets sound w in (r.from, subst (λ p. Depends i act r.from p) (sym (distinct i r.from r.to n r.is_from r.is_to)) r.depends)
 
 module _ (i : Instance) (act : Active) (targets : Targets) (all : (m n : ℕ) → Between i (Leads i act) m n → In (targets m) n)
     (has : (p q : PortRef) → Leads i act p q → (m : ℕ) × (node_of i p ≡ Some m)) where
-  node_way : {p q : PortRef} (n : ℕ) → node_of i q ≡ Some n → Depends i act p q → (m : ℕ) × (node_of i p ≡ Some m) × Way targets m n
-  node_way {p} {q} n e (at_once l) =
-      let m = has p q l in (m.0, m.1, edge (all m.0 n (record { from = p; to = q; is_from = m.1; is_to = e; leads = l })))
-  node_way {p} {q} n e (by_way_of r l d) =
-      let w = node_way n e d in
-      let m = has p r l in
-      (m.0, m.1, further w.0 (all m.0 w.0 (record { from = p; to = r; is_from = m.1; is_to = w.1; leads = l })) w.2)
-
   first_node : {p q : PortRef} → Depends i act p q → (m : ℕ) × (node_of i p ≡ Some m)
   first_node {p} {q} (at_once l) = has p q l
   first_node {p} {q} (by_way_of r l d) = has p r l
@@ -66,34 +39,14 @@ module _ (i : Instance) (act : Active) (targets : Targets) (all : (m n : ℕ) �
   pub cycle_circle : HasCycle i act → HasCircle targets
   cycle_circle (p, d) =
       let m = first_node d in
-      let w = node_way m.0 m.1 d in
+      let w = node_way i act targets all has m.0 m.1 d in
       let same : w.0 ≡ m.0 = some_is w.0 m.0 (sym w.1 ∙ m.1) in
       (m.0, subst (λ k. Way targets k m.0) same w.2)
-
--- under a group the edges of the graph and those of the group
-module _ (i : Instance) (g : ℕ) (graph more : Edges) (bare : HasEdges i (Leads i nothing) graph) (own : HasEdges i (LeadsInGroup i g) more) where
-  bare_between : (m n : ℕ) → Between i (Leads i nothing) m n → Between i (Leads i (group g)) m n
-  bare_between m n b = record { from = b.from; to = b.to; is_from = b.is_from; is_to = b.is_to; leads = by_group_leads i g b.from b.to m b.is_from (inl b.leads) }
-
-  group_sound : (m n : ℕ) → In (both graph more m) n → Between i (Leads i (group g)) m n
-  group_sound m n e =
-      ⊎_elim
-      (λ j. bare_between m n (bare.sound m n j))
-      (λ j. let b = own.sound m n j in record { from = b.from; to = b.to; is_from = b.is_from; is_to = b.is_to; leads = by_group_leads i g b.from b.to m b.is_from (inr b.leads) })
-      (in_one (targets_of graph m) (targets_of more m) n e)
-
-  group_all : (m n : ℕ) → Between i (Leads i (group g)) m n → In (both graph more m) n
-  group_all m n b =
-      ⊎_elim
-      (λ l. in_before (targets_of graph m) (targets_of more m) n (bare.all m n (record { from = b.from; to = b.to; is_from = b.is_from; is_to = b.is_to; leads = l })))
-      (λ l. in_behind (targets_of graph m) (targets_of more m) n (own.all m n (record { from = b.from; to = b.to; is_from = b.is_from; is_to = b.is_to; leads = l })))
-      (leads_by_group i g b.from b.to m b.is_from b.leads)
 
 -- a circle of the continuous assignments is one under each group
 pub bare_cycles : (i : Instance) (g : ℕ) (graph : Edges) → HasEdges i (Leads i nothing) graph → HasCircle (targets_of graph) → HasCycle i (group g)
 bare_cycles i g graph bare circle =
-    circle_cycle i (group g) (targets_of graph)
-    (λ m n e. let b = bare.sound m n e in record { from = b.from; to = b.to; is_from = b.is_from; is_to = b.is_to; leads = by_group_leads i g b.from b.to m b.is_from (inl b.leads) }) circle
+    circle_cycle i (group g) (targets_of graph) (λ m n e. bare_between i g m n (bare.sound m n e)) circle
 
 -- what is found of the continuous assignments, and of a group in the pruned graph
 module _ (d : PlainDesign) (k : ℕ) (keeps : ∥ IsDesign d ∥₁) (within : k < length d.components) (graph : Edges) (bare : HasEdges (component_of d k) (Leads (component_of d k) nothing) graph) where

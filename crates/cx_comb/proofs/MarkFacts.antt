@@ -6,7 +6,7 @@ use Rattle.cx_graphs.specs.Graphs as graphs
 use Rattle.cx_graphs.specs.Graphs.{Edges, IsReached, at_start, by_edge, Marked, targets_of}
 use Rattle.cx_graphs.specs.Ways.{IsTurned}
 use Rattle.cx_meaning.specs.Designs.{PlainAssign, PlainComponent, PlainDesign, PlainGroup, component_at, group_at, no_group}
-use Rattle.cx_meaning.specs.Sights.{In}
+use Rattle.cx_text.specs.Members.{In}
 use Rattle.cx_rules.specs.Ports.{component_of}
 use Rattle.cx_comb.specs.Pruning.{HasTargets, IsKept, IsPruned}
 use Rattle.cx_rules.proofs.PortsLemmas.{part_is}
@@ -29,6 +29,6 @@ are_pruned d k g turned kept marks targets starts is has same t sound all = reco
   kept = is;
   driven = λ group a m i e.
       let j : In (group_at (component_at d k) group).assigns a = subst (λ (part : PlainComponent). In (group_at part group).assigns a) (part_is d k) i in
-      all m (at_start (subst (λ l. graphs.In l m) (sym same) (has.all (group_at (component_at d k) group) a m (group_in (component_at d k) group a j) j e)));
+      all m (at_start (subst (λ l. In l m) (sym same) (has.all (group_at (component_at d k) group) a m (group_in (component_at d k) group a j) j e)));
   along = λ m n i marked. all m (by_edge n (sound n marked) ((t.1 n m).1 i));
 }

@@ -1,8 +1,9 @@
 -- A circle that goes by an edge of a group stands in the pruned graph.
 use Rattle.std.proofs.Common.{◌≡◌, ℕ, List, ◌⊎◌, inl, inr, ⊎_elim, refl, subst}
-use Rattle.cx_graphs.specs.Graphs.{In, Edges, targets_of}
+use Rattle.cx_text.proofs.MemberLaws.{in_either, in_left, in_right}
+use Rattle.cx_text.specs.Members.{In}
+use Rattle.cx_graphs.specs.Graphs.{Edges, targets_of}
 use Rattle.cx_graphs.specs.Ways.{Targets, Way, edge, further, HasCircle, HasCircleFrom, both}
-use Rattle.cx_graphs.proofs.Lists.{in_before, in_behind, in_one}
 use Rattle.cx_graphs.proofs.WalkLemmas.{way_map}
 
 way_join : {targets : Targets} {a b c : ℕ} → Way targets a b → Way targets b c → Way targets a c
@@ -15,15 +16,15 @@ module _ (g more pruned : Edges) (back : ℕ → Type 0) (keep : (m n : ℕ) →
   pruned_way : {a b : ℕ} → back b → Way (both g more) a b → Way (both pruned more) a b × back a
   pruned_way {a} {b} h (edge e) =
       ⊎_elim
-      (λ i. (edge (in_before (targets_of pruned a) (targets_of more a) b (keep a b i h)), along a b i h))
-      (λ i. (edge (in_behind (targets_of pruned a) (targets_of more a) b i), from_more a b i))
-      (in_one (targets_of g a) (targets_of more a) b e)
+      (λ i. (edge (in_left (targets_of pruned a) (targets_of more a) b (keep a b i h)), along a b i h))
+      (λ i. (edge (in_right (targets_of pruned a) (targets_of more a) b i), from_more a b i))
+      (in_either (targets_of g a) (targets_of more a) b e)
   pruned_way {a} {b} h (further k e w) =
       let r = pruned_way h w in
       ⊎_elim
-      (λ i. (further k (in_before (targets_of pruned a) (targets_of more a) k (keep a k i r.1)) r.0, along a k i r.1))
-      (λ i. (further k (in_behind (targets_of pruned a) (targets_of more a) k i) r.0, from_more a k i))
-      (in_one (targets_of g a) (targets_of more a) k e)
+      (λ i. (further k (in_left (targets_of pruned a) (targets_of more a) k (keep a k i r.1)) r.0, along a k i r.1))
+      (λ i. (further k (in_right (targets_of pruned a) (targets_of more a) k i) r.0, from_more a k i))
+      (in_either (targets_of g a) (targets_of more a) k e)
 
   -- a way goes along the graph alone, or by a node from which an edge of the group leads
   record ByMore (a b : ℕ) : Type 0 where
@@ -38,13 +39,13 @@ module _ (g more pruned : Edges) (back : ℕ → Type 0) (keep : (m n : ℕ) →
       ⊎_elim
       (λ i. inl (edge i))
       (λ i. inr (record { node = a; target = b; leads = i; to = inl refl; on = edge e }))
-      (in_one (targets_of g a) (targets_of more a) b e)
+      (in_either (targets_of g a) (targets_of more a) b e)
   way_by {a} {b} (further k e w) =
       ⊎_elim
       (λ v. ⊎_elim
       (λ i. inl (further k i v))
       (λ i. inr (record { node = a; target = k; leads = i; to = inl refl; on = further k e w }))
-      (in_one (targets_of g a) (targets_of more a) k e))
+      (in_either (targets_of g a) (targets_of more a) k e))
       (λ r. inr (record {
         node = r.node;
         target = r.target;
@@ -66,6 +67,6 @@ pub pruned_circle : (g more pruned : Edges) (starts : List ℕ) → ((m n : ℕ)
 pruned_circle g more pruned starts sub (n, comes, way) = (
   n,
   way_map
-      (λ m k i. ⊎_elim (λ j. in_before (targets_of g m) (targets_of more m) k (sub m k j)) (λ j. in_behind (targets_of g m) (targets_of more m) k j) (in_one (targets_of pruned m) (targets_of more m) k i))
+      (λ m k i. ⊎_elim (λ j. in_left (targets_of g m) (targets_of more m) k (sub m k j)) (λ j. in_right (targets_of g m) (targets_of more m) k j) (in_either (targets_of pruned m) (targets_of more m) k i))
       way,
 )

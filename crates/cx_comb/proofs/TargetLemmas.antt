@@ -2,12 +2,13 @@
 use Rattle.std.proofs.Common.{◌≡◌, ℕ, zero, suc, ◌+◌, ◌<◌, ◌⊎◌, inl, inr, ⊎_elim, Bool, Some, None, List, [], ◌∷◌, ◌++◌, length, refl, sym, ap, ◌∙◌, subst, arith}
 use Rattle.std.proofs.lemmas.List.{length-append, length-map}
 use Rattle.std.specs.declared.vec.Vec.{Vec}
+use Rattle.cx_text.proofs.MemberLaws.{in_left}
 use Rattle.cx_graphs.specs.Graphs as graphs
 use Rattle.cx_graphs.specs.Graphs.{Edges, edges_of, targets_of, Bounded, Marked}
-use Rattle.cx_graphs.proofs.Lists.{in_before, in_last, the_last}
+use Rattle.cx_graphs.proofs.Lists.{in_last, the_last}
 use Rattle.cx_meaning.specs.Designs.{PlainAssign, PlainGroup}
 use Rattle.cx_meaning.specs.Instances.{Instance}
-use Rattle.cx_meaning.specs.Sights.{In}
+use Rattle.cx_text.specs.Members.{In}
 use Rattle.cx_design_leads.specs.Nodes.{node_count}
 use Rattle.cx_design_leads.specs.Links.{driven_node}
 use Rattle.cx_comb.specs.Pruning.{AddsTargets, HasTargets, AreMarked, IsKept}
@@ -27,11 +28,11 @@ module _ (i : Instance) where
 
   pub one_target : (a : PlainAssign) (before after : List ℕ) (t : ℕ) → driven_node i a.target ≡ Some t → t < node_count i → after ≡ before ++ t ∷ [] → AddsTargets i (a ∷ []) before after
   one_target a before after t some below e = record {
-    kept = λ m j. subst (λ l. graphs.In l m) (sym e) (in_before before (t ∷ []) m j);
-    within = λ m j. ⊎_elim inl (λ same. inr (subst (λ n. n < node_count i) same below)) (in_last before t m (subst (λ l. graphs.In l m) e j));
+    kept = λ m j. subst (λ l. In l m) (sym e) (in_left before (t ∷ []) m j);
+    within = λ m j. ⊎_elim inl (λ same. inr (subst (λ n. n < node_count i) same below)) (in_last before t m (subst (λ l. In l m) e j));
     all = λ b m j f. ⊎_elim
         (λ same. let is : t ≡ m = some_is t m (sym some ∙ ap (λ (x : PlainAssign). driven_node i x.target) same ∙ f) in
-        subst (λ l. graphs.In l m) (sym e) (subst (graphs.In (before ++ t ∷ [])) is (the_last before t)))
+        subst (λ l. In l m) (sym e) (subst (In (before ++ t ∷ [])) is (the_last before t)))
         (λ k. absurd k) j;
   }
 
@@ -57,14 +58,14 @@ module _ (i : Instance) where
 pub none_marked : (marks : List Bool) → AreMarked [] marks []
 none_marked marks = record { sound = λ n i. i; all = λ n i m. i }
 
-pub more_marked : (marks : List Bool) (list before after : List ℕ) (node : ℕ) → AreMarked list marks before → ((n : ℕ) → graphs.In before n → graphs.In after n)
-    → ((n : ℕ) → graphs.In after n → graphs.In before n ⊎ (node ≡ n)) → (Marked marks node → graphs.In after node) → AreMarked (list ++ node ∷ []) marks after
+pub more_marked : (marks : List Bool) (list before after : List ℕ) (node : ℕ) → AreMarked list marks before → ((n : ℕ) → In before n → In after n)
+    → ((n : ℕ) → In after n → In before n ⊎ (node ≡ n)) → (Marked marks node → In after node) → AreMarked (list ++ node ∷ []) marks after
 more_marked marks list before after node x kept known has = record {
   sound = λ n i. ⊎_elim
-      (λ j. in_before list (node ∷ []) n (x.sound n j))
-      (λ same. subst (graphs.In (list ++ node ∷ [])) same (the_last list node))
+      (λ j. in_left list (node ∷ []) n (x.sound n j))
+      (λ same. subst (In (list ++ node ∷ [])) same (the_last list node))
       (known n i);
-  all = λ n i m. ⊎_elim (λ j. kept n (x.all n j m)) (λ same. subst (graphs.In after) same (has (subst (Marked marks) (sym same) m))) (in_last list node n i);
+  all = λ n i m. ⊎_elim (λ j. kept n (x.all n j m)) (λ same. subst (In after) same (has (subst (Marked marks) (sym same) m))) (in_last list node n i);
 }
 
 -- KEPT edges, list by list
@@ -81,8 +82,8 @@ snoc_other (y ∷ xs) x (suc m) d = snoc_other xs x m (λ e. d (ap suc e))
 -- the edges of the first nodes to marked ones
 pub record IsKeptSo (g : Edges) (marks : List Bool) (count : ℕ) (kept : Edges) : Type 0 where
   pub same_length : length kept ≡ count
-  pub sound : (m n : ℕ) → graphs.In (targets_of kept m) n → graphs.In (targets_of g m) n
-  pub all : (m n : ℕ) → m < count → graphs.In (targets_of g m) n → Marked marks n → graphs.In (targets_of kept m) n
+  pub sound : (m n : ℕ) → In (targets_of kept m) n → In (targets_of g m) n
+  pub all : (m n : ℕ) → m < count → In (targets_of g m) n → Marked marks n → In (targets_of kept m) n
 
 pub none_kept : (g : Edges) (marks : List Bool) → IsKeptSo g marks 0 []
 none_kept g marks = record { same_length = refl; sound = λ m n i. absurd i; all = λ m n h i k. absurd (omega (arith, h)) }
@@ -92,19 +93,19 @@ pub more_kept : {A : Type 0} (g : Edges) (marks : List Bool) (count : ℕ) (xs a
 more_kept g marks count xs after x e k are = subst (λ l. IsKeptSo g marks (count + 1) (edges_of l)) (sym e) (record {
   same_length = let short = k.same_length in omega (arith, short, length-map xs (λ v. v.items), length-map (xs ++ x ∷ []) (λ v. v.items), length-append xs (x ∷ []));
   sound = λ m n i. ⊎_elim
-      (λ same. subst (λ j. graphs.In (targets_of g j) n) (long ∙ sym same)
-      (are.sound n (subst (λ l. graphs.In l n) (snoc_at xs x) (subst (λ j. graphs.In (targets_of (edges_of (xs ++ x ∷ [])) j) n) same i))))
-      (λ d. k.sound m n (subst (λ l. graphs.In l n) (snoc_other xs x m d) i))
+      (λ same. subst (λ j. In (targets_of g j) n) (long ∙ sym same)
+      (are.sound n (subst (λ l. In l n) (snoc_at xs x) (subst (λ j. In (targets_of (edges_of (xs ++ x ∷ [])) j) n) same i))))
+      (λ d. k.sound m n (subst (λ l. In l n) (snoc_other xs x m d) i))
       (same_or_not m (length xs));
   all = λ m n h i marked. ⊎_elim
-      (λ same. subst (λ j. graphs.In (targets_of (edges_of (xs ++ x ∷ [])) j) n) (sym same)
-      (subst (λ l. graphs.In l n) (sym (snoc_at xs x)) (are.all n (subst (λ j. graphs.In (targets_of g j) n) (same ∙ sym long) i) marked)))
-      (λ d. subst (λ l. graphs.In l n) (sym (snoc_other xs x m d)) (k.all m n (omega (arith, h, d, long)) i marked))
+      (λ same. subst (λ j. In (targets_of (edges_of (xs ++ x ∷ [])) j) n) (sym same)
+      (subst (λ l. In l n) (sym (snoc_at xs x)) (are.all n (subst (λ j. In (targets_of g j) n) (same ∙ sym long) i) marked)))
+      (λ d. subst (λ l. In l n) (sym (snoc_other xs x m d)) (k.all m n (omega (arith, h, d, long)) i marked))
       (same_or_not m (length xs));
 })
   where
     long : count ≡ length xs
     long = sym k.same_length ∙ length-map xs (λ v. v.items)
 
-pub all_kept : (g : Edges) (marks : List Bool) (kept : Edges) → IsKeptSo g marks (length g) kept → ((m n : ℕ) → graphs.In (targets_of g m) n → m < length g) → IsKept g marks kept
+pub all_kept : (g : Edges) (marks : List Bool) (kept : Edges) → IsKeptSo g marks (length g) kept → ((m n : ℕ) → In (targets_of g m) n → m < length g) → IsKept g marks kept
 all_kept g marks kept k within = record { same_length = k.same_length; sound = k.sound; all = λ m n i marked. k.all m n (within m n i) i marked }

@@ -2,6 +2,7 @@
 //! of continuous assignments are not to walk the chain each.
 
 ghost use Rattle.std.specs.Prelude.{◌≡◌, ◌<◌, ◌⊎◌, ◌∷◌, [], ℕ, List, Bool, Some, IfOk, OnOk, length, slice_get};
+ghost use Rattle.cx_text.specs.Members.{In};
 ghost use Rattle.cx_graphs.specs.Graphs as graphs;
 ghost use Rattle.cx_graphs.specs.Graphs.{Bounded, IsGraph, Marked, edges_of};
 ghost use Rattle.cx_meaning.specs.Designs.{component_at};
@@ -134,9 +135,9 @@ fn marked(alloc: Global, nodes: &[u32], marks: &[bool]) -> Result<Vec<u32>, Memo
 /// Adds a node, if it is marked.
 fn add_marked(marked: &mut Vec<u32>, node: u32, marks: &[bool]) -> Result<(), Memory>
     requires within { node < length marks.now }
-    ensures kept { OnOk result ((n : ℕ) → graphs.In marked.old.items n → graphs.In marked.new.items n) }
-    ensures known { OnOk result ((n : ℕ) → graphs.In marked.new.items n → graphs.In marked.old.items n ⊎ (node ≡ n)) }
-    ensures has { OnOk result (Marked marks.now node → graphs.In marked.new.items node) }
+    ensures kept { OnOk result ((n : ℕ) → In marked.old.items n → In marked.new.items n) }
+    ensures known { OnOk result ((n : ℕ) → In marked.new.items n → In marked.old.items n ⊎ (node ≡ n)) }
+    ensures has { OnOk result (Marked marks.now node → In marked.new.items node) }
 {
     if is_marked(marks, node) {
         marked.push(node)?;

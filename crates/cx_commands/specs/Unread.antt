@@ -6,13 +6,12 @@ use Rattle.cx_text.specs.declared.places.Place.{Place}
 use Rattle.cx_text.specs.declared.rules.Rule.{Rule}
 use Rattle.cx_text.specs.declared.rules.Rule.TheVariants as rules
 use Rattle.cx_ast.specs.declared.tokens.Token.{Token}
-use Rattle.cx_ast.specs.declared.tokens.TokenKind.{TokenKind}
-use Rattle.cx_ast.specs.declared.tokens.TokenKind.TheVariants as kinds
 use Rattle.cx_ast.specs.PlainTree.{PlainTree}
 use Rattle.cx_lex.specs.declared.faults.LexFault.{LexFault}
 use Rattle.cx_lex.specs.declared.faults.LexKind.{LexKind}
 use Rattle.cx_lex.specs.declared.faults.LexKind.TheVariants as lexical
 use Rattle.cx_lex.specs.Lex.{Lex, FirstFault}
+use Rattle.cx_grammar.specs.Calyx.{word_of}
 use Rattle.cx_grammar.specs.Parsing.{Parse, IsUnexpected, IsDeep}
 use Rattle.cx_parse.specs.Whole.{place_at}
 use Rattle.cx_commands.specs.declared.stops.Stop.{Stop}
@@ -26,18 +25,10 @@ rule_of lexical.OpenString = Some rules.OpenString
 rule_of lexical.BadLiteral = Some rules.BadLiteral
 rule_of lexical.Memory = None
 
--- the word that a token is; a token of another kind has none
-abbrev pub word_in : TokenKind → List ℕ
-word_in (kinds.Word word) = word
-word_in (kinds.Number n) = []
-word_in (kinds.Literal width value) = []
-word_in (kinds.Text bytes) = []
-word_in (kinds.Sign sign) = []
-
 -- the name that is told of an unexpected token; the end has none
 abbrev pub name_at : List Token → List ℕ
 name_at [] = []
-name_at (t ∷ ts) = word_in t.kind
+name_at (t ∷ ts) = word_of t.kind
 
 -- the tokens are no file for this reason
 pub data TokensFault : List Token → Diagnostic → Type 0 where

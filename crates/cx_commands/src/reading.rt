@@ -8,7 +8,8 @@ ghost use Rattle.cx_lex.specs.Reading.{memory_fault};
 ghost use Rattle.cx_lex.specs.Lex.{FirstFault};
 ghost use Rattle.cx_parse.specs.Faults.{IsStop};
 ghost use Rattle.cx_commands.specs.declared.stops.Stop.TheVariants as stops;
-ghost use Rattle.cx_commands.specs.Unread.{HasTree, name_at, word_in as bytes_in, IsNoTree, IsNoFile, IsNoToken};
+ghost use Rattle.cx_grammar.specs.Calyx.{word_of as bytes_in};
+ghost use Rattle.cx_commands.specs.Unread.{HasTree, name_at, IsNoTree, IsNoFile, IsNoToken};
 
 use crate::stops::Stop;
 use cx_ast::{Token, TokenKind, Tree};

@@ -2,6 +2,7 @@
 use Rattle.std.proofs.Common.{◌≡◌, ℕ, zero, suc, ◌<◌, ◌≤◌, Bool, true, false, if◌then◌else◌, List, [], ◌∷◌, length, Some, IsSome, codes, slice_get, true≢false, refl, sym, ◌∙◌, subst, arith}
 use Rattle.std.proofs.lemmas.Bool.{leb-true}
 use Rattle.std.proofs.lemmas.List.Elements.{All-nil}
+use Rattle.cx_text.specs.Members.{Each}
 use Rattle.cx_bits.specs.BitVector.{Fits}
 use Rattle.cx_prim.specs.declared.names.PrimitiveName.{PrimitiveName}
 use Rattle.cx_prim.specs.declared.names.PrimitiveName.TheVariants.{Const, Wire, Add, Sub, And, Or, Xor, Not, Lsh, Rsh, Lt, Gt, Equal, Neq, Le, Ge, Slt, Sgt, Seq, Sneq, Sle, Sge, Slice, Pad, Mux, Reg, StdMemD1, StdMemD2, StdMemD3, StdMemD4, CombMemD1, CombMemD2, CombMemD3, CombMemD4, SeqMemD1, SeqMemD2, SeqMemD3, SeqMemD4, MultPipe, DivPipe, Timer}
@@ -16,11 +17,10 @@ use Rattle.cx_net.specs.NetFits.{HasWidth, target_width, IsFitDriver, IsFitKind,
 use Rattle.cx_net.specs.NetLimits.{StandsIn, IsWritableDriver, IsWritableComponent, nets_below, instances_below, words_below}
 use Rattle.cx_net.specs.NetMeaning.{same_target, drivers_to}
 use Rattle.cx_net.specs.NetTree.{net_component_at, net_tree}
+use Rattle.cx_net.proofs.NetsLemmas.{each_all}
 use Rattle.cx_vtree.specs.InstanceTree.{same_name}
 use Rattle.cx_emit.specs.Emitted.{CanBeEmitted}
 use Rattle.cx_emit.proofs.CellPorts.{in_each}
-use Rattle.cx_emit.proofs.CleanModules.{Each}
-use Rattle.cx_emit.proofs.EmittedParts.{each_all}
 use Rattle.cx_compile_tests.specs.HandNet.{number, driver, register_done, hand_starts, hand_drivers, hand_cell, hand_part, hand_net}
 use Rattle.cx_text.proofs.OptionLaws.{some_is}
 use Rattle.cx_vtree.proofs.InstanceTreeLemmas.{is_same}

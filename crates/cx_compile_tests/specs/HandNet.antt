@@ -1,17 +1,12 @@
 -- The net of `src/nets.rt`, as plain data: a register of 8 bits, two wires and a register of the control.
-use Rattle.std.specs.Prelude.{ℕ, false, List, [], ◌∷◌, codes}
+use Rattle.std.specs.Prelude.{false, List, [], ◌∷◌, codes}
 use Rattle.cx_prim.specs.declared.names.PrimitiveName.TheVariants as primitives
 use Rattle.cx_prim.specs.Table.{PrimitiveRow}
 use Rattle.cx_meaning.specs.declared.ports.Comparison.TheVariants as comparisons
 use Rattle.cx_meaning.specs.declared.ports.PortRef.TheVariants as ports
 use Rattle.cx_meaning.specs.Designs.{OfPrimitive, PlainCell}
-use Rattle.cx_net.specs.Nets.{PlainNetExpr, OfPort, OfRegister, OfWire, OfGo, Fixed, Inverse, AllOf, Sum, Compares, exprs_of, PlainNetTarget, ToPort, ToRegister, ToWire, ToDone, PlainNetDriver, PlainNetComponent, PlainNet}
-
-abbrev pub number : ℕ → ℕ → PlainNetExpr
-number width value = Fixed (record { width = width; value = value })
-
-abbrev pub driver : PlainNetTarget → PlainNetExpr → PlainNetExpr → PlainNetDriver
-driver target guard source = record { target = target; guard = guard; source = source }
+use Rattle.cx_net.specs.Nets.{PlainNetExpr, OfPort, OfRegister, OfWire, OfGo, Inverse, AllOf, Sum, Compares, exprs_of, ToPort, ToRegister, ToWire, ToDone, PlainNetDriver, PlainNetComponent, PlainNet}
+pub use Rattle.cx_wiring.specs.Parts.{literal as number, drive as driver}
 
 -- the done of the register
 abbrev pub register_done : PlainNetExpr

@@ -3,16 +3,17 @@ use Rattle.std.proofs.Common.{◌≡◌, ℕ, zero, suc, ◌<◌, Bool, true, fa
 use Rattle.std.proofs.lemmas.Bool.{cases_lt}
 use Rattle.std.proofs.lemmas.List.{length-map, get_or_past, get_or-map}
 use Rattle.std.proofs.lemmas.Option.{get_or_from_slice_get}
+use Rattle.cx_text.proofs.MemberLaws.{flat_in, image_in, in_at, in_either, number_in}
 use Rattle.cx_meaning.specs.Designs.{PlainAssign, PlainGroup, PlainInvoke, PlainGuard, Always, Atom, Negation, All, Any, Compared, Within, PlainGuards, no_guards, a_guard, PlainCell, PlainKind, OfPrimitive, OfComponent, PlainComponent, PlainDesign, component_at, no_component, group_at, no_group}
 use Rattle.cx_meaning.specs.declared.ports.PortRef.{PortRef}
 use Rattle.cx_meaning.specs.declared.ports.PortRef.TheVariants as ports
 use Rattle.cx_meaning.specs.Control.{groups_of}
 use Rattle.cx_meaning.specs.Instances.{Instance, Node, Cells, no_cells, a_primitive, an_instance, add_cell, cells_for, tree_within}
-use Rattle.cx_meaning.specs.Sights.{In}
+use Rattle.cx_text.specs.Members.{In}
 use Rattle.cx_meaning.proofs.ActiveLemmas.{group_stands, always_stands}
 use Rattle.cx_meaning.proofs.DesignsLemmas.{group_there}
 use Rattle.cx_rewrites.specs.Moving.{moved_guard, moved_guards, moved_assign, moved_group}
-use Rattle.cx_names.proofs.Base.{in_map, flat_in, in_either, in_at, at_in, some_at}
+use Rattle.cx_names.proofs.Base.{some_at}
 use Rattle.cx_wiring.specs.Nesting.{IsPart, AreParts, HasParts}
 use Rattle.cx_flattening.specs.Copies.{copied_group, enabled_groups}
 use Rattle.cx_flattening.specs.Fair.{IsAssignOf}
@@ -39,7 +40,7 @@ module _ (move : PortRef → PortRef) where
     parts_moved no_guards h = tt
     parts_moved (a_guard g gs) h = (part_moved g h.0, parts_moved gs h.1)
 
-  guard_moved : (g : PlainGuard) → HasParts g → HasParts (moved_guard move g)
+  pub guard_moved : (g : PlainGuard) → HasParts g → HasParts (moved_guard move g)
   guard_moved Always h = tt
   guard_moved (Atom p) h = tt
   guard_moved (Negation g) h = part_moved g h
@@ -49,7 +50,7 @@ module _ (move : PortRef → PortRef) where
   guard_moved (Within from to) h = tt
 
   all_moved : (list : List PlainAssign) → ((a : PlainAssign) → In list a → HasParts a.guard) → (b : PlainAssign) → In (map (moved_assign move) list) b → HasParts b.guard
-  all_moved list h b i = let found = in_map (moved_assign move) list b i in subst (λ (x : PlainAssign). HasParts x.guard) found.2 (guard_moved found.0.guard (h found.0 found.1))
+  all_moved list h b i = let found = image_in (moved_assign move) list b i in subst (λ (x : PlainAssign). HasParts x.guard) found.2 (guard_moved found.0.guard (h found.0 found.1))
 
 -- OF A COMPONENT, and of an instance with all below it
 abbrev GuardsIn : PlainComponent → Type 0
@@ -81,7 +82,7 @@ module _ (kids : Kids) (part : PlainComponent) (all : KidsGuards kids) (own : Gu
   copied : (v : PlainInvoke) (k : Option PlainComponent) → ((child : PlainComponent) → k ≡ Some child → GuardsIn child) → (x : PlainGroup) → In (copies_if kids part k v) x → (a : PlainAssign) → In x.assigns a → HasParts a.guard
   copied v None h x i a j = absurd i
   copied v (Some child) h x i a j =
-      let found = in_map (copied_group (invoke_port kids part child v)) (enabled_groups (groups_of child.control) 0 child.groups) x i in
+      let found = image_in (copied_group (invoke_port kids part child v)) (enabled_groups (groups_of child.control) 0 child.groups) x i in
       all_moved (invoke_port kids part child v) found.0.assigns (λ b l. h child refl b (inr (found.0, enabled_in (groups_of child.control) 0 child.groups found.0 found.1, l))) a
       (subst (λ (y : PlainGroup). In y.assigns a) (sym found.2) j)
 
@@ -91,7 +92,7 @@ module _ (kids : Kids) (part : PlainComponent) (all : KidsGuards kids) (own : Gu
       (in_either (map (moved_assign (own_port kids part)) part.always) (always_from kids part 0 kids) a i)
   flat_guards a (inr (x, i, j)) =
       ⊎_elim
-      (λ l. let found = in_map (moved_group (own_port kids part)) part.groups x l in
+      (λ l. let found = image_in (moved_group (own_port kids part)) part.groups x l in
       all_moved (own_port kids part) found.0.assigns (λ b m. own b (inr (found.0, found.1, m))) a (subst (λ (y : PlainGroup). In y.assigns a) (sym found.2) j))
       (λ r. let found = flat_in (copies kids part) part.invokes x r in copied found.0 (kid_at kids found.0.cell) (λ child e. all found.0.cell child e) x found.2 a j)
       (in_either (map (moved_group (own_port kids part)) part.groups) (flat_map (copies kids part) part.invokes) x i)
@@ -124,7 +125,7 @@ module _ (d : PlainDesign) (guards : HasGuards d) where
       there : k < length d.components → GuardsIn (component_at d k)
       there within a (inl i) = guards k within (record { owner = None; assign = a }) (always_stands (component_at d k) a i)
       there within a (inr (x, i, j)) =
-          (let at = at_in (component_at d k).groups x i in
+          (let at = number_in (component_at d k).groups x i in
           let is : group_at (component_at d k) at.0 ≡ x = get_or_from_slice_get (component_at d k).groups at.0 x no_group at.1 in
           guards k within (record { owner = Some at.0; assign = a }) (group_stands (component_at d k) at.0 a (subst (λ (y : PlainGroup). In y.assigns a) (sym is) j)))
 

@@ -16,7 +16,7 @@ use Rattle.cx_prim.specs.MemoryRows.{memory_row, sequential_memory_row}
 use Rattle.cx_prim.specs.PipeRows.{multiplier_row, divider_row}
 use Rattle.cx_prim.specs.Table.{PrimitiveRow, HasRow, at_width, constant_at, slice_at, pad_at, memory_at, timer_at, row_at}
 use Rattle.cx_meaning.specs.Designs.{PlainKind, OfPrimitive, OfComponent, PlainCell, PlainDesign, component_at}
-use Rattle.cx_meaning.specs.Sights.{In}
+use Rattle.cx_text.specs.Members.{In}
 use Rattle.cx_rules.specs.Wellformed.{IsDesign, IsCell, IsKind, IsExternal, first_number}
 use Rattle.cx_rules.specs.Externals.{numbers_of, row_for, if_external, rows_of, external_rows}
 

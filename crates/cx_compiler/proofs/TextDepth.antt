@@ -2,6 +2,7 @@
 -- 64 of these one in the other.
 use Rattle.std.proofs.Common.{◌≡◌, ℕ, zero, suc, ◌-◌, ◌≤◌, Bool, true, false, List, [], ◌∷◌, length, Option, Some, None, inl, inr, sym, subst, arith}
 use Rattle.std.proofs.lemmas.List.{length-map}
+use Rattle.cx_text.proofs.MemberLaws.{each_in, in_at}
 use Rattle.cx_text.specs.declared.places.Place.{Place}
 use Rattle.cx_ast.specs.declared.tokens.Token.{Token}
 use Rattle.cx_ast.specs.PlainStatements as tree
@@ -15,15 +16,15 @@ use Rattle.cx_grammar.specs.Calyx as calyx
 use Rattle.cx_grammar.specs.Calyx.{behind, before, within, pair, many, mapped, nest, spelled_within}
 use Rattle.cx_grammar.specs.Parsing.{Parse}
 use Rattle.cx_meaning.specs.Designs.{PlainStatements, no_statements, a_statement, PlainComponent, PlainDesign}
-use Rattle.cx_meaning.specs.Sights.{In}
+use Rattle.cx_text.specs.Members.{Each, In}
 use Rattle.cx_numbering.specs.DesignOf.{Next, is_static_invoke, past, invokes_in, invokes_of, invoke_form, form_of, of_block, block_of, parts_of, all_of, first, control_of, component_of, design_of}
 use Rattle.cx_numbering.specs.DesignOf as design
-use Rattle.cx_names.proofs.Base.{in_at, some_at}
+use Rattle.cx_names.proofs.Base.{some_at}
+use Rattle.cx_names.proofs.Giving.{Asks, asks_nothing, Anything, Gives, anything, gives_empty, gives_pair, gives_choice, gives_many, gives_second, gives_right, gives_behind, gives_before, gives_mapped}
 use Rattle.cx_names.proofs.There.{component_is}
 use Rattle.cx_commands.specs.Unread.{HasTree}
 use Rattle.cx_bytes.specs.Shallow.{FormShallow, Shallow, PartsShallow, IsShallow}
 use Rattle.cx_compiler.specs.Texts.{IsDesignOf}
-use Rattle.cx_flat_texts.proofs.TextNames.{Each, each_in}
 
 -- BLOCKS one in the other: no more than so many, the block itself among them
 abbrev mutual
@@ -128,221 +129,176 @@ all_fit n [] h = tt
 all_fit n (tree.Placed attributes form place ∷ ss) h = (h.0, all_fit n ss h.1)
 
 module _ (n : ℕ) (spelled : (n : Nest) → Spelling (Nested n)) (deep : (ts : List Token) (b : PlainBlock) (rest : List Token) → spelled Braces ts b rest → BlockFits n b) where
-  abbrev Holds : {A : Type 0} → Grammar A → (A → Type 0) → Type 0
-  Holds {A = A} g P = (ts : List Token) (x : A) (rest : List Token) → Spells spelled g ts x rest → P x
-
-  abbrev Anything : {A : Type 0} → A → Type 0
-  Anything x = Unit {0}
-
-  holds_all : {A : Type 0} (g : Grammar A) (P : A → Type 0) → ((x : A) → P x) → Holds g P
-  holds_all g P h ts x rest s = h x
-
-  holds_empty : {A : Type 0} (x : A) (P : A → Type 0) → P x → Holds (Empty x) P
-  holds_empty x P h ts y rest s = subst P s.1 h
-
-  holds_pair : {A B C : Type 0} (join : A → B → C) (g : Grammar A) (h : Grammar B) (P : A → Type 0) (Q : B → Type 0) (R : C → Type 0)
-      → Holds g P → Holds h Q → ((x : A) (y : B) → P x → Q y → R (join x y)) → Holds (Pair join g h) R
-  holds_pair join g h P Q R one two both ts z rest s = subst R s.5 (both s.1 s.2 (one ts s.1 s.0 s.3) (two s.0 s.2 rest s.4))
-
-  holds_choice : {A : Type 0} (g h : Grammar A) (P : A → Type 0) → Holds g P → Holds h P → Holds (Choice g h) P
-  holds_choice g h P one two ts x rest (inl s) = one ts x rest s
-  holds_choice g h P one two ts x rest (inr s) = two ts x rest s
-
-  several_hold : {A : Type 0} (g : Grammar A) (P : A → Type 0) → Holds g P → (xs : List A) (ts rest : List Token) → Several_of (Spells spelled g) ts xs rest → Each P xs
-  several_hold g P one [] ts rest s = tt
-  several_hold g P one (x ∷ xs) ts rest s = (one ts x s.0 s.1, several_hold g P one xs s.0 rest s.2)
-
-  holds_many : {A : Type 0} (g : Grammar A) (P : A → Type 0) → Holds g P → Holds (many g) (Each P)
-  holds_many g P one ts x rest s = subst (Each P) s.2 (several_hold g P one s.0 ts rest s.1)
-
-  holds_second : {A B C : Type 0} (join : A → B → C) (g : Grammar A) (h : Grammar B) (Q : B → Type 0) (R : C → Type 0) → Holds h Q → ((x : A) (y : B) → Q y → R (join x y)) → Holds (Pair join g h) R
-  holds_second join g h Q R two both = holds_pair join g h Anything Q R (holds_all g Anything (λ x. tt)) two (λ x y k q. both x y q)
-
-  holds_first : {A B C : Type 0} (join : A → B → C) (g : Grammar A) (h : Grammar B) (P : A → Type 0) (R : C → Type 0) → Holds g P → ((x : A) (y : B) → P x → R (join x y)) → Holds (Pair join g h) R
-  holds_first join g h P R one both = holds_pair join g h P Anything R one (holds_all h Anything (λ x. tt)) (λ x y p k. both x y p)
-
-  holds_left : {A B : Type 0} (g : Grammar A) (h : Grammar B) (P : A → Type 0) → Holds g P → Holds (pair g h) (λ r. P r.0)
-  holds_left {A = A} {B = B} g h P one = holds_first (λ (x : A) (y : B). (x, y)) g h P (λ r. P r.0) one (λ x y p. p)
-
-  holds_right : {A B : Type 0} (g : Grammar A) (h : Grammar B) (Q : B → Type 0) → Holds h Q → Holds (pair g h) (λ r. Q r.1)
-  holds_right {A = A} {B = B} g h Q two = holds_second (λ (x : A) (y : B). (x, y)) g h Q (λ r. Q r.1) two (λ x y q. q)
-
-  holds_behind : {A : Type 0} (terminal : Terminal) (g : Grammar A) (P : A → Type 0) → Holds g P → Holds (behind terminal g) P
-  holds_behind terminal g P h = holds_second (λ _ x. x) (calyx.sign terminal) g P P h (λ x y p. p)
-
-  holds_before : {A : Type 0} (g : Grammar A) (terminal : Terminal) (P : A → Type 0) → Holds g P → Holds (before g terminal) P
-  holds_before g terminal P h = holds_first (λ x _. x) g (calyx.sign terminal) P P h (λ x y p. p)
-
-  holds_mapped : {A B : Type 0} (f : A → B) (g : Grammar A) (P : A → Type 0) (Q : B → Type 0) → Holds g P → ((x : A) → P x → Q (f x)) → Holds (mapped f g) Q
-  holds_mapped {A = A} f g P Q h all = holds_first (λ (x : A) (_ : Unit {0}). f x) g (Empty tt) P Q h (λ x y p. all x p)
+  abbrev asks : Asks
+  asks = asks_nothing spelled
 
   -- BLOCKS
-  blocks : Holds calyx.block (BlockFits n)
+  blocks : Gives asks calyx.block (BlockFits n)
   unfolding calyx.block
-  blocks ts b rest s = deep ts b rest s
+  blocks ts b rest k s = (deep ts b rest s, tt)
 
-  others : Holds calyx.otherwise (OtherwiseFits n)
+  others : Gives asks calyx.otherwise (OtherwiseFits n)
   unfolding calyx.otherwise
   others =
-      holds_choice (mapped (λ x. Some x) (behind t.Else calyx.block)) (Empty None) (OtherwiseFits n)
-      (holds_mapped (λ x. Some x) (behind t.Else calyx.block) (BlockFits n) (OtherwiseFits n) (holds_behind t.Else calyx.block (BlockFits n) blocks) (λ b h. h))
-      (holds_empty None (OtherwiseFits n) tt)
+      gives_choice asks (mapped (λ x. Some x) (behind t.Else calyx.block)) (Empty None) (OtherwiseFits n)
+      (gives_mapped asks (λ x. Some x) (behind t.Else calyx.block) (BlockFits n) (OtherwiseFits n) (gives_behind asks t.Else calyx.block (BlockFits n) blocks) (λ b h. h))
+      (gives_empty asks None (OtherwiseFits n) tt)
 
-  controls : Holds calyx.control (OtherwiseFits n)
+  controls : Gives asks calyx.control (OtherwiseFits n)
   unfolding calyx.control
   controls =
-      holds_choice (mapped (λ x. Some x) (behind t.Control calyx.block)) (Empty None) (OtherwiseFits n)
-      (holds_mapped (λ x. Some x) (behind t.Control calyx.block) (BlockFits n) (OtherwiseFits n) (holds_behind t.Control calyx.block (BlockFits n) blocks) (λ b h. h))
-      (holds_empty None (OtherwiseFits n) tt)
+      gives_choice asks (mapped (λ x. Some x) (behind t.Control calyx.block)) (Empty None) (OtherwiseFits n)
+      (gives_mapped asks (λ x. Some x) (behind t.Control calyx.block) (BlockFits n) (OtherwiseFits n) (gives_behind asks t.Control calyx.block (BlockFits n) blocks) (λ b h. h))
+      (gives_empty asks None (OtherwiseFits n) tt)
 
-  marked : Holds calyx.marked_block (λ r. BlockFits n r.1)
+  marked : Gives asks calyx.marked_block (λ v. BlockFits n v.1)
   unfolding calyx.marked_block
-  marked = holds_right calyx.marks calyx.block (BlockFits n) blocks
+  marked = gives_right asks calyx.marks calyx.block (BlockFits n) blocks
 
-  repeats : Holds calyx.repeat_rest (λ r. BlockFits n r.1)
+  repeats : Gives asks calyx.repeat_rest (λ v. BlockFits n v.1)
   unfolding calyx.repeat_rest
-  repeats = holds_right calyx.number calyx.block (BlockFits n) blocks
+  repeats = gives_right asks calyx.number calyx.block (BlockFits n) blocks
 
-  branches : Holds (pair calyx.block calyx.otherwise) (λ r. BlockFits n r.0 × OtherwiseFits n r.1)
-  branches = holds_pair (λ (x : PlainBlock) (y : Option PlainBlock). (x, y)) calyx.block calyx.otherwise (BlockFits n) (OtherwiseFits n) (λ r. BlockFits n r.0 × OtherwiseFits n r.1) blocks others (λ x y p q. (p, q))
+  branches : Gives asks (pair calyx.block calyx.otherwise) (λ v. BlockFits n v.0 × OtherwiseFits n v.1)
+  branches = gives_pair asks (λ (x : PlainBlock) (y : Option PlainBlock). (x, y)) calyx.block calyx.otherwise (BlockFits n) (OtherwiseFits n) (λ v. BlockFits n v.0 × OtherwiseFits n v.1) blocks others (λ x y p q. (p, q))
 
   -- FORMS
   abbrev LaterFits : (Option ℕ → PlainForm) → Type 0
   LaterFits f = (l : Option ℕ) → FormFits n (f l)
 
   abbrev PlacedFits : PlainForm × Place → Type 0
-  PlacedFits r = FormFits n r.0
+  PlacedFits v = FormFits n v.0
 
-  ifs : Holds calyx.if_rest (FormFits n)
+  ifs : Gives asks calyx.if_rest (FormFits n)
   unfolding calyx.if_rest
   ifs =
-      holds_second calyx.if_of calyx.operand (pair calyx.comb (pair calyx.block calyx.otherwise)) (λ r. BlockFits n r.1.0 × OtherwiseFits n r.1.1) (FormFits n)
-      (holds_right calyx.comb (pair calyx.block calyx.otherwise) (λ r. BlockFits n r.0 × OtherwiseFits n r.1) branches)
-      (λ o r h. h)
+      gives_second asks calyx.if_of calyx.operand (pair calyx.comb (pair calyx.block calyx.otherwise)) (λ v. BlockFits n v.1.0 × OtherwiseFits n v.1.1) (FormFits n)
+      (gives_right asks calyx.comb (pair calyx.block calyx.otherwise) (λ v. BlockFits n v.0 × OtherwiseFits n v.1) branches)
+      (λ o v h. h)
 
-  whiles : Holds calyx.while_rest (FormFits n)
+  whiles : Gives asks calyx.while_rest (FormFits n)
   unfolding calyx.while_rest
   whiles =
-      holds_second calyx.while_of calyx.operand (pair calyx.comb calyx.block) (λ r. BlockFits n r.1) (FormFits n)
-      (holds_right calyx.comb calyx.block (BlockFits n) blocks)
-      (λ o r h. h)
+      gives_second asks calyx.while_of calyx.operand (pair calyx.comb calyx.block) (λ v. BlockFits n v.1) (FormFits n)
+      (gives_right asks calyx.comb calyx.block (BlockFits n) blocks)
+      (λ o v h. h)
 
-  static_ifs : Holds calyx.static_if_rest LaterFits
+  static_ifs : Gives asks calyx.static_if_rest LaterFits
   unfolding calyx.static_if_rest
   static_ifs =
-      holds_second calyx.static_if_of calyx.operand (pair calyx.block calyx.otherwise) (λ r. BlockFits n r.0 × OtherwiseFits n r.1) LaterFits branches
-      (λ o r h l. h)
+      gives_second asks calyx.static_if_of calyx.operand (pair calyx.block calyx.otherwise) (λ v. BlockFits n v.0 × OtherwiseFits n v.1) LaterFits branches
+      (λ o v h l. h)
 
-  statics : Holds calyx.static_rest LaterFits
+  statics : Gives asks calyx.static_rest LaterFits
   unfolding calyx.static_rest
-  statics ts f rest (inl s) =
-      holds_behind t.Seq (mapped calyx.static_seq_of calyx.marked_block) LaterFits (holds_mapped calyx.static_seq_of calyx.marked_block (λ r. BlockFits n r.1) LaterFits marked (λ r h l. h)) ts f rest s
-  statics ts f rest (inr (inl s)) =
-      holds_behind t.Par (mapped calyx.static_par_of calyx.marked_block) LaterFits (holds_mapped calyx.static_par_of calyx.marked_block (λ r. BlockFits n r.1) LaterFits marked (λ r h l. h)) ts f rest s
-  statics ts f rest (inr (inr (inl s))) = holds_behind t.If calyx.static_if_rest LaterFits static_ifs ts f rest s
-  statics ts f rest (inr (inr (inr (inl s)))) =
-      holds_behind t.Repeat (mapped calyx.static_repeat_of calyx.repeat_rest) LaterFits (holds_mapped calyx.static_repeat_of calyx.repeat_rest (λ r. BlockFits n r.1) LaterFits repeats (λ r h l. h)) ts f rest s
-  statics ts f rest (inr (inr (inr (inr s)))) =
-      holds_behind t.Invoke (mapped calyx.static_invoke_of calyx.invoke_rest) LaterFits
-      (holds_mapped calyx.static_invoke_of calyx.invoke_rest Anything LaterFits (holds_all calyx.invoke_rest Anything (λ x. tt)) (λ r h l. tt)) ts f rest s
+  statics ts f rest k (inl s) =
+      gives_behind asks t.Seq (mapped calyx.static_seq_of calyx.marked_block) LaterFits (gives_mapped asks calyx.static_seq_of calyx.marked_block (λ v. BlockFits n v.1) LaterFits marked (λ v h l. h)) ts f rest k s
+  statics ts f rest k (inr (inl s)) =
+      gives_behind asks t.Par (mapped calyx.static_par_of calyx.marked_block) LaterFits (gives_mapped asks calyx.static_par_of calyx.marked_block (λ v. BlockFits n v.1) LaterFits marked (λ v h l. h)) ts f rest k s
+  statics ts f rest k (inr (inr (inl s))) = gives_behind asks t.If calyx.static_if_rest LaterFits static_ifs ts f rest k s
+  statics ts f rest k (inr (inr (inr (inl s)))) =
+      gives_behind asks t.Repeat (mapped calyx.static_repeat_of calyx.repeat_rest) LaterFits (gives_mapped asks calyx.static_repeat_of calyx.repeat_rest (λ v. BlockFits n v.1) LaterFits repeats (λ v h l. h)) ts f rest k s
+  statics ts f rest k (inr (inr (inr (inr s)))) =
+      gives_behind asks t.Invoke (mapped calyx.static_invoke_of calyx.invoke_rest) LaterFits
+      (gives_mapped asks calyx.static_invoke_of calyx.invoke_rest Anything LaterFits (anything asks calyx.invoke_rest) (λ v h l. tt)) ts f rest k s
 
-  static_forms : Holds calyx.static_form (FormFits n)
+  static_forms : Gives asks calyx.static_form (FormFits n)
   unfolding calyx.static_form
-  static_forms = holds_second (λ l f. f l) calyx.optional_length calyx.static_rest LaterFits (FormFits n) statics (λ l f h. h l)
+  static_forms = gives_second asks (λ l f. f l) calyx.optional_length calyx.static_rest LaterFits (FormFits n) statics (λ l f h. h l)
 
-  enables : Holds calyx.enable PlacedFits
+  enables : Gives asks calyx.enable PlacedFits
   unfolding calyx.enable
-  enables = holds_pair calyx.enable_of calyx.name (before calyx.marks t.Semicolon) Anything Anything PlacedFits (holds_all calyx.name Anything (λ x. tt)) (holds_all (before calyx.marks t.Semicolon) Anything (λ x. tt)) (λ x y p q. tt)
+  enables = gives_pair asks calyx.enable_of calyx.name (before calyx.marks t.Semicolon) Anything Anything PlacedFits (anything asks calyx.name) (anything asks (before calyx.marks t.Semicolon)) (λ x y p q. tt)
 
-  seqs : Holds calyx.seq PlacedFits
+  seqs : Gives asks calyx.seq PlacedFits
   unfolding calyx.seq
-  seqs = holds_second calyx.seq_of (calyx.sign t.Seq) calyx.marked_block (λ r. BlockFits n r.1) PlacedFits marked (λ p r h. h)
+  seqs = gives_second asks calyx.seq_of (calyx.sign t.Seq) calyx.marked_block (λ v. BlockFits n v.1) PlacedFits marked (λ p v h. h)
 
-  pars : Holds calyx.par PlacedFits
+  pars : Gives asks calyx.par PlacedFits
   unfolding calyx.par
-  pars = holds_second calyx.par_of (calyx.sign t.Par) calyx.marked_block (λ r. BlockFits n r.1) PlacedFits marked (λ p r h. h)
+  pars = gives_second asks calyx.par_of (calyx.sign t.Par) calyx.marked_block (λ v. BlockFits n v.1) PlacedFits marked (λ p v h. h)
 
-  if_forms : Holds calyx.if_form PlacedFits
+  if_forms : Gives asks calyx.if_form PlacedFits
   unfolding calyx.if_form
-  if_forms = holds_second calyx.form_of (calyx.sign t.If) calyx.if_rest (FormFits n) PlacedFits ifs (λ p f h. h)
+  if_forms = gives_second asks calyx.form_of (calyx.sign t.If) calyx.if_rest (FormFits n) PlacedFits ifs (λ p f h. h)
 
-  while_forms : Holds calyx.while_form PlacedFits
+  while_forms : Gives asks calyx.while_form PlacedFits
   unfolding calyx.while_form
-  while_forms = holds_second calyx.form_of (calyx.sign t.While) calyx.while_rest (FormFits n) PlacedFits whiles (λ p f h. h)
+  while_forms = gives_second asks calyx.form_of (calyx.sign t.While) calyx.while_rest (FormFits n) PlacedFits whiles (λ p f h. h)
 
-  repeat_forms : Holds calyx.repeat PlacedFits
+  repeat_forms : Gives asks calyx.repeat PlacedFits
   unfolding calyx.repeat
-  repeat_forms = holds_second calyx.repeat_of (calyx.sign t.Repeat) calyx.repeat_rest (λ r. BlockFits n r.1) PlacedFits repeats (λ p r h. h)
+  repeat_forms = gives_second asks calyx.repeat_of (calyx.sign t.Repeat) calyx.repeat_rest (λ v. BlockFits n v.1) PlacedFits repeats (λ p v h. h)
 
-  invokes : Holds calyx.invoke PlacedFits
+  invokes : Gives asks calyx.invoke PlacedFits
   unfolding calyx.invoke
-  invokes = holds_second calyx.invoke_of (calyx.sign t.Invoke) calyx.invoke_rest Anything PlacedFits (holds_all calyx.invoke_rest Anything (λ x. tt)) (λ p r h. tt)
+  invokes = gives_second asks calyx.invoke_of (calyx.sign t.Invoke) calyx.invoke_rest Anything PlacedFits (anything asks calyx.invoke_rest) (λ p v h. tt)
 
-  static_statements : Holds calyx.static_statement PlacedFits
+  static_statements : Gives asks calyx.static_statement PlacedFits
   unfolding calyx.static_statement
-  static_statements = holds_second calyx.form_of (calyx.sign t.Static) calyx.static_form (FormFits n) PlacedFits static_forms (λ p f h. h)
+  static_statements = gives_second asks calyx.form_of (calyx.sign t.Static) calyx.static_form (FormFits n) PlacedFits static_forms (λ p f h. h)
 
-  forms : Holds calyx.form PlacedFits
+  forms : Gives asks calyx.form PlacedFits
   unfolding calyx.form
-  forms ts f rest (inl s) = enables ts f rest s
-  forms ts f rest (inr (inl s)) = seqs ts f rest s
-  forms ts f rest (inr (inr (inl s))) = pars ts f rest s
-  forms ts f rest (inr (inr (inr (inl s)))) = if_forms ts f rest s
-  forms ts f rest (inr (inr (inr (inr (inl s))))) = while_forms ts f rest s
-  forms ts f rest (inr (inr (inr (inr (inr (inl s)))))) = repeat_forms ts f rest s
-  forms ts f rest (inr (inr (inr (inr (inr (inr (inl s))))))) = invokes ts f rest s
-  forms ts f rest (inr (inr (inr (inr (inr (inr (inr s))))))) = static_statements ts f rest s
+  forms ts f rest k (inl s) = enables ts f rest k s
+  forms ts f rest k (inr (inl s)) = seqs ts f rest k s
+  forms ts f rest k (inr (inr (inl s))) = pars ts f rest k s
+  forms ts f rest k (inr (inr (inr (inl s)))) = if_forms ts f rest k s
+  forms ts f rest k (inr (inr (inr (inr (inl s))))) = while_forms ts f rest k s
+  forms ts f rest k (inr (inr (inr (inr (inr (inl s)))))) = repeat_forms ts f rest k s
+  forms ts f rest k (inr (inr (inr (inr (inr (inr (inl s))))))) = invokes ts f rest k s
+  forms ts f rest k (inr (inr (inr (inr (inr (inr (inr s))))))) = static_statements ts f rest k s
 
-  statements : Holds calyx.statement (StatementFits n)
+  statements : Gives asks calyx.statement (StatementFits n)
   unfolding calyx.statement
-  statements = holds_second calyx.statement_of calyx.attributes calyx.form PlacedFits (StatementFits n) forms (λ attrs f h. h)
+  statements = gives_second asks calyx.statement_of calyx.attributes calyx.form PlacedFits (StatementFits n) forms (λ attrs f h. h)
 
   -- a block is a level above its statements
-  braces : Holds (nest Braces) (BlockFits (suc n))
+  braces : Gives asks (nest Braces) (BlockFits (suc n))
   unfolding nest calyx.statements
   braces =
-      holds_second (λ place ss. tree.Braces (statements_of ss) place) (calyx.sign t.OpenBrace) (before calyx.statements t.CloseBrace) (Each (StatementFits n)) (BlockFits (suc n))
-      (holds_before calyx.statements t.CloseBrace (Each (StatementFits n)) (holds_many calyx.statement (StatementFits n) statements))
+      gives_second asks (λ place ss. tree.Braces (statements_of ss) place) (calyx.sign t.OpenBrace) (before calyx.statements t.CloseBrace) (Each (StatementFits n)) (BlockFits (suc n))
+      (gives_before asks calyx.statements t.CloseBrace (Each (StatementFits n)) (gives_many asks calyx.statement (StatementFits n) statements))
       (λ place ss h. let level : n ≡ suc n - 1 = omega arith in (omega arith, subst (λ m. AllFit m (statements_of ss)) level (all_fit n ss h)))
 
   -- FILES
-  bodies : Holds calyx.body (λ b. OtherwiseFits n b.1.1)
+  bodies : Gives asks calyx.body (λ b. OtherwiseFits n b.1.1)
   unfolding calyx.body
   bodies =
-      holds_behind t.OpenBrace (pair calyx.cells (pair calyx.wires_part (before calyx.control t.CloseBrace))) (λ b. OtherwiseFits n b.1.1)
-      (holds_right calyx.cells (pair calyx.wires_part (before calyx.control t.CloseBrace)) (λ r. OtherwiseFits n r.1)
-      (holds_right calyx.wires_part (before calyx.control t.CloseBrace) (OtherwiseFits n) (holds_before calyx.control t.CloseBrace (OtherwiseFits n) controls)))
+      gives_behind asks t.OpenBrace (pair calyx.cells (pair calyx.wires_part (before calyx.control t.CloseBrace))) (λ b. OtherwiseFits n b.1.1)
+      (gives_right asks calyx.cells (pair calyx.wires_part (before calyx.control t.CloseBrace)) (λ v. OtherwiseFits n v.1)
+      (gives_right asks calyx.wires_part (before calyx.control t.CloseBrace) (OtherwiseFits n) (gives_before asks calyx.control t.CloseBrace (OtherwiseFits n) controls)))
 
   abbrev HasDepth : ast.PlainComponent → Type 0
   HasDepth part = OtherwiseFits n part.control
 
-  components : Holds calyx.component HasDepth
+  components : Gives asks calyx.component HasDepth
   unfolding calyx.component
   components =
-      holds_second calyx.component_of calyx.attributes (pair calyx.component_word (pair calyx.signature calyx.body)) (λ r. OtherwiseFits n r.1.1.1.1) HasDepth
-      (holds_right calyx.component_word (pair calyx.signature calyx.body) (λ r. OtherwiseFits n r.1.1.1)
-      (holds_right calyx.signature calyx.body (λ b. OtherwiseFits n b.1.1) bodies))
-      (λ attrs r h. h)
+      gives_second asks calyx.component_of calyx.attributes (pair calyx.component_word (pair calyx.signature calyx.body)) (λ v. OtherwiseFits n v.1.1.1.1) HasDepth
+      (gives_right asks calyx.component_word (pair calyx.signature calyx.body) (λ v. OtherwiseFits n v.1.1.1)
+      (gives_right asks calyx.signature calyx.body (λ b. OtherwiseFits n b.1.1) bodies))
+      (λ attrs v h. h)
 
-  many_components : Holds calyx.components (Each HasDepth)
+  many_components : Gives asks calyx.components (Each HasDepth)
   unfolding calyx.components
-  many_components = holds_many calyx.component HasDepth components
+  many_components = gives_many asks calyx.component HasDepth components
 
-  files : Holds calyx.file (λ tree. Each HasDepth tree.components)
+  files : Gives asks calyx.file (λ tree. Each HasDepth tree.components)
   unfolding calyx.file
   files =
-      holds_second (λ is r. record { imports = is; components = r }) calyx.imports (Pair (λ c cs. c ∷ cs) calyx.component calyx.components) (Each HasDepth) (λ tree. Each HasDepth tree.components)
-      (holds_pair (λ c cs. c ∷ cs) calyx.component calyx.components HasDepth (Each HasDepth) (Each HasDepth) components many_components (λ c cs h k. (h, k)))
+      gives_second asks (λ is cs. record { imports = is; components = cs }) calyx.imports (Pair (λ c cs. c ∷ cs) calyx.component calyx.components) (Each HasDepth) (λ tree. Each HasDepth tree.components)
+      (gives_pair asks (λ c cs. c ∷ cs) calyx.component calyx.components HasDepth (Each HasDepth) (Each HasDepth) components many_components (λ c cs h k. (h, k)))
       (λ is cs h. h)
 
 blocks_within : (levels : ℕ) (ts : List Token) (b : PlainBlock) (rest : List Token) → spelled_within levels Braces ts b rest → BlockFits levels b
 blocks_within zero ts b rest s = absurd s
-blocks_within (suc levels) ts b rest s = braces levels (spelled_within levels) (blocks_within levels) ts b rest s
+blocks_within (suc levels) ts b rest s = (braces levels (spelled_within levels) (blocks_within levels) ts b rest tt s).0
 
 -- the control of each component of a text
 control_fits : (text : List ℕ) (tree : PlainTree) → HasTree text tree → (part : ast.PlainComponent) → In tree.components part → OtherwiseFits 64 part.control
 unfolding Parse
-control_fits text tree h part i = each_in (λ (p : ast.PlainComponent). OtherwiseFits 64 p.control) tree.components part (files 64 (spelled_within 64) (blocks_within 64) h.0 tree [] h.2) i
+control_fits text tree h part i = each_in (λ (p : ast.PlainComponent). OtherwiseFits 64 p.control) tree.components part (files 64 (spelled_within 64) (blocks_within 64) h.0 tree [] tt h.2).0 i
 
 -- the design of a tree whose controls fit
 pub tree_shallow : (whole : PlainTree) → ((part : ast.PlainComponent) → In whole.components part → OtherwiseFits 64 part.control) → IsShallow (design_of whole)

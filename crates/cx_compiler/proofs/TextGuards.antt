@@ -2,16 +2,17 @@
 use Rattle.std.proofs.Common.{◌≡◌, ℕ, ◌<◌, Bool, true, false, List, [], ◌∷◌, ◌++◌, Option, Some, None, length, map, flat_map, inl, inr, ⊎_elim, sym, subst, arith}
 use Rattle.std.proofs.lemmas.List.{length-map}
 use Rattle.std.proofs.lemmas.Option.{get_or_from_slice_get}
+use Rattle.cx_text.proofs.MemberLaws.{flat_in, image_in, in_at, in_either}
 use Rattle.cx_ast.specs.declared.statements.BindItem.{BindItem}
 use Rattle.cx_ast.specs.PlainGuards as guards
 use Rattle.cx_ast.specs.PlainTree as ast
 use Rattle.cx_ast.specs.PlainTree.{PlainTree}
 use Rattle.cx_meaning.specs.Designs.{Atom, guards_of, PlainAssign, PlainGroup, no_group, component_at, group_at}
-use Rattle.cx_meaning.specs.Sights.{In}
+use Rattle.cx_text.specs.Members.{In}
 use Rattle.cx_rules.specs.Wellformed.{StandsIn}
 use Rattle.cx_numbering.specs.Names.{groups_in, always_in}
 use Rattle.cx_numbering.specs.DesignOf.{Invoke, Next, guard_of, guards_in, guard_or_always, assign_of, group_of, input_assign, go_assign, go_guard, capture_assigns, register_done, done_assign, invoke_group, is_static_invoke, static_capture, capture_group, after, captures_for, groups_for, invoke_groups, first, control_invokes, component_of, design_of}
-use Rattle.cx_names.proofs.Base.{in_at, in_either, in_map, flat_in, some_at}
+use Rattle.cx_names.proofs.Base.{some_at}
 use Rattle.cx_names.proofs.There.{component_is}
 use Rattle.cx_wiring.specs.Nesting.{IsPart, AreParts, HasParts}
 use Rattle.cx_wiring.proofs.ComponentCounts.{PartsHold}
@@ -51,7 +52,7 @@ module _ (tree : PlainTree) (part : ast.PlainComponent) where
   Parts a = HasParts a.guard
 
   written_assign : (list : List ast.PlainAssign) (a : PlainAssign) → In (map (assign_of tree part) list) a → Parts a
-  written_assign list a i = let found = in_map (assign_of tree part) list a i in subst Parts found.2 (maybe_parts found.0.guard)
+  written_assign list a i = let found = image_in (assign_of tree part) list a i in subst Parts found.2 (maybe_parts found.0.guard)
 
   atoms_parts : (k : Invoke) (binds : List BindItem) → AreParts (guards_of (map (λ b. Atom (register_done tree part k b)) binds))
   atoms_parts k [] = tt
@@ -74,7 +75,7 @@ module _ (tree : PlainTree) (part : ast.PlainComponent) where
   invoke_parts : (g : ℕ) (k : Invoke) (a : PlainAssign) → In (invoke_group tree part g k).assigns a → Parts a
   invoke_parts g k a i =
       ⊎_elim
-      (λ j. let found = in_map (input_assign tree part k) k.inputs a j in subst Parts found.2 tt)
+      (λ j. let found = image_in (input_assign tree part k) k.inputs a j in subst Parts found.2 tt)
       (λ j. behind j)
       (in_either (map (input_assign tree part k) k.inputs) (go_assign tree part k ∷ (flat_map (capture_assigns tree part k) k.outputs ++ (done_assign tree part k g k.outputs ∷ []))) a i)
     where
@@ -120,7 +121,7 @@ module _ (tree : PlainTree) (part : ast.PlainComponent) where
   group_parts : (group : PlainGroup) → In (component_of tree part).groups group → (a : PlainAssign) → In group.assigns a → Parts a
   group_parts group i a j =
       ⊎_elim
-      (λ l. let found = in_map (group_of tree part) (groups_in part.wires) group l in written_assign found.0.assigns a (subst (λ (x : PlainGroup). In x.assigns a) (sym found.2) j))
+      (λ l. let found = image_in (group_of tree part) (groups_in part.wires) group l in written_assign found.0.assigns a (subst (λ (x : PlainGroup). In x.assigns a) (sym found.2) j))
       (λ r. invoked_parts (first tree part) (control_invokes tree part part.control) group r a j)
       (in_either (map (group_of tree part) (groups_in part.wires)) (invoke_groups tree part (first tree part) (control_invokes tree part part.control)) group i)
 

@@ -48,14 +48,10 @@ pub accepted_once : (text : List ℕ) (told : Diagnostic) → IsAcceptedText tex
 accepted_once text told h (inl s) = read_no_fault (h.0, h.1) s
 accepted_once text told h (inr b) = verdicts.accepted_once b.0 told (subst IsAcceptedTree (one_text_tree text h.0 b.0 h.1 b.1) h.2) b.2
 
--- what a text is refused for is one rule, at one place, with one name
-abbrev some_or : {A : Type 0} → A → Option A → A
-some_or y None = y
-some_or y (Some x) = x
-
 not_both : {A : Type 0} (o : Option A) (x : A) → o ≡ Some x → o ≡ None → ⊥
 not_both o x e f = cc
 
+-- what a text is refused for is one rule, at one place, with one name
 pub same_diagnostic : (a b : Diagnostic) → a.rule ≡ b.rule → a.place ≡ b.place → a.name ≡ b.name → a ≡ b
 same_diagnostic a b rule place name =
     let tell : Rule → Place → List ℕ → Diagnostic = λ r p n. record { rule = r; place = p; name = n } in

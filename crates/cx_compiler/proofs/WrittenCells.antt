@@ -35,8 +35,8 @@ use Rattle.cx_emit.specs.Numbered.{with_numbers}
 use Rattle.cx_emit.specs.Signatures.{PlainCellPorts, primitive_module, kind_ports, cell_ports}
 use Rattle.cx_emit.specs.Sources.{cell_instance, component_module, primitive_modules, source_of}
 use Rattle.cx_emit.proofs.NetPrimitives.{its_primitives, its_primitive}
-use Rattle.cx_emit.proofs.NumberedLemmas.{in_left, in_right, in_numbered, numbered_in, in_mapped, mapped_in}
-use Rattle.cx_text.proofs.ListLaws.{front}
+use Rattle.cx_emit.proofs.NumberedLemmas.{in_left, in_right, in_numbered, numbered_in, in_mapped}
+use Rattle.cx_text.proofs.ListLaws.{at_map, front}
 use Rattle.cx_text.proofs.OptionLaws.{map_some}
 use Rattle.cx_compiler.specs.Cells.{IsModule, IsNameOf, HasEachCell, HasCells}
 use Rattle.cx_compiler.specs.Compiled.{written_source}
@@ -123,7 +123,7 @@ module _ (d : PlainDesign) (rules : IsDesign d) where
       timer t x e =
           let c : ℕ = length part.cells + t in
           let (y, at_ports, is) = numbered_in cell_instance (map (cell_ports net) (own k).cells) c x e in
-          let (cell, at, same) = mapped_in (cell_ports net) (own k).cells c y at_ports in
+          let (cell, at, same) = at_map (cell_ports net) (own k).cells c y at_ports in
           let (low, at_low, cell_is) = map_some (cell_in places) (slice_get (part.cells ++ timer_cells part) c) cell (sym (cell_at c) ∙ at) in
           let its = is_timer part t low (sym (slice_right part.cells (timer_cells part) t) ∙ at_low) in
           let row : PrimitiveRow = record { name = primitives.Timer; numbers = its.0 ∷ [] } in

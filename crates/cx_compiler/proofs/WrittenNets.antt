@@ -3,12 +3,13 @@ use Rattle.std.proofs.Common.{◌≡◌, ℕ, ◌+◌, ◌*◌, ◌<◌, ◌≤�
 use Rattle.std.specs.Prelude.{◌^◌}
 use Rattle.std.proofs.lemmas.List.{length-map}
 use Rattle.std.proofs.lemmas.Option.{slice_get-get_or}
+use Rattle.cx_text.proofs.MemberLaws.{image_in, in_at, in_at as in_slice}
 use Rattle.cx_ast.specs.PlainTree.{PlainTree}
 use Rattle.cx_prim.specs.Rows.{Row}
 use Rattle.cx_meaning.specs.Designs.{PlainCell, PlainComponent, PlainDesign, no_component, component_at}
 use Rattle.cx_meaning.specs.Instances as instances
 use Rattle.cx_meaning.specs.Instances.{Instance, Cells, no_cells, a_primitive, an_instance, tree_of}
-use Rattle.cx_meaning.specs.Sights.{In}
+use Rattle.cx_text.specs.Members.{In}
 use Rattle.cx_rules.specs.Flat.{IsFlat}
 use Rattle.cx_rules.specs.Accepted.{IsAccepted}
 use Rattle.cx_rules.specs.Sizes.{size_of, weight_of, design_size}
@@ -16,7 +17,7 @@ use Rattle.cx_rules.specs.Wellformed.{IsDesign}
 use Rattle.cx_numbering.specs.DesignOf.{plain_cell_of, component_of, design_of}
 use Rattle.cx_names.specs.Targets.{HasTargets}
 use Rattle.cx_check.specs.Acceptance.{IsAcceptedTree}
-use Rattle.cx_names.proofs.Base.{in_at, in_map, some_at}
+use Rattle.cx_names.proofs.Base.{some_at}
 use Rattle.cx_names.proofs.There.{component_is}
 use Rattle.cx_vtree.specs.Layout.{is_word}
 use Rattle.cx_net.specs.Nets.{PlainNetComponent, PlainNet}
@@ -54,7 +55,6 @@ use Rattle.cx_compiler.proofs.TextGuards.{guards_hold}
 use Rattle.cx_compiler.proofs.TextLayers.{tree_rules}
 use Rattle.cx_compiler.proofs.TextLemmas.{text_targets}
 use Rattle.cx_text.proofs.ListLaws.{there_at}
-use Rattle.cx_meaning.proofs.SightsLaws.{in_at as in_slice}
 use Rattle.cx_flat_texts.proofs.TextNames.{cells_named}
 
 -- FROM THE TEXT: no part of a guard is Always, and external memories have words for names
@@ -66,7 +66,7 @@ cells_words text tree has k within cell i =
     let many : length (design_of tree).components ≡ length tree.components = length-map tree.components (component_of tree) in
     let part = some_at tree.components k (omega (arith, within, many)) in
     let own : In (component_of tree part.0).cells cell = subst (λ (p : PlainComponent). In p.cells cell) (component_is tree k part.0 part.1) i in
-    let found = in_map (plain_cell_of tree part.0) part.0.cells cell own in
+    let found = image_in (plain_cell_of tree part.0) part.0.cells cell own in
     subst (λ (c : PlainCell). is_word c.name ≡ true) found.2 (cells_named text tree has part.0 (in_at tree.components k part.0 part.1) found.0 found.1)
 
 pub design_words : (text : List ℕ) (d : PlainDesign) → IsDesignOf text d → (k : ℕ) → k < length d.components → (cell : PlainCell) → In (component_at d k).cells cell → is_word cell.name ≡ true

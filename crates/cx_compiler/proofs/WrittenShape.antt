@@ -4,8 +4,9 @@ use Rattle.std.specs.Prelude.{◌||◌}
 use Rattle.std.proofs.lemmas.Bool.{cases_lt}
 use Rattle.std.proofs.lemmas.List.{length-map}
 use Rattle.std.proofs.lemmas.Option.{slice_get-map, slice_get-get_or, slice_get_within}
+use Rattle.cx_text.proofs.MemberLaws.{in_at}
 use Rattle.cx_meaning.specs.Designs.{PlainKind, OfPrimitive, OfComponent, PlainCell, PlainComponent, PlainDesign, component_at}
-use Rattle.cx_meaning.specs.Sights.{In}
+use Rattle.cx_text.specs.Members.{In}
 use Rattle.cx_rules.specs.Items.{statements_in}
 use Rattle.cx_rules.specs.Flat.{IsFlat}
 use Rattle.cx_rules.specs.Wellformed.{IsForm, LeadsTo, by_cell, by_way_of, IsDesign}
@@ -38,7 +39,6 @@ use Rattle.cx_compiler.proofs.TimerUses.{use_at, use_of_cell, use_of_timer, use_
 use Rattle.cx_text.proofs.OptionLaws.{map_some}
 use Rattle.cx_meaning.proofs.DesignsLemmas.{same_part}
 use Rattle.cx_text.proofs.ListLaws.{there_at, front}
-use Rattle.cx_meaning.proofs.SightsLaws.{in_at}
 
 -- PLACES of numbers in a list
 get_or_at : (ns : List ℕ) (n k : ℕ) → slice_get ns n ≡ Some k → get_or ns n 0 ≡ k

@@ -3,10 +3,10 @@ use Rattle.std.proofs.Common.{◌≡◌, ◌⊎◌, inl, inr, ℕ, zero, suc, �
 use Rattle.std.proofs.lemmas.Bool.Decides.{eqb_tells}
 use Rattle.std.proofs.lemmas.List.{length-map}
 use Rattle.std.proofs.lemmas.Option.{slice_get_within}
+use Rattle.cx_text.proofs.MemberLaws.{in_at, number_in}
 use Rattle.cx_prim.specs.Table.{PrimitiveRow}
 use Rattle.cx_meaning.specs.Designs.{OfComponent, PlainCell, PlainDesign, component_at}
-use Rattle.cx_meaning.specs.Sights.{In as Among}
-use Rattle.cx_meaning.proofs.SightsLaws.{number_in, in_at}
+use Rattle.cx_text.specs.Members.{In as Among}
 use Rattle.cx_rules.specs.Accepted.{IsAccepted}
 use Rattle.cx_rules.specs.Flat.{IsFlat}
 use Rattle.cx_rules.specs.Wellformed.{LeadsTo, by_cell, by_way_of, IsDesign}
@@ -32,9 +32,9 @@ use Rattle.cx_emit.specs.Places.{cell_number}
 use Rattle.cx_emit.specs.Signatures.{primitive_module}
 use Rattle.cx_emit.specs.Sources.{component_module, primitives_among, primitive_modules}
 use Rattle.cx_emit.proofs.NetPrimitives.{firsts_in, its_primitives, net_in}
-use Rattle.cx_emit.proofs.NumberedLemmas.{In, in_either, mapped_in, numbered_in}
+use Rattle.cx_emit.proofs.NumberedLemmas.{In, in_either, numbered_in}
 use Rattle.cx_emit.proofs.Standing.{comp, own, comp_there, IsPlaced, main_placed, cell_placed, primitive_placed, child_placed}
-use Rattle.cx_text.proofs.ListLaws.{there_at, front}
+use Rattle.cx_text.proofs.ListLaws.{at_map, front, there_at}
 use Rattle.cx_text.proofs.OptionLaws.{one_value}
 use Rattle.cx_compiler.specs.Cells.{EachStands}
 use Rattle.cx_compiler.specs.Compiled.{written_source}
@@ -129,7 +129,7 @@ module _ (d : PlainDesign) (rules : IsDesign d) (flat : IsFlat d) (accepted : Is
   written_used m h = by (in_either m (primitive_modules net) (with_numbers (component_module net) net.components) h)
     where
       by : In m (primitive_modules net) ⊎ In m (with_numbers (component_module net) net.components) → IsUsed m
-      by (inl (n, e)) = let (p, at, same) = mapped_in primitive_module (its_primitives net) n m e in subst IsUsed same (primitive_used p (n, at))
+      by (inl (n, e)) = let (p, at, same) = at_map primitive_module (its_primitives net) n m e in subst IsUsed same (primitive_used p (n, at))
       by (inr (n, e)) =
           let (part, there, same) = numbered_in (component_module net) net.components n m e in
           let less = slice_get_within net.components n part there in

@@ -5,7 +5,7 @@ use denote.Struct.Props.{props}
 use Rattle.std.proofs.lemmas.List.{length-map, get_or-map}
 use Rattle.cx_prim.specs.Table.{PrimitiveRow}
 use Rattle.cx_meaning.specs.Designs.{PlainKind, OfPrimitive, OfComponent, PlainCell, PlainDesign, component_at, no_component}
-use Rattle.cx_meaning.specs.Sights.{In}
+use Rattle.cx_text.specs.Members.{In}
 use Rattle.cx_rules.specs.Wellformed.{IsDesign, IsExternal, first_number}
 use Rattle.cx_rules.specs.Externals.{numbers_of}
 use Rattle.cx_design.specs.declared.cells.Cell.{Cell}

@@ -4,16 +4,15 @@ use Rattle.std.proofs.Math.Logic.{∥∥₁_elim}
 use denote.Struct.Props.{props}
 use Rattle.std.proofs.lemmas.Bool.{cases_lt}
 use Rattle.std.proofs.lemmas.List.{length-map}
-use Rattle.cx_graphs.specs.Graphs as graphs
 use Rattle.std.specs.Prelude.{Result, Ok, Err, IfOk}
 use Rattle.std.specs.declared.vec.Vec.{Vec}
 use Rattle.cx_design.proofs.DesignFacts.{main_there}
 use Rattle.cx_graphs.specs.Graphs.{IsGraph, Bounded, targets_of, IsReached, at_start, by_edge, Marked, edges_of}
 use Rattle.cx_graphs.proofs.Marks.{in_left, in_right}
-use Rattle.cx_meaning.specs.Designs.{PlainKind, OfPrimitive, OfComponent, PlainCell, PlainComponent, no_component, PlainDesign, component_at}
-use Rattle.cx_meaning.specs.Sights.{In}
+use Rattle.cx_meaning.specs.Designs.{PlainKind, OfPrimitive, OfComponent, PlainCell, PlainComponent, no_component, PlainDesign, component_at, component_of_kind}
+use Rattle.cx_text.specs.Members.{In}
 use Rattle.cx_rules.specs.Wellformed.{LeadsTo, by_cell, by_way_of, IsDesign, IsKind}
-use Rattle.cx_design_copies.specs.Reaching.{component_of_kind, components_of, edges_between, IsMadeOf, AreMadeOf}
+use Rattle.cx_design_copies.specs.Reaching.{components_of, edges_between, IsMadeOf, AreMadeOf}
 
 -- EDGES are from a component to those of its cells
 targets-are : (parts : List PlainComponent) (m : ℕ) → targets_of (edges_between parts) m ≡ components_of (get_or parts m no_component).cells
@@ -21,22 +20,23 @@ targets-are [] m = refl
 targets-are (p ∷ parts) zero = refl
 targets-are (p ∷ parts) (suc m) = targets-are parts m
 
-cell_edge : (cells : List PlainCell) (cell : PlainCell) (j : ℕ) → In cells cell → cell.kind ≡ OfComponent j → graphs.In (components_of cells) j
+cell_edge : (cells : List PlainCell) (cell : PlainCell) (j : ℕ) → In cells cell → cell.kind ≡ OfComponent j → In (components_of cells) j
 cell_edge [] cell j i e = absurd i
-cell_edge (c ∷ cs) cell j (inl same) e = in_left (component_of_kind c.kind) (components_of cs) j (subst (λ kind. graphs.In (component_of_kind kind) j) (sym (ap (λ x. x.kind) same ∙ e)) (inl refl))
+cell_edge (c ∷ cs) cell j (inl same) e = in_left (component_of_kind c.kind) (components_of cs) j (subst (λ kind. In (component_of_kind kind) j) (sym (ap (λ x. x.kind) same ∙ e)) (inl refl))
 cell_edge (c ∷ cs) cell j (inr i) e = in_right (component_of_kind c.kind) (components_of cs) j (cell_edge cs cell j i e)
 
-abbrev HasCell : List PlainCell → ℕ → Type 0
+-- one of cells is of a component
+abbrev pub HasCell : List PlainCell → ℕ → Type 0
 HasCell cells j = (cell : PlainCell) × In cells cell × (cell.kind ≡ OfComponent j)
 
-edge_cell : (cells : List PlainCell) (j : ℕ) → graphs.In (components_of cells) j → HasCell cells j
+edge_cell : (cells : List PlainCell) (j : ℕ) → In (components_of cells) j → HasCell cells j
 edge_cell [] j i = absurd i
 edge_cell (c ∷ cs) j i = by c.kind refl i (edge_cell cs j)
   where
     later : HasCell cs j → HasCell (c ∷ cs) j
     later (cell, i, e) = (cell, inr i, e)
 
-    by : (kind : PlainKind) → c.kind ≡ kind → graphs.In (component_of_kind kind ++ components_of cs) j → (graphs.In (components_of cs) j → HasCell cs j) → HasCell (c ∷ cs) j
+    by : (kind : PlainKind) → c.kind ≡ kind → In (component_of_kind kind ++ components_of cs) j → (In (components_of cs) j → HasCell cs j) → HasCell (c ∷ cs) j
     by (OfPrimitive p) e i more = later (more i)
     by (OfComponent m) e (inl same) more = (c, inl refl, e ∙ ap OfComponent same)
     by (OfComponent m) e (inr i) more = later (more i)
@@ -45,8 +45,8 @@ module _ (d : PlainDesign) where
   abbrev edges : List (List ℕ)
   edges = edges_between d.components
 
-  edge_leads : (m n : ℕ) → graphs.In (targets_of edges m) n → LeadsTo d m n
-  edge_leads m n i = by (edge_cell (component_at d m).cells n (subst (λ ns. graphs.In ns n) (targets-are d.components m) i))
+  edge_leads : (m n : ℕ) → In (targets_of edges m) n → LeadsTo d m n
+  edge_leads m n i = by (edge_cell (component_at d m).cells n (subst (λ ns. In ns n) (targets-are d.components m) i))
     where
       by : HasCell (component_at d m).cells n → LeadsTo d m n
       by (cell, i, e) = by_cell n cell i e
@@ -62,12 +62,12 @@ module _ (d : PlainDesign) where
       by (inr a) l = by_way_of m a l
 
   leads_reached : (m n : ℕ) → LeadsTo d m n → IsReached edges (d.main ∷ []) m → IsReached edges (d.main ∷ []) n
-  leads_reached m n (by_cell j cell i e) r = by_edge m r (subst (λ ns. graphs.In ns n) (sym (targets-are d.components m)) (cell_edge (component_at d m).cells cell n i e))
+  leads_reached m n (by_cell j cell i e) r = by_edge m r (subst (λ ns. In ns n) (sym (targets-are d.components m)) (cell_edge (component_at d m).cells cell n i e))
   leads_reached m n (by_way_of k a b) r = leads_reached k n b (leads_reached m k a r)
 
   module _ (rules : IsDesign d) where
-    edges_within : (m n : ℕ) → graphs.In (targets_of edges m) n → n < length edges
-    edges_within m n i = subst (λ c. n < c) (sym (length-map d.components (λ (part : PlainComponent). components_of part.cells))) (by (edge_cell (component_at d m).cells n (subst (λ ns. graphs.In ns n) (targets-are d.components m) i)))
+    edges_within : (m n : ℕ) → In (targets_of edges m) n → n < length edges
+    edges_within m n i = subst (λ c. n < c) (sym (length-map d.components (λ (part : PlainComponent). components_of part.cells))) (by (edge_cell (component_at d m).cells n (subst (λ ns. In ns n) (targets-are d.components m) i)))
       where
         none : (parts : List PlainComponent) (m : ℕ) → length parts ≤ m → (get_or parts m no_component).cells ≡ []
         none [] m le = refl

@@ -1,12 +1,8 @@
 -- Which components main is made of, by the edges from each component to those of its cells.
 use Rattle.std.specs.Prelude.{◌≡◌, ◌⊎◌, ℕ, Bool, List, [], ◌∷◌, ◌++◌, length, map}
 use Rattle.cx_graphs.specs.Graphs.{Marked}
-use Rattle.cx_meaning.specs.Designs.{PlainKind, OfPrimitive, OfComponent, PlainCell, PlainComponent, PlainDesign}
+use Rattle.cx_meaning.specs.Designs.{PlainCell, PlainComponent, PlainDesign, component_of_kind}
 use Rattle.cx_rules.specs.Wellformed.{LeadsTo}
-
-abbrev pub component_of_kind : PlainKind → List ℕ
-component_of_kind (OfPrimitive primitive) = []
-component_of_kind (OfComponent k) = k ∷ []
 
 abbrev pub components_of : List PlainCell → List ℕ
 components_of [] = []

@@ -2,6 +2,7 @@
 use Rattle.std.proofs.Common.{◌≡◌, ℕ, ◌+◌, inl, inr, ◌⊎◌, ⊎_elim, Bool, true, false, true≢false, Option, Some, None, List, [], ◌∷◌, ◌++◌, nat_eq, nat_lt, refl, sym, ap, ◌∙◌, subst, arith}
 use Rattle.std.specs.Prelude.{if◌then◌else◌}
 use Rattle.std.proofs.lemmas.Bool.{eqb-true}
+use Rattle.cx_text.specs.Members.{In}
 use Rattle.cx_prim.specs.declared.ports.Side.{Side}
 use Rattle.cx_prim.specs.declared.ports.Side.TheVariants as sides
 use Rattle.cx_prim.specs.Rows.{Row, is_output_side}
@@ -11,7 +12,7 @@ use Rattle.cx_meaning.specs.Rows.{side_of}
 use Rattle.cx_meaning.specs.Designs.{PlainAssign, PlainComponent, group_at}
 use Rattle.cx_meaning.specs.Instances.{Instance, At, Nothing, OfRow, OfInstance, cell_at, cells_of, part_of}
 use Rattle.cx_meaning.specs.Active.{Active, Acting, nothing, group, only_at, Owned, owned, owned_by_groups, source_order, offset_of, if_acting, if_target, acting, same_port, drivers}
-use Rattle.cx_meaning.specs.Sights.{In, PartPort, Go, AnInput, AnOutput, ItsDone, part_port}
+use Rattle.cx_meaning.specs.Sights.{PartPort, Go, AnInput, AnOutput, ItsDone, part_port}
 use Rattle.cx_rules.specs.Footprints.{AssignNames, Mentions, SideLeads, PartLeads, CellLeads, Leads}
 use Rattle.cx_rules.specs.Ports.{is_source_only, is_cell_output, is_part_output}
 use Rattle.cx_rules.specs.Wellformed.{port_count}
@@ -20,7 +21,7 @@ use Rattle.cx_rules.proofs.ForeignLemmas.{sorted_among, owned_among, split, grou
 use Rattle.cx_design_leads.specs.Nodes.{below, node_of}
 use Rattle.cx_design_leads.specs.Edges.{LeadsInGroup, ReadsInRow}
 use Rattle.cx_meaning.proofs.PortsLemmas.{same_self}
-use Rattle.cx_meaning.proofs.ActiveLemmas.{only_self, group_stands, always_stands}
+use Rattle.cx_meaning.proofs.ActiveLemmas.{only_self, only_is, acting_has, acting_acts, group_stands, always_stands}
 use Rattle.cx_text.proofs.OptionLaws.{none_some_also}
 
 -- DRIVERS of a port, as what stands in source order and is active
@@ -32,53 +33,13 @@ pub record Driver (part : PlainComponent) (act : Active) (p q : PortRef) : Type 
   pub acts : offset_of act owned.owner ≡ Some offset
   pub names : AssignNames owned.assign q
 
-record Acts (act : Active) (p : PortRef) (list : List Owned) (b : Acting) : Type 0 where
-  owned : Owned
-  stands : In list owned
-  target : owned.assign.target ≡ p
-  acts : offset_of act owned.owner ≡ Some b.offset
-  same : owned.assign ≡ b.assign
-
-later_acts : {act : Active} {p : PortRef} {list : List Owned} {b : Acting} (o : Owned) → Acts act p list b → Acts act p (o ∷ list) b
-later_acts o h = record { owned = h.owned; stands = inr h.stands; target = h.target; acts = h.acts; same = h.same }
-
-acting_acts : (act : Active) (p : PortRef) (list : List Owned) (b : Acting) → In (acting act p list) b → Acts act p list b
-acting_acts act p [] b i = absurd i
-acting_acts act p (o ∷ rest) b i = of_target (same_port o.assign.target p) refl i (acting_acts act p rest b)
-  where
-    of_offset : same_port o.assign.target p ≡ true → (k : Option ℕ) → offset_of act o.owner ≡ k → In (if_acting k o.assign (acting act p rest)) b → (In (acting act p rest) b → Acts act p rest b) → Acts act p (o ∷ rest) b
-    of_offset e None f i h = later_acts o (h i)
-    of_offset e (Some k) f (inl g) h = record { owned = o; stands = inl refl; target = same_is o.assign.target p e; acts = f ∙ ap (λ a. Some a.offset) g; same = ap (λ a. a.assign) g }
-    of_offset e (Some k) f (inr j) h = later_acts o (h j)
-
-    of_target : (t : Bool) → same_port o.assign.target p ≡ t → In (if_target t act o (acting act p rest)) b → (In (acting act p rest) b → Acts act p rest b) → Acts act p (o ∷ rest) b
-    of_target true e i h = of_offset e (offset_of act o.owner) refl i h
-    of_target false e i h = later_acts o (h i)
-
-acts_acting : (act : Active) (p : PortRef) (list : List Owned) (o : Owned) (k : ℕ) → In list o → o.assign.target ≡ p → offset_of act o.owner ≡ Some k → In (acting act p list) (record { offset = k; assign = o.assign })
-acts_acting act p [] o k i e f = absurd i
-acts_acting act p (x ∷ rest) o k (inl g) e f =
-    let b : Acting = record { offset = k; assign = o.assign } in
-    subst (λ t. In (if_target t act x (acting act p rest)) b) (sym (ap (λ q. same_port q p) (ap (λ (y : Owned). y.assign.target) g ∙ e) ∙ same_self p))
-    (subst (λ t. In (if_acting t x.assign (acting act p rest)) b) (sym (ap (λ (y : Owned). offset_of act y.owner) g ∙ f))
-    (inl (ap (λ (y : Owned). record { offset = k; assign = y.assign }) g)))
-acts_acting act p (x ∷ rest) o k (inr j) e f = of_target (same_port x.assign.target p) (acts_acting act p rest o k j e f)
-  where
-    of_offset : (n : Option ℕ) → In (acting act p rest) (record { offset = k; assign = o.assign }) → In (if_acting n x.assign (acting act p rest)) (record { offset = k; assign = o.assign })
-    of_offset None i = i
-    of_offset (Some n) i = inr i
-
-    of_target : (t : Bool) → In (acting act p rest) (record { offset = k; assign = o.assign }) → In (if_target t act x (acting act p rest)) (record { offset = k; assign = o.assign })
-    of_target true i = of_offset (offset_of act x.owner) i
-    of_target false i = i
-
 pub driver_of : (part : PlainComponent) (act : Active) (p q : PortRef) → Mentions (drivers part act p) q → Driver part act p q
 driver_of part act p q (b, i, n) =
     let r = acting_acts act p (source_order part) b i in
-    record { owned = r.owned; stands = r.stands; target = r.target; offset = b.offset; acts = r.acts; names = subst (λ a. AssignNames a q) (sym r.same) n }
+    record { owned = r.owned; stands = r.stands; target = same_is r.owned.assign.target p r.target; offset = b.offset; acts = r.acts; names = subst (λ a. AssignNames a q) (sym r.same) n }
 
 mentions_of : (part : PlainComponent) (act : Active) (p q : PortRef) (o : Owned) (k : ℕ) → In (source_order part) o → o.assign.target ≡ p → offset_of act o.owner ≡ Some k → AssignNames o.assign q → Mentions (drivers part act p) q
-mentions_of part act p q o k i e f n = (record { offset = k; assign = o.assign }, acts_acting act p (source_order part) o k i e f, n)
+mentions_of part act p q o k i e f n = (record { offset = k; assign = o.assign }, acting_has act p (source_order part) o k i (ap (λ r. same_port r p) e ∙ same_self p) f, n)
 
 -- an assignment of a list drives a port and names another
 pub record Drives (list : List PlainAssign) (p q : PortRef) : Type 0 where
@@ -86,13 +47,6 @@ pub record Drives (list : List PlainAssign) (p q : PortRef) : Type 0 where
   pub stands : In list assign
   pub target : assign.target ≡ p
   pub names : AssignNames assign q
-
-only_is : (g h k : ℕ) → only_at g h ≡ Some k → g ≡ h
-only_is g h k e = choice (nat_eq g h) refl e
-  where
-    choice : (b : Bool) → nat_eq g h ≡ b → (if b then Some 0 else None) ≡ Some k → g ≡ h
-    choice true f e = eqb-true g h f
-    choice false f e = absurd (none_some_also k e)
 
 -- the owner of an assignment: none, or a group
 module _ (part : PlainComponent) (p q : PortRef) where

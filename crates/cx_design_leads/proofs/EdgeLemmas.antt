@@ -2,11 +2,12 @@
 use Rattle.std.proofs.Common.{◌≡◌, ℕ, zero, suc, ◌+◌, ◌<◌, inl, inr, ◌⊎◌, ⊎_elim, Bool, true, false, Some, None, List, [], ◌∷◌, ◌++◌, length, map, get_or, take, nat_lt, refl, sym, ap, ◌∙◌, subst, arith}
 use Rattle.std.specs.Prelude.{if◌then◌else◌}
 use Rattle.std.proofs.lemmas.List.{take_more}
+use Rattle.cx_text.proofs.MemberLaws.{in_either, in_left, in_right}
 use Rattle.cx_graphs.specs.Graphs as graphs
 use Rattle.cx_graphs.specs.Graphs.{Edges, targets_of}
 use Rattle.cx_graphs.specs.Additions.{IsEdge, Adds, IsBare}
 use Rattle.cx_graphs.proofs.Additions.{adds_none, adds_then, adds_as, bare_adds}
-use Rattle.cx_graphs.proofs.Lists.{in_before, in_last, the_last}
+use Rattle.cx_graphs.proofs.Lists.{in_last, the_last}
 use Rattle.cx_prim.specs.declared.ports.Side.{Side}
 use Rattle.cx_prim.specs.declared.ports.Side.TheVariants.{Enable, Plain, Output, Registered}
 use Rattle.cx_prim.specs.Rows.{Row}
@@ -17,18 +18,18 @@ use Rattle.cx_meaning.specs.Rows.{side_of}
 use Rattle.cx_design.specs.declared.groups.Group.{Group}
 use Rattle.cx_design.specs.PlainForms.{plain_assigns, plain_group}
 use Rattle.cx_meaning.specs.Designs.{no_group, PlainAssign, group_at}
-use Rattle.cx_meaning.specs.Instances.{Instance, OfRow, cell_at, cells_of, part_of}
+use Rattle.cx_meaning.specs.Instances.{Instance, OfRow, cell_at, cells_of, part_of, cell_count}
 use Rattle.cx_meaning.specs.Active.{nothing}
-use Rattle.cx_meaning.specs.Sights.{In}
+use Rattle.cx_text.specs.Members.{In}
 use Rattle.cx_rules.specs.Items.{operands_of}
 use Rattle.cx_rules.specs.Footprints.{Leads}
 use Rattle.cx_rules.specs.Ports.{is_source_only}
-use Rattle.cx_design_leads.specs.Nodes.{node_of, node_count, cell_count}
+use Rattle.cx_design_leads.specs.Nodes.{node_of, node_count}
 use Rattle.cx_design_leads.specs.Edges.{Between, HasEdges, IsSpread, LeadsInGroup}
-use Rattle.cx_design_leads.specs.Links.{driven_node, is_combinational, ToPort, ToPorts, ToNamed, OfAssign, OfAssigns, ToInputs, OfPort, OfPorts, OfCell, OfCells}
+use Rattle.cx_design_leads.specs.Links.{driven_node, ToPort, ToPorts, ToNamed, OfAssign, OfAssigns, ToInputs, OfPort, OfPorts, OfCell, OfCells}
+use Rattle.cx_design_parts.specs.Outputs.{is_combinational}
 use Rattle.cx_design_leads.proofs.NodeLemmas.{cell_there}
 use Rattle.cx_design_leads.proofs.DriverLemmas.{bare_drives, drives_bare, leads_either, either_leads, row_leads}
-use Rattle.cx_meaning.proofs.SightsLaws.{in_either, in_left, in_right}
 use Rattle.cx_meaning.proofs.RowsLemmas.{side_below}
 use Rattle.cx_text.proofs.OptionLaws.{none_some_also}
 use Rattle.cx_rules.proofs.FoundLemmas.{guard_operand, operand_named}
@@ -218,23 +219,23 @@ pub spread_more : (i : Instance) (count : ℕ) (g after : Edges) (targets later 
     → Adds g (ToNamed i from a) after → later ≡ targets ++ from ∷ [] → IsSpread count after later
 spread_more i count g after targets later from a s below x e = record {
   same_length = x.same_length ∙ s.same_length;
-  within = λ n j. ⊎_elim (λ k. s.within n k) (λ same. subst (λ k. k < count) same below) (in_last targets from n (subst (λ l. graphs.In l n) e j));
-  from_targets = λ m n j. subst (λ l. graphs.In l m) (sym e)
+  within = λ n j. ⊎_elim (λ k. s.within n k) (λ same. subst (λ k. k < count) same below) (in_last targets from n (subst (λ l. In l n) e j));
+  from_targets = λ m n j. subst (λ l. In l m) (sym e)
       (⊎_elim
-      (λ k. in_before targets (from ∷ []) m (s.from_targets m n k))
-      (λ k. subst (graphs.In (targets ++ from ∷ [])) (sym k.0) (the_last targets from))
+      (λ k. in_left targets (from ∷ []) m (s.from_targets m n k))
+      (λ k. subst (In (targets ++ from ∷ [])) (sym k.0) (the_last targets from))
       (x.known m n j));
 }
 
 -- one target is taken away with its edges
 pub spread_less : (count : ℕ) (g after : Edges) (targets rest : List ℕ) (t : ℕ) → targets ≡ rest ++ t ∷ [] → length after ≡ length g
-    → ((m n : ℕ) → graphs.In (targets_of after m) n → graphs.In (targets_of g m) n × (m ≡ t → ⊥)) → IsSpread count g targets → IsSpread count after rest
+    → ((m n : ℕ) → In (targets_of after m) n → In (targets_of g m) n × (m ≡ t → ⊥)) → IsSpread count g targets → IsSpread count after rest
 spread_less count g after targets rest t e long fewer s = record {
   same_length = long ∙ s.same_length;
-  within = λ n j. s.within n (subst (λ l. graphs.In l n) (sym e) (in_before rest (t ∷ []) n j));
+  within = λ n j. s.within n (subst (λ l. In l n) (sym e) (in_left rest (t ∷ []) n j));
   from_targets = λ m n j.
       let r = fewer m n j in
-      ⊎_elim (λ k. k) (λ same. absurd (r.1 (sym same))) (in_last rest t m (subst (λ l. graphs.In l m) e (s.from_targets m n r.0)));
+      ⊎_elim (λ k. k) (λ same. absurd (r.1 (sym same))) (in_last rest t m (subst (λ l. In l m) e (s.from_targets m n r.0)));
 }
 
 pub driven_is : (i : Instance) (p : PortRef) (m : ℕ) → driven_node i p ≡ Some m → (is_source_only i p ≡ false) × (node_of i p ≡ Some m)

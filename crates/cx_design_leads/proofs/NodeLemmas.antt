@@ -5,17 +5,17 @@ use Rattle.std.proofs.lemmas.Bool.{cases_lt}
 use Rattle.cx_meaning.specs.declared.ports.PortRef.{PortRef}
 use Rattle.cx_meaning.specs.declared.ports.PortRef.TheVariants as ports
 use Rattle.cx_meaning.specs.Designs.{PlainDesign, component_at}
-use Rattle.cx_meaning.specs.Instances.{Instance, Cells, no_cells, a_primitive, an_instance, Nothing, cell_at, cells_of, part_of, tree_within}
+use Rattle.cx_meaning.specs.Instances.{Instance, Cells, no_cells, a_primitive, an_instance, Nothing, cell_at, cells_of, part_of, tree_within, cell_count}
 use Rattle.cx_rules.specs.Ports.{component_of}
 use Rattle.cx_design.specs.declared.components.Component.{Component}
 use Rattle.cx_design.specs.PlainForms.{plain_component, plain_parts}
 use Rattle.std.proofs.lemmas.List.{length-map}
 use Rattle.cx_rules.specs.Wellformed.{port_count, IsThere}
-use Rattle.cx_design_leads.specs.Nodes.{ports_before, cell_count, first_input, first_output, first_done, node_count, below, node_of}
+use Rattle.cx_design_leads.specs.Nodes.{ports_before, first_input, first_output, first_done, node_count, below, node_of}
 use Rattle.cx_text.proofs.OptionLaws.{some_is}
 use Rattle.cx_text.proofs.NumberLaws.{lt_true as true_lt, true_lt as lt_true}
 use Rattle.cx_rules.proofs.PortsLemmas.{part_is as component_part}
-use Rattle.cx_meaning.proofs.CycleLemmas.{count_for}
+use Rattle.cx_design_parts.proofs.ReadLemmas.{component_cells}
 
 -- below
 pub record IsBelow (count first n m : ℕ) : Type 0 where
@@ -136,13 +136,6 @@ module _ (i : Instance) where
   has_node (ports.Output n) there d = (first_output i + n, below_is (length (part_of i).outputs) (first_output i) n there)
   has_node (ports.Done g) there d = (first_done i + g, below_is (length (part_of i).groups) (first_done i) g there)
   has_node (ports.Literal w v) there d = absurd (d w v refl)
-
-pub component_cells : (d : PlainDesign) (k : ℕ) → k < length d.components → cell_count (cells_of (component_of d k)) ≡ length (component_at d k).cells
-component_cells d k h = choice (length d.components) h
-  where
-    choice : (n : ℕ) → k < n → cell_count (cells_of (tree_within d n k)) ≡ length (component_at d k).cells
-    choice zero h = absurd (omega (arith, h))
-    choice (suc n) h = count_for (tree_within d n) (component_at d k).cells
 
 pub cells_of_part : (components : List Component) (main k : ℕ) (part : Component) → k < length components → plain_component part ≡ component_at (plain_parts components main) k
     → length part.cells.items ≡ cell_count (cells_of (component_of (plain_parts components main) k))

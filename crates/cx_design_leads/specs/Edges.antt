@@ -1,5 +1,6 @@
 -- What leads to what in a component, as edges between the nodes of its ports.
 use Rattle.std.specs.Prelude.{◌≡◌, ℕ, false, List, [], Some, length}
+use Rattle.cx_text.specs.Members.{In}
 use Rattle.cx_graphs.specs.Graphs as graphs
 use Rattle.cx_graphs.specs.Graphs.{Edges, edges_of, targets_of}
 use Rattle.cx_graphs.specs.Additions.{IsBare}
@@ -10,7 +11,7 @@ use Rattle.cx_prim.specs.declared.ports.Side.TheVariants.{Output}
 use Rattle.cx_prim.specs.Rows.{Row}
 use Rattle.cx_meaning.specs.Rows.{side_of}
 use Rattle.cx_meaning.specs.Instances.{Instance, OfRow, cell_at, cells_of, part_of}
-use Rattle.cx_meaning.specs.Sights.{In, IsWanted}
+use Rattle.cx_meaning.specs.Sights.{IsWanted}
 use Rattle.cx_rules.specs.Ports.{is_source_only}
 use Rattle.cx_rules.specs.Footprints.{AssignNames}
 use Rattle.cx_design_leads.specs.Nodes.{node_count, node_of}
@@ -27,8 +28,8 @@ pub record Between (i : Instance) (relation : PortRef → PortRef → Type 0) (m
 -- a graph has an edge between two nodes exactly where one of their ports leads to the other
 pub record HasEdges (i : Instance) (relation : PortRef → PortRef → Type 0) (g : Edges) : Type 0 where
   pub same_length : length g ≡ node_count i
-  pub sound : (m n : ℕ) → graphs.In (targets_of g m) n → Between i relation m n
-  pub all : (m n : ℕ) → Between i relation m n → graphs.In (targets_of g m) n
+  pub sound : (m n : ℕ) → In (targets_of g m) n → Between i relation m n
+  pub all : (m n : ℕ) → Between i relation m n → In (targets_of g m) n
 
 -- a combinational output of a primitive reads an input
 pub record ReadsInRow (i : Instance) (p q : PortRef) : Type 0 where
@@ -57,7 +58,7 @@ pub record IsClear (count : ℕ) (more : GroupLeads) : Type 0 where
 pub record IsSpread (count : ℕ) (g : Edges) (targets : List ℕ) : Type 0 where
   pub same_length : length g ≡ count
   pub within : graphs.Bounded count targets
-  pub from_targets : (m n : ℕ) → graphs.In (targets_of g m) n → graphs.In targets m
+  pub from_targets : (m n : ℕ) → In (targets_of g m) n → In targets m
 
 abbrev pub IsSpreadOf : ℕ → GroupLeads → Type 0
 IsSpreadOf count more = IsSpread count (edges_of more.edges.items) more.targets.items

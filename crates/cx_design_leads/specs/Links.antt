@@ -10,16 +10,10 @@ use Rattle.cx_meaning.specs.declared.ports.PlacedPort.{PlacedPort}
 use Rattle.cx_meaning.specs.Rows.{side_of}
 use Rattle.cx_meaning.specs.Designs.{PlainAssign}
 use Rattle.cx_meaning.specs.Instances.{Instance, OfRow, cell_at, cells_of}
-use Rattle.cx_meaning.specs.Sights.{In}
+use Rattle.cx_text.specs.Members.{In}
 use Rattle.cx_rules.specs.Ports.{is_source_only}
 use Rattle.cx_rules.specs.Footprints.{AssignNames}
 use Rattle.cx_design_leads.specs.Nodes.{node_of}
-
-abbrev pub is_combinational : Side → Bool
-is_combinational Enable = false
-is_combinational Plain = false
-is_combinational Output = true
-is_combinational Registered = false
 
 -- the node of a port that an assignment can drive
 abbrev pub driven_node : Instance → PortRef → Option ℕ

@@ -3,7 +3,7 @@
 use Rattle.std.specs.Prelude.{◌≡◌, ℕ, zero, suc, ◌+◌, ◌≤◌, nat_lt, Option, Some, None, length, slice_index, if◌then◌else◌}
 use Rattle.cx_meaning.specs.declared.ports.PortRef.{PortRef}
 use Rattle.cx_meaning.specs.declared.ports.PortRef.TheVariants as ports
-use Rattle.cx_meaning.specs.Instances.{Instance, Cells, no_cells, a_primitive, an_instance, cell_at, cells_of, part_of}
+use Rattle.cx_meaning.specs.Instances.{Instance, Cells, cell_at, cell_count, cells_of, part_of}
 use Rattle.cx_rules.specs.Wellformed.{port_count}
 use Rattle.cx_design_leads.specs.declared.numbering.Nodes.{Nodes}
 
@@ -11,11 +11,6 @@ use Rattle.cx_design_leads.specs.declared.numbering.Nodes.{Nodes}
 abbrev pub ports_before : Cells → ℕ → ℕ
 ports_before cells zero = 0
 ports_before cells (suc c) = ports_before cells c + port_count (cell_at cells c)
-
-abbrev pub cell_count : Cells → ℕ
-cell_count no_cells = 0
-cell_count (a_primitive row rest) = suc (cell_count rest)
-cell_count (an_instance child rest) = suc (cell_count rest)
 
 -- the first input, the first output, the first done, and how many nodes there are
 abbrev pub first_input : Instance → ℕ

@@ -2,11 +2,11 @@
 
 ghost use Rattle.std.specs.Prelude.{◌≡◌, ◌+◌, ◌-◌, ◌<◌, ◌≤◌, ℕ, IfOk, length, slice_index};
 ghost use Rattle.cx_meaning.specs.declared.ports.PortRef.TheVariants.{Cell};
-ghost use Rattle.cx_meaning.specs.Instances.{Instance, cell_at, cells_of};
+ghost use Rattle.cx_meaning.specs.Instances.{Instance, cell_at, cells_of, cell_count};
 ghost use Rattle.cx_rules.specs.Ports.{component_of};
 ghost use Rattle.cx_rules.specs.Wellformed as wellformed;
 ghost use Rattle.cx_design.specs.PlainDesigns.{plain_design};
-ghost use Rattle.cx_design_leads.specs.Nodes.{IsNodesOf, below, cell_count, node_count, node_of, ports_before};
+ghost use Rattle.cx_design_leads.specs.Nodes.{IsNodesOf, below, node_count, node_of, ports_before};
 
 use cx_cells::Primitive;
 use cx_design::{Design, PortRef};

@@ -4,12 +4,13 @@ ghost use Rattle.std.specs.Prelude.{◌≡◌, ◌<◌, OnOk, length};
 ghost use Rattle.cx_graphs.specs.Graphs.{edges_of};
 ghost use Rattle.cx_graphs.specs.Additions.{Adds};
 ghost use Rattle.cx_prim.specs.Table.{row_of};
-ghost use Rattle.cx_meaning.specs.Instances.{Instance, cells_of};
+ghost use Rattle.cx_meaning.specs.Instances.{Instance, cells_of, cell_count};
 ghost use Rattle.cx_meaning.specs.Rows.{side_of};
 ghost use Rattle.cx_rules.specs.Ports.{component_of};
 ghost use Rattle.cx_design.specs.PlainDesigns.{plain_design};
-ghost use Rattle.cx_design_leads.specs.Nodes.{IsNodesOf, cell_count, node_count};
-ghost use Rattle.cx_design_leads.specs.Links.{OfCell, OfCells, OfPort, OfPorts, ToInputs, is_combinational};
+ghost use Rattle.cx_design_leads.specs.Nodes.{IsNodesOf, node_count};
+ghost use Rattle.cx_design_leads.specs.Links.{OfCell, OfCells, OfPort, OfPorts, ToInputs};
+ghost use Rattle.cx_design_parts.specs.Outputs.{is_combinational};
 
 use crate::assigns::add_port;
 use crate::numbering::{Nodes, narrow};

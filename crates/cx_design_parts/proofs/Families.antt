@@ -1,12 +1,12 @@
 -- Lists that have the breaks of a family of breaks.
 use Rattle.std.proofs.Common.{ℕ, List, ◌++◌, ◌⊎◌, inl, inr, ⊎_elim}
+use Rattle.cx_text.proofs.MemberLaws.{in_either, in_left, in_right}
 use Rattle.cx_text.specs.declared.places.Place.{Place}
 use Rattle.cx_text.specs.declared.rules.Rule.{Rule}
 use Rattle.cx_meaning.specs.Designs.{PlainDesign}
 use Rattle.cx_rules.specs.Spots.{Spot}
 use Rattle.cx_design_parts.specs.Breaks.{Broken}
 use Rattle.cx_design_parts.specs.Answers.{AreBreaks, AreBreaksBy, StageBreaks}
-use Rattle.cx_design_parts.proofs.Lists.{in_left, in_right, in_either}
 
 -- of two families, the breaks of either
 abbrev pub Either : (Rule → Spot → Place → List ℕ → Type 0) → (Rule → Spot → Place → List ℕ → Type 0) → Rule → Spot → Place → List ℕ → Type 0

@@ -1,7 +1,7 @@
 -- The first of a list of breaks is one of them, and none of them comes before it.
 use Rattle.std.proofs.Common.{◌≡◌, ℕ, Bool, true, false, cond, List, [], ◌∷◌, length, Option, Some, None, ◌⊎◌, inl, inr, ⊎_elim, refl, sym, ap, ◌∙◌, subst}
 use Rattle.cx_meaning.specs.Designs.{PlainDesign}
-use Rattle.cx_meaning.specs.Sights.{In}
+use Rattle.cx_text.specs.Members.{In}
 use Rattle.cx_rules.specs.Spots.{Part, Itself, ABind, AnAssign, AStatement, AGroup, Whole}
 use Rattle.cx_rules.specs.Accepted.{number_of, part_key, comes_before}
 use Rattle.cx_design_parts.specs.Breaks.{Broken, key, earlier, first_of}

@@ -4,7 +4,8 @@ pub mod Order
 mod First
 pub mod Lists
 pub mod Families
-mod Stable
+pub mod Stable
 mod SourceOrder
 mod CellLemmas
 mod NameLemmas
+pub mod ReadLemmas

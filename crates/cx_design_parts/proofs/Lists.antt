@@ -1,47 +1,27 @@
 -- Lists of breaks: what stands in them, and their first.
-use Rattle.std.proofs.Common.{◌≡◌, ◌+◌, ℕ, zero, suc, List, [], ◌∷◌, ◌++◌, Option, Some, None, map, drop, slice_get, flat_map, ◌⊎◌, inl, inr, ⊎_elim, refl, sym, ap, ◌∙◌, subst, arith, add-one}
-use Rattle.cx_meaning.specs.Sights.{In}
+use Rattle.std.proofs.Common.{◌≡◌, ◌+◌, ◌-◌, ◌<◌, ◌≤◌, ℕ, zero, suc, List, [], ◌∷◌, ◌++◌, Option, Some, None, map, drop, slice_get, flat_map, ◌⊎◌, inl, inr, ⊎_elim, refl, sym, ap, ◌∙◌, subst, arith, add-one}
+use Rattle.cx_text.specs.declared.places.Place.{Place}
+use Rattle.cx_text.specs.declared.rules.Rule.{Rule}
+use Rattle.cx_text.proofs.MemberLaws.{in_either, in_left, in_right}
+use Rattle.cx_text.specs.Members.{In}
+use Rattle.cx_text.proofs.OptionLaws.{same_some}
+use Rattle.cx_rules.specs.Spots.{Spot}
 use Rattle.cx_design_parts.specs.Breaks.{Broken, earlier, first_of}
-use Rattle.cx_design_parts.specs.Numbered.{numbered}
+use Rattle.cx_design_parts.specs.Numbered.{numbered, counted}
 
 pub first_append : (best : Option Broken) (xs ys : List Broken) → first_of best (xs ++ ys) ≡ first_of (first_of best xs) ys
 first_append best [] ys = refl
 first_append best (x ∷ xs) ys = first_append (earlier best x) xs ys
 
-module _ {A : Type 0} where
-  pub in_left : (xs ys : List A) (x : A) → In xs x → In (xs ++ ys) x
-  in_left [] ys x i = absurd i
-  in_left (y ∷ xs) ys x (inl e) = inl e
-  in_left (y ∷ xs) ys x (inr i) = inr (in_left xs ys x i)
-
-  pub in_right : (xs ys : List A) (x : A) → In ys x → In (xs ++ ys) x
-  in_right [] ys x i = i
-  in_right (y ∷ xs) ys x i = inr (in_right xs ys x i)
-
-  pub in_either : (xs ys : List A) (x : A) → In (xs ++ ys) x → In xs x ⊎ In ys x
-  in_either [] ys x i = inr i
-  in_either (y ∷ xs) ys x (inl e) = inl (inl e)
-  in_either (y ∷ xs) ys x (inr i) = ⊎_elim (λ p. inl (inr p)) (λ q. inr q) (in_either xs ys x i)
-
-module _ {A B : Type 0} (f : A → List B) where
-  pub in_flat : (xs : List A) (x : A) (b : B) → In xs x → In (f x) b → In (flat_map f xs) b
-  in_flat [] x b i j = absurd i
-  in_flat (y ∷ xs) x b (inl e) j = in_left (f y) (flat_map f xs) b (subst (λ v. In (f v) b) (sym e) j)
-  in_flat (y ∷ xs) x b (inr i) j = in_right (f y) (flat_map f xs) b (in_flat xs x b i j)
-
-  pub flat_in : (xs : List A) (b : B) → In (flat_map f xs) b → (x : A) × In xs x × In (f x) b
-  flat_in [] b i = absurd i
-  flat_in (y ∷ xs) b i = ⊎_elim (λ p. (y, inl refl, p)) (λ q. let rest = flat_in xs b q in (rest.0, inr rest.1, rest.2)) (in_either (f y) (flat_map f xs) b i)
-
-abbrev one_or : {A : Type 0} → A → Option A → A
-one_or y None = y
-one_or y (Some x) = x
+-- a break by its parts
+abbrev pub broken : Rule → Spot → Place → List ℕ → Broken
+broken rule spot place name = record { rule = rule; spot = spot; place = place; name = name }
 
 module _ {A : Type 0} (f : ℕ → A → List Broken) where
   pub in_numbered : (n : ℕ) (xs : List A) (m : ℕ) (x : A) (b : Broken) → slice_get xs m ≡ Some x → In (f (n + m) x) b → In (numbered f n xs) b
   in_numbered n [] m x b e i = absurd (cc)
   in_numbered n (y ∷ xs) zero x b e i =
-      let same : y ≡ x = ap (one_or y) e in
+      let same : y ≡ x = same_some y x e in
       let at : n + 0 ≡ n = omega arith in
       in_left (f n y) (numbered f (suc n) xs) b (subst (λ v. In (f n v) b) (sym same) (subst (λ v. In (f v x) b) at i))
   in_numbered n (y ∷ xs) (suc m) x b e i =
@@ -68,3 +48,37 @@ next_number view f n xs x best next rest at step so_far =
     ∙ sym (first_append best (f n (view x)) (numbered f (suc n) more))
     ∙ ap (λ l. first_of best (numbered f n (map view l))) (sym at)
     ∙ so_far
+
+-- BREAKS OF NUMBERS
+module _ (f : ℕ → List Broken) where
+  in_counted : (n left m : ℕ) (b : Broken) → m < left → In (f (n + m)) b → In (counted f n left) b
+  in_counted n zero m b few h = absurd (omega (arith, few))
+  in_counted n (suc left) zero b few h = let same : n + 0 ≡ n = omega arith in in_left (f n) (counted f (suc n) left) b (subst (λ v. In (f v) b) same h)
+  in_counted n (suc left) (suc m) b few h =
+      let same : n + suc m ≡ suc n + m = omega arith in
+      in_right (f n) (counted f (suc n) left) b (in_counted (suc n) left m b (omega (arith, few)) (subst (λ v. In (f v) b) same h))
+
+  -- those of all numbers below a count
+  pub in_all : (count n : ℕ) (b : Broken) → n < count → In (f n) b → In (counted f 0 count) b
+  in_all count n b within h = let same : n ≡ 0 + n = omega arith in in_counted 0 count n b within (subst (λ v. In (f v) b) same h)
+
+  counted_hold : (H : Broken → Type 0) (count n left : ℕ) (b : Broken) → ((m : ℕ) → m < count → In (f m) b → H b) → n + left ≤ count → In (counted f n left) b → H b
+  counted_hold H count n zero b holds few h = absurd h
+  counted_hold H count n (suc left) b holds few h =
+      ⊎_elim (holds n (omega (arith, few))) (counted_hold H count (suc n) left b holds (omega (arith, few))) (in_either (f n) (counted f (suc n) left) b h)
+
+  pub all_hold : (H : Broken → Type 0) (count : ℕ) (b : Broken) → ((m : ℕ) → m < count → In (f m) b → H b) → In (counted f 0 count) b → H b
+  all_hold H count b holds h = counted_hold H count 0 count b holds (omega arith) h
+
+  -- one more number is looked at
+  pub next_counted : (n count : ℕ) (best next rest : Option Broken) → n < count → next ≡ first_of best (f n) → first_of best (counted f n (count - n)) ≡ rest
+      → first_of next (counted f (n + 1) (count - (n + 1))) ≡ rest
+  next_counted n count best next rest few step so_far =
+      let left = count - (n + 1) in
+      let more = counted f (suc n) left in
+      let at : count - n ≡ suc left = omega (arith, few) in
+      ap (λ m. first_of next (counted f m left)) (add-one n)
+      ∙ ap (λ b. first_of b more) step
+      ∙ sym (first_append best (f n) more)
+      ∙ ap (λ m. first_of best (counted f n m)) (sym at)
+      ∙ so_far

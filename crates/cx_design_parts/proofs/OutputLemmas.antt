@@ -15,26 +15,20 @@ use Rattle.cx_prim.specs.PipeRows.{multiplier_row, divider_row, timer_row}
 use Rattle.cx_prim.specs.Table.{PrimitiveRow, no_row, row_of}
 use Rattle.cx_prim.proofs.TableCases.{OfEachKind, of_row}
 use Rattle.cx_meaning.specs.Rows.{side_of, side_from}
-use Rattle.cx_design_parts.specs.Outputs.{is_write_data, read_count, ReadsFirst}
+use Rattle.cx_design_parts.specs.Outputs.{is_combinational, is_write_data, read_count, ReadsFirst}
 use Rattle.cx_text.proofs.NumberLaws.{is_at}
 use Rattle.cx_text.proofs.BoolLaws.{and_left, and_right}
 
 -- a row without combinational outputs
-abbrev is_output : Side → Bool
-is_output Enable = false
-is_output Plain = false
-is_output Output = true
-is_output Registered = false
+no_output : (side : Side) → not (is_combinational side) ≡ true → side ≡ Output → ⊥
+no_output side h e = let wrong : false ≡ true = ap (λ s. not (is_combinational s)) (sym e) ∙ h in cc
 
-no_output : (side : Side) → not (is_output side) ≡ true → side ≡ Output → ⊥
-no_output side h e = let wrong : false ≡ true = ap (λ s. not (is_output s)) (sym e) ∙ h in cc
-
-none_is_output : (ports : List PortRow) (n : ℕ) → list_all (λ port. not (is_output port.side)) ports ≡ true → side_from ports n ≡ Output → ⊥
+none_is_output : (ports : List PortRow) (n : ℕ) → list_all (λ port. not (is_combinational port.side)) ports ≡ true → side_from ports n ≡ Output → ⊥
 none_is_output [] n h e = cc
-none_is_output (port ∷ ports) zero h e = no_output port.side (and_left (not (is_output port.side)) (list_all (λ p. not (is_output p.side)) ports) h) e
-none_is_output (port ∷ ports) (suc n) h e = none_is_output ports n (and_right (not (is_output port.side)) (list_all (λ p. not (is_output p.side)) ports) h) e
+none_is_output (port ∷ ports) zero h e = no_output port.side (and_left (not (is_combinational port.side)) (list_all (λ p. not (is_combinational p.side)) ports) h) e
+none_is_output (port ∷ ports) (suc n) h e = none_is_output ports n (and_right (not (is_combinational port.side)) (list_all (λ p. not (is_combinational p.side)) ports) h) e
 
-pub registered_reads : (row : Row) → list_all (λ port. not (is_output port.side)) row.ports ≡ true → ReadsFirst row
+pub registered_reads : (row : Row) → list_all (λ port. not (is_combinational port.side)) row.ports ≡ true → ReadsFirst row
 registered_reads row h = record { first = λ n m e. absurd (none_is_output row.ports n h e) }
 
 -- memories

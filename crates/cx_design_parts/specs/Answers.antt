@@ -6,7 +6,7 @@ use Rattle.cx_text.specs.declared.diagnostics.Diagnostic.{Diagnostic}
 use Rattle.cx_design.specs.declared.refusals.Refusal as refusals
 use Rattle.cx_design.specs.declared.refusals.Refusal.TheVariants as refused
 use Rattle.cx_meaning.specs.Designs.{PlainDesign}
-use Rattle.cx_meaning.specs.Sights.{In}
+use Rattle.cx_text.specs.Members.{In}
 use Rattle.cx_rules.specs.Spots.{Spot}
 use Rattle.cx_rules.specs.Accepted.{Breaks, stage_of, key_of, comes_before, KeepsStage, IsFirstOf}
 use Rattle.cx_design_parts.specs.Breaks.{Broken, key}

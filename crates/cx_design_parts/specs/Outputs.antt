@@ -14,6 +14,13 @@ is_plain Plain = true
 is_plain Output = false
 is_plain Registered = false
 
+-- a combinational output
+abbrev pub is_combinational : Side → Bool
+is_combinational Enable = false
+is_combinational Plain = false
+is_combinational Output = true
+is_combinational Registered = false
+
 abbrev pub is_write_data : PortName → Bool
 is_write_data WriteData = true
 is_write_data _ = false

@@ -1,7 +1,7 @@
 //! Laws of lists of breaks: each function does nothing, and its clause is the law.
 
 ghost use Rattle.std.specs.Prelude.{◌≡◌, ◌+◌, ◌++◌, ℕ, List, Option, Some, slice_get};
-ghost use Rattle.cx_meaning.specs.Sights.{In};
+ghost use Rattle.cx_text.specs.Members.{In};
 ghost use Rattle.cx_meaning.specs.Designs.{PlainDesign};
 ghost use Rattle.cx_design_parts.specs.Answers.{AreBreaks, AreBreaksBy, StageBreaks};
 ghost use Rattle.cx_design_parts.specs.Breaks.{Broken, first_of};

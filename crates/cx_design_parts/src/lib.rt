@@ -19,7 +19,7 @@ pub use breaks::{Break, FirstBreak, Part, Spot};
 pub use cells::{At, component, stands_at};
 pub use control::{Context, Visited, statements, test};
 pub use guards::{Pair, Range, atoms, comparisons, operands, ranges};
-pub use names::path;
+pub use names::{cell_name, group_name, group_of, path};
 pub use ordering::{OwnedAssign, source_order};
 pub use output_sides::{read_count, side};
 pub use parts::{PartPort, part_port};

@@ -88,8 +88,9 @@ fn literal_name(alloc: Global, width: u32, value: u128) -> Result<Vec<u8>, Memor
     )
 }
 
+/// The name of a cell; empty for a number that names no cell.
 #[tactic(auto, using(crate::proofs::NameLemmas::name_of_cell))]
-fn cell_name(component: &Component, cell: u32) -> &[u8]
+pub fn cell_name(component: &Component, cell: u32) -> &[u8]
     ensures value { result.now ≡ ports.cell_name (plain_component component.now).cells cell }
 {
     match cell_of(component, cell) {
@@ -98,8 +99,9 @@ fn cell_name(component: &Component, cell: u32) -> &[u8]
     }
 }
 
+/// The name of a group; empty for a number that names no group.
 #[tactic(auto, using(crate::proofs::NameLemmas::name_of_group))]
-fn group_name(component: &Component, group: u32) -> &[u8]
+pub fn group_name(component: &Component, group: u32) -> &[u8]
     ensures value { result.now ≡ (group_at (plain_component component.now) group).name }
 {
     match group_of(component, group) {
@@ -159,7 +161,7 @@ fn decl_of(decls: &[PortDecl], number: u32) -> Option<&PortDecl>
 }
 
 /// The group of a number, where the component has it.
-fn group_of(component: &Component, number: u32) -> Option<&Group>
+pub fn group_of(component: &Component, number: u32) -> Option<&Group>
     ensures none { IfNone result (slice_get (plain_component component.now).groups number ≡ None) }
     ensures some { IfSome result (λ group. slice_get (plain_component component.now).groups number ≡ Some (plain_group group.now)) }
 {

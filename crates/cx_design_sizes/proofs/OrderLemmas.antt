@@ -6,14 +6,14 @@ use denote.Struct.Props.{props}
 use Rattle.std.proofs.lemmas.Bool.{cases_lt, cases_eq}
 use Rattle.std.proofs.Math.Seq.{take-append_seam}
 use Rattle.std.proofs.lemmas.List.{length-set, length-append, length-map, take-append-le}
+use Rattle.cx_text.proofs.MemberLaws.{in_at, in_either, in_left, in_right, number_in}
 use Rattle.cx_meaning.specs.Designs.{PlainKind, OfPrimitive, OfComponent, PlainCell, PlainDesign, component_at}
-use Rattle.cx_meaning.specs.Sights.{In}
+use Rattle.cx_text.specs.Members.{In}
 use Rattle.cx_rules.specs.Wellformed.{IsDesign, LeadsTo, by_cell, by_way_of}
 use Rattle.cx_rules.proofs.Finite.{Distinct}
 use Rattle.cx_design_sizes.specs.declared.order.Step.{Step}
 use Rattle.cx_design_sizes.specs.Orders.{IsChildrenFirst, if_unplaced, unplaced, ArePlaced, IsNext}
 use Rattle.cx_design_sizes.proofs.Places.{slice_get-replicate, in_snoc, snoc_place, distinct_snoc, distinct_append, few_below}
-use Rattle.cx_meaning.proofs.SightsLaws.{in_left, in_right, in_at, number_in, in_either}
 use Rattle.cx_text.proofs.OptionLaws.{none_is_some}
 use Rattle.cx_text.proofs.ListLaws.{set_same, set_other, there_below}
 use Rattle.cx_rules.proofs.ItemsLemmas.{kind_there}

@@ -2,9 +2,9 @@
 use Rattle.std.proofs.Common.{◌≡◌, ℕ, zero, suc, ◌<◌, ◌≤◌, inl, inr, ◌⊎◌, ⊎_elim, List, [], ◌∷◌, ◌++◌, length, replicate, Some, refl, sym, ap, arith}
 use Rattle.std.specs.List.{slice_get}
 use Rattle.std.proofs.lemmas.Bool.{cases_lt}
-use Rattle.cx_meaning.specs.Sights.{In}
+use Rattle.cx_text.proofs.MemberLaws.{in_either}
+use Rattle.cx_text.specs.Members.{In}
 use Rattle.cx_rules.proofs.Finite.{Distinct, distinct_few}
-use Rattle.cx_meaning.proofs.SightsLaws.{in_either}
 use Rattle.cx_text.proofs.OptionLaws.{none_is_some}
 
 pub slice_get-replicate : {A : Type 0} (n i : ℕ) (x y : A) → slice_get (replicate n x) i ≡ Some y → x ≡ y

@@ -4,11 +4,12 @@ use Rattle.std.specs.List.{slice_get}
 use Rattle.std.proofs.lemmas.Bool.{cases_eq}
 use Rattle.std.proofs.lemmas.List.{get_or-set_same, get_or-set_other, get_or_default, length-set, take_more, take_all}
 use Rattle.std.proofs.lemmas.Option.{get_or_from_slice_get, slice_get-get_or}
+use Rattle.cx_text.proofs.MemberLaws.{in_at}
 use Rattle.cx_prim.specs.Rows.{Row}
 use Rattle.cx_prim.specs.Table.{row_of}
 use Rattle.cx_meaning.specs.Designs.{PlainKind, OfPrimitive, OfComponent, PlainCell, PlainComponent, PlainDesign, component_at}
 use Rattle.cx_meaning.specs.Instances.{Instance, Node, Cells, a_primitive, an_instance, add_cell, cells_for, tree_within, tree_of}
-use Rattle.cx_meaning.specs.Sights.{In}
+use Rattle.cx_text.specs.Members.{In}
 use Rattle.cx_rules.specs.Sizes.{size_of, weight_below, weight_in, instances_below, instances_in, depth_below, depth_in, words_below, words_in, shape_words}
 use Rattle.cx_design_sizes.specs.Capped.{capped}
 use Rattle.cx_design_sizes.specs.declared.tallies.LimitTally.{LimitTally}
@@ -17,7 +18,6 @@ use Rattle.cx_design_sizes.specs.Tallies.{tally_of, tally_in, no_tally, beside, 
 use Rattle.cx_design_sizes.proofs.Places.{in_snoc}
 use Rattle.cx_design_sizes.proofs.TalliesLemmas.{tally_eq}
 use Rattle.cx_text.proofs.ListLaws.{there_below}
-use Rattle.cx_meaning.proofs.SightsLaws.{in_at}
 
 capped_sum : (a b : ℕ) → capped (capped a + capped b) ≡ capped (a + b)
 capped_sum a b = omega arith

@@ -1,6 +1,7 @@
 -- The way through the components, turn by turn.
 use Rattle.std.proofs.Common.{◌≡◌, ℕ, ◌+◌, ◌-◌, ◌*◌, ◌<◌, ◌≤◌, inl, Bool, true, false, List, [], ◌∷◌, ◌++◌, length, map, get_or, set, replicate, refl, sym, ap, ◌∙◌, subst, arith}
 use Rattle.std.proofs.lemmas.List.{length-map}
+use Rattle.cx_text.proofs.MemberLaws.{in_right}
 use Rattle.cx_meaning.specs.Designs.{PlainCell, PlainDesign, component_at}
 use Rattle.cx_rules.specs.Wellformed.{IsDesign}
 use Rattle.cx_design.specs.declared.cells.Cell.{Cell}
@@ -11,7 +12,6 @@ use Rattle.cx_design_sizes.specs.declared.order.Step.{Step}
 use Rattle.cx_design_sizes.specs.Orders.{IsChildrenFirst, ArePlaced, IsNext}
 use Rattle.cx_design_sizes.proofs.OrderLemmas.{IsOnWay, IsUnderWay, begin, push, place, few, finish}
 use Rattle.cx_text.proofs.ListLaws.{one_more}
-use Rattle.cx_meaning.proofs.SightsLaws.{in_right}
 
 pub begin_at : (d : PlainDesign) (placed : List Bool) (order : List ℕ) (none path : List Step) → d.main < length d.components → placed ≡ replicate (length d.components) false
     → length placed ≡ length d.components → order ≡ [] → none ≡ [] → path ≡ none ++ record { component = d.main; next = 0 } ∷ [] → IsUnderWay d placed order path

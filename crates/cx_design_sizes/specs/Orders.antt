@@ -1,7 +1,7 @@
 -- Orders of components in which those of a component's cells come before it.
 use Rattle.std.specs.Prelude.{◌≡◌, ℕ, ◌<◌, ◌≤◌, Bool, true, false, List, Option, Some, None, length, take, slice_get}
 use Rattle.cx_meaning.specs.Designs.{PlainKind, OfPrimitive, OfComponent, PlainCell, PlainDesign, component_at}
-use Rattle.cx_meaning.specs.Sights.{In}
+use Rattle.cx_text.specs.Members.{In}
 
 -- each component stands behind those of its cells, main is among them, and they are no more than the design has
 pub record IsChildrenFirst (d : PlainDesign) (order : List ℕ) : Type 0 where

@@ -9,7 +9,7 @@ use Rattle.cx_text.specs.Loading.{PlainMemory, words_loaded}
 use Rattle.cx_data.specs.Load.{load_of}
 use Rattle.cx_meaning.specs.Designs.{PlainDesign}
 use Rattle.cx_meaning.specs.Instances.{instance_at, part_of, paths_of, tree_of}
-use Rattle.cx_meaning.specs.Sights.{In}
+use Rattle.cx_text.specs.Members.{In}
 use Rattle.cx_rules.specs.Externals.{external_rows}
 use Rattle.cx_profiling.specs.Counters.{ProfileEntry, entries_of}
 use Rattle.cx_profiling.specs.Counting.{tally_of}

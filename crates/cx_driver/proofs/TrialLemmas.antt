@@ -1,6 +1,7 @@
 -- What a trial tells is one thing, made of what its parts tell; targets of its tree are ports.
 use Rattle.std.proofs.Common.{◌≡◌, ◌⊎◌, inl, inr, ⊎_elim, ℕ, ◌≤◌, ◌<◌, ◌^◌, All, if◌then◌else◌, Bool, false, List, [], ◌∷◌, map, flat_map, Some, None, Result, Ok, Err, IfOk, IfErr, MatchResult, refl, sym, ap, ◌∙◌, subst}
 use Rattle.std.proofs.lemmas.Bool.{lt-ltb, le-ltb}
+use Rattle.cx_text.proofs.MemberLaws.{each_in, flat_in, in_either}
 use Rattle.cx_text.specs.declared.diagnostics.Diagnostic.{Diagnostic}
 use Rattle.cx_text.specs.declared.limits.TheConstants.{BUDGET, COMPILE_SIZE}
 use Rattle.cx_text.specs.Loading.{FitsShape}
@@ -8,7 +9,7 @@ use Rattle.cx_data.specs.Dump.{dump_text}
 use Rattle.cx_vtree.specs.PlainParts.{rows_of}
 use Rattle.cx_ast.specs.PlainTree.{PlainTree, PlainComponent, PlainGroup, PlainAssign}
 use Rattle.cx_meaning.specs.Designs.{PlainDesign}
-use Rattle.cx_meaning.specs.Sights.{In}
+use Rattle.cx_text.specs.Members.{Each, In}
 use Rattle.cx_rules.specs.Externals.{external_rows}
 use Rattle.cx_rules.specs.Sizes.{design_size}
 use Rattle.cx_net.specs.Realises.{Realises}
@@ -16,7 +17,6 @@ use Rattle.cx_numbering.specs.DesignOf.{design_of}
 use Rattle.cx_numbering.specs.Names.{groups_in, always_in}
 use Rattle.cx_numbering.specs.NameRules.{Standing, standing}
 use Rattle.cx_names.specs.Targets.{is_literal, HasTargets}
-use Rattle.cx_design_parts.proofs.Lists.{in_either, flat_in}
 use Rattle.cx_check.specs.Acceptance.{IsAcceptedTree, TreeBreak}
 use Rattle.cx_check.proofs.Verdicts as verdicts
 use Rattle.cx_trial.specs.TrialTree.{all_groups, trial_tree}
@@ -29,48 +29,33 @@ use Rattle.cx_compiler.specs.Texts.{IsTreeStop}
 use Rattle.cx_compiler.proofs.Once.{Told, not_both, same_stop, all_answered, all_stopped}
 use Rattle.cx_compiler.proofs.OneSource.{one_source_of}
 use Rattle.cx_compiler.proofs.BelowLemmas.{loaded_fits}
-use Rattle.cx_flat_texts.proofs.TextNames.{Each, each_in}
 use Rattle.cx_driver.specs.Tried.{HasTrialMemory, words_sum, zeros, line_of, line_result, try_result, TreeTries, Tries}
 use Rattle.cx_driver.proofs.SimLemmas.{left_answers, no_stop}
 use Rattle.cx_driver.proofs.TrialMemory.{shapes_stay, small_sum}
 use Rattle.cx_driver.proofs.TrialPlaces.{trial_once}
 use Rattle.cx_driver.proofs.TrialWires.{OfGroup, groups_each, none_always, all_hold}
 use Rattle.cx_driver.proofs.LeftLemmas.{design_in_text, text_once}
+use Rattle.cx_names.proofs.TargetLemmas.{IsPort, owned, inside, free, HasTarget}
 
 -- TARGETS: no target of an assignment is a literal
-abbrev IsDriven : PlainAssign → Type 0
-IsDriven a = is_literal a.target.form ≡ false
+all_driven : (seed : ℕ) → Each (OfGroup HasTarget) (all_groups seed)
+all_driven seed = all_hold HasTarget (λ cell port source. refl) (λ group cell. refl) seed
 
-all_driven : (seed : ℕ) → Each (OfGroup IsDriven) (all_groups seed)
-all_driven seed = all_hold IsDriven (λ cell port source. refl) (λ group cell. refl) seed
-
-abbrev IsPort : Standing → Type 0
-IsPort x = is_literal x.assign.target.form ≡ false
-
-abbrev owned : PlainGroup → PlainAssign → Standing
-owned g a = record { group = Some g.name; assign = a }
-
-abbrev inside : PlainGroup → List Standing
-inside g = map (owned g) g.assigns
-
-abbrev free : PlainAssign → Standing
-free a = record { group = None; assign = a }
-
-owned_port : (g : PlainGroup) (assigns : List PlainAssign) (x : Standing) → Each IsDriven assigns → In (map (owned g) assigns) x → IsPort x
+owned_port : (g : PlainGroup) (assigns : List PlainAssign) (x : Standing) → Each HasTarget assigns → In (map (owned g) assigns) x → IsPort x
 owned_port g [] x h i = absurd i
 owned_port g (a ∷ rest) x h (inl e) = subst IsPort e h.0
 owned_port g (a ∷ rest) x h (inr i) = owned_port g rest x h.1 i
 
-stands_as_port : (part : PlainComponent) (x : Standing) → Each (OfGroup IsDriven) part.wires → In (standing part) x → IsPort x
+stands_as_port : (part : PlainComponent) (x : Standing) → Each (OfGroup HasTarget) part.wires → In (standing part) x → IsPort x
 stands_as_port part x h i =
-    let none : In (map free (always_in part.wires)) x → IsPort x = λ p. absurd (subst (λ assigns. In (map free assigns) x) (none_always IsDriven part.wires h) p) in
+    let none : In (map free (always_in part.wires)) x → IsPort x = λ p. absurd (subst (λ assigns. In (map free assigns) x) (none_always HasTarget part.wires h) p) in
     let of_group : In (flat_map inside (groups_in part.wires)) x → IsPort x = λ q.
-    (let found = flat_in inside (groups_in part.wires) x q in owned_port found.0 found.0.assigns x (each_in (λ (g : PlainGroup). Each IsDriven g.assigns) (groups_in part.wires) found.0 (groups_each IsDriven part.wires h) found.1) found.2) in
+    (let found = flat_in inside (groups_in part.wires) x q in owned_port found.0 found.0.assigns x (each_in (λ (g : PlainGroup). Each HasTarget g.assigns) (groups_in part.wires) found.0 (groups_each HasTarget part.wires h) found.1) found.2) in
     ⊎_elim none of_group (in_either (map free (always_in part.wires)) (flat_map inside (groups_in part.wires)) x i)
 
 -- in the tree of a trial targets are ports
 pub trial_targets : (seed : ℕ) → HasTargets (trial_tree seed)
-trial_targets seed part (inl e) x i = stands_as_port part x (subst (λ (p : PlainComponent). Each (OfGroup IsDriven) p.wires) e (all_driven seed)) i
+trial_targets seed part (inl e) x i = stands_as_port part x (subst (λ (p : PlainComponent). Each (OfGroup HasTarget) p.wires) e (all_driven seed)) i
 trial_targets seed part (inr none) x i = absurd none
 
 -- WHAT A TRIAL DOES is one thing, where its tree is accepted

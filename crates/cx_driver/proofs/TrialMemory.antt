@@ -5,7 +5,7 @@ use Rattle.cx_text.specs.Loading.{PlainRow, PlainMemory, FitsShape, word_count, 
 use Rattle.cx_ast.specs.PlainTree.{PlainTree, PlainCell, PlainComponent}
 use Rattle.cx_meaning.specs.Designs.{PlainDesign, component_at}
 use Rattle.cx_meaning.specs.Designs.{PlainCell as Cell}
-use Rattle.cx_meaning.specs.Sights.{In}
+use Rattle.cx_text.specs.Members.{In}
 use Rattle.cx_rules.specs.Externals.{if_external, row_for, rows_of, external_rows}
 use Rattle.cx_numbering.specs.DesignOf.{design_of, plain_cell_of}
 use Rattle.cx_numbering.specs.Names.{is_external}

@@ -3,6 +3,7 @@
 use Rattle.std.proofs.Common.{◌≡◌, inl, inr, ⊎_elim, ℕ, zero, suc, ◌+◌, ◌*◌, ◌%◌, Bool, true, false, if◌then◌else◌, List, [], ◌∷◌, ◌++◌, map, length, ◌<◌, Some, None, slice_get, refl, sym, ap, ◌∙◌, subst, codes, arith}
 use Rattle.std.specs.Prelude.{nat_eq, flat_map}
 use Rattle.std.proofs.lemmas.List.{append-nil}
+use Rattle.cx_text.proofs.MemberLaws.{each_in, in_at}
 use Rattle.cx_text.specs.declared.diagnostics.Diagnostic.{Diagnostic}
 use Rattle.cx_text.specs.declared.places.Place.{Place}
 use Rattle.cx_text.specs.declared.rules.Rule.{Rule}
@@ -12,7 +13,7 @@ use Rattle.cx_ast.specs.PlainTree.{PlainTree, PlainComponent}
 use Rattle.cx_meaning.specs.declared.ports.PlacedPort.{PlacedPort}
 use Rattle.cx_meaning.specs.Designs.{PlainAssign, PlainGroup, PlainInvoke, PlainDesign, Always, component_at}
 use Rattle.cx_meaning.specs.Active.{Owned, owned, owned_by_groups, source_order}
-use Rattle.cx_meaning.specs.Sights.{In}
+use Rattle.cx_text.specs.Members.{Each, In}
 use Rattle.cx_numbering.specs.DesignOf.{Invoke, invokes_in, invokes_all, invokes_of, guard_or_always, assign_of, group_of, invoke_groups, static_invokes, first, component_of, design_of}
 use Rattle.cx_numbering.specs.Names.{groups_in, always_in}
 use Rattle.cx_rules.specs.Flat.{IsFlatPart, IsFlat}
@@ -25,7 +26,6 @@ use Rattle.cx_check.proofs.Verdicts.{refused_once}
 use Rattle.cx_trial.specs.TrialParts.{up_to, indexed, step_name}
 use Rattle.cx_trial.specs.TrialControl.{enable, seq_of, par_of, repeated, rounds, step_of, arm_of, quarter_of, all_arms, whole_control}
 use Rattle.cx_trial.specs.TrialTree.{all_groups, trial_part, trial_tree}
-use Rattle.cx_flat_texts.proofs.TextNames.{Each, each_in}
 use Rattle.cx_driver.proofs.TrialWires.{OfGroup, each_up_to, groups_each, none_always, all_hold}
 
 -- NOTHING IS INVOKED in its control
@@ -124,17 +124,9 @@ module _ (seed : ℕ) where
       (split (owned None always) (owned_by_groups 0 (groups ++ invoke_groups tree part (first tree part) (invokes_of (whole_control seed)))) o
       (sorted_among (owned None always ++ owned_by_groups 0 (groups ++ invoke_groups tree part (first tree part) (invokes_of (whole_control seed)))) o i))
 
-  at_place : {A : Type 0} (xs : List A) (n : ℕ) (x : A) → slice_get xs n ≡ Some x → In xs x
-  at_place [] n x e = absurd (cc)
-  at_place (y ∷ xs) zero x e = let same : y ≡ x = cc in inl same
-  at_place (y ∷ xs) (suc n) x e = inr (at_place xs n x e)
-
-  nothing : {A : Type 0} (n : ℕ) (x : A) → (let list : List A = [] in slice_get list n ≡ Some x) → ⊥
-  nothing n x f = absurd (cc)
-
   order_unguarded : (k n : ℕ) (o : Owned) → slice_get (source_order (component_at (design_of tree) k)) n ≡ Some o → Unguarded o.assign
-  order_unguarded zero n o e = in_order o (at_place (source_order (component_of tree part)) n o e)
-  order_unguarded (suc k) n o e = absurd (nothing n o e)
+  order_unguarded zero n o e = in_order o (in_at (source_order (component_of tree part)) n o e)
+  order_unguarded (suc k) n o e = absurd (in_at [] n o e)
 
   no_binds : (k : ℕ) → binds_in (component_at (design_of tree) k) ≡ []
   no_binds zero = ap (λ ks. flat_map (λ (v : PlainInvoke). v.inputs) (static_invokes tree part (first tree part) ks)) (no_invokes seed)
@@ -143,7 +135,7 @@ module _ (seed : ℕ) where
   placed : IsPlaced (design_of tree)
   placed = record {
     assigns = λ k n o p q e ip iq tp tq same. one_operand o.assign p q (order_unguarded k n o e) ip iq;
-    binds = λ k n a p q e ip iq tp tq same. absurd (nothing n a (subst (λ xs. slice_get xs n ≡ Some a) (no_binds k) e));
+    binds = λ k n a p q e ip iq tp tq same. absurd (in_at [] n a (subst (λ xs. slice_get xs n ≡ Some a) (no_binds k) e));
   }
 
   -- NOTHING IS STATIC

@@ -1,22 +1,18 @@
 -- The wires of a trial are groups of assignments of two forms: a port of a cell is driven, or the hole `done` of the group.
 use Rattle.std.proofs.Common.{◌≡◌, ℕ, zero, suc, ◌+◌, ◌*◌, ◌%◌, List, [], ◌∷◌, ◌++◌, refl, codes}
+use Rattle.cx_text.specs.Members.{Each}
+use Rattle.cx_text.proofs.MemberLaws.{each_append}
 use Rattle.cx_ast.specs.PlainTree as ast
 use Rattle.cx_ast.specs.PlainTree.{PlainAssign, PlainGroup, PlainWire}
 use Rattle.cx_ast.specs.declared.operands.OperandItem.{OperandItem}
 use Rattle.cx_numbering.specs.Names.{groups_in, always_in}
 use Rattle.cx_trial.specs.TrialParts.{up_to, indexed, step_name, port_of, literal, drive, finish, sum_group, step_group, store_group}
 use Rattle.cx_trial.specs.TrialTree.{step_groups, arm_groups, all_groups}
-use Rattle.cx_flat_texts.proofs.TextNames.{Each}
-
--- LISTS
-pub both : {A : Type 0} (P : A → Type 0) (xs ys : List A) → Each P xs → Each P ys → Each P (xs ++ ys)
-both P [] ys h k = k
-both P (x ∷ xs) ys h k = (h.0, both P xs ys h.1 k)
 
 pub each_up_to : {A : Type 0} (P : A → Type 0) (f : ℕ → List A) → ((n : ℕ) → Each P (f n)) → (n : ℕ) → Each P (up_to f n)
 unfolding up_to
 each_up_to P f one zero = tt
-each_up_to P f one (suc n) = both P (up_to f n) (f n) (each_up_to P f one n) (one n)
+each_up_to P f one (suc n) = each_append P (up_to f n) (f n) (each_up_to P f one n) (one n)
 
 -- a group, of each of whose assignments this holds
 abbrev pub OfGroup : (PlainAssign → Type 0) → PlainWire → Type 0
@@ -52,7 +48,7 @@ module _ (P : PlainAssign → Type 0) (drives : (cell port : List ℕ) (source :
 
   arm_holds : (seed arm : ℕ) → Each (OfGroup P) (arm_groups seed arm)
   arm_holds seed arm =
-      both (OfGroup P) (step_groups seed arm) (sum_group (indexed (codes "h") arm) (indexed (codes "b") arm) (indexed (codes "s") arm) 1 ∷ store_group arm ∷ [])
+      each_append (OfGroup P) (step_groups seed arm) (sum_group (indexed (codes "h") arm) (indexed (codes "b") arm) (indexed (codes "s") arm) 1 ∷ store_group arm ∷ [])
       (each_up_to (OfGroup P) (λ step. step_group seed arm step ∷ []) (λ step. (sum_holds (step_name arm step) (indexed (codes "a") arm) (indexed (codes "r") arm) ((seed + (5 * arm + 3 * step)) % 1000), tt)) 8)
       (sum_holds (indexed (codes "h") arm) (indexed (codes "b") arm) (indexed (codes "s") arm) 1, (store_holds arm, tt))
 

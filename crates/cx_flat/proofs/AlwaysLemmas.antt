@@ -1,11 +1,11 @@
 -- The continuous assignments of static children, cell by cell.
 use Rattle.std.proofs.Common.{◌≡◌, ℕ, zero, suc, ◌+◌, ◌<◌, List, [], ◌∷◌, ◌++◌, drop, get_or, length, map, append_assoc, refl, sym, ap, ◌∙◌, arith}
+use Rattle.cx_text.proofs.ListLaws.{drop_next}
 use Rattle.cx_meaning.specs.Designs.{PlainAssign, PlainComponent}
 use Rattle.cx_design.specs.declared.cells.Cell.{Cell}
 use Rattle.cx_design.specs.PlainForms.{plain_cell}
 use Rattle.cx_flattening.specs.Flattened.{Kids, kid_at, always_if, always_from}
 use Rattle.cx_flat.specs.Tables.{kids_of}
-use Rattle.cx_flat.proofs.WalkLemmas.{rest_is}
 
 kid_again : (kids : Kids) (i : ℕ) → i < length kids → kid_at kids i ≡ get_or kids i (kid_at kids i)
 kid_again [] i less = absurd (omega (arith, less))
@@ -21,7 +21,7 @@ always_more kids part i front so_far now less before is =
     ap (λ l. l ++ always_from kids part (i + 1) (drop (i + 1) kids)) is
     ∙ append_assoc so_far (always_if kids part (kid_at kids i) i) (always_from kids part (i + 1) (drop (i + 1) kids))
     ∙ ap (λ n. so_far ++ (always_if kids part (kid_at kids i) i ++ always_from kids part n (drop (i + 1) kids))) (sym next)
-    ∙ ap (λ ks. so_far ++ always_from kids part i ks) (sym (rest_is kids i (kid_at kids i) less (kid_again kids i less)))
+    ∙ ap (λ ks. so_far ++ always_from kids part i ks) (sym (drop_next kids i (kid_at kids i) less (kid_again kids i less)))
     ∙ before
 
 -- there are as many children as cells

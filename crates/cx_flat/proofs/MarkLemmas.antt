@@ -14,7 +14,7 @@ use Rattle.cx_design_sizes.specs.Orders.{IsChildrenFirst}
 use Rattle.cx_flat.specs.Tables.{kids_of}
 use Rattle.cx_design_copies.specs.Reaching.{AreMadeOf}
 use Rattle.cx_flat.specs.Flats.{kid_of, AreKids, kept_for, part_if, numbers_of, renumbered_by}
-use Rattle.cx_meaning.specs.Sights.{In}
+use Rattle.cx_text.specs.Members.{In}
 use Rattle.cx_flat.proofs.FlatLemmas.{below}
 use Rattle.cx_flat.proofs.ReachLemmas.{reached_is, is_reached_so}
 use Rattle.cx_flat.proofs.OrderLemmas.{static_is, is_there, there_is, made_in, kids_made}

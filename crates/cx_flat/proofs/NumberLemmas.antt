@@ -8,7 +8,7 @@ use Rattle.cx_meaning.specs.Designs.{PlainKind, OfPrimitive, OfComponent, PlainC
 use Rattle.cx_flattening.specs.Copies.{count_if}
 use Rattle.cx_flattening.specs.FlatDesign.{flat_of, is_reached, reached_from, reached_below, renumbered_kind, renumbered_cell, renumbered_part}
 use Rattle.cx_flat.specs.Flats.{kept_for, part_if, numbers_of, kind_by, cell_by, renumbered_by}
-use Rattle.cx_flat.proofs.FlatLemmas.{Has}
+use Rattle.cx_design_copies.proofs.EdgeLemmas.{HasCell}
 
 module _ (d : PlainDesign) where
   -- the numbers are those of the flat design
@@ -25,7 +25,7 @@ module _ (d : PlainDesign) where
       ∙ get_or-map-range_with_len (reached_below d) 0 count k k 0 less (let e : 0 + k ≡ k = omega arith in e)
 
   -- cells whose components are there get the numbers of the flat design
-  cells_renumbered : (numbers : List ℕ) (cells : List PlainCell) → ((j : ℕ) → Has cells j → get_or numbers j 0 ≡ reached_below d j) → map (cell_by numbers) cells ≡ map (renumbered_cell d) cells
+  cells_renumbered : (numbers : List ℕ) (cells : List PlainCell) → ((j : ℕ) → HasCell cells j → get_or numbers j 0 ≡ reached_below d j) → map (cell_by numbers) cells ≡ map (renumbered_cell d) cells
   cells_renumbered numbers [] h = refl
   cells_renumbered numbers (c ∷ cs) h =
       ap (λ k. record { name = c.name; kind = k; external = c.external; place = c.place } ∷ map (cell_by numbers) cs) (by c.kind refl)
@@ -35,7 +35,7 @@ module _ (d : PlainDesign) where
       by (OfPrimitive primitive) e = refl
       by (OfComponent j) e = ap OfComponent (h j (c, inl refl, e))
 
-  pub part_renumbered : (numbers : List ℕ) (part : PlainComponent) → ((j : ℕ) → Has part.cells j → get_or numbers j 0 ≡ reached_below d j) → renumbered_by numbers part ≡ renumbered_part d part
+  pub part_renumbered : (numbers : List ℕ) (part : PlainComponent) → ((j : ℕ) → HasCell part.cells j → get_or numbers j 0 ≡ reached_below d j) → renumbered_by numbers part ≡ renumbered_part d part
   part_renumbered numbers part h = ap (λ cs. record part { cells = cs }) (cells_renumbered numbers part.cells h)
 
   -- ONE MORE of those that are reached

@@ -6,11 +6,11 @@ use Rattle.std.specs.declared.vec.Vec.{Vec}
 use Rattle.std.proofs.lemmas.Bool.{cases_eq}
 use Rattle.std.proofs.lemmas.List.{length-set, map-append}
 use Rattle.std.proofs.lemmas.Option.{slice_get-get_or}
-use Rattle.cx_text.proofs.ListLaws.{set_same, set_other}
+use Rattle.cx_text.proofs.ListLaws.{set_other, set_same, two_maps}
 use Rattle.cx_prim.specs.Rows.{Row}
 use Rattle.cx_meaning.specs.Designs.{PlainKind, OfPrimitive, OfComponent, PlainCell, PlainComponent, PlainDesign, component_at}
 use Rattle.cx_meaning.specs.Instances.{Instance, Node, Cells, a_primitive, an_instance, add_cell, cells_for, Path, behind, paths_of, paths_below, child_at, instance_at, part_of}
-use Rattle.cx_meaning.specs.Sights.{In}
+use Rattle.cx_text.specs.Members.{In}
 use Rattle.cx_rules.specs.Ports.{component_of}
 use Rattle.cx_design.specs.declared.components.Component.{Component}
 use Rattle.cx_design_sizes.specs.Orders.{IsChildrenFirst}
@@ -21,9 +21,9 @@ use Rattle.cx_flat.specs.declared.places.InstancePlaces.{InstancePlaces}
 use Rattle.cx_flat.specs.Flats.{AreKidsTo}
 use Rattle.cx_flat.specs.Places.{Standing, places_at, places_in, plain_instances, list_at, listed, kind_places, cell_places, component_places, ArePlacesTo}
 use Rattle.cx_flat.specs.Tables.{plain_table, kids_of}
-use Rattle.cx_flat.proofs.FlatLemmas.{Has, has_more, kids_below, kids_by}
+use Rattle.cx_flat.proofs.FlatLemmas.{has_more, kids_below, kids_by}
+use Rattle.cx_design_copies.proofs.EdgeLemmas.{HasCell}
 use Rattle.cx_flat.proofs.OrderLemmas.{in_take, in_taken, tree_at}
-use Rattle.cx_flat.proofs.PlacingLemmas.{two_maps}
 use Rattle.cx_flat.proofs.TableLemmas.{all_kids}
 
 module _ (part : PlainComponent) (cells : Cells) where
@@ -72,7 +72,7 @@ module _ (part : PlainComponent) (cells : Cells) where
     abbrev Made : List PlainCell → ℕ → Type 0
     Made cs c = AreFrom (cells_for trees cs) c → cell_places kids part lists c cs ≡ map (places_at (Node part cells)) (paths_below (cells_for trees cs) c)
 
-    places_below : (cs : List PlainCell) (c : ℕ) → ((j : ℕ) → Has cs j → lists j ≡ places_in (trees j)) → Made cs c
+    places_below : (cs : List PlainCell) (c : ℕ) → ((j : ℕ) → HasCell cs j → lists j ≡ places_in (trees j)) → Made cs c
     places_below [] c known from = refl
     places_below (x ∷ xs) c known from = by x.kind refl from (places_below xs (suc c) (λ j has. known j (has_more x xs j has)))
       where
@@ -86,7 +86,7 @@ module _ (part : PlainComponent) (cells : Cells) where
             ∙ sym (map-append (places_at (Node part cells)) (behind c (paths_of (trees j))) (paths_below (cells_for trees xs) (suc c)))
 
 -- THE PLACES OF AN INSTANCE, by those of its children
-pub places_are : (part : PlainComponent) (trees : ℕ → Instance) (lists : ℕ → List Standing) → ((j : ℕ) → Has part.cells j → lists j ≡ places_in (trees j))
+pub places_are : (part : PlainComponent) (trees : ℕ → Instance) (lists : ℕ → List Standing) → ((j : ℕ) → HasCell part.cells j → lists j ≡ places_in (trees j))
     → component_places (flat_kids (cells_for trees part.cells)) part lists ≡ places_in (Node part (cells_for trees part.cells))
 places_are part trees lists known =
     ap (λ l. places_at (Node part cells) [] ∷ l)
@@ -117,7 +117,7 @@ module _ (d : PlainDesign) (order : List ℕ) (first : IsChildrenFirst d order) 
       own : PlainComponent
       own = component_at d k
 
-      before : (j : ℕ) → Has own.cells j → In (take i order) j
+      before : (j : ℕ) → HasCell own.cells j → In (take i order) j
       before j has = first.behind i k j has.0 at has.1 has.2
 
   pub places_turn : (kids : List (Option Component)) (lists : List (Vec InstancePlaces Global)) (i none : ℕ) (part : PlainComponent) (list : Vec InstancePlaces Global) → AreKidsTo d order (length order) kids

@@ -3,6 +3,7 @@ use Rattle.std.proofs.Common.{◌≡◌, ℕ, ◌+◌, List, [], ◌∷◌, inl,
 use Rattle.std.specs.Prelude.{if◌then◌else◌}
 use Rattle.std.specs.List.{slice_get}
 use Rattle.std.proofs.Math.Path.{fun_ext}
+use Rattle.cx_text.proofs.ListLaws.{two_maps}
 use Rattle.cx_meaning.specs.Designs.{PlainComponent}
 use Rattle.cx_meaning.specs.Instances.{Path}
 use Rattle.cx_meaning.specs.Control.{groups_of}
@@ -19,10 +20,6 @@ use Rattle.cx_flat.specs.Enabling.{below_by, copy_by}
 use Rattle.cx_flat.specs.Placing.{copies_at, copies_by, inlined_by, placed_by}
 use Rattle.cx_flat.specs.Stands.{stand_of, stands_of}
 use Rattle.cx_flat.proofs.StandLemmas.{StandsAt, stands_at, block-is}
-
-pub two_maps : {A B C : Type 0} (f : A → B) (g : B → C) (h : A → C) → ((x : A) → g (f x) ≡ h x) → (xs : List A) → map g (map f xs) ≡ map h xs
-two_maps f g h same [] = refl
-two_maps f g h same (x ∷ xs) = ap (λ y. y ∷ map g (map f xs)) (same x) ∙ ap (λ ys. h x ∷ ys) (two_maps f g h same xs)
 
 module _ (kids : Kids) (part : PlainComponent) (stands : List Stand) (are : stands ≡ stands_of kids part.cells) (c : ℕ) where
   kept_number : (n : ℕ) → slice_get stands c ≡ Some (Kept n) → kid_at kids c ≡ None → n ≡ kept_at kids c

@@ -2,7 +2,7 @@
 use Rattle.std.proofs.Common.{◌≡◌, ℕ, zero, suc, ◌+◌, ◌-◌, ◌<◌, ◌≤◌, Bool, true, false, nat_eq, List, [], ◌∷◌, ◌⊎◌, inl, inr, ⊎_elim, length, refl, sym, ap, ◌∙◌, subst, arith}
 use Rattle.std.proofs.lemmas.Bool.{eqb-true}
 use Rattle.cx_meaning.specs.Designs.{PlainKind, OfPrimitive, OfComponent, PlainCell, PlainDesign, component_at}
-use Rattle.cx_meaning.specs.Sights.{In}
+use Rattle.cx_text.specs.Members.{In}
 use Rattle.cx_meaning.proofs.DesignsLemmas.{same_part}
 use Rattle.cx_rules.specs.Ports.{component_of}
 use Rattle.cx_rules.specs.Wellformed.{LeadsTo, by_cell, by_way_of, IsDesign}
@@ -13,15 +13,16 @@ use Rattle.cx_flattening.specs.FlatDesign.{kind_of, any_of, flat_of, leads_withi
 use Rattle.cx_flattening.proofs.Reached.{itself, leads_far, leads_further}
 use Rattle.cx_flattening.proofs.TreeLevels.{few_below, child_there}
 use Rattle.cx_design_copies.specs.Reaching.{IsMadeOf}
-use Rattle.cx_flat.proofs.FlatLemmas.{Has, stands_in, below, own_has, child_has}
+use Rattle.cx_flat.proofs.FlatLemmas.{stands_in, below, own_has, child_has}
+use Rattle.cx_design_copies.proofs.EdgeLemmas.{HasCell}
 use Rattle.cx_text.proofs.BoolLaws.{either_true}
 
 -- one of the cells is of a component with the property
-any_is : (property : ℕ → Bool) (cs : List PlainCell) → any_of property cs ≡ true → (j : ℕ) × Has cs j × (property j ≡ true)
+any_is : (property : ℕ → Bool) (cs : List PlainCell) → any_of property cs ≡ true → (j : ℕ) × HasCell cs j × (property j ≡ true)
 any_is property [] e = absurd (cc)
 any_is property (c ∷ cs) e = ⊎_elim (λ h. here c.kind refl h) (λ h. let r = any_is property cs h in (r.0, (r.1.0, inr r.1.1, r.1.2), r.2)) (either_true (kind_of property c.kind) (any_of property cs) e)
   where
-    here : (kind : PlainKind) → c.kind ≡ kind → kind_of property kind ≡ true → (j : ℕ) × Has (c ∷ cs) j × (property j ≡ true)
+    here : (kind : PlainKind) → c.kind ≡ kind → kind_of property kind ≡ true → (j : ℕ) × HasCell (c ∷ cs) j × (property j ≡ true)
     here (OfPrimitive primitive) is h = absurd (cc)
     here (OfComponent j) is h = (j, (c, inl refl, is), h)
 
@@ -45,7 +46,7 @@ module _ (d : PlainDesign) (rules : IsDesign d) where
       join i leads (inl same, dyn) = (inr (subst (LeadsTo d j) same leads), dyn)
       join i leads (inr more, dyn) = (inr (by_way_of i leads more), dyn)
 
-      next : ((i : ℕ) → i < length d.components → is_static (component_of d i) ≡ false → leads_within d n k i ≡ true → IsUnder i k) → (i : ℕ) × Has (flat_of d j).cells i × (leads_within d n k i ≡ true) → IsUnder j k
+      next : ((i : ℕ) → i < length d.components → is_static (component_of d i) ≡ false → leads_within d n k i ≡ true → IsUnder i k) → (i : ℕ) × HasCell (flat_of d j).cells i × (leads_within d n k i ≡ true) → IsUnder j k
       next deeper (i, has, more) = let b = below d rules j i there has in join i b.leads (deeper i b.there b.dynamic more)
 
   pub reached_is : (k : ℕ) → is_reached d k ≡ true → IsMadeOf d k × (is_static (component_of d k) ≡ false)
@@ -66,7 +67,7 @@ module _ (d : PlainDesign) (rules : IsDesign d) where
     above : (top ≡ k) ⊎ LeadsTo d top k
     as_own : is_static (component_of d k) ≡ false → top ≡ k
     there : k < length d.components
-    holds : (j : ℕ) → Has (flat_of d k).cells j → Has (flat_of d top).cells j
+    holds : (j : ℕ) → HasCell (flat_of d k).cells j → HasCell (flat_of d top).cells j
 
   main_stands : StandsIn d.main
   main_stands = record {
@@ -89,7 +90,7 @@ module _ (d : PlainDesign) (rules : IsDesign d) where
   further_above t m k (inr a) l = by_way_of m a l
 
   module _ (m k : ℕ) (cell : PlainCell) (s : StandsIn m) (here : In (component_at d m).cells cell) (kind : cell.kind ≡ OfComponent k) where
-    has : Has (component_at d m).cells k
+    has : HasCell (component_at d m).cells k
     has = (cell, here, kind)
 
     there : k < length d.components

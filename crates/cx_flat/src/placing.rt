@@ -2,7 +2,7 @@
 
 ghost use Rattle.std.specs.Prelude.{◌≡◌, ◌∷◌, ◌++◌, [], ℕ, IfOk, map};
 ghost use Rattle.cx_meaning.specs.Control.{groups_of};
-ghost use Rattle.cx_design.specs.PlainForms.{plain_component, plain_invoke};
+ghost use Rattle.cx_design.specs.PlainForms.{plain_component};
 ghost use Rattle.cx_flattening.specs.Copies.{enabled_below};
 ghost use Rattle.cx_flattening.specs.Flattened.{first_copy, kid_at};
 ghost use Rattle.cx_profiling.specs.FlatEntries.{entry_at, invokes_of, placed_entry};
@@ -14,7 +14,7 @@ use crate::callers::Caller;
 use crate::enabled::{Enabled, copy_number, enabled_counts, groups_enabled, is_enabled};
 use crate::kids::kid_at_cell;
 use crate::stands::Stand;
-use cx_design::{Component, StaticInvoke};
+use cx_design::Component;
 use cx_design_copies::sum;
 use cx_text::Memory;
 use std::alloc::Global;

@@ -3,16 +3,17 @@ use Rattle.std.proofs.Common.{◌≡◌, ℕ, Bool, true, false, ◌&&◌, List,
 use Rattle.std.specs.Prelude.{nat_le}
 use Rattle.std.specs.List.{list_all}
 use Rattle.std.proofs.lemmas.List.{length-map}
+use Rattle.cx_text.proofs.MemberLaws.{image_in, in_at}
 use Rattle.cx_ast.specs.PlainTree as ast
 use Rattle.cx_ast.specs.PlainTree.{PlainTree, PlainPort}
 use Rattle.cx_meaning.specs.declared.kinds.PortDecl.{PortDecl}
 use Rattle.cx_meaning.specs.Designs.{PlainCell}
-use Rattle.cx_meaning.specs.Sights.{In}
+use Rattle.cx_text.specs.Members.{In}
 use Rattle.cx_text.proofs.BoolLaws.{and_both}
 use Rattle.cx_rules.specs.Flat.{point, IsPlainName, HasPlainNames, ArePlainNames}
 use Rattle.cx_numbering.specs.Names.{is_own_name, if_not_own, signature_ports}
 use Rattle.cx_numbering.specs.DesignOf.{decl_of, plain_cell_of, component_of, design_of}
-use Rattle.cx_names.proofs.Base.{in_at, in_map, some_at}
+use Rattle.cx_names.proofs.Base.{some_at}
 use Rattle.cx_names.proofs.There.{component_is}
 use Rattle.cx_vtree.specs.Layout.{begins_word, is_name_byte, is_word}
 use Rattle.cx_commands.specs.Unread.{HasTree}
@@ -45,11 +46,11 @@ signature_in (x ∷ xs) p i = by (is_own_name x.name) (λ j. signature_in xs p j
 module _ (text : List ℕ) (tree : PlainTree) (has : HasTree text tree) where
   part_plain : (part : ast.PlainComponent) → In tree.components part → HasPlainNames (component_of tree part)
   part_plain part i = record {
-    cells = λ cell j. (let found = in_map (plain_cell_of tree part) part.cells cell j in
+    cells = λ cell j. (let found = image_in (plain_cell_of tree part) part.cells cell j in
         subst (λ (x : PlainCell). IsPlainName x.name) found.2 (word_plain found.0.name (cells_named text tree has part i found.0 found.1)));
-    inputs = λ decl j. (let found = in_map (decl_of tree part) (signature_ports part.inputs) decl j in
+    inputs = λ decl j. (let found = image_in (decl_of tree part) (signature_ports part.inputs) decl j in
         subst (λ (x : PortDecl). IsPlainName x.name) found.2 (word_plain found.0.name (inputs_named text tree has part i found.0 (signature_in part.inputs found.0 found.1))));
-    outputs = λ decl j. (let found = in_map (decl_of tree part) (signature_ports part.outputs) decl j in
+    outputs = λ decl j. (let found = image_in (decl_of tree part) (signature_ports part.outputs) decl j in
         subst (λ (x : PortDecl). IsPlainName x.name) found.2 (word_plain found.0.name (outputs_named text tree has part i found.0 (signature_in part.outputs found.0 found.1))));
   }
 

@@ -3,6 +3,8 @@ use Rattle.std.proofs.Common.{◌≡◌, ℕ, zero, suc, ◌+◌, ◌-◌, ◌<�
 use Rattle.std.proofs.lemmas.Bool.{ltb-false, or_parts}
 use Rattle.std.proofs.lemmas.List.{length-map}
 use Rattle.std.proofs.lemmas.Option.{slice_get-map, slice_get_within}
+use Rattle.cx_text.proofs.MemberLaws.{flat_in, image_in, in_at, in_either, in_flat, in_image, in_left, in_right}
+use Rattle.cx_text.specs.Members.{In}
 use Rattle.cx_text.specs.declared.places.Place.{Place}
 use Rattle.cx_text.proofs.BoolLaws.{and_both}
 use Rattle.cx_ast.specs.declared.operands.OperandForm.{OperandForm}
@@ -17,18 +19,18 @@ use Rattle.cx_meaning.specs.declared.ports.PortRef.{PortRef}
 use Rattle.cx_meaning.specs.declared.ports.PlacedPort.{PlacedPort}
 use Rattle.cx_meaning.specs.Designs.{PlainAssign, PlainInvoke, PlainGroup, PlainCell, PlainKind, OfPrimitive, OfComponent, PlainComponent, PlainDesign, PlainStatements, component_at, Always}
 use Rattle.cx_meaning.specs.Instances.{Instance, At, Nothing, OfRow, OfInstance, cell_at, cells_of, part_of, add_cell, cells_for, tree_within}
-use Rattle.cx_meaning.specs.Sights.{In, AnInput, AnOutput, ItsDone, later_port, output_port, part_port}
+use Rattle.cx_meaning.specs.Sights.{AnInput, AnOutput, ItsDone, later_port, output_port, part_port}
 use Rattle.cx_meaning.proofs.DesignsLemmas.{same_part}
 use Rattle.cx_rules.specs.Items.{Context, Dynamic, sources_of, test_in}
 use Rattle.cx_rules.specs.Items as items
 use Rattle.cx_rules.specs.Footprints.{AssignNames}
-use Rattle.cx_rules.specs.Ports.{component_of as instance_of}
+use Rattle.cx_rules.specs.Ports.{component_of as instance_of, is_part_done}
 use Rattle.cx_numbering.specs.Names.{same_name, is_among, number_of, signature_ports, port_names, component_names, cell_names, groups_in, always_in, cell_among, component_among, primitive_of, CellOf, Neither, APrimitive, AComponent, cell_of, cell_port_names, found_cell_ports, latency_of, found_latency}
 use Rattle.cx_numbering.specs.DesignOf.{Invoke, Next, number_or_0, own_port, cell_port, port_of, placed_of, guard_or_always, assign_of, group_of, input_assign, go_guard, go_assign, register_of, register_done, capture_assigns, done_assign, invoke_group, is_static_invoke, static_capture, capture_group, after, invoke_form, seq_form, captures_for, groups_for, invoke_groups, static_for, static_invokes, first, invokes_of, control_invokes, control_of, kind_or, decl_of, plain_cell_of, component_of, design_of, form_of}
 use Rattle.cx_numbering.specs.NameRules as rules
-use Rattle.cx_numbering.specs.NameRules.{Standing, standing, Visited, visit_block, names_break, is_static_end, is_clock, is_left_out, is_unknown, unknown, source_breaks, guard_operands, with_breaks, form_breaks, is_reg, found_reg, is_register_in, output_names, output_breaks}
-use Rattle.cx_names_scopes.proofs.NameLemmas.{same_name-refl}
-use Rattle.cx_names.proofs.Base.{append_none, flat_none, tell_none, in_left, in_right, in_at, in_map, map_in, in_flat, flat_in, in_either, at_either, some_at}
+use Rattle.cx_numbering.specs.NameRules.{Standing, standing, Visited, visit_block, names_break, is_static_end, is_clock, is_left_out, is_unknown, unknown, source_breaks, guard_operands, with_breaks, form_breaks, is_reg, found_reg, is_register_in, output_names, output_breaks, visit_control}
+use Rattle.cx_numbering.proofs.NamesLemmas.{same_name-refl}
+use Rattle.cx_names.proofs.Base.{append_none, flat_none, tell_none, at_either, some_at}
 use Rattle.cx_names.proofs.Kept.{KeptPart, kept, kept_part}
 use Rattle.cx_names.proofs.NumberLemmas.{number_at, or_0, cell_found, part_found}
 use Rattle.cx_names.proofs.There.{of_component, component_is, part_is}
@@ -38,26 +40,28 @@ use Rattle.cx_names.proofs.InvokeGroups.{atoms}
 use Rattle.cx_names.proofs.Splits.{split_all}
 use Rattle.cx_names.proofs.Statements.{HoldsEach, block_whole, invoke_of_block, visited_of, same_breaks}
 use Rattle.cx_flattening.specs.Fair.{IsAssignOf}
-use Rattle.cx_flattening.specs.Ends.{is_done, is_done_at, is_static_done, NamesNoDone, NoneNamesDone}
+use Rattle.cx_flattening.specs.Ends.{is_done_at, is_static_done, NamesNoDone, NoneNamesDone}
 use Rattle.cx_rules.proofs.FoundLemmas.{source_in}
+use Rattle.cx_names.proofs.Controls.{invoke_own}
+use Rattle.cx_names.proofs.StaticInvokes.{kind_told, component_numbered}
 
 and_false : (b : Bool) → (b && false) ≡ false
 and_false true = refl
 and_false false = refl
 
 -- THE DONE of a component's cell stands last among its ports
-behind_inputs : (inputs outputs n : ℕ) → is_done (later_port inputs outputs n) ≡ true → inputs + outputs ≤ n
+behind_inputs : (inputs outputs n : ℕ) → is_part_done (later_port inputs outputs n) ≡ true → inputs + outputs ≤ n
 behind_inputs inputs outputs n h = by (nat_lt n inputs) refl h
   where
-    last : (b : Bool) → nat_lt (n - inputs) outputs ≡ b → inputs ≤ n → is_done (cond b (AnOutput (n - inputs)) ItsDone) ≡ true → inputs + outputs ≤ n
+    last : (b : Bool) → nat_lt (n - inputs) outputs ≡ b → inputs ≤ n → is_part_done (cond b (AnOutput (n - inputs)) ItsDone) ≡ true → inputs + outputs ≤ n
     last true e low h = absurd (true≢false (sym h))
     last false e low h = let high = ltb-false (n - inputs) outputs e in omega (arith, low, high)
 
-    by : (b : Bool) → nat_lt n inputs ≡ b → is_done (cond b (AnInput n) (output_port outputs (n - inputs))) ≡ true → inputs + outputs ≤ n
+    by : (b : Bool) → nat_lt n inputs ≡ b → is_part_done (cond b (AnInput n) (output_port outputs (n - inputs))) ≡ true → inputs + outputs ≤ n
     by true e h = absurd (true≢false (sym h))
     by false e h = last (nat_lt (n - inputs) outputs) refl (ltb-false n inputs e) h
 
-no_first : (part : PlainComponent) → is_done (part_port part 0) ≡ false
+no_first : (part : PlainComponent) → is_part_done (part_port part 0) ≡ false
 no_first part = refl
 
 go_is_no_done : (a : At) → is_done_at a 0 ≡ false
@@ -79,7 +83,7 @@ last_name inputs outputs n name h high =
 -- whether it is one of a static component, by what the cell is of
 abbrev kind_done : PlainDesign → PlainKind → ℕ → Bool
 kind_done d (OfPrimitive primitive) p = false
-kind_done d (OfComponent j) p = is_some (component_at d j).latency && is_done (part_port (component_at d j) p)
+kind_done d (OfComponent j) p = is_some (component_at d j).latency && is_part_done (part_port (component_at d j) p)
 
 done_told : (d : PlainDesign) (n : ℕ) (cells : List PlainCell) (c : ℕ) (cell : PlainCell) (p : ℕ) → slice_get cells c ≡ Some cell → is_done_at (cell_at (cells_for (tree_within d n) cells) c) p ≡ kind_done d cell.kind p
 done_told d n [] c cell p h = absurd cc
@@ -87,7 +91,7 @@ done_told d n (x ∷ xs) zero cell p h = let same : x ≡ cell = cc in head x.ki
   where
     head : (kind : PlainKind) → is_done_at (cell_at (add_cell (tree_within d n) kind (cells_for (tree_within d n) xs)) zero) p ≡ kind_done d kind p
     head (OfPrimitive primitive) = refl
-    head (OfComponent j) = ap (λ (q : PlainComponent). is_some q.latency && is_done (part_port q p)) (same_part d n j)
+    head (OfComponent j) = ap (λ (q : PlainComponent). is_some q.latency && is_part_done (part_port q p)) (same_part d n j)
 done_told d n (x ∷ xs) (suc c) cell p h = next x.kind ∙ done_told d n xs c cell p h
   where
     next : (kind : PlainKind) → is_done_at (cell_at (add_cell (tree_within d n) kind (cells_for (tree_within d n) xs)) (suc c)) p ≡ is_done_at (cell_at (cells_for (tree_within d n) xs) c) p
@@ -96,7 +100,7 @@ done_told d n (x ∷ xs) (suc c) cell p h = next x.kind ∙ done_told d n xs c c
 
 module _ (tree : PlainTree) where
   -- the port of a component's cell that is its done has that name
-  named_done : (comp : ast.PlainComponent) (name : List ℕ) → is_done (part_port (component_of tree comp) (number_or_0 name (cell_port_names (AComponent comp)))) ≡ true → name ≡ codes "done"
+  named_done : (comp : ast.PlainComponent) (name : List ℕ) → is_part_done (part_port (component_of tree comp) (number_or_0 name (cell_port_names (AComponent comp)))) ≡ true → name ≡ codes "done"
   named_done comp name h = by (number_of name (cell_port_names (AComponent comp))) refl
     where
       inputs : length (component_of tree comp).inputs ≡ length (port_names comp.inputs)
@@ -105,7 +109,7 @@ module _ (tree : PlainTree) where
       outputs : length (component_of tree comp).outputs ≡ length (port_names comp.outputs)
       outputs = length-map (signature_ports comp.outputs) (decl_of tree comp) ∙ sym (length-map (signature_ports comp.outputs) (λ q. q.name))
 
-      at_port : (n : ℕ) → number_of name (cell_port_names (AComponent comp)) ≡ Some n → is_done (part_port (component_of tree comp) n) ≡ true → name ≡ codes "done"
+      at_port : (n : ℕ) → number_of name (cell_port_names (AComponent comp)) ≡ Some n → is_part_done (part_port (component_of tree comp) n) ≡ true → name ≡ codes "done"
       at_port zero e g = absurd (true≢false (sym g))
       at_port (suc n) e g =
           let high = behind_inputs (length (component_of tree comp).inputs) (length (component_of tree comp).outputs) n g in
@@ -114,14 +118,8 @@ module _ (tree : PlainTree) where
           last_name (port_names comp.inputs) (port_names comp.outputs) n name (number_at name (cell_port_names (AComponent comp)) (suc n) e) (omega (arith, high, ins, outs))
 
       by : (o : Option ℕ) → number_of name (cell_port_names (AComponent comp)) ≡ o → name ≡ codes "done"
-      by None e = absurd (true≢false (sym h ∙ ap (λ o. is_done (part_port (component_of tree comp) (unwrap_or o 0))) e))
-      by (Some n) e = at_port n e (sym (ap (λ o. is_done (part_port (component_of tree comp) (unwrap_or o 0))) e) ∙ h)
-
-  -- the component of a cell
-  numbered : (found : ast.PlainCell) (comp : ast.PlainComponent) → cell_of tree found ≡ AComponent comp → component_at (design_of tree) (number_or_0 comp.name (component_names tree)) ≡ component_of tree comp
-  numbered found comp e =
-      let place = part_found found.kind tree.components comp (of_component (primitive_of found.kind) found.numbers (component_among found.kind tree.components) comp e) in
-      ap (component_at (design_of tree)) (or_0 comp.name (component_names tree) place.number place.is) ∙ component_is tree place.number comp place.at
+      by None e = absurd (true≢false (sym h ∙ ap (λ o. is_part_done (part_port (component_of tree comp) (unwrap_or o 0))) e))
+      by (Some n) e = at_port n e (sym (ap (λ o. is_part_done (part_port (component_of tree comp) (unwrap_or o 0))) e) ∙ h)
 
 module _ (tree : PlainTree) (k : ℕ) (part : ast.PlainComponent) (at : slice_get tree.components k ≡ Some part) where
   abbrev here : Instance
@@ -141,20 +139,21 @@ module _ (tree : PlainTree) (k : ℕ) (part : ast.PlainComponent) (at : slice_ge
       levels : (m : ℕ) → 0 < m → slice_get (component_at (design_of tree) k).cells c ≡ Some (plain_cell_of tree part found)
           → is_done_at (cell_at (cells_of (tree_within (design_of tree) m k)) c) p ≡ kind_done (design_of tree) (kind_or tree part (cell_of tree found)) p
       levels zero few h = absurd (omega (arith, few))
-      levels (suc n) few h = done_told (design_of tree) n (component_at (design_of tree) k).cells c (plain_cell_of tree part found) p h
+      levels (suc n) few h = kind_told (λ a. is_done_at a p) (λ kind. kind_done (design_of tree) kind p) (design_of tree) n (λ q. refl)
+          (λ j. ap (λ (q : PlainComponent). is_some q.latency && is_part_done (part_port q p)) (same_part (design_of tree) n j)) (component_at (design_of tree) k).cells c (plain_cell_of tree part found) h
 
   kind_fine : (found : ast.PlainCell) (port : List ℕ) (of : CellOf) → cell_of tree found ≡ of → (is_some (latency_of of) && (same_name port (codes "go") || same_name port (codes "done"))) ≡ false
       → kind_done (design_of tree) (kind_or tree part of) (number_or_0 port (cell_port_names of)) ≡ false
   kind_fine found port Neither e h = and_false (is_some (component_at (design_of tree) 0).latency)
   kind_fine found port (APrimitive primitive) e h = refl
   kind_fine found port (AComponent comp) e h =
-      ap (λ (q : PlainComponent). is_some q.latency && is_done (part_port q (number_or_0 port (cell_port_names (AComponent comp))))) (numbered tree found comp e) ∙ by comp.length h
+      ap (λ (q : PlainComponent). is_some q.latency && is_part_done (part_port q (number_or_0 port (cell_port_names (AComponent comp))))) (component_numbered tree found comp e) ∙ by comp.length h
     where
-      no_done : (b : Bool) → is_done (part_port (component_of tree comp) (number_or_0 port (cell_port_names (AComponent comp)))) ≡ b → same_name port (codes "done") ≡ false → b ≡ false
+      no_done : (b : Bool) → is_part_done (part_port (component_of tree comp) (number_or_0 port (cell_port_names (AComponent comp)))) ≡ b → same_name port (codes "done") ≡ false → b ≡ false
       no_done true g other = absurd (true≢false (sym (ap (λ n. same_name n (codes "done")) (named_done tree comp port g) ∙ same_name-refl (codes "done")) ∙ other))
       no_done false g other = refl
 
-      by : (o : Option ℕ) → (is_some o && (same_name port (codes "go") || same_name port (codes "done"))) ≡ false → (is_some o && is_done (part_port (component_of tree comp) (number_or_0 port (cell_port_names (AComponent comp))))) ≡ false
+      by : (o : Option ℕ) → (is_some o && (same_name port (codes "go") || same_name port (codes "done"))) ≡ false → (is_some o && is_part_done (part_port (component_of tree comp) (number_or_0 port (cell_port_names (AComponent comp))))) ≡ false
       by None g = refl
       by (Some n) g = no_done _ refl (or_parts (same_name port (codes "go")) (same_name port (codes "done")) g).1
 
@@ -207,7 +206,7 @@ module _ (tree : PlainTree) (k : ℕ) (part : ast.PlainComponent) (at : slice_ge
       by : (g : Option guards.PlainGuard) → flat_map (source_breaks tree part) (guard_operands g) ≡ [] → In (items.operands_of (guard_or_always tree part g)) p → IsFine p.port
       by None none i = absurd i
       by (Some g) none i =
-          let found = in_map (placed_of tree part) (rules.operands_of g) p (subst (λ xs. In xs p) (guard_sources tree part g) i) in
+          let found = image_in (placed_of tree part) (rules.operands_of g) p (subst (λ xs. In xs p) (guard_sources tree part g) i) in
           subst (λ (q : PlacedPort). IsFine q.port) found.2 (source_fine found.0 (flat_none (source_breaks tree part) (rules.operands_of g) none found.0 found.1))
 
   stands_fine : (own : KeptPart tree part) (x : Standing) → In (standing part) x → LooksFine (assign_of tree part x.assign)
@@ -251,10 +250,10 @@ module _ (tree : PlainTree) (k : ℕ) (part : ast.PlainComponent) (at : slice_ge
     input_fine b i = source_fine b.value (input_source tree part v.cell (cell_of tree own.found) b (own.inputs b i))
 
     inputs_fine : (a : PlainAssign) → In (map (input_assign tree part v) v.inputs) a → IsFine a.source.port
-    inputs_fine a i = let found = in_map (input_assign tree part v) v.inputs a i in subst (λ (x : PlainAssign). IsFine x.source.port) found.2 (input_fine found.0 found.1)
+    inputs_fine a i = let found = image_in (input_assign tree part v) v.inputs a i in subst (λ (x : PlainAssign). IsFine x.source.port) found.2 (input_fine found.0 found.1)
 
     inputs_look : (a : PlainAssign) → In (map (input_assign tree part v) v.inputs) a → LooksFine a
-    inputs_look a i = let found = in_map (input_assign tree part v) v.inputs a i in bare_alike (input_assign tree part v found.0) a found.2 refl (input_fine found.0 found.1)
+    inputs_look a i = let found = image_in (input_assign tree part v) v.inputs a i in bare_alike (input_assign tree part v found.0) a found.2 refl (input_fine found.0 found.1)
 
     register_fine : (b : BindItem) → In v.outputs b → IsFine (register_done tree part v b).port
     register_fine b i = port_fine (register_of tree part b) (codes "done") (register_end b (output_register tree part v.cell (cell_of tree own.found) b (own.outputs b i)) (codes "done"))
@@ -285,7 +284,7 @@ module _ (tree : PlainTree) (k : ℕ) (part : ast.PlainComponent) (at : slice_ge
       ended_fine g (b ∷ []) among p (inr none) = absurd none
       ended_fine g (b ∷ c ∷ bs) among p (inl e) = subst (λ (q : PlacedPort). IsFine q.port) e refl
       ended_fine g (b ∷ c ∷ bs) among p (inr i) =
-          let found = in_map (register_done tree part v) (b ∷ c ∷ bs) p (subst (λ ps. In ps p) (atoms (register_done tree part v) (b ∷ c ∷ bs)) i) in
+          let found = image_in (register_done tree part v) (b ∷ c ∷ bs) p (subst (λ ps. In ps p) (atoms (register_done tree part v) (b ∷ c ∷ bs)) i) in
           subst (λ (q : PlacedPort). IsFine q.port) found.2 (register_fine found.0 (among found.0 found.1))
 
       call_fine : (g : ℕ) (a : PlainAssign) → In (invoke_group tree part g v).assigns a → LooksFine a
@@ -381,40 +380,29 @@ module _ (tree : PlainTree) (k : ℕ) (part : ast.PlainComponent) (at : slice_ge
 
   -- ALL of a component
   module _ (own : KeptPart tree part) where
-    abbrev visits : Option statements.PlainBlock → List Visited
-    visits None = []
-    visits (Some block) = visit_block block
-
-    invoke_own : (v : Invoke) → In (control_invokes tree part part.control) v → KeptInvoke tree part v
-    invoke_own v i = kept_invoke tree part v (same_breaks tree part v v.written (own.statements (visited_of v) (by part.control i)))
-      where
-        by : (o : Option statements.PlainBlock) → In (control_invokes tree part o) v → In (visits o) (visited_of v)
-        by None i = absurd i
-        by (Some block) i = invoke_of_block block v i
-
     always_fine : (a : PlainAssign) → In (component_of tree part).always a → LooksFine a
     always_fine a i =
-        let found = in_map (assign_of tree part) (always_in part.wires) a i in
+        let found = image_in (assign_of tree part) (always_in part.wires) a i in
         let x : Standing = record { group = None; assign = found.0 } in
-        subst LooksFine found.2 (stands_fine own x (in_left (map (λ b. record { group = None; assign = b }) (always_in part.wires)) _ x (map_in (λ b. record { group = None; assign = b }) (always_in part.wires) found.0 found.1)))
+        subst LooksFine found.2 (stands_fine own x (in_left (map (λ b. record { group = None; assign = b }) (always_in part.wires)) _ x (in_image (λ b. record { group = None; assign = b }) (always_in part.wires) found.0 found.1)))
 
     group_fine : (group : ast.PlainGroup) → In (groups_in part.wires) group → GroupFine (group_of tree part group)
     group_fine group stands a i =
-        let found = in_map (assign_of tree part) group.assigns a i in
+        let found = image_in (assign_of tree part) group.assigns a i in
         let x : Standing = record { group = Some group.name; assign = found.0 } in
-        let within = in_flat (λ h. map (λ b. record { group = Some h.name; assign = b }) h.assigns) (groups_in part.wires) group x stands (map_in (λ b. record { group = Some group.name; assign = b }) group.assigns found.0 found.1) in
+        let within = in_flat (λ h. map (λ b. record { group = Some h.name; assign = b }) h.assigns) (groups_in part.wires) group x stands (in_image (λ b. record { group = Some group.name; assign = b }) group.assigns found.0 found.1) in
         subst LooksFine found.2 (stands_fine own x (in_right (map (λ b. record { group = None; assign = b }) (always_in part.wires)) _ x within))
 
     groups_fine : (group : PlainGroup) → In (component_of tree part).groups group → GroupFine group
     groups_fine group i =
-        ⊎_elim (λ l. let found = in_map (group_of tree part) (groups_in part.wires) group l in subst GroupFine found.2 (group_fine found.0 found.1))
-        (invoked_fine (first tree part) (control_invokes tree part part.control) invoke_own group)
+        ⊎_elim (λ l. let found = image_in (group_of tree part) (groups_in part.wires) group l in subst GroupFine found.2 (group_fine found.0 found.1))
+        (invoked_fine (first tree part) (control_invokes tree part part.control) (invoke_own tree part own) group)
         (in_either (map (group_of tree part) (groups_in part.wires)) (invoke_groups tree part (first tree part) (control_invokes tree part part.control)) group i)
 
     tests_fine : (v : items.Visited) → In (items.visit Dynamic (control_of tree part part.control)) v → TestFine v
     tests_fine v i = by part.control refl own.statements i
       where
-        by : (o : Option statements.PlainBlock) → part.control ≡ o → ((w : Visited) → In (visits o) w → form_breaks tree part w.form w.place ≡ []) → In (items.visit Dynamic (control_of tree part o)) v → TestFine v
+        by : (o : Option statements.PlainBlock) → part.control ≡ o → ((w : Visited) → In (visit_control o) w → form_breaks tree part w.form w.place ≡ []) → In (items.visit Dynamic (control_of tree part o)) v → TestFine v
         by None e all (inl same) = subst TestFine same (λ p t. absurd cc)
         by None e all (inr j) = absurd j
         by (Some block) e all j =
@@ -428,7 +416,7 @@ module _ (tree : PlainTree) (k : ℕ) (part : ast.PlainComponent) (at : slice_ge
         let is = part_is tree k part at in
         record {
           assigns = λ a q i names. looked a q (assign_fine a (subst (λ p. IsAssignOf p a) is i)) names;
-          inputs = λ v a i j. statics_fine (first tree part) (control_invokes tree part part.control) invoke_own v (subst (λ (p : PlainComponent). In p.invokes v) is i) a j;
+          inputs = λ v a i j. statics_fine (first tree part) (control_invokes tree part part.control) (invoke_own tree part own) v (subst (λ (p : PlainComponent). In p.invokes v) is i) a j;
           tests = λ v p i e. tests_fine v (subst (λ (q : PlainComponent). In (items.visit Dynamic q.control) v) is i) p e;
         }
       where

@@ -2,12 +2,13 @@
 use Rattle.std.proofs.Common.{◌≡◌, ℕ, ◌<◌, false, None, Option, Some, List, length, slice_get, codes, [], inl, inr, refl, sym, ap, ◌∙◌, subst, arith}
 use Rattle.std.proofs.lemmas.List.{length-map}
 use Rattle.std.proofs.lemmas.Option.{slice_get_within}
+use Rattle.cx_text.proofs.MemberLaws.{image_in, in_at}
 use Rattle.cx_ast.specs.PlainStatements as statements
 use Rattle.cx_ast.specs.PlainTree as ast
 use Rattle.cx_ast.specs.PlainTree.{PlainTree}
 use Rattle.cx_meaning.specs.Designs.{PlainKind, OfPrimitive, OfComponent, PlainCell, PlainComponent, component_at}
 use Rattle.cx_meaning.specs.Designs as plain
-use Rattle.cx_meaning.specs.Sights.{In}
+use Rattle.cx_text.specs.Members.{In}
 use Rattle.cx_rules.specs.Items.{Dynamic}
 use Rattle.cx_rules.specs.Items as items
 use Rattle.cx_rules.specs.Ports.{component_of as instance_of}
@@ -16,7 +17,7 @@ use Rattle.cx_numbering.specs.Names.{component_names, component_among, primitive
 use Rattle.cx_numbering.specs.DesignOf.{number_or_0, invokes_of, control_invokes, control_of, kind_or, plain_cell_of, component_of, first, design_of}
 use Rattle.cx_numbering.specs.NameRules.{Visited, visit_block, names_break, form_breaks, kind_breaks}
 use Rattle.cx_names_scopes.proofs.NameLemmas.{number_within}
-use Rattle.cx_names.proofs.Base.{in_at, in_map, some_at}
+use Rattle.cx_names.proofs.Base.{some_at}
 use Rattle.cx_names.proofs.Kept.{KeptPart, kept, kept_part}
 use Rattle.cx_names.proofs.Circles.{kept_cell}
 use Rattle.cx_names.proofs.NumberLemmas.{there, or_0, part_found}
@@ -29,22 +30,9 @@ use Rattle.cx_flattening.specs.Forms.{HasForms}
 use Rattle.cx_flattening.specs.Whole.{whole_main}
 use Rattle.cx_flattening.proofs.BareDesigns.{bare_forms}
 use Rattle.cx_flattening.proofs.BareRuns.{main_same}
+use Rattle.cx_names.proofs.Controls.{control_kept}
 
-module _ (tree : PlainTree) (k : ℕ) (part : ast.PlainComponent) (at : slice_get tree.components k ≡ Some part) (own : KeptPart tree part) where
-  abbrev visits : Option statements.PlainBlock → List Visited
-  visits None = []
-  visits (Some block) = visit_block block
-
-  control_kept : (v : items.Visited) → In (items.visit Dynamic (control_of tree part part.control)) v → IsStatement (instance_of (design_of tree) k) v
-  control_kept v i = by part.control refl own.statements i
-    where
-      by : (o : Option statements.PlainBlock) → part.control ≡ o → ((w : Visited) → In (visits o) w → form_breaks tree part w.form w.place ≡ []) → In (items.visit Dynamic (control_of tree part o)) v → IsStatement (instance_of (design_of tree) k) v
-      by None e all (inl same) = subst (IsStatement (instance_of (design_of tree) k)) same (record { form = tt; test = λ p t. absurd cc; no_hole = λ p t. absurd cc })
-      by None e all (inr j) = absurd j
-      by (Some block) e all j =
-          block_whole tree part (IsStatement (instance_of (design_of tree) k)) (statement_kept tree k part at) Dynamic false (first tree part) block all
-          (split_all tree part (invokes_of block) (ap (λ o. control_invokes tree part o) e)) v j
-
+module _ (tree : PlainTree) (part : ast.PlainComponent) where
   -- the component of a cell
   kind_of : (cell : ast.PlainCell) (of : CellOf) → cell_of tree cell ≡ of → kind_breaks tree part cell of ≡ [] → (j : ℕ) → kind_or tree part of ≡ OfComponent j → j < length tree.components
   kind_of cell Neither e h j is = absurd cc
@@ -75,9 +63,9 @@ has_forms tree none =
       kinds = λ k j cell few i e. (
           let part = some_at tree.components k (omega (arith, few, many)) in
           let own = kept_part tree part.0 (all.parts part.0 (in_at tree.components k part.0 part.1)) in
-          let found = in_map (plain_cell_of tree part.0) part.0.cells cell (subst (λ (p : PlainComponent). In p.cells cell) (component_is tree k part.0 part.1) i) in
+          let found = image_in (plain_cell_of tree part.0) part.0.cells cell (subst (λ (p : PlainComponent). In p.cells cell) (component_is tree k part.0 part.1) i) in
           let kind : kind_or tree part.0 (cell_of tree found.0) ≡ OfComponent j = ap (λ (c : PlainCell). c.kind) found.2 ∙ e in
-          let less = kind_of tree k part.0 part.1 own found.0 (cell_of tree found.0) refl (kept_cell tree part.0 found.0 (own.cells found.0 found.1)).kind j kind in
+          let less = kind_of tree part.0 found.0 (cell_of tree found.0) refl (kept_cell tree part.0 found.0 (own.cells found.0 found.1)).kind j kind in
           omega (arith, less, many));
     }
 

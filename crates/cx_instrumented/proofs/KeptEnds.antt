@@ -3,6 +3,8 @@ use Rattle.std.proofs.Common.{◌≡◌, ℕ, suc, ◌+◌, ◌*◌, ◌<◌, �
 use Rattle.std.specs.Prelude.{nat_eq}
 use Rattle.std.specs.List.{slice_get}
 use Rattle.std.proofs.lemmas.Bool.{eq-eqb}
+use Rattle.cx_text.proofs.MemberLaws.{image_in, in_at, number_in}
+use Rattle.cx_text.specs.Members.{In}
 use Rattle.cx_text.proofs.ListLaws.{there_below as below_there}
 use Rattle.cx_text.proofs.OptionLaws.{map_some, none_is_some, same_some}
 use Rattle.cx_text.specs.declared.places.Place.{Place}
@@ -11,17 +13,18 @@ use Rattle.cx_meaning.specs.declared.ports.PortRef.TheVariants as ports
 use Rattle.cx_meaning.specs.declared.ports.PlacedPort.{PlacedPort}
 use Rattle.cx_meaning.specs.Designs.{PlainAssign, PlainGroup, group_at, PlainKind, OfPrimitive, OfComponent, PlainCell, PlainInvoke, PlainComponent, PlainDesign, component_at}
 use Rattle.cx_meaning.specs.Instances.{Instance, At, Nothing, OfRow, OfInstance, cell_at, cells_of, part_of, tree_within}
-use Rattle.cx_meaning.specs.Sights.{In, PartPort, Go, AnInput, AnOutput, ItsDone, part_port}
+use Rattle.cx_meaning.specs.Sights.{PartPort, Go, AnInput, AnOutput, ItsDone, part_port}
 use Rattle.cx_meaning.proofs.DesignsLemmas.{same_part, there_below}
-use Rattle.cx_meaning.proofs.SightsLaws.{image_in, in_at, number_in}
+use Rattle.cx_meaning.proofs.InstancesLemmas.{at_kind, cell_stands}
 use Rattle.cx_rules.specs.Footprints.{AssignNames}
 use Rattle.cx_rules.specs.Items.{Visited, statements_in, test_in}
-use Rattle.cx_rules.specs.Ports.{cell_width, component_of, part_width, width_of}
+use Rattle.cx_rules.specs.Ports.{cell_width, component_of, part_width, width_of, is_part_done}
 use Rattle.cx_rules.specs.Wellformed.{IsDesign, IsKind, StandsIn}
 use Rattle.cx_rules.proofs.PortsLemmas.{part_is}
 use Rattle.cx_rewrites.specs.Moving.{moved_assign, moved_port}
 use Rattle.cx_rewrites.proofs.ReflectLemmas.{names_back}
-use Rattle.cx_flattening.specs.Ends.{NamesNoDone, NoneNamesDone, is_done, is_done_at, is_static_done}
+use Rattle.cx_rewrites.proofs.MovedLists.{test_in-moved}
+use Rattle.cx_flattening.specs.Ends.{NamesNoDone, NoneNamesDone, is_done_at, is_static_done}
 use Rattle.cx_flattening.specs.Fair.{IsAssignOf}
 use Rattle.cx_flattening.specs.Whole.{is_static}
 use Rattle.cx_profiling.specs.Counters.{counters, shown_in}
@@ -31,17 +34,16 @@ use Rattle.cx_profiling.proofs.CellPorts.{ports_alike}
 use Rattle.cx_profiling.proofs.CounterLemmas.{in_counters}
 use Rattle.cx_profiling.proofs.GainedLemmas.{components-length, grown_at}
 use Rattle.cx_profiling.proofs.InvokesKept.{keeps_at}
-use Rattle.cx_profiling.proofs.MovedParts.{test_in-moved}
 use Rattle.cx_profiling.proofs.NewSorts.{register_out, adder_out, shown_source}
 use Rattle.cx_profiling.proofs.PartTable.{AlwaysMade, InGroup, StatementMade, always_made, in_group, statement_made, old_always, showing_always, old_in, counting_in, storing_in, old_statement, new_statement}
 use Rattle.cx_profiling.proofs.PortsKept.{memory_there}
 use Rattle.cx_profiling.proofs.RoleLemmas.{own_counters}
-use Rattle.cx_profiling.proofs.ThereLemmas.{Names, cell_at-cells_for, from_there, kind_ports, of_kind, tree_on}
+use Rattle.cx_profiling.proofs.ThereLemmas.{Names, from_there, kind_ports, tree_on}
 use Rattle.cx_instrumented.proofs.KeptParts.{by_entries}
 use Rattle.cx_rules.proofs.FoundLemmas.{source_in}
 
 -- a port of 64 bits is no done
-not_done : (part : PlainComponent) (b : Bool) (x : PartPort) → part_width part x ≡ Some 64 → b && is_done x ≡ false
+not_done : (part : PlainComponent) (b : Bool) (x : PartPort) → part_width part x ≡ Some 64 → b && is_part_done x ≡ false
 not_done part true Go e = refl
 not_done part true (AnInput n) e = refl
 not_done part true (AnOutput n) e = refl
@@ -61,10 +63,10 @@ wide_done i (ports.Done g) e = refl
 wide_done i (ports.Literal w v) e = refl
 
 -- what stands at a cell, by the kind of the cell
-kind_at : (d : PlainDesign) → 0 < length d.components → (k c : ℕ) (cell : PlainCell) → slice_get (component_at d k).cells c ≡ Some cell → (n : ℕ) × (cell_at (cells_of (component_of d k)) c ≡ of_kind (tree_within d n) cell.kind)
+kind_at : (d : PlainDesign) → 0 < length d.components → (k c : ℕ) (cell : PlainCell) → slice_get (component_at d k).cells c ≡ Some cell → (n : ℕ) × (cell_at (cells_of (component_of d k)) c ≡ at_kind (tree_within d n) cell.kind)
 kind_at d some k c cell e =
     let on = tree_on d some (length d.components) k some in
-    (on.0, ap (λ x. cell_at (cells_of x) c) on.1 ∙ cell_at-cells_for (tree_within d on.0) (component_at d k).cells c cell e)
+    (on.0, ap (λ x. cell_at (cells_of x) c) on.1 ∙ cell_stands (tree_within d on.0) (component_at d k).cells c cell e)
 
 -- what a new assignment names: its source
 drive_names : (place : Place) (target source q : PortRef) → AssignNames (drive place target source) q → source ≡ q
@@ -106,12 +108,12 @@ module _ (d : PlainDesign) (rules : IsDesign d) (undone : NoneNamesDone d) (k : 
       inside : p ≤ suc (length (component_at d h).inputs + length (component_at d h).outputs)
       inside = let z : p < 2 + length (component_at d h).inputs + length (component_at d h).outputs = few in omega (arith, z)
 
-      port : is_done (part_port (part_of (tree_within (with_counts d) m h)) (moved_by d (OfComponent h) p)) ≡ is_done (part_port (part_of (tree_within d n h)) p)
+      port : is_part_done (part_port (part_of (tree_within (with_counts d) m h)) (moved_by d (OfComponent h) p)) ≡ is_part_done (part_port (part_of (tree_within d n h)) p)
       port =
-          ap (λ (x : PlainComponent). is_done (part_port x (moved_by d (OfComponent h) p))) (same_part (with_counts d) m h) ∙ ap is_done (ports_alike d h less p inside)
-          ∙ sym (ap (λ (x : PlainComponent). is_done (part_port x p)) (same_part d n h))
+          ap (λ (x : PlainComponent). is_part_done (part_port x (moved_by d (OfComponent h) p))) (same_part (with_counts d) m h) ∙ ap is_part_done (ports_alike d h less p inside)
+          ∙ sym (ap (λ (x : PlainComponent). is_part_done (part_port x p)) (same_part d n h))
 
-  kind_done : (kind : PlainKind) → IsKind d kind → (p : ℕ) → p < kind_ports d kind → (n m : ℕ) → is_done_at (of_kind (tree_within (with_counts d) m) kind) (moved_by d kind p) ≡ is_done_at (of_kind (tree_within d n) kind) p
+  kind_done : (kind : PlainKind) → IsKind d kind → (p : ℕ) → p < kind_ports d kind → (n m : ℕ) → is_done_at (at_kind (tree_within (with_counts d) m) kind) (moved_by d kind p) ≡ is_done_at (at_kind (tree_within d n) kind) p
   kind_done (OfPrimitive x) h p few n m = refl
   kind_done (OfComponent c) less p few n m = child_done n m c less p few
 

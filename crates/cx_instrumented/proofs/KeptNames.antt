@@ -4,13 +4,13 @@ use Rattle.std.specs.Prelude.{get_or, nat_eq, nat_le}
 use Rattle.std.specs.List.{list_all}
 use Rattle.std.proofs.lemmas.Bool.{both_ways}
 use Rattle.std.proofs.lemmas.List.{length-append}
+use Rattle.cx_text.proofs.MemberLaws.{in_either}
 use Rattle.cx_text.proofs.BoolLaws.{and_left, and_right}
 use Rattle.cx_text.specs.declared.places.Place.{Place}
 use Rattle.cx_meaning.specs.declared.kinds.PortDecl.{PortDecl}
 use Rattle.cx_meaning.specs.Designs.{PlainCell, PlainComponent, PlainDesign, component_at}
 use Rattle.cx_meaning.specs.Instances.{cells_of}
-use Rattle.cx_meaning.specs.Sights.{In}
-use Rattle.cx_meaning.proofs.SightsLaws.{in_either}
+use Rattle.cx_text.specs.Members.{In}
 use Rattle.cx_rules.specs.Flat.{ArePlainNames, HasPlainNames, IsPlainName, point}
 use Rattle.cx_rules.specs.Ports.{component_of}
 use Rattle.cx_rules.specs.Sizes.{size_of, design_size}

@@ -3,7 +3,7 @@ use Rattle.std.proofs.Common.{◌≡◌, ℕ, ◌+◌, ◌^◌, ◌<◌, inl, in
 use Rattle.std.specs.Prelude.{nat_eq}
 use Rattle.cx_meaning.specs.Active.{Owned}
 use Rattle.cx_meaning.specs.Designs.{PlainAssign, PlainCell, PlainComponent, PlainDesign, component_at}
-use Rattle.cx_meaning.specs.Sights.{In}
+use Rattle.cx_text.specs.Members.{In}
 use Rattle.cx_rules.specs.Sizes.{design_size}
 use Rattle.cx_rules.specs.Wellformed.{IsDesign}
 use Rattle.cx_vtree.specs.Layout.{is_word}
@@ -20,7 +20,7 @@ use Rattle.cx_profiling.proofs.MemoryNames.{memories_named}
 use Rattle.cx_profiling.proofs.PartTable.{OwnedMade, old_owned, showing, counting, storing, owned_made}
 use Rattle.cx_profiling.proofs.RoleLemmas.{Role, as_main, as_child, as_kept, role}
 use Rattle.cx_profiling.proofs.ShapesKept.{counter_bare, store_bare}
-use Rattle.cx_instrumented.proofs.GuardLemmas.{guard_moved}
+use Rattle.cx_compiler.proofs.FlatGuards.{guard_moved}
 use Rattle.cx_instrumented.proofs.DepthLemmas.{statement_moved, stores_shallow}
 use Rattle.cx_instrumented.proofs.WordLemmas.{profile_word}
 

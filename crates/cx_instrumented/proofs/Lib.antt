@@ -1,4 +1,3 @@
-pub mod GuardLemmas
 pub mod DepthLemmas
 pub mod WordLemmas
 pub mod KeptParts

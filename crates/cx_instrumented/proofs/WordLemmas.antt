@@ -1,21 +1,14 @@
 -- The numbered name of a memory of counts is a word.
-use Rattle.std.proofs.Common.{◌≡◌, ℕ, List, [], ◌∷◌, ◌<◌, ◌≤◌, ◌^◌, true, length, refl, ◌∙◌, arith, le-leb}
+use Rattle.std.proofs.Common.{◌≡◌, ℕ, ◌<◌, ◌≤◌, ◌^◌, true, length, refl, ◌∙◌, arith, le-leb}
 use Rattle.std.specs.Prelude.{codes, decimal, nat_le}
 use Rattle.std.specs.List.{list_all}
 use Rattle.std.proofs.lemmas.List.{length-append}
 use Rattle.std.proofs.lemmas.List.Folds.{list_all-append}
 use Rattle.std.proofs.lemmas.Fmt.{length-decimal-le}
-use Rattle.std.proofs.lemmas.Bool.{and_from, or_right}
-use Rattle.cx_text.proofs.BoolLaws.{and_left, and_right}
-use Rattle.cx_vtree.specs.Layout.{is_letter, is_name_byte, is_word}
-use Rattle.cx_emit.proofs.NameLaws.{is_digit, digits-decimal}
+use Rattle.std.proofs.lemmas.Bool.{and_from}
+use Rattle.cx_vtree.specs.Layout.{is_name_byte, is_word}
+use Rattle.cx_emit.proofs.NameLaws.{digits-decimal, digits_named}
 use Rattle.cx_profiling.specs.FreeNames.{profile_name}
-
-digits_named : (ds : List ℕ) → list_all is_digit ds ≡ true → list_all is_name_byte ds ≡ true
-digits_named [] h = refl
-digits_named (d ∷ ds) h =
-    and_from (is_name_byte d) (list_all is_name_byte ds) (or_right (is_letter d) (is_digit d) (and_left (is_digit d) (list_all is_digit ds) h))
-    (digits_named ds (and_right (is_digit d) (list_all is_digit ds) h))
 
 pub profile_word : (n : ℕ) → n < 2 ^ 64 → is_word (profile_name n) ≡ true
 profile_word n small =

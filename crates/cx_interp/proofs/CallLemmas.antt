@@ -19,7 +19,7 @@ use Rattle.cx_frames.specs.Ran.{Outcome, Ended, Faulted, Unfinished, AnswersAs}
 use Rattle.cx_turns.specs.declared.tables.GroupRow.{GroupRow}
 use Rattle.cx_turns.specs.Children.{HasChild, HasControl, HoldsCall}
 use Rattle.cx_turns.specs.Groups.{HasLength, IsGroupRow, group_driving}
-use Rattle.cx_turns.proofs.Measures.{instance_child}
+use Rattle.cx_state.proofs.TableLemmas.{further}
 use Rattle.cx_turns.proofs.PathLemmas.{settled_under, settled_put}
 use Rattle.cx_turns.proofs.ChildLemmas.{append_one, called_is, child_after, put_child, put_other, under_child}
 use Rattle.cx_interp.specs.declared.answers.Answer as told
@@ -75,7 +75,7 @@ module _ (d : PlainDesign) (n g c number : ℕ) (calls : (path : Path) → IsNum
       ∙ run_is j (inputs_held middle number) (under_path (path ++ c ∷ []) s) budget
       ∙ suffices (path ++ c ∷ []) (inputs_held middle number) inputs (under_path (path ++ c ∷ []) s) budget (λ input lt. hold.inputs path s input at stood lt)
       ∙ ap (λ (x : State). run_control j inputs x budget) (under_child path c s)
-      ∙ ap (λ x. run_control x inputs (under c (under_path path s)) budget) (instance_child (tree_of d) path c r.0 r.1)
+      ∙ ap (λ x. run_control x inputs (under c (under_path path s)) budget) (further (tree_of d) path c r.0 r.1)
       ∙ sym (control_child (cells_of i) c r.0 inputs (under c (under_path path s)) budget r.1)
 
   not_called : (path : Path) (e : ℕ) → IsNumber d n path → group_driving g (instance_at (tree_of d) path) e ≡ false → just c e ≡ false
@@ -103,7 +103,7 @@ module _ (d : PlainDesign) (n g c number : ℕ) (calls : (path : Path) → IsNum
         held = λ m input le. l.held m input (omega (arith, le, lt)) ∙ hold.others m input (λ e. absurd (omega (arith, e, le, lt)));
         ran = record {
           settled = settled_put i (c ∷ []) l.after own (settled_under (tree_of d) path s settled)
-              (subst (λ x. IsSettled x l.after) (instance_child (tree_of d) path c r.0 r.1 ∙ sym (instance_child i [] c r.0 (subst (λ x. cell_at (cells_of x) c ≡ OfInstance r.0) (sym (here i)) r.1))) l.ran.settled)
+              (subst (λ x. IsSettled x l.after) (further (tree_of d) path c r.0 r.1 ∙ sym (further i [] c r.0 (subst (λ x. cell_at (cells_of x) c ≡ OfInstance r.0) (sym (here i)) r.1))) l.ran.settled)
               (l.ran.top ∙ ap (λ (x : State). x []) (under_child path c s));
           top = refl;
           others = λ e below off. put_other c e l.after own below (not_called path e at off);

@@ -23,7 +23,7 @@ use Rattle.cx_frames.specs.Arms.{all_drive, arms_run}
 use Rattle.cx_frames.specs.Ran.{Outcome, Ran}
 use Rattle.cx_turns.specs.Children.{HasChild, HasControl, HoldsCall}
 use Rattle.cx_turns.specs.Tests.{Tested}
-use Rattle.cx_turns.proofs.Measures.{instance_child}
+use Rattle.cx_state.proofs.TableLemmas.{further}
 use Rattle.cx_turns.proofs.ChildLemmas.{called_is, under_child}
 use Rattle.cx_text.proofs.NumberLaws.{never}
 use Rattle.cx_interp.specs.declared.answers.Answer.{Answer}
@@ -169,7 +169,7 @@ module _ (d : PlainDesign) (n g c number : ℕ) (calls : (path : Path) → IsNum
       ∙ ap (λ (t : Tally). t q h) (count_is j (inputs_held middle number) (under_path (path ++ c ∷ []) s) budget)
       ∙ suffices (path ++ c ∷ []) (inputs_held middle number) inputs (under_path (path ++ c ∷ []) s) budget (λ input lt. hold.inputs path s input at stood lt) q h
       ∙ ap (λ (x : State). count_control j inputs x budget q h) (under_child path c s)
-      ∙ ap (λ x. count_control x inputs (under c (under_path path s)) budget q h) (instance_child (tree_of d) path c r.0 r.1)
+      ∙ ap (λ x. count_control x inputs (under c (under_path path s)) budget q h) (further (tree_of d) path c r.0 r.1)
       ∙ sym (ap (λ (t : Tally). t q h) (count_child (cells_of i) c r.0 inputs (under c (under_path path s)) budget r.1))
 
   pub child_grows : (initially so_far : List (List ℕ)) → GrowsBy d middle initially so_far number (statement_counts control) budget

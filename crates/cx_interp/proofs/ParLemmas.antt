@@ -1,10 +1,11 @@
 -- The arms of a par, one after the other on the one state.
 use Rattle.std.proofs.Common.{◌≡◌, ℕ, zero, suc, ◌+◌, ◌≤◌, ◌<◌, List, [], ◌∷◌, length, get_or, take, map, Some, inl, inr, refl, sym, ap, ◌∙◌, subst, arith}
 use Rattle.std.specs.List.{slice_get}
+use Rattle.cx_text.specs.Members.{In}
 use Rattle.cx_text.specs.declared.places.Place.{Place}
 use Rattle.cx_meaning.specs.Designs.{PlainDesign, Par, PlainStatement, Placed, statements_of}
 use Rattle.cx_meaning.specs.Instances.{Instance, Node, Path, State, part_of, instance_at, tree_of}
-use Rattle.cx_meaning.specs.Sights.{Held, In}
+use Rattle.cx_meaning.specs.Sights.{Held}
 use Rattle.cx_meaning.specs.Control.{drives}
 use Rattle.cx_meaning.specs.Running.{run_statement}
 use Rattle.cx_rules.specs.Items.{Visited, Dynamic, statements_in}

@@ -10,6 +10,7 @@ use Rattle.cx_design.specs.PlainActives.{plain_entry}
 use Rattle.cx_text.proofs.NumberLaws.{equal, other, from_eq}
 use Rattle.cx_profiling.specs.Counting.{once}
 use Rattle.cx_interp.specs.Counts.{KeepsShape, GrowsAt, count_at, one_more}
+use Rattle.cx_rules.specs.StaticControl.{one_if}
 
 shape_set : (table : List (List ℕ)) (n : ℕ) (row : List ℕ) → length row ≡ length (get_or table n []) → KeepsShape table (set table n row)
 shape_set [] n row e = refl
@@ -171,11 +172,7 @@ stands_there (x ∷ xs) (suc k) d g lt e =
     or_true false = refl
 
 -- what the entries count: once each group that stands in them
-abbrev count_if : Bool → ℕ
-count_if true = 1
-count_if false = 0
-
-once_is : (o : Option ℕ) → once o ≡ count_if (is_some o)
+once_is : (o : Option ℕ) → once o ≡ one_if (is_some o)
 once_is None = refl
 once_is (Some m) = refl
 
@@ -187,15 +184,15 @@ module _ (n : ℕ) (xs : List ActiveEntry) (k : ℕ) (d : ActiveEntry) (lt : k <
   abbrev pub CountsFirst : ℕ → List (List ℕ) → List (List ℕ) → Type 0
   CountsFirst j old new = GrowsAt n (λ h. once (offset_in (map plain_entry (take j xs)) h)) old new
 
-  next_is : (h : ℕ) → once (offset_in (map plain_entry (take (k + 1) xs)) h) ≡ count_if (among (take k xs) h || nat_eq entry_group h)
-  next_is h = once_is (offset_in (map plain_entry (take (k + 1) xs)) h) ∙ ap count_if (among_next xs k d h lt)
+  next_is : (h : ℕ) → once (offset_in (map plain_entry (take (k + 1) xs)) h) ≡ one_if (among (take k xs) h || nat_eq entry_group h)
+  next_is h = once_is (offset_in (map plain_entry (take (k + 1) xs)) h) ∙ ap one_if (among_next xs k d h lt)
 
   entry_known : (old new : List (List ℕ)) → among (take k xs) entry_group ≡ true → CountsFirst k old new → CountsFirst (k + 1) old new
   entry_known old new known one = grows_at_same n (λ h. once (offset_in (map plain_entry (take k xs)) h)) (λ h. once (offset_in (map plain_entry (take (k + 1) xs)) h)) old new
       (λ h. next_is h ∙ same (among (take k xs) h) (nat_eq entry_group h) (λ e. ap (λ (g : ℕ). among (take k xs) g) (sym (from_eq entry_group h e)) ∙ known) ∙ sym
       (once_is (offset_in (map plain_entry (take k xs)) h))) one
     where
-      same : (a b : Bool) → (b ≡ true → a ≡ true) → count_if (a || b) ≡ count_if a
+      same : (a b : Bool) → (b ≡ true → a ≡ true) → one_if (a || b) ≡ one_if a
       same true b only = refl
       same false true only = absurd (let f : false ≡ true = only refl in cc)
       same false false only = refl
@@ -208,7 +205,7 @@ module _ (n : ℕ) (xs : List ActiveEntry) (k : ℕ) (d : ActiveEntry) (lt : k <
       (λ h. next_is h ∙ sum (among (take k xs) h) (nat_eq entry_group h) (λ e. ap (λ (g : ℕ). among (take k xs) g) (sym (from_eq entry_group h e)) ∙ unknown) ∙ ap
       (λ v. v + once (only_at entry_group h)) (sym (once_is (offset_in (map plain_entry (take k xs)) h)))) one two
     where
-      sum : (a b : Bool) → (b ≡ true → a ≡ false) → count_if (a || b) ≡ count_if a + once (if b then Some 0 else None)
+      sum : (a b : Bool) → (b ≡ true → a ≡ false) → one_if (a || b) ≡ one_if a + once (if b then Some 0 else None)
       sum true true only = absurd (let f : true ≡ false = only refl in cc)
       sum true false only = refl
       sum false true only = refl

@@ -2,11 +2,12 @@
 use Rattle.std.proofs.Common.{◌≡◌, ℕ, ◌<◌, ◌≤◌, inl, inr, ⊎_elim, true, false, length, refl, sym, ap, ◌∙◌, subst}
 use Rattle.std.proofs.lemmas.Bool.{cases_lt}
 use Rattle.std.proofs.lemmas.List.{get_or_past}
+use Rattle.cx_text.proofs.MemberLaws.{number_in}
 use Rattle.cx_text.specs.declared.limits.TheConstants.{REPETITIONS}
 use Rattle.cx_text.specs.declared.rules.Rule.TheVariants.{Limit}
 use Rattle.cx_meaning.specs.Designs.{PlainComponent, PlainDesign, component_at, no_component}
 use Rattle.cx_meaning.specs.Instances.{Instance, part_of, tree_of, Path, instance_at}
-use Rattle.cx_meaning.specs.Sights.{In}
+use Rattle.cx_text.specs.Members.{In}
 use Rattle.cx_meaning.specs.Islands.{form_length}
 use Rattle.cx_rules.specs.Ports.{component_of}
 use Rattle.cx_rules.specs.Items.{Visited, statements_in}
@@ -18,7 +19,6 @@ use Rattle.cx_rules.specs.Accepted.{IsAccepted}
 use Rattle.cx_rules.proofs.CountsLemmas.{lasts_within}
 use Rattle.cx_rules.proofs.LimitRuleLemmas.{over_latency}
 use Rattle.cx_rules.proofs.CircleLemmas.{Reached, a_tree, no_tree, reached}
-use Rattle.cx_meaning.proofs.SightsLaws.{number_in}
 use Rattle.cx_meaning.proofs.DesignsLemmas.{same_part}
 
 module _ (d : PlainDesign) (flat : IsFlat d) (accepted : IsAccepted d) (v : Visited) where

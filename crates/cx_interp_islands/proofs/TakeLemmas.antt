@@ -2,10 +2,12 @@
 use Rattle.std.proofs.Common.{◌≡◌, inr, ℕ, ◌+◌, ◌<◌, ◌≤◌, List, ◌∷◌, ◌++◌, Option, length, drop, get_or, sym, ap, ◌∙◌, subst, arith}
 use Rattle.std.proofs.lemmas.List.{drop_more}
 use denote.Param.Weighed.{most, at_most}
+use Rattle.cx_text.proofs.MemberLaws.{in_left, in_right}
+use Rattle.cx_text.specs.Members.{In}
 use Rattle.cx_meaning.specs.Designs.{PlainComponent, PlainForm, StaticIf}
 use Rattle.cx_meaning.specs.declared.ports.PortRef.{PortRef}
 use Rattle.cx_meaning.specs.declared.ports.PlacedPort.{PlacedPort}
-use Rattle.cx_meaning.specs.Sights.{In, Look}
+use Rattle.cx_meaning.specs.Sights.{Look}
 use Rattle.cx_meaning.specs.Cycles.{Fault}
 use Rattle.cx_meaning.specs.Islands.{first_unclear}
 use Rattle.cx_design.specs.declared.statements.Statement.{Statement}
@@ -14,7 +16,6 @@ use Rattle.cx_design.specs.PlainForms.{plain_statement, plain_statements}
 use Rattle.cx_laws.specs.Samples.{Samples, says, form_ifs, ifs_of, ifs_in, while_after, arms_after}
 use Rattle.cx_interp_islands.specs.Asked.{earlier_fault, while_asked, arms_asked, form_tests, tests_of, tests_in}
 use Rattle.cx_interp_islands.proofs.FaultLemmas.{told_after}
-use Rattle.cx_meaning.proofs.SightsLaws.{in_left, in_right}
 
 module _ (part : PlainComponent) (look now : Look) (arms : List Statement) (i n m j : ℕ) (s : Statement) (kept next : Samples)
     (there : i < length arms) (is : s ≡ get_or arms i s) (same : now ≡ look) (count : m ≡ ifs_of (plain_statement s))

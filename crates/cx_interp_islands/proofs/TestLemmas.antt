@@ -1,12 +1,12 @@
 -- The ports of the static ifs in a statement of a component are tests of statements of it.
 use Rattle.std.proofs.Common.{inl, inr, List, ◌∷◌, ◌++◌, refl, sym, subst}
+use Rattle.cx_text.proofs.MemberLaws.{in_left, in_right, of_joined}
 use Rattle.cx_text.specs.declared.places.Place.{Place}
 use Rattle.cx_meaning.specs.declared.ports.PortRef.{PortRef}
 use Rattle.cx_meaning.specs.Designs.{PlainForm, Empty, Enable, Seq, Par, If, While, Repeat, StaticSeq, StaticPar, StaticIf, StaticRepeat, Timed, PlainStatement, Placed, PlainStatements, no_statements, a_statement}
-use Rattle.cx_meaning.specs.Sights.{In}
+use Rattle.cx_text.specs.Members.{In}
 use Rattle.cx_rules.specs.Items.{Context, InStatic, Branch, below_dynamic, Visited, visit, visit_parts, visit_all}
 use Rattle.cx_interp_islands.specs.Asked.{form_tests, tests_of, tests_in, IsTestIn}
-use Rattle.cx_meaning.proofs.SightsLaws.{of_joined, in_left, in_right}
 
 test_left : (xs ys : List Visited) (p : PortRef) → IsTestIn xs p → IsTestIn (xs ++ ys) p
 test_left xs ys p t = (t.0, t.1, in_left xs ys t.0 t.2, t.3, t.4)

@@ -1,11 +1,12 @@
 //! Laws: each function does nothing but call others, and its clause is the law.
 
 ghost use Rattle.std.specs.Prelude.{◌≡◌, ◌<◌, ℕ, suc, true};
+ghost use Rattle.cx_text.specs.Members.{In};
 ghost use Rattle.cx_text.specs.declared.limits.TheConstants.{REPETITIONS};
 ghost use Rattle.cx_meaning.specs.declared.ports.PortRef.{PortRef};
 ghost use Rattle.cx_meaning.specs.Designs.{PlainComponent, PlainDesign, PlainForm};
 ghost use Rattle.cx_meaning.specs.Instances.{Path, part_of, tree_of, instance_at};
-ghost use Rattle.cx_meaning.specs.Sights.{In, Look};
+ghost use Rattle.cx_meaning.specs.Sights.{Look};
 ghost use Rattle.cx_meaning.specs.Islands.{form_length};
 ghost use Rattle.cx_rules.specs.Items.{Visited, statements_in};
 ghost use Rattle.cx_rules.specs.StaticControl.{is_island};

@@ -3,9 +3,10 @@ use Rattle.std.proofs.Common.{◌≡◌, ℕ, ◌<◌, nat_eq, nat_lt, Bool, tru
 use Rattle.std.proofs.Common.{append_assoc}
 use Rattle.std.proofs.lemmas.Bool.{ltb-true, lt-ltb, eq-eqb, eqb-true, false_from_ne_true}
 use Rattle.std.proofs.lemmas.List.{append-nil}
+use Rattle.cx_text.proofs.MemberLaws.{in_left, in_right}
 use Rattle.cx_text.specs.declared.places.Place.{Place}
 use Rattle.cx_text.specs.declared.rules.Rule.TheVariants as told_rules
-use Rattle.cx_meaning.specs.Sights.{In}
+use Rattle.cx_text.specs.Members.{In}
 use Rattle.cx_rules.proofs.KeyOrder.{before_irreflexive, before_cases, before_less, before_equal, before_transitive}
 use Rattle.cx_rules.specs.Accepted.{part_key, key_of, comes_before}
 use Rattle.cx_rules.specs.Spots.{Spot}
@@ -13,7 +14,6 @@ use Rattle.cx_design_sizes.proofs.Places.{in_snoc}
 use Rattle.cx_limits.specs.declared.found.Limited.{Limited}
 use Rattle.cx_limits.specs.declared.found.FoundBreak.{FoundBreak}
 use Rattle.cx_limits.specs.Scan.{stands_before, noted}
-use Rattle.cx_meaning.proofs.SightsLaws.{in_left, in_right}
 use Rattle.cx_text.proofs.OptionLaws.{none_is_some}
 
 -- a thing that is looked at: its spot, its place, and the limit that it exceeds, if it exceeds one

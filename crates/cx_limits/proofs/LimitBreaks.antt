@@ -2,6 +2,7 @@
 use Rattle.std.proofs.Common.{◌≡◌, ℕ, zero, suc, ◌+◌, ◌-◌, ◌^◌, ◌<◌, ◌≤◌, nat_eq, nat_lt, Bool, true, false, inl, inr, ◌⊎◌, ⊎_elim, List, [], ◌∷◌, ◌++◌, length, Option, Some, None, option_map, refl, sym, ap, ◌∙◌, subst, arith, if◌then◌else◌}
 use Rattle.std.specs.List.{slice_get}
 use Rattle.std.proofs.lemmas.Bool.{cases_lt, cases_eq, ltb-true, lt-ltb, eq-eqb, eqb-true, false_from_ne_true}
+use Rattle.cx_text.proofs.MemberLaws.{in_either, in_left, in_right}
 use Rattle.cx_text.specs.declared.places.Place.{Place}
 use Rattle.cx_text.specs.declared.diagnostics.Diagnostic.{Diagnostic}
 use Rattle.cx_text.specs.declared.rules.Rule.{Rule}
@@ -9,7 +10,7 @@ use Rattle.cx_text.specs.declared.rules.Rule.TheVariants as told_rules
 use Rattle.cx_text.specs.declared.limits.TheConstants.{CELLS, GROUPS, INSTANCES, INSTANCE_DEPTH, MEMORY_WORDS, WEIGHT}
 use Rattle.cx_meaning.specs.Designs.{PlainComponent, PlainDesign, component_at}
 use Rattle.cx_meaning.specs.Instances.{tree_of}
-use Rattle.cx_meaning.specs.Sights.{In}
+use Rattle.cx_text.specs.Members.{In}
 use Rattle.cx_rules.specs.Accepted.{Breaks, stage_of, part_key, key_of, comes_before, KeepsStage, IsFirstOf}
 use Rattle.cx_rules.specs.Items.{Visited, statements_in}
 use Rattle.cx_rules.specs.Counts.{Inners, counted_cells, counted_groups, counted_instances, counted_depth, counted_weight, groups_for}
@@ -28,7 +29,6 @@ use Rattle.cx_limits.specs.Scan.{told, limited_of, noted, past_statements, if_ov
 use Rattle.cx_rules.proofs.KeyOrder.{before_cases}
 use Rattle.cx_limits.proofs.FirstLimit.{Test, spot_key, past_tests, IsAscending, limit_key, IsBest, best_of}
 use Rattle.cx_limits.proofs.AtLemmas.{limit_there, cells_there, groups_there}
-use Rattle.cx_meaning.proofs.SightsLaws.{in_left, in_right, in_either}
 use Rattle.cx_text.proofs.OptionLaws.{none_is_some}
 
 -- THE TESTS, in the order in which a scan makes them

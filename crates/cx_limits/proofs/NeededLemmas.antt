@@ -4,17 +4,17 @@ use Rattle.std.specs.Prelude.{slice_get}
 use Rattle.std.proofs.Math.Logic.{∥∥₁_elim}
 use denote.Struct.Props.{props}
 use Rattle.std.proofs.lemmas.Bool.{eq-eqb, eqb-true, false_from_ne_true}
+use Rattle.cx_text.proofs.MemberLaws.{in_either, in_left, in_right}
 use Rattle.cx_meaning.specs.Designs.{PlainGroup, PlainInvoke, PlainComponent, PlainDesign, component_at}
-use Rattle.cx_meaning.specs.Sights.{In}
+use Rattle.cx_text.specs.Members.{In}
 use Rattle.cx_meaning.specs.Control.{groups_of}
-use Rattle.cx_meaning.proofs.SightsLaws.{in_left, in_right, in_either}
 use Rattle.cx_text.proofs.ListLaws.{there_below}
 use Rattle.cx_rules.specs.Items.{option_list}
 use Rattle.cx_rules.specs.Invokes.{invoke_at, invokes_of, capture_of, captures_of}
 use Rattle.cx_rules.specs.Counts.{is_one_of, group_if, needed, needed_from, needed_groups}
 use Rattle.cx_rules.specs.Wellformed.{IsDesign}
 use Rattle.cx_limits.specs.Inners.{set_all, captures_by, flagged, needs_of}
-use Rattle.cx_text.proofs.BoolLaws.{or_either, or_assoc, bools_same, or_left}
+use Rattle.cx_text.proofs.BoolLaws.{bools_same, or_assoc, or_either, or_left, or_right}
 
 -- FLAGS
 pub set_past : (flags : List Bool) (g : ℕ) → length flags < suc g → set flags g true ≡ flags
@@ -85,10 +85,6 @@ flagged_needed gs (b ∷ bs) g (x ∷ xs) is =
 one_of_append : (h : ℕ) (gs hs : List ℕ) → is_one_of h (gs ++ hs) ≡ (is_one_of h gs || is_one_of h hs)
 one_of_append h [] hs = refl
 one_of_append h (g ∷ gs) hs = ap (λ b. nat_eq h g || b) (one_of_append h gs hs) ∙ sym (or_assoc (nat_eq h g) (is_one_of h gs) (is_one_of h hs))
-
-or_right : (a b : Bool) → b ≡ true → (a || b) ≡ true
-or_right true b e = refl
-or_right false b e = e
 
 one_of : (h : ℕ) (gs : List ℕ) → In gs h → is_one_of h gs ≡ true
 one_of h [] i = absurd i

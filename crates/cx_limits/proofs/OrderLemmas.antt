@@ -5,17 +5,17 @@ use Rattle.std.specs.Option.{MatchOption}
 use Rattle.std.proofs.Math.Logic.{∥∥₁_elim}
 use denote.Struct.Props.{props}
 use Rattle.std.proofs.lemmas.List.{length-map}
+use Rattle.cx_text.proofs.MemberLaws.{in_either, in_left, in_right, number_in}
 use Rattle.cx_graphs.specs.Graphs as graphs
 use Rattle.cx_graphs.specs.Graphs.{targets_of, IsGraph}
 use Rattle.cx_graphs.specs.Ways.{Way, edge, further, HasCircle, IsOrder}
 use Rattle.cx_graphs.proofs.WalkLemmas.{targets_within}
-use Rattle.cx_meaning.specs.Designs.{PlainKind, OfPrimitive, OfComponent, PlainCell, PlainComponent, PlainDesign, component_at, no_component}
-use Rattle.cx_meaning.specs.Sights.{In}
-use Rattle.cx_meaning.proofs.SightsLaws.{in_left, in_right, in_either, number_in}
+use Rattle.cx_meaning.specs.Designs.{PlainKind, OfPrimitive, OfComponent, PlainCell, PlainComponent, PlainDesign, component_at, no_component, component_of_kind}
+use Rattle.cx_text.specs.Members.{In}
 use Rattle.cx_rules.specs.Wellformed.{IsDesign, IsKind, LeadsTo, by_cell, by_way_of}
 use Rattle.cx_rules.proofs.Finite.{Distinct}
 use Rattle.cx_design_sizes.proofs.Places.{few_below}
-use Rattle.cx_limits.specs.Order.{child_of, children_of, edges_from, component_edges}
+use Rattle.cx_limits.specs.Order.{children_of, edges_from, component_edges}
 
 -- what an option that is known tells
 pub told_none : {A : Type 0} (P : Type 0) (Q : A → Type 0) (o : Option A) → o ≡ None → MatchOption o P Q → P
@@ -25,12 +25,12 @@ pub told_some : {A : Type 0} (P : Type 0) (Q : A → Type 0) (o : Option A) (x :
 told_some P Q o x e h = subst (λ p. MatchOption p P Q) e h
 
 -- members of a list, as graphs have them
-pub to_graph : (xs : List ℕ) (x : ℕ) → In xs x → graphs.In xs x
+pub to_graph : (xs : List ℕ) (x : ℕ) → In xs x → In xs x
 to_graph [] x i = absurd i
 to_graph (y ∷ xs) x (inl e) = inl e
 to_graph (y ∷ xs) x (inr i) = inr (to_graph xs x i)
 
-pub of_graph : (xs : List ℕ) (x : ℕ) → graphs.In xs x → In xs x
+pub of_graph : (xs : List ℕ) (x : ℕ) → In xs x → In xs x
 of_graph [] x i = absurd i
 of_graph (y ∷ xs) x (inl e) = inl e
 of_graph (y ∷ xs) x (inr i) = inr (of_graph xs x i)
@@ -39,10 +39,10 @@ of_graph (y ∷ xs) x (inr i) = inr (of_graph xs x i)
 child_in : (cells : List PlainCell) (cell : PlainCell) (j : ℕ) → In cells cell → cell.kind ≡ OfComponent j → In (children_of cells) j
 child_in [] cell j i e = absurd i
 child_in (c ∷ cs) cell j (inl same) e =
-    in_left (child_of c.kind) (children_of cs) j (subst (λ kind. In (child_of kind) j) (sym (ap (λ (x : PlainCell). x.kind) same ∙ e)) (inl refl))
-child_in (c ∷ cs) cell j (inr i) e = in_right (child_of c.kind) (children_of cs) j (child_in cs cell j i e)
+    in_left (component_of_kind c.kind) (children_of cs) j (subst (λ kind. In (component_of_kind kind) j) (sym (ap (λ (x : PlainCell). x.kind) same ∙ e)) (inl refl))
+child_in (c ∷ cs) cell j (inr i) e = in_right (component_of_kind c.kind) (children_of cs) j (child_in cs cell j i e)
 
-own_child : (kind : PlainKind) (j : ℕ) → In (child_of kind) j → kind ≡ OfComponent j
+own_child : (kind : PlainKind) (j : ℕ) → In (component_of_kind kind) j → kind ≡ OfComponent j
 own_child (OfPrimitive p) j i = absurd i
 own_child (OfComponent k) j (inl e) = ap OfComponent e
 own_child (OfComponent k) j (inr i) = absurd i
@@ -50,7 +50,7 @@ own_child (OfComponent k) j (inr i) = absurd i
 in_child : (cells : List PlainCell) (j : ℕ) → In (children_of cells) j → (cell : PlainCell) × In cells cell × (cell.kind ≡ OfComponent j)
 in_child [] j i = absurd i
 in_child (c ∷ cs) j i =
-    ⊎_elim (λ own. (c, inl refl, own_child c.kind j own)) (λ rest. let r = in_child cs j rest in (r.0, inr r.1, r.2)) (in_either (child_of c.kind) (children_of cs) j i)
+    ⊎_elim (λ own. (c, inl refl, own_child c.kind j own)) (λ rest. let r = in_child cs j rest in (r.0, inr r.1, r.2)) (in_either (component_of_kind c.kind) (children_of cs) j i)
 
 targets_are : (parts : List PlainComponent) (k : ℕ) → targets_of (edges_from parts) k ≡ children_of (get_or parts k no_component).cells
 targets_are [] k = refl
@@ -59,11 +59,11 @@ targets_are (p ∷ parts) (suc k) = targets_are parts k
 
 module _ (d : PlainDesign) where
   -- EDGES
-  edge_of : (k j : ℕ) → graphs.In (targets_of (component_edges d) k) j → (cell : PlainCell) × In (component_at d k).cells cell × (cell.kind ≡ OfComponent j)
-  edge_of k j i = in_child (component_at d k).cells j (of_graph (children_of (component_at d k).cells) j (subst (λ ns. graphs.In ns j) (targets_are d.components k) i))
+  edge_of : (k j : ℕ) → In (targets_of (component_edges d) k) j → (cell : PlainCell) × In (component_at d k).cells cell × (cell.kind ≡ OfComponent j)
+  edge_of k j i = in_child (component_at d k).cells j (of_graph (children_of (component_at d k).cells) j (subst (λ ns. In ns j) (targets_are d.components k) i))
 
-  pub edge_to : (k j : ℕ) (cell : PlainCell) → In (component_at d k).cells cell → cell.kind ≡ OfComponent j → graphs.In (targets_of (component_edges d) k) j
-  edge_to k j cell i e = subst (λ ns. graphs.In ns j) (sym (targets_are d.components k)) (to_graph (children_of (component_at d k).cells) j (child_in (component_at d k).cells cell j i e))
+  pub edge_to : (k j : ℕ) (cell : PlainCell) → In (component_at d k).cells cell → cell.kind ≡ OfComponent j → In (targets_of (component_edges d) k) j
+  edge_to k j cell i e = subst (λ ns. In ns j) (sym (targets_are d.components k)) (to_graph (children_of (component_at d k).cells) j (child_in (component_at d k).cells cell j i e))
 
   way_leads : {m n : ℕ} → Way (targets_of (component_edges d)) m n → LeadsTo d m n
   way_leads {m} {n} (edge i) = let r = edge_of m n i in by_cell n r.0 r.1 r.2

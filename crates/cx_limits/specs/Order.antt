@@ -1,15 +1,11 @@
 -- The graph of components: an edge from each to those of its cells.
 use Rattle.std.specs.Prelude.{ℕ, List, [], ◌∷◌, ◌++◌, map}
-use Rattle.cx_meaning.specs.Designs.{PlainKind, OfPrimitive, OfComponent, PlainCell, PlainComponent, PlainDesign}
+use Rattle.cx_meaning.specs.Designs.{PlainCell, PlainComponent, PlainDesign, component_of_kind}
 use Rattle.cx_graphs.specs.Graphs.{Edges}
-
-abbrev pub child_of : PlainKind → List ℕ
-child_of (OfPrimitive primitive) = []
-child_of (OfComponent k) = k ∷ []
 
 abbrev pub children_of : List PlainCell → List ℕ
 children_of [] = []
-children_of (c ∷ cs) = child_of c.kind ++ children_of cs
+children_of (c ∷ cs) = component_of_kind c.kind ++ children_of cs
 
 abbrev pub edges_from : List PlainComponent → Edges
 edges_from parts = map (λ part. children_of part.cells) parts

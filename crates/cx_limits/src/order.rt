@@ -5,7 +5,8 @@ ghost use Rattle.cx_graphs.specs.Graphs.{edges_of};
 ghost use Rattle.cx_graphs.specs.Ways.{IsOrder};
 ghost use Rattle.cx_design.specs.PlainDesigns.{plain_design};
 ghost use Rattle.cx_design.specs.PlainForms.{plain_cell, plain_component};
-ghost use Rattle.cx_limits.specs.Order.{child_of, children_of, component_edges, edges_from};
+ghost use Rattle.cx_meaning.specs.Designs.{component_of_kind};
+ghost use Rattle.cx_limits.specs.Order.{children_of, component_edges, edges_from};
 
 use cx_design::{Cell, CellKind, Component, Design};
 use cx_graphs::order;
@@ -14,7 +15,7 @@ use std::alloc::Global;
 
 /// Adds the component of a cell, where it is of one.
 fn add_child(children: &mut Vec<u32>, cell: &Cell) -> Result<(), Memory>
-    ensures { IfOk result (λ _. children.new.items ≡ children.old.items ++ child_of (plain_cell cell.now).kind) }
+    ensures { IfOk result (λ _. children.new.items ≡ children.old.items ++ component_of_kind (plain_cell cell.now).kind) }
 {
     if let CellKind::Part(component) = &cell.kind {
         children.push(*component)?;

@@ -1,5 +1,6 @@
 -- The assignments of a component's text keep what a design keeps.
 use Rattle.std.proofs.Common.{◌≡◌, ℕ, Bool, true, false, ◌||◌, ◌&&◌, is_some, is_none, List, [], ◌++◌, Option, Some, None, map, flat_map, slice_get, codes, nat_eq, ◌⊎◌, inl, inr, ⊎_elim, refl, sym, ap, ◌∙◌, subst, true≢false}
+use Rattle.cx_text.proofs.MemberLaws.{image_in}
 use Rattle.cx_ast.specs.declared.operands.OperandForm.{OperandForm}
 use Rattle.cx_ast.specs.declared.operands.OperandForm.TheVariants as operands
 use Rattle.cx_ast.specs.PlainGuards as guards
@@ -8,7 +9,7 @@ use Rattle.cx_ast.specs.PlainTree.{PlainTree}
 use Rattle.cx_meaning.specs.declared.ports.PortRef.TheVariants as ports
 use Rattle.cx_meaning.specs.declared.ports.PlacedPort.{PlacedPort}
 use Rattle.cx_meaning.specs.Designs.{Always}
-use Rattle.cx_meaning.specs.Sights.{In}
+use Rattle.cx_text.specs.Members.{In}
 use Rattle.cx_rules.specs.Items.{sources_of}
 use Rattle.cx_rules.specs.Items as items
 use Rattle.cx_rules.specs.Ports.{component_of as instance_of}
@@ -17,9 +18,9 @@ use Rattle.cx_numbering.specs.Names.{same_name, number_of, is_among, is_own_name
 use Rattle.cx_numbering.specs.DesignOf.{number_or_0, own_port, port_of, placed_of, guard_of, guards_in, guard_or_always, assign_of, design_of}
 use Rattle.cx_numbering.specs.NameRules as rules
 use Rattle.cx_numbering.specs.NameRules.{Standing, source_breaks, unknown, assign_breaks, guard_operands, is_own, is_group, is_unknown, is_left_out, is_wrong_target, is_bare_done, is_one}
-use Rattle.cx_names_scopes.proofs.NameLemmas.{same_name-true}
+use Rattle.cx_numbering.proofs.NamesLemmas.{same_name-true}
 use Rattle.cx_names.specs.Targets.{is_literal}
-use Rattle.cx_names.proofs.Base.{append_none, flat_none, tell_none, in_map, map_append}
+use Rattle.cx_names.proofs.Base.{append_none, flat_none, tell_none, map_append}
 use Rattle.cx_names.proofs.NumberLemmas.{or_0}
 use Rattle.cx_names.proofs.There.{IsSource, source_there, form_there}
 use Rattle.std.proofs.lemmas.Bool.{or_parts}
@@ -143,7 +144,7 @@ module _ (tree : PlainTree) (k : ℕ) (part : ast.PlainComponent) (at : slice_ge
       by : (g : Option guards.PlainGuard) → flat_map (source_breaks tree part) (guard_operands g) ≡ [] → In (items.operands_of (guard_or_always tree part g)) p → IsSource tree k part at p.port
       by None none i = absurd i
       by (Some g) none i =
-          let found = in_map (placed_of tree part) (rules.operands_of g) p (subst (λ xs. In xs p) (guard_sources tree part g) i) in
+          let found = image_in (placed_of tree part) (rules.operands_of g) p (subst (λ xs. In xs p) (guard_sources tree part g) i) in
           subst (λ q. IsSource tree k part at q.port) found.2 (source_there tree k part at found.0 (flat_none (source_breaks tree part) (rules.operands_of g) none found.0 found.1))
 
   pub assign_kept : (x : Standing) (owner : Option ℕ) → Owns tree part x.group owner → is_literal x.assign.target.form ≡ false → assign_breaks tree part x ≡ [] → IsAssign (instance_of (design_of tree) k) owner (assign_of tree part x.assign)

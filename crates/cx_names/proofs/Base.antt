@@ -1,63 +1,21 @@
 -- What stands in lists, lists of breaks that are empty, and names that are apart.
 use Rattle.std.proofs.Common.{◌≡◌, ◌+◌, ◌<◌, arith, ℕ, zero, suc, Bool, true, false, ◌||◌, cond, List, [], ◌∷◌, ◌++◌, Option, Some, None, length, map, flat_map, slice_get, ◌⊎◌, inl, inr, ⊎_elim, refl, sym, ap, ◌∙◌, subst, true≢false}
+use Rattle.cx_text.proofs.MemberLaws.{in_at}
 use Rattle.cx_text.specs.declared.places.Place.{Place}
 use Rattle.cx_text.specs.declared.rules.Rule.{Rule}
 use Rattle.cx_text.specs.declared.diagnostics.Diagnostic.{Diagnostic}
-use Rattle.cx_meaning.specs.Sights.{In}
+use Rattle.cx_text.specs.Members.{In}
 use Rattle.cx_rules.specs.Accepted.{comes_before}
 use Rattle.cx_numbering.specs.Names.{same_name, is_among}
 use Rattle.cx_numbering.specs.NameRules.{tell_if, Named, duplicates, first_break, earlier, key_of}
-use Rattle.cx_names_scopes.proofs.NameLemmas.{is_among-cons, same_name-refl}
+use Rattle.cx_numbering.proofs.NamesLemmas.{is_among-cons, same_name-refl}
 
 module _ {A : Type 0} where
-  pub in_left : (xs ys : List A) (x : A) → In xs x → In (xs ++ ys) x
-  in_left [] ys x i = absurd i
-  in_left (y ∷ xs) ys x (inl e) = inl e
-  in_left (y ∷ xs) ys x (inr i) = inr (in_left xs ys x i)
-
-  pub in_right : (xs ys : List A) (x : A) → In ys x → In (xs ++ ys) x
-  in_right [] ys x i = i
-  in_right (y ∷ xs) ys x i = inr (in_right xs ys x i)
-
-  pub in_either : (xs ys : List A) (x : A) → In (xs ++ ys) x → In xs x ⊎ In ys x
-  in_either [] ys x i = inr i
-  in_either (y ∷ xs) ys x (inl e) = inl (inl e)
-  in_either (y ∷ xs) ys x (inr i) = ⊎_elim (λ p. inl (inr p)) (λ q. inr q) (in_either xs ys x i)
-
-  pub in_at : (xs : List A) (n : ℕ) (x : A) → slice_get xs n ≡ Some x → In xs x
-  in_at [] n x e = absurd cc
-  in_at (y ∷ xs) zero x e = inl cc
-  in_at (y ∷ xs) (suc n) x e = inr (in_at xs n x e)
-
-  pub at_in : (xs : List A) (x : A) → In xs x → (n : ℕ) × (slice_get xs n ≡ Some x)
-  at_in [] x i = absurd i
-  at_in (y ∷ xs) x (inl e) = (zero, ap Some e)
-  at_in (y ∷ xs) x (inr i) = let found = at_in xs x i in (suc found.0, found.1)
-
   pub append_none : (xs ys : List A) → xs ++ ys ≡ [] → (xs ≡ []) × (ys ≡ [])
   append_none [] ys h = (refl, h)
   append_none (x ∷ xs) ys h = absurd cc
 
 module _ {A B : Type 0} where
-  pub in_map : (f : A → B) (xs : List A) (y : B) → In (map f xs) y → (x : A) × In xs x × (f x ≡ y)
-  in_map f [] y i = absurd i
-  in_map f (x ∷ xs) y (inl e) = (x, inl refl, e)
-  in_map f (x ∷ xs) y (inr i) = let found = in_map f xs y i in (found.0, inr found.1, found.2)
-
-  pub map_in : (f : A → B) (xs : List A) (x : A) → In xs x → In (map f xs) (f x)
-  map_in f [] x i = absurd i
-  map_in f (y ∷ xs) x (inl e) = inl (ap f e)
-  map_in f (y ∷ xs) x (inr i) = inr (map_in f xs x i)
-
-  pub in_flat : (f : A → List B) (xs : List A) (x : A) (b : B) → In xs x → In (f x) b → In (flat_map f xs) b
-  in_flat f [] x b i j = absurd i
-  in_flat f (y ∷ xs) x b (inl e) j = in_left (f y) (flat_map f xs) b (subst (λ v. In (f v) b) (sym e) j)
-  in_flat f (y ∷ xs) x b (inr i) j = in_right (f y) (flat_map f xs) b (in_flat f xs x b i j)
-
-  pub flat_in : (f : A → List B) (xs : List A) (b : B) → In (flat_map f xs) b → (x : A) × In xs x × In (f x) b
-  flat_in f [] b i = absurd i
-  flat_in f (y ∷ xs) b i = ⊎_elim (λ p. (y, inl refl, p)) (λ q. let rest = flat_in f xs b q in (rest.0, inr rest.1, rest.2)) (in_either (f y) (flat_map f xs) b i)
-
   pub flat_none : (f : A → List B) (xs : List A) → flat_map f xs ≡ [] → (x : A) → In xs x → f x ≡ []
   flat_none f [] h x i = absurd i
   flat_none f (y ∷ xs) h x (inl e) = ap f (sym e) ∙ (append_none (f y) (flat_map f xs) h).0

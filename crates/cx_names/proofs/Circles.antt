@@ -1,20 +1,21 @@
 -- No cell of a design leads back to its component where no cell of the text does within as many cells as there are components.
 use Rattle.std.proofs.Common.{◌≡◌, ℕ, zero, suc, ◌<◌, ◌≤◌, Bool, true, false, ◌||◌, List, [], ◌∷◌, ◌++◌, Option, Some, None, length, option_map, slice_get, unwrap_or, ◌⊎◌, inl, inr, ⊎_elim, refl, sym, ap, ◌∙◌, subst, arith, true≢false}
 use Rattle.std.proofs.lemmas.Option.{slice_get-map, slice_get_within, unwrap_or-slice_get}
+use Rattle.cx_text.proofs.MemberLaws.{image_in, in_at, in_flat}
 use Rattle.cx_text.specs.declared.diagnostics.Diagnostic.{Diagnostic}
 use Rattle.cx_text.specs.declared.rules.Rule.TheVariants.{Recursive}
 use Rattle.cx_ast.specs.PlainTree as ast
 use Rattle.cx_ast.specs.PlainTree.{PlainTree}
 use Rattle.cx_meaning.specs.Designs.{PlainCell, OfComponent, component_at, no_component}
-use Rattle.cx_meaning.specs.Sights.{In}
+use Rattle.cx_text.specs.Members.{In}
 use Rattle.cx_rules.specs.Wellformed.{LeadsTo, by_cell, by_way_of}
 use Rattle.cx_rules.proofs.Finite.{distinct_few}
 use Rattle.cx_rules.proofs.Finite as finite
 use Rattle.cx_numbering.specs.Names.{same_name, component_names, component_among, CellOf, Neither, APrimitive, AComponent, cell_of, primitive_of}
 use Rattle.cx_numbering.specs.DesignOf.{kind_or, plain_cell_of, component_of, design_of}
 use Rattle.cx_numbering.specs.NameRules.{tell_if, component_kinds, some_part, leads_back, recursive_breaks, kind_breaks, external_breaks, cell_breaks}
-use Rattle.cx_names_scopes.proofs.NameLemmas.{same_name-refl}
-use Rattle.cx_names.proofs.Base.{in_at, in_map, in_flat, append_none, tell_none}
+use Rattle.cx_numbering.proofs.NamesLemmas.{same_name-refl}
+use Rattle.cx_names.proofs.Base.{append_none, tell_none}
 use Rattle.cx_names.proofs.NumberLemmas.{or_0, part_found}
 use Rattle.cx_names.proofs.There.{component_is, of_component}
 use Rattle.cx_text.proofs.NumberLaws.{same_or_not}
@@ -161,7 +162,7 @@ module _ (tree : PlainTree) (kept : (part : ast.PlainComponent) → In tree.comp
       by : (o : Option ast.PlainComponent) → slice_get tree.components k ≡ o → Edge tree k j
       by None e = absurd (subst (λ p. In p.cells cell) (none e) i)
       by (Some part) e =
-          let found = in_map (plain_cell_of tree part) part.cells cell (subst (λ p. In p.cells cell) (component_is tree k part e) i) in
+          let found = image_in (plain_cell_of tree part) part.cells cell (subst (λ p. In p.cells cell) (component_is tree k part e) i) in
           of part found.0 e found.1 (cell_of tree found.0) refl (kept part (in_at tree.components k part e) found.0 found.1).kind (ap (λ c. c.kind) found.2 ∙ h)
 
   way_of : (k j : ℕ) → LeadsTo (design_of tree) k j → (m : ℕ) × (ms : List ℕ) × Edge tree k m × IsWay tree m ms j

@@ -1,36 +1,16 @@
 -- Statements one after another, and the groups of their invokes.
 use Rattle.std.proofs.Common.{◌≡◌, ℕ, suc, ◌+◌, ◌<◌, Bool, Option, None, Some, unwrap_or, List, [], ◌∷◌, ◌++◌, length, refl, sym, ◌∙◌, ap, arith, append_assoc, append-nil, length-append, true, false}
+use Rattle.cx_text.proofs.ListLaws.{snoc_length}
 use Rattle.cx_text.specs.declared.places.Place.{Place}
 use Rattle.cx_ast.specs.declared.statements.BindItem.{BindItem}
 use Rattle.cx_meaning.specs.declared.ports.PlacedPort.{PlacedPort}
+use Rattle.cx_meaning.proofs.DesignsLemmas.{joined, joined_more}
 use Rattle.cx_ast.specs.PlainStatements as written
 use Rattle.cx_ast.specs.PlainTree.{PlainTree, PlainComponent}
 use Rattle.cx_meaning.specs.Designs.{PlainGroup, PlainInvoke, PlainStatement, Placed, If, StaticIf, PlainStatements, no_statements, a_statement, statements_of}
 use Rattle.cx_numbering.specs.DesignOf.{Invoke, Next, first, invoke_group, capture_group, capture_count, is_static_invoke, after, after_static, past, plain_invoke_of, captures_for, groups_for, static_for, invoke_groups, static_invokes, invokes_all, all_of, of_block, seq_form, go_port, cell_port}
 use Rattle.cx_numbering.specs.Names.{group_names}
 use Rattle.cx_names.specs.Added.{Made, next_of, with_invoke, added, invokes_at, statement_of}
-
--- statements before others
-abbrev pub joined : List PlainStatement → PlainStatements → PlainStatements
-joined [] rest = rest
-joined (s ∷ ss) rest = a_statement s (joined ss rest)
-
-pub joined_none : (ss : List PlainStatement) → joined ss no_statements ≡ statements_of ss
-joined_none [] = refl
-joined_none (s ∷ ss) = ap (a_statement s) (joined_none ss)
-
-joined_more : (ss : List PlainStatement) (s : PlainStatement) (rest : PlainStatements) → joined (ss ++ s ∷ []) rest ≡ joined ss (a_statement s rest)
-joined_more [] s rest = refl
-joined_more (t ∷ ss) s rest = ap (a_statement t) (joined_more ss s rest)
-
--- a branch from its parts
-pub if_parts : {test made_test : PlacedPort} {comb made_comb : Option ℕ} {a made_a b made_b : PlainStatement} → made_test ≡ test → made_comb ≡ comb → made_a ≡ a → made_b ≡ b → If made_test made_comb made_a made_b ≡ If test comb a b
-if_parts {test = test} {comb = comb} {made_comb = made_comb} {a = a} {made_a = made_a} {made_b = made_b} e f g h =
-    ap (λ t. If t made_comb made_a made_b) e ∙ ap (λ x. If test x made_a made_b) f ∙ ap (λ x. If test comb x made_b) g ∙ ap (If test comb a) h
-
-pub static_if_parts : (length : Option ℕ) {test made_test : PlacedPort} {a made_a b made_b : PlainStatement} → made_test ≡ test → made_a ≡ a → made_b ≡ b → StaticIf length made_test made_a made_b ≡ StaticIf length test a b
-static_if_parts length {test = test} {a = a} {made_a = made_a} {made_b = made_b} e g h =
-    ap (λ t. StaticIf length t made_a made_b) e ∙ ap (λ x. StaticIf length test x made_b) g ∙ ap (StaticIf length test a) h
 
 module _ (tree : PlainTree) (part : PlainComponent) where
   pub added_append : (made : Made) (ks js : List Invoke) → added tree part made (ks ++ js) ≡ added tree part (added tree part made ks) js
@@ -42,9 +22,6 @@ module _ (tree : PlainTree) (part : PlainComponent) where
   captured gs k [] = length-append gs []
   captured gs k (b ∷ bs) = length-append gs (capture_group tree part k ∷ [])
 
-  one_longer : {A : Type 0} (xs : List A) (x : A) → length (xs ++ x ∷ []) ≡ suc (length xs)
-  one_longer xs x = let h = length-append xs (x ∷ []) in omega (arith, h)
-
   no_longer : {A : Type 0} (xs : List A) → length (xs ++ []) ≡ length xs
   no_longer xs = ap length (append-nil xs)
 
@@ -54,10 +31,10 @@ module _ (tree : PlainTree) (part : PlainComponent) where
       by : (b : Bool) → next_of (record { groups = made.groups ++ groups_for tree part b (next_of made) k; invokes = made.invokes ++ static_for tree part b (next_of made) k }) ≡ after_static tree part b (next_of made) k.outputs
       by true =
           (let groups = captured made.groups k k.outputs in
-          let invokes = one_longer made.invokes (plain_invoke_of tree part (next_of made) k) in
+          let invokes = snoc_length made.invokes (plain_invoke_of tree part (next_of made) k) in
           λ i. record { group = groups i; invoke = invokes i })
       by false =
-          (let groups = one_longer made.groups (invoke_group tree part (length made.groups) k) in
+          (let groups = snoc_length made.groups (invoke_group tree part (length made.groups) k) in
           let invokes = no_longer made.invokes in
           λ i. record { group = groups i; invoke = invokes i })
 

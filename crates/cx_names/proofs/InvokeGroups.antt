@@ -1,5 +1,6 @@
 -- The assignments of an invoke's group keep what a design keeps.
 use Rattle.std.proofs.Common.{◌≡◌, ℕ, ◌<◌, true, false, List, [], ◌∷◌, ◌++◌, Option, Some, length, map, flat_map, slice_get, codes, inl, inr, ⊎_elim, refl, sym, ap, ◌∙◌, subst, true≢false}
+use Rattle.cx_text.proofs.MemberLaws.{flat_in, image_in, in_at, in_either}
 use Rattle.cx_ast.specs.declared.operands.OperandForm.TheVariants as operands
 use Rattle.cx_ast.specs.declared.statements.BindItem.{BindItem}
 use Rattle.cx_ast.specs.PlainTree as ast
@@ -8,14 +9,13 @@ use Rattle.cx_meaning.specs.declared.ports.PortRef.TheVariants as ports
 use Rattle.cx_meaning.specs.declared.ports.PlacedPort.{PlacedPort}
 use Rattle.cx_meaning.specs.Designs.{Always, Atom, PlainAssign, guards_of}
 use Rattle.cx_meaning.specs.Instances.{part_of}
-use Rattle.cx_meaning.specs.Sights.{In}
+use Rattle.cx_text.specs.Members.{In}
 use Rattle.cx_rules.specs.Items.{sources_of, operands_of, operands_in}
 use Rattle.cx_rules.specs.Ports.{component_of as instance_of}
 use Rattle.cx_rules.specs.Wellformed.{IsAssign, IsThere}
 use Rattle.cx_numbering.specs.Names.{is_among, cell_among, found_cell_ports, cell_of}
 use Rattle.cx_numbering.specs.DesignOf.{Invoke, cell_port, port_of, go_port, go_guard, found_go, register_of, register_done, input_assign, go_assign, capture_assigns, static_capture, capture_group, done_assign, invoke_group, design_of}
 use Rattle.cx_numbering.specs.NameRules.{is_clock, is_unknown}
-use Rattle.cx_names.proofs.Base.{in_at, in_map, flat_in, in_either}
 use Rattle.cx_names.proofs.NumberLemmas.{cell_found}
 use Rattle.cx_names.proofs.There.{IsSource, source_there, cell_port_there}
 use Rattle.cx_names.proofs.Circles.{KeptCell}
@@ -156,14 +156,14 @@ module _ (tree : PlainTree) (k : ℕ) (part : ast.PlainComponent) (at : slice_ge
 
         every : (p : PlacedPort) → In (operands_of (done_assign tree part v g (b ∷ c ∷ bs)).guard) p → IsSource tree k part at p.port
         every p j =
-            (let found = in_map (register_done tree part v) (b ∷ c ∷ bs) p (subst (λ ps. In ps p) (atoms (register_done tree part v) (b ∷ c ∷ bs)) j) in
+            (let found = image_in (register_done tree part v) (b ∷ c ∷ bs) p (subst (λ ps. In ps p) (atoms (register_done tree part v) (b ∷ c ∷ bs)) j) in
             subst (λ q. IsSource tree k part at q.port) found.2 (register_source found.0 (among found.0 found.1)))
 
     pub invoke_kept : (g : ℕ) → g < length (part_of (instance_of (design_of tree) k)).groups → (a : PlainAssign) → In (invoke_group tree part g v).assigns a → IsAssign (instance_of (design_of tree) k) (Some g) a
     invoke_kept g few a i = ⊎_elim input (λ j. rest j) (in_either (map (input_assign tree part v) v.inputs) _ a i)
       where
         input : In (map (input_assign tree part v) v.inputs) a → IsAssign (instance_of (design_of tree) k) (Some g) a
-        input j = (let found = in_map (input_assign tree part v) v.inputs a j in subst (λ x. IsAssign (instance_of (design_of tree) k) (Some g) x) found.2 (input_kept g found.0 found.1))
+        input j = (let found = image_in (input_assign tree part v) v.inputs a j in subst (λ x. IsAssign (instance_of (design_of tree) k) (Some g) x) found.2 (input_kept g found.0 found.1))
 
         capture : In (flat_map (capture_assigns tree part v) v.outputs) a → IsAssign (instance_of (design_of tree) k) (Some g) a
         capture j = (let found = flat_in (capture_assigns tree part v) v.outputs a j in capture_kept g found.0 found.1 a found.2)

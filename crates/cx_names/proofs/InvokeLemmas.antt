@@ -1,5 +1,6 @@
 -- The groups of invokes keep what a design keeps.
 use Rattle.std.proofs.Common.{◌≡◌, ℕ, true, false, ◌||◌, ◌&&◌, is_some, is_none, List, [], ◌∷◌, ◌++◌, Option, Some, None, flat_map, codes, ⊎_elim, refl, sym, ap, ◌∙◌, subst, true≢false}
+use Rattle.cx_text.proofs.MemberLaws.{in_at}
 use Rattle.cx_prim.specs.declared.names.PrimitiveName.{PrimitiveName}
 use Rattle.cx_prim.specs.declared.names.PrimitiveName.TheVariants as primitives
 use Rattle.cx_prim.specs.Table.{PrimitiveRow, row_at}
@@ -8,13 +9,14 @@ use Rattle.cx_ast.specs.declared.operands.OperandForm.TheVariants as operands
 use Rattle.cx_ast.specs.declared.statements.BindItem.{BindItem}
 use Rattle.cx_ast.specs.PlainTree as ast
 use Rattle.cx_ast.specs.PlainTree.{PlainTree}
-use Rattle.cx_meaning.specs.Sights.{In}
+use Rattle.cx_text.specs.Members.{In}
 use Rattle.cx_numbering.specs.Names.{same_name, is_among, port_names, cell_among, CellOf, Neither, APrimitive, AComponent, cell_of, cell_port_names, found_cell_ports, cell_go}
 use Rattle.cx_numbering.specs.DesignOf.{Invoke}
 use Rattle.cx_numbering.specs.NameRules.{duplicates, bind_names, source_breaks, unknown, is_clock, is_static_end, is_component, found_component, is_unknown, is_reg, found_reg, is_register_in, kind_breaks, input_breaks, output_breaks, output_names, is_go_name, invoke_on, form_breaks}
 use Rattle.cx_ast.specs.PlainStatements as statements
-use Rattle.cx_names_scopes.proofs.NameLemmas.{is_among-cons, is_among-append}
-use Rattle.cx_names.proofs.Base.{append_none, flat_none, tell_none, in_at}
+use Rattle.cx_names_scopes.proofs.NameLemmas.{is_among-append}
+use Rattle.cx_numbering.proofs.NamesLemmas.{is_among-cons}
+use Rattle.cx_names.proofs.Base.{append_none, flat_none, tell_none}
 use Rattle.cx_names.proofs.NumberLemmas.{cell_found}
 use Rattle.cx_names.proofs.Rows.{go_there, register_ports}
 use Rattle.cx_names.proofs.Circles.{KeptCell}

@@ -1,16 +1,16 @@
 -- The assignments of an invoke's group: of two that are no sources and stand at one place the ports are one.
 use Rattle.std.proofs.Common.{◌≡◌, ℕ, true, List, [], ◌∷◌, ◌++◌, map, flat_map, slice_get, Some, inl, inr, ⊎_elim, refl, sym, ap, ◌∙◌, subst, true≢false}
+use Rattle.cx_text.proofs.MemberLaws.{flat_in, image_in, in_either}
 use Rattle.cx_ast.specs.declared.statements.BindItem.{BindItem}
 use Rattle.cx_ast.specs.PlainTree as ast
 use Rattle.cx_ast.specs.PlainTree.{PlainTree}
 use Rattle.cx_meaning.specs.declared.ports.PlacedPort.{PlacedPort}
 use Rattle.cx_meaning.specs.Designs.{Atom, PlainAssign, guards_of}
-use Rattle.cx_meaning.specs.Sights.{In}
+use Rattle.cx_text.specs.Members.{In}
 use Rattle.cx_rules.specs.Items.{sources_of, operands_of, operands_in}
 use Rattle.cx_rules.specs.Ports.{component_of as instance_of, is_target_only}
 use Rattle.cx_numbering.specs.DesignOf.{Invoke, at, one, register_done, input_assign, go_guard, go_assign, capture_assigns, static_capture, capture_group, done_assign, invoke_group, design_of}
 use Rattle.cx_numbering.specs.NameRules.{is_register_in}
-use Rattle.cx_names.proofs.Base.{in_map, flat_in, in_either}
 use Rattle.cx_names.proofs.Circles.{KeptCell}
 use Rattle.cx_names.proofs.Registers.{register_source}
 use Rattle.cx_names.proofs.InvokeGroups.{atoms}
@@ -43,7 +43,7 @@ module _ (tree : PlainTree) (k : ℕ) (part : ast.PlainComponent) (stands : slic
 
     every_register : (outputs : List BindItem) → ((b : BindItem) → In outputs b → In v.outputs b) → (p : PlacedPort) → In (operands_in (guards_of (map (λ b. Atom (register_done tree part v b)) outputs))) p → NoSource p → ⊥
     every_register outputs among p i t =
-        let found = in_map (register_done tree part v) outputs p (subst (λ ps. In ps p) (atoms (register_done tree part v) outputs) i) in
+        let found = image_in (register_done tree part v) outputs p (subst (λ ps. In ps p) (atoms (register_done tree part v) outputs) i) in
         let no = register_source tree k part stands kept found.0 (registers found.0 (among found.0 found.1)) in
         true≢false (sym t ∙ ap (λ (x : PlacedPort). is_target_only (instance_of (design_of tree) k) x.port) (sym found.2) ∙ no)
 
@@ -62,7 +62,7 @@ module _ (tree : PlainTree) (k : ℕ) (part : ast.PlainComponent) (stands : slic
     invoke_tells g a i = ⊎_elim input (λ j. rest j) (in_either (map (input_assign tree part v) v.inputs) _ a i)
       where
         input : In (map (input_assign tree part v) v.inputs) a → Tells a
-        input j = (let found = in_map (input_assign tree part v) v.inputs a j in subst Tells found.2 (λ p q i j tp tq e. alone _ p q i j))
+        input j = (let found = image_in (input_assign tree part v) v.inputs a j in subst Tells found.2 (λ p q i j tp tq e. alone _ p q i j))
 
         capture : In (flat_map (capture_assigns tree part v) v.outputs) a → Tells a
         capture j = (let found = flat_in (capture_assigns tree part v) v.outputs a j in capture_tells found.0 a found.2)

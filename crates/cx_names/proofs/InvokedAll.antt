@@ -2,17 +2,17 @@
 use Rattle.std.proofs.Common.{◌≡◌, ℕ, suc, ◌+◌, ◌<◌, ◌≤◌, Bool, true, false, List, [], ◌∷◌, ◌++◌, Option, Some, None, length, flat_map, ◌⊎◌, inl, inr, ⊎_elim, refl, sym, ap, ◌∙◌, subst, arith}
 use Rattle.std.proofs.lemmas.Bool.{cases_lt}
 use Rattle.std.proofs.lemmas.Grind.{flat_map-append}
+use Rattle.cx_text.proofs.MemberLaws.{in_left, in_right}
 use Rattle.cx_text.specs.declared.places.Place.{Place}
 use Rattle.cx_ast.specs.PlainTree as ast
 use Rattle.cx_ast.specs.PlainTree.{PlainTree}
 use Rattle.cx_ast.specs.PlainStatements as statements
 use Rattle.cx_meaning.specs.Designs.{PlainStatement, PlainStatements, Placed, no_statements, a_statement}
 use Rattle.cx_meaning.specs.Designs as plain
-use Rattle.cx_meaning.specs.Sights.{In}
+use Rattle.cx_text.specs.Members.{In}
 use Rattle.cx_rules.specs.Items.{Context, Dynamic, InStatic, Branch, below_dynamic, Visited, visit, visit_all}
 use Rattle.cx_rules.specs.Invokes.{invoke_in}
 use Rattle.cx_numbering.specs.DesignOf.{Invoke, Next, first, after_static, past, is_static_invoke, invoke_form, of_block, form_of, else_of, block_of, parts_of, all_of, invokes_in, invokes_of, invokes_else, invokes_all, control_invokes, control_of, static_invokes}
-use Rattle.cx_names.proofs.Base.{in_left, in_right}
 use Rattle.cx_names.proofs.Splits.{past-append, statics_counted}
 
 -- the numbers of the static invokes among statements

@@ -1,7 +1,7 @@
 -- What a tree keeps that breaks no rule on names.
 use Rattle.std.proofs.Common.{◌≡◌, true, false, [], ◌++◌, None, map, codes, flat_map}
 use Rattle.cx_ast.specs.PlainTree.{PlainTree, PlainComponent, PlainPort, PlainCell}
-use Rattle.cx_meaning.specs.Sights.{In}
+use Rattle.cx_text.specs.Members.{In}
 use Rattle.cx_numbering.specs.Names.{is_among, component_names}
 use Rattle.cx_numbering.specs.NameRules.{named, duplicates, names_break, name_breaks, main_breaks, import_breaks, component_breaks, primitive_named, main_static, component_duplicates, port_breaks, cell_breaks, assign_breaks, standing, Standing, statements_in, Visited, form_breaks}
 use Rattle.cx_names.proofs.Base.{append_none, flat_none, tell_none, first_none}

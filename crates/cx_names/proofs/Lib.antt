@@ -17,7 +17,9 @@ pub mod EnabledGroups
 pub mod InvokedAll
 pub mod StaticInvokes
 pub mod PartLemmas
+pub mod Controls
 pub mod Whole
+pub mod Giving
 pub mod TargetLemmas
 pub mod Rising
 pub mod Spelled

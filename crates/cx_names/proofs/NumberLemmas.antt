@@ -1,12 +1,14 @@
 -- Numbers of names, and the parts that they name.
 use Rattle.std.proofs.Common.{◌≡◌, ℕ, zero, suc, Bool, true, false, cond, is_some, List, [], ◌∷◌, Option, Some, None, map, slice_get, unwrap_or, refl, sym, ap, ◌∙◌, subst, true≢false}
+use Rattle.cx_text.proofs.MemberLaws.{in_at}
 use Rattle.cx_ast.specs.PlainTree.{PlainComponent, PlainCell}
-use Rattle.cx_meaning.specs.Sights.{In}
+use Rattle.cx_text.specs.Members.{In}
 use Rattle.cx_numbering.specs.Names.{same_name, number_of, later, is_among, cell_among, component_among}
 use Rattle.cx_numbering.specs.DesignOf.{number_or_0}
-use Rattle.cx_names_scopes.proofs.NameLemmas.{same_name-true, same_name-refl, cell_at, part_at}
+use Rattle.cx_names_scopes.proofs.NameLemmas.{cell_at, part_at}
+use Rattle.cx_numbering.proofs.NamesLemmas.{same_name-true, same_name-refl}
 use Rattle.cx_names_scopes.specs.Scopes.{at_number}
-use Rattle.cx_names.proofs.Base.{Distinct, in_at}
+use Rattle.cx_names.proofs.Base.{Distinct}
 
 pub number_at : (name : List ℕ) (names : List (List ℕ)) (k : ℕ) → number_of name names ≡ Some k → slice_get names k ≡ Some name
 number_at name [] k h = absurd cc

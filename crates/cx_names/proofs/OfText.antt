@@ -1,5 +1,6 @@
 -- From the tree of a text to its design: a place tells a port among the operands of an assignment that is written.
 use Rattle.std.proofs.Common.{◌≡◌, ℕ, List, [], ◌∷◌, ◌++◌, map, flat_map, Option, Some, None, inl, inr, ⊎_elim, refl, sym, ap, ◌∙◌, subst}
+use Rattle.cx_text.proofs.MemberLaws.{each_in, flat_in, image_in, in_either, in_left, in_right}
 use Rattle.cx_text.specs.Places.{start}
 use Rattle.cx_ast.specs.declared.tokens.Token.{Token}
 use Rattle.cx_ast.specs.declared.operands.OperandItem.{OperandItem}
@@ -9,21 +10,15 @@ use Rattle.cx_ast.specs.PlainTree as ast
 use Rattle.cx_lex.specs.Lex.{Lex}
 use Rattle.cx_grammar.specs.Parsing.{Parse}
 use Rattle.cx_meaning.specs.declared.ports.PlacedPort.{PlacedPort}
-use Rattle.cx_meaning.specs.Sights.{In}
+use Rattle.cx_text.specs.Members.{Each, In}
 use Rattle.cx_rules.specs.Items.{sources_of, operands_of, operands_in}
 use Rattle.cx_numbering.specs.Names.{groups_in, always_in}
 use Rattle.cx_numbering.specs.DesignOf.{placed_of, guard_of, guards_in, guard_or_always, assign_of}
 use Rattle.cx_numbering.specs.NameRules.{Standing, standing}
-use Rattle.cx_names.proofs.Base.{in_left, in_right, in_either, in_map, flat_in}
 use Rattle.cx_names.proofs.Rising.{text_rises}
 use Rattle.cx_names.proofs.Spelled.{in_guard, in_guards, one_at_place}
-use Rattle.cx_names.proofs.Written.{in_maybe, in_assign, Assigns, Each, Wires, HasWires, written_in_text}
+use Rattle.cx_names.proofs.Written.{in_maybe, in_assign, Assigns, Wires, HasWires, written_in_text}
 use Rattle.cx_names.proofs.TargetLemmas.{free, owned, inside}
-
-each_in : {A : Type 0} (P : A → Type 0) (xs : List A) (x : A) → Each P xs → In xs x → P x
-each_in P [] x h i = absurd i
-each_in P (y ∷ xs) x h (inl e) = subst P e h.0
-each_in P (y ∷ xs) x h (inr i) = each_in P xs x h.1 i
 
 module _ (tree : PlainTree) (part : PlainComponent) where
   -- a port of the design comes from an operand that is written
@@ -90,9 +85,9 @@ in_group part g a h i j = each_in Assigns g.assigns a (group_wired part.wires g 
 stands_in_chain : (part : PlainComponent) (x : Standing) → Each Wires part.wires → In (standing part) x → Assigns x.assign
 stands_in_chain part x h i =
     ⊎_elim
-    (λ p. let found = in_map free (always_in part.wires) x p in subst (λ (y : Standing). Assigns y.assign) found.2 (always_wired part.wires found.0 h found.1))
+    (λ p. let found = image_in free (always_in part.wires) x p in subst (λ (y : Standing). Assigns y.assign) found.2 (always_wired part.wires found.0 h found.1))
     (λ q. let group = flat_in inside (groups_in part.wires) x q in
-    let found = in_map (owned group.0) group.0.assigns x group.2 in
+    let found = image_in (owned group.0) group.0.assigns x group.2 in
     subst (λ (y : Standing). Assigns y.assign) found.2 (in_group part group.0 found.0 h group.1 found.1))
     (in_either (map free (always_in part.wires)) (flat_map inside (groups_in part.wires)) x i)
 

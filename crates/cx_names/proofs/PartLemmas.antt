@@ -3,6 +3,7 @@ use Rattle.std.proofs.Common.{◌≡◌, ◌≢◌, ℕ, zero, suc, Bool, true, 
 use Rattle.std.proofs.lemmas.Bool.{leb-true, or_parts}
 use Rattle.std.proofs.lemmas.List.{length-map}
 use Rattle.std.proofs.lemmas.Option.{slice_get-map, slice_get_within}
+use Rattle.cx_text.proofs.MemberLaws.{image_in, in_image}
 use Rattle.cx_prim.specs.declared.names.PrimitiveName.{PrimitiveName}
 use Rattle.cx_prim.specs.declared.names.PrimitiveName.TheVariants as primitives
 use Rattle.cx_prim.specs.PrimitiveNames.{name_text}
@@ -11,14 +12,14 @@ use Rattle.cx_ast.specs.PlainTree as ast
 use Rattle.cx_ast.specs.PlainTree.{PlainTree}
 use Rattle.cx_meaning.specs.declared.kinds.PortDecl.{PortDecl}
 use Rattle.cx_meaning.specs.Designs.{PlainGroup}
-use Rattle.cx_meaning.specs.Sights.{In}
+use Rattle.cx_text.specs.Members.{In}
 use Rattle.cx_rules.specs.Wellformed.{IsCell, IsPort, AreApart, is_memory, first_number}
 use Rattle.cx_numbering.specs.Names.{is_own_name, if_not_own, signature_ports, port_names, component_names, cell_names, groups_in, group_names, component_among, CellOf, Neither, APrimitive, AComponent, cell_of, primitive_of, primitive_or, is_external}
 use Rattle.cx_numbering.specs.DesignOf.{Invoke, Next, first, group_of, invoke_groups, control_invokes, kind_or, plain_cell_of, decl_of, component_of, design_of}
 use Rattle.cx_numbering.specs.NameRules as rules
 use Rattle.cx_numbering.specs.NameRules.{Standing, standing, named, duplicates, visit_block, is_main, is_narrow_memory, kind_breaks, external_breaks, port_breaks, is_wrong_port, has_other_attribute, is_on_side, primitive_named, component_duplicates, form_breaks}
-use Rattle.cx_names_scopes.proofs.NameLemmas.{same_name-true}
-use Rattle.cx_names.proofs.Base.{in_map, map_in, append_none, tell_none, map_map, map_append, Distinct, distinct_from, apart, at_either}
+use Rattle.cx_numbering.proofs.NamesLemmas.{same_name-true}
+use Rattle.cx_names.proofs.Base.{append_none, tell_none, map_map, map_append, Distinct, distinct_from, apart, at_either}
 use Rattle.cx_names.proofs.Kept.{KeptPart}
 use Rattle.cx_names.proofs.NumberLemmas.{or_0, number_is, part_found}
 use Rattle.cx_names.proofs.Primitives.{no_timer, nameable}
@@ -52,8 +53,8 @@ signature_append (p ∷ xs) ys = ap (if_not_own (is_own_name p.name) p) (signatu
 
 names_in : (list : List ast.PlainPort) (n : List ℕ) → In (port_names list) n → In (map (λ p. p.name) list) n
 names_in list n i =
-    let found = in_map (λ p. p.name) (signature_ports list) n i in
-    subst (λ m. In (map (λ p. p.name) list) m) found.2 (map_in (λ p. p.name) list found.0 (signature_in list found.0 found.1).0)
+    let found = image_in (λ p. p.name) (signature_ports list) n i in
+    subst (λ m. In (map (λ p. p.name) list) m) found.2 (in_image (λ p. p.name) list found.0 (signature_in list found.0 found.1).0)
 
 distinct_signature : (list : List ast.PlainPort) → Distinct (map (λ p. p.name) list) → Distinct (port_names list)
 distinct_signature [] d = tt
@@ -135,13 +136,13 @@ module _ (tree : PlainTree) (part : ast.PlainComponent) (kept : KeptPart tree pa
 
   pub inputs_are_ports : (decl : PortDecl) → In (component_of tree part).inputs decl → IsPort decl
   inputs_are_ports decl i =
-      let found = in_map (decl_of tree part) (signature_ports part.inputs) decl i in
+      let found = image_in (decl_of tree part) (signature_ports part.inputs) decl i in
       let port = signature_in part.inputs found.0 found.1 in
       subst IsPort found.2 (port_is true found.0 (kept.inputs found.0 port.0) port.1)
 
   pub outputs_are_ports : (decl : PortDecl) → In (component_of tree part).outputs decl → IsPort decl
   outputs_are_ports decl i =
-      let found = in_map (decl_of tree part) (signature_ports part.outputs) decl i in
+      let found = image_in (decl_of tree part) (signature_ports part.outputs) decl i in
       let port = signature_in part.outputs found.0 found.1 in
       subst IsPort found.2 (port_is false found.0 (kept.outputs found.0 port.0) port.1)
 

@@ -11,10 +11,8 @@ use Rattle.cx_names_scopes.specs.declared.numbers.Numbers.{Numbers}
 use Rattle.cx_names_scopes.specs.Numbered.{number_in, or_else, number_if, number_from, AreNumbersOf, IsAddedTo}
 use Rattle.cx_names_scopes.specs.Scopes.{at_number}
 use Rattle.cx_names_scopes.proofs.NameLemmas.{drop_found, number_from-start, number_within, numbered, part_at}
+use Rattle.cx_names_scopes.proofs.PrimitiveLemmas.{texts}
 use Rattle.cx_names.specs.Sites.{AddsNames, ArePortNumbers}
-
-abbrev pub texts : List PortRow → List (List ℕ)
-texts ports = map (λ port. text_of port.name) ports
 
 -- the port of a number has the name, or has not
 pub row_first : (ports : List PortRow) (i : ℕ) (port : PortRow) (name text : List ℕ) (all : Option ℕ) → slice_get ports i ≡ Some port → text ≡ text_of port.name → same_name text name ≡ true

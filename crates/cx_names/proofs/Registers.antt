@@ -2,6 +2,7 @@
 use Rattle.std.proofs.Common.{◌≡◌, ℕ, zero, suc, ◌<◌, Bool, true, false, cond, not, is_some, List, [], ◌∷◌, Option, Some, None, length, map, option_map, slice_get, unwrap_or, codes, refl, sym, ap, ◌∙◌, subst, arith, true≢false}
 use Rattle.std.proofs.lemmas.List.{length-map}
 use Rattle.std.proofs.lemmas.Option.{slice_get-map, slice_get_within}
+use Rattle.cx_text.proofs.MemberLaws.{in_at}
 use Rattle.cx_prim.specs.declared.names.PrimitiveName.{PrimitiveName}
 use Rattle.cx_prim.specs.declared.names.PrimitiveName.TheVariants as primitives
 use Rattle.cx_prim.specs.PortNames.{text_of}
@@ -17,12 +18,11 @@ use Rattle.cx_ast.specs.PlainTree.{PlainTree}
 use Rattle.cx_meaning.specs.Designs.{PlainCell, PlainKind, OfPrimitive, OfComponent, PlainDesign, component_at}
 use Rattle.cx_meaning.specs.Instances.{OfRow, cell_at, cells_of, add_cell, cells_for, tree_within}
 use Rattle.cx_meaning.specs.Rows.{side_of}
-use Rattle.cx_meaning.specs.Sights.{In}
+use Rattle.cx_text.specs.Members.{In}
 use Rattle.cx_rules.specs.Ports.{component_of as instance_of, is_cell_output, is_target_only}
 use Rattle.cx_numbering.specs.Names.{cell_names, cell_among, CellOf, Neither, APrimitive, AComponent, cell_of, cell_port_names, found_cell_ports}
 use Rattle.cx_numbering.specs.DesignOf.{number_or_0, cell_port, register_of, kind_or, plain_cell_of, component_of, design_of}
 use Rattle.cx_numbering.specs.NameRules.{is_reg, found_reg, is_register_in, kind_breaks}
-use Rattle.cx_names.proofs.Base.{in_at}
 use Rattle.cx_names.proofs.NumberLemmas.{or_0, cell_found}
 use Rattle.cx_names.proofs.There.{component_is}
 use Rattle.cx_names.proofs.Circles.{KeptCell}

@@ -14,7 +14,7 @@ use Rattle.cx_prim.specs.Table.{row_at, row_of, no_row, at_width, memory_at}
 use Rattle.cx_numbering.specs.Names.{is_among, go_name}
 use Rattle.cx_names_scopes.proofs.NameLemmas.{is_among-append}
 use Rattle.cx_names.proofs.Base.{map_append}
-use Rattle.cx_names.proofs.PortLemmas.{texts}
+use Rattle.cx_names_scopes.proofs.PrimitiveLemmas.{texts}
 
 -- a row has a port of this go, and a done
 pub record HasGo (go : List ℕ) (row : Row) : Type 0 where

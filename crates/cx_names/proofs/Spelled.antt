@@ -1,48 +1,53 @@
 -- What a grammar spells, over tokens that stand further and further on.
-use Rattle.std.proofs.Common.{◌≡◌, List, [], ◌∷◌, ◌++◌, ◌⊎◌, inl, inr, sym, ◌∙◌, subst}
+use Rattle.std.proofs.Common.{◌≡◌, ℕ, zero, suc, List, [], ◌∷◌, ◌++◌, ◌⊎◌, inl, inr, sym, ◌∙◌, subst}
 use Rattle.cx_text.specs.declared.places.Place.{Place}
 use Rattle.cx_ast.specs.declared.tokens.Token.{Token}
 use Rattle.cx_ast.specs.declared.operands.OperandItem.{OperandItem}
 use Rattle.cx_ast.specs.PlainGuards.{PlainGuard, PlainGuards, Or, And, Compare, Not, Operand, At, During, NoGuards, GuardThen}
-use Rattle.cx_meaning.specs.Sights.{In}
+use Rattle.cx_text.specs.Members.{In}
 use Rattle.cx_grammar.specs.declared.terminals.Terminal.{Terminal}
 use Rattle.cx_grammar.specs.Grammar.{Nest, Negation, Parens, Braces, Nested, Grammar, Empty, One, Pair, Choice, Several, Commas, Deeper, Spelling, Spells, Several_of, Commas_of, IsComma}
+use Rattle.cx_grammar.specs.Calyx.{nest, spelled_within}
 use Rattle.cx_names.proofs.Rising.{Before, NoLater, here, before_no_later, then_later, then_before, not_before_itself, Rises}
 
--- the operands stand one behind the other, from p on and up to q
-abbrev pub Chain : Place → List OperandItem → Place → Type 0
-Chain p [] q = NoLater p q
-Chain p (o ∷ os) q = NoLater p o.place × ((m : Place) × Before o.place m × Chain m os q)
+-- what has places stands one behind the other, from p on and up to q
+module _ {A : Type 0} (at : A → Place) where
+  abbrev pub Steps : Place → List A → Place → Type 0
+  Steps p [] q = NoLater p q
+  Steps p (x ∷ xs) q = NoLater p (at x) × ((m : Place) × Before (at x) m × Steps m xs q)
 
-pub chain_earlier : (p m : Place) (os : List OperandItem) (q : Place) → NoLater p m → Chain m os q → Chain p os q
-chain_earlier p m [] q h c = then_later p m q h c
-chain_earlier p m (o ∷ os) q h c = (then_later p m o.place h c.0, c.1)
+  pub steps_earlier : (p m : Place) (xs : List A) (q : Place) → NoLater p m → Steps m xs q → Steps p xs q
+  steps_earlier p m [] q h s = then_later p m q h s
+  steps_earlier p m (x ∷ xs) q h s = (then_later p m (at x) h s.0, s.1)
 
-pub chain_join : (p : Place) (xs : List OperandItem) (m : Place) (ys : List OperandItem) (q : Place) → Chain p xs m → Chain m ys q → Chain p (xs ++ ys) q
-chain_join p [] m ys q c d = chain_earlier p m ys q c d
-chain_join p (x ∷ xs) m ys q c d = (c.0, (c.1.0, c.1.1, chain_join c.1.0 xs m ys q c.1.2 d))
+  pub steps_join : (p : Place) (xs : List A) (m : Place) (ys : List A) (q : Place) → Steps p xs m → Steps m ys q → Steps p (xs ++ ys) q
+  steps_join p [] m ys q s t = steps_earlier p m ys q s t
+  steps_join p (x ∷ xs) m ys q s t = (s.0, (s.1.0, s.1.1, steps_join s.1.0 xs m ys q s.1.2 t))
 
-pub chain_passes : (p : Place) (os : List OperandItem) (q : Place) → Chain p os q → NoLater p q
-chain_passes p [] q c = c
-chain_passes p (o ∷ os) q c =
-    then_later p o.place q c.0 (then_later o.place c.1.0 q (before_no_later o.place c.1.0 c.1.1) (chain_passes c.1.0 os q c.1.2))
+  pub steps_pass : (p : Place) (xs : List A) (q : Place) → Steps p xs q → NoLater p q
+  steps_pass p [] q s = s
+  steps_pass p (x ∷ xs) q s = then_later p (at x) q s.0 (then_later (at x) s.1.0 q (before_no_later (at x) s.1.0 s.1.1) (steps_pass s.1.0 xs q s.1.2))
 
-pub chain_later : (p : Place) (os : List OperandItem) (q m : Place) → Chain p os q → NoLater q m → Chain p os m
-chain_later p [] q m c h = then_later p q m c h
-chain_later p (o ∷ os) q m c h = (c.0, (c.1.0, c.1.1, chain_later c.1.0 os q m c.1.2 h))
+  pub steps_later : (p : Place) (xs : List A) (q m : Place) → Steps p xs q → NoLater q m → Steps p xs m
+  steps_later p [] q m s h = then_later p q m s h
+  steps_later p (x ∷ xs) q m s h = (s.0, (s.1.0, s.1.1, steps_later s.1.0 xs q m s.1.2 h))
 
--- each stands where the chain begins or later
-chained : (p : Place) (os : List OperandItem) (q : Place) (o : OperandItem) → Chain p os q → In os o → NoLater p o.place
+-- where an operand stands
+abbrev pub stands : OperandItem → Place
+stands o = o.place
+
+-- each operand stands where they begin or later
+chained : (p : Place) (os : List OperandItem) (q : Place) (o : OperandItem) → Steps stands p os q → In os o → NoLater p o.place
 chained p [] q o c i = absurd i
 chained p (x ∷ os) q o c (inl e) = subst (λ (y : OperandItem). NoLater p y.place) e c.0
 chained p (x ∷ os) q o c (inr i) =
     then_later p x.place o.place c.0 (then_later x.place c.1.0 o.place (before_no_later x.place c.1.0 c.1.1) (chained c.1.0 os q o c.1.2 i))
 
-first_is_before : (p : Place) (x : OperandItem) (os : List OperandItem) (q : Place) (o : OperandItem) → Chain p (x ∷ os) q → In os o → Before x.place o.place
+first_is_before : (p : Place) (x : OperandItem) (os : List OperandItem) (q : Place) (o : OperandItem) → Steps stands p (x ∷ os) q → In os o → Before x.place o.place
 first_is_before p x os q o c i = then_before x.place c.1.0 o.place c.1.1 (chained c.1.0 os q o c.1.2 i)
 
 -- two at one place are one
-pub one_at_place : (p : Place) (os : List OperandItem) (q : Place) (a b : OperandItem) → Chain p os q → In os a → In os b → a.place ≡ b.place → a ≡ b
+pub one_at_place : (p : Place) (os : List OperandItem) (q : Place) (a b : OperandItem) → Steps stands p os q → In os a → In os b → a.place ≡ b.place → a ≡ b
 one_at_place p [] q a b c i j e = absurd i
 one_at_place p (x ∷ os) q a b c (inl h) (inl k) e = sym h ∙ k
 one_at_place p (x ∷ os) q a b c (inl h) (inr j) e =
@@ -73,19 +78,9 @@ Between A = Place → A → Place → Type 0
 abbrev pub Passes : {A : Type 0} → Between A
 Passes p x q = NoLater p q
 
-abbrev pub Guards : Between PlainGuard
-Guards p g q = Chain p (in_guard g) q
-
--- of the parts that nest, the operands of guards
-abbrev pub Nests : (n : Nest) → Between (Nested n)
-Nests Negation p g q = Chain p (in_guard g) q
-Nests Parens p g q = Chain p (in_guard g) q
-Nests Braces p b q = NoLater p q
-
-pub nest_passes : (n : Nest) (p : Place) (x : Nested n) (q : Place) → Nests n p x q → NoLater p q
-nest_passes Negation p g q c = chain_passes p (in_guard g) q c
-nest_passes Parens p g q c = chain_passes p (in_guard g) q c
-nest_passes Braces p b q c = c
+-- of the parts that nest, what has places in them
+abbrev pub Nests : {A : Type 0} → (A → Place) → ((n : Nest) → Nested n → List A) → (n : Nest) → Between (Nested n)
+Nests at parts n p x q = Steps at p (parts n x) q
 
 -- whatever is spelled by tokens that rise is so, and the tokens behind it rise
 abbrev pub Keeps : {A : Type 0} → Spelling A → Between A → Type 0
@@ -146,7 +141,7 @@ module _ (spelled : (n : Nest) → Spelling (Nested n)) where
       let b = commas_pass g one y ys risen.1.0 s.1 rest risen.1.2 s.4 in
       (b.0, then_later p a.0 b.0 a.1 (then_later a.0 c.0.place b.0 risen.0 (then_later c.0.place risen.1.0 b.0 (before_no_later c.0.place risen.1.0 risen.1.1) b.1)), b.2)
 
-  module _ (deep : (n : Nest) → Keeps (spelled n) (Nests n)) where
+  module _ (deep : (n : Nest) → Keeps (spelled n) Passes) where
     -- whatever is spelled leads on
     pub passes : {A : Type 0} (g : Grammar A) → Gives g Passes
     passes (Empty x) p ts v rest r s = gives_empty x Passes here p ts v rest r s
@@ -155,4 +150,10 @@ module _ (spelled : (n : Nest) → Spelling (Nested n)) where
     passes (Choice g h) p ts v rest r s = gives_choice g h Passes (passes g) (passes h) p ts v rest r s
     passes (Several whole g) p ts v rest r s = gives_several whole g Passes Passes Passes (passes g) here (λ p m q x xs k l. then_later p m q k l) (λ p q xs h. h) p ts v rest r s
     passes (Commas whole g) p ts x rest r s = commas_pass g (passes g) s.0 s.1 p ts rest r s.2
-    passes (Deeper n) p ts x rest r s = let a = deep n p ts x rest r s in (a.0, nest_passes n p x a.0 a.1, a.2)
+    passes (Deeper n) p ts x rest r s = deep n p ts x rest r s
+
+-- what is asked of the parts that nest holds at each level, where it does one level deeper
+pub within_levels : (R : (n : Nest) → Between (Nested n)) → ((spelled : (n : Nest) → Spelling (Nested n)) → ((n : Nest) → Keeps (spelled n) (R n)) → (n : Nest) → Keeps (Spells spelled (nest n)) (R n))
+    → (levels : ℕ) (n : Nest) → Keeps (spelled_within levels n) (R n)
+within_levels R deeper zero n p ts x rest r s = absurd s
+within_levels R deeper (suc levels) n p ts x rest r s = deeper (spelled_within levels) (within_levels R deeper levels) n p ts x rest r s

@@ -1,13 +1,14 @@
 -- The invokes of control in their order: where the groups and the static invokes of each stand among all.
 use Rattle.std.proofs.Common.{◌≡◌, ℕ, zero, suc, ◌+◌, ◌<◌, ◌≤◌, Bool, true, false, List, [], ◌∷◌, ◌++◌, Option, Some, None, length, slice_get, ◌⊎◌, inl, inr, ⊎_elim, refl, sym, ap, ◌∙◌, subst, arith, append_assoc, append-nil, length-append}
+use Rattle.cx_text.proofs.MemberLaws.{in_either}
 use Rattle.cx_ast.specs.declared.statements.BindItem.{BindItem}
 use Rattle.cx_ast.specs.PlainTree as ast
 use Rattle.cx_ast.specs.PlainTree.{PlainTree}
 use Rattle.cx_meaning.specs.Designs.{PlainGroup, PlainInvoke}
-use Rattle.cx_meaning.specs.Sights.{In}
+use Rattle.cx_text.specs.Members.{In}
 use Rattle.cx_numbering.specs.Names.{group_names}
 use Rattle.cx_numbering.specs.DesignOf.{Invoke, Next, first, after, after_static, past, is_static_invoke, capture_count, invoke_group, capture_group, captures_for, groups_for, invoke_groups, plain_invoke_of, captures_number, static_for, static_invokes, control_invokes}
-use Rattle.cx_names.proofs.Base.{in_either, front_at, back_at, at_either}
+use Rattle.cx_names.proofs.Base.{front_at, back_at, at_either}
 
 module _ (tree : PlainTree) (part : ast.PlainComponent) where
   pub past-append : (n : Next) (ks js : List Invoke) → past tree part n (ks ++ js) ≡ past tree part (past tree part n ks) js

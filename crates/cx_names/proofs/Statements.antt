@@ -2,6 +2,7 @@
 use Rattle.std.proofs.Common.{◌≡◌, ℕ, zero, suc, ◌+◌, ◌-◌, ◌<◌, ◌≤◌, Bool, true, false, List, [], ◌∷◌, ◌++◌, Option, Some, None, length, map, option_map, slice_get, ◌⊎◌, inl, inr, ⊎_elim, refl, sym, ap, ◌∙◌, subst, arith}
 use Rattle.std.proofs.lemmas.List.{length-map, length-append}
 use Rattle.std.proofs.lemmas.Option.{get_or_from_slice_get, slice_get-map, slice_get_within}
+use Rattle.cx_text.proofs.MemberLaws.{in_either, in_left, in_right}
 use Rattle.cx_text.specs.declared.places.Place.{Place}
 use Rattle.cx_ast.specs.declared.operands.OperandItem.{OperandItem}
 use Rattle.cx_ast.specs.declared.wiring.GroupWord.{GroupWord}
@@ -13,7 +14,7 @@ use Rattle.cx_meaning.specs.declared.ports.PlacedPort.{PlacedPort}
 use Rattle.cx_meaning.specs.Designs.{PlainGroup, PlainForm, PlainStatements, Placed, no_statements, a_statement, group_at, no_group}
 use Rattle.cx_meaning.specs.Designs as plain
 use Rattle.cx_meaning.specs.declared.kinds.GroupKind.TheVariants as kinds
-use Rattle.cx_meaning.specs.Sights.{In}
+use Rattle.cx_text.specs.Members.{In}
 use Rattle.cx_rules.specs.Items.{Context, InStatic, Branch, below_dynamic, test_in, is_comb}
 use Rattle.cx_rules.specs.Items as items
 use Rattle.cx_rules.specs.Ports.{component_of as instance_of}
@@ -24,7 +25,7 @@ use Rattle.cx_numbering.specs.NameRules.{Visited, visit_parts, visit_else, visit
 use Rattle.cx_names_scopes.specs.Scopes.{at_number}
 use Rattle.cx_names_scopes.proofs.NameLemmas.{number_within}
 use Rattle.cx_names_scopes.proofs.NameLemmas as lookup
-use Rattle.cx_names.proofs.Base.{append_none, tell_none, in_left, in_right, in_either, some_at, front_at, back_at}
+use Rattle.cx_names.proofs.Base.{append_none, tell_none, some_at, front_at, back_at}
 use Rattle.cx_names.proofs.NumberLemmas.{there, or_0}
 use Rattle.cx_names.proofs.There.{IsSource, source_there, part_is}
 use Rattle.cx_names.proofs.Splits.{Split, split_left, split_right, all_groups, GroupAt, called_at, static_at}

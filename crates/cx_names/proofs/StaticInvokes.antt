@@ -3,6 +3,8 @@ use Rattle.std.proofs.Common.{◌≡◌, ℕ, zero, suc, ◌-◌, ◌<◌, Bool,
 use Rattle.std.proofs.lemmas.Bool.{lt-ltb}
 use Rattle.std.proofs.lemmas.List.{length-map}
 use Rattle.std.proofs.lemmas.Option.{slice_get-map, slice_get_within}
+use Rattle.cx_text.proofs.MemberLaws.{flat_in, in_at}
+use Rattle.cx_text.specs.Members.{In}
 use Rattle.cx_prim.specs.declared.names.PrimitiveName.{PrimitiveName}
 use Rattle.cx_prim.specs.declared.names.PrimitiveName.TheVariants as primitives
 use Rattle.cx_prim.specs.PortNames.{text_of}
@@ -18,7 +20,7 @@ use Rattle.cx_ast.specs.PlainTree.{PlainTree}
 use Rattle.cx_meaning.specs.declared.ports.PortRef.TheVariants as ports
 use Rattle.cx_meaning.specs.Designs.{PlainAssign, PlainInvoke, PlainCell, PlainKind, OfPrimitive, OfComponent, PlainComponent, PlainDesign, component_at}
 use Rattle.cx_meaning.specs.Instances.{Instance, At, Nothing, OfRow, OfInstance, cell_at, cells_of, part_of, add_cell, cells_for, tree_within}
-use Rattle.cx_meaning.specs.Sights.{In, PartPort, AnInput, output_port, part_port}
+use Rattle.cx_meaning.specs.Sights.{PartPort, AnInput, output_port, part_port}
 use Rattle.cx_meaning.proofs.DesignsLemmas.{same_part}
 use Rattle.cx_rules.specs.Ports.{component_of as instance_of, is_instance}
 use Rattle.cx_rules.specs.CallShape.{IsInput, is_register, is_register_cell}
@@ -28,28 +30,24 @@ use Rattle.cx_rules.specs.Wellformed as wellformed
 use Rattle.cx_numbering.specs.Names.{same_name, later, number_of, is_among, signature_ports, port_names, component_names, cell_names, cell_among, component_among, primitive_of, CellOf, Neither, APrimitive, AComponent, cell_of, cell_port_names, found_cell_ports, latency_of, found_latency, cell_go, is_external}
 use Rattle.cx_numbering.specs.DesignOf.{Invoke, number_or_0, cell_port, port_of, register_of, input_assign, static_capture, kind_or, decl_of, plain_cell_of, component_of, design_of}
 use Rattle.cx_numbering.specs.NameRules.{named, bind_names, is_reg, is_go_name, found_reg, is_register_in, kind_breaks, input_breaks, output_names}
-use Rattle.cx_names_scopes.proofs.NameLemmas.{number_within, is_among-cons, is_among-append, same_name-true}
-use Rattle.cx_names.proofs.Base.{in_at, flat_in, Distinct, distinct_from, apart, map_map}
+use Rattle.cx_names_scopes.proofs.NameLemmas.{number_within, is_among-append}
+use Rattle.cx_numbering.proofs.NamesLemmas.{is_among-cons, same_name-true}
+use Rattle.cx_names.proofs.Base.{Distinct, distinct_from, apart, map_map}
 use Rattle.cx_names.proofs.NumberLemmas.{there, or_0, number_at, cell_found, part_found}
 use Rattle.cx_names.proofs.There.{of_component, component_is, part_is, source_there, cell_port_there}
 use Rattle.cx_names.proofs.Circles.{KeptCell}
 use Rattle.cx_names.proofs.InvokeLemmas.{KeptInvoke, row_kept, input_named, input_only, input_source, output_register}
 use Rattle.cx_text.proofs.BoolLaws.{and_both, or_either}
+use Rattle.cx_meaning.proofs.InstancesLemmas.{at_kind, at_cell, at_number}
 
 -- WHAT STANDS AT A CELL is told by what the cell is of
-kind_told : {A : Type 0} (f : At → A) (g : PlainKind → A) (d : PlainDesign) (n : ℕ) → ((p : PrimitiveRow) → f (OfRow (row_of p)) ≡ g (OfPrimitive p)) → ((j : ℕ) → f (OfInstance (tree_within d n j)) ≡ g (OfComponent j))
+pub kind_told : {A : Type 0} (f : At → A) (g : PlainKind → A) (d : PlainDesign) (n : ℕ) → ((p : PrimitiveRow) → f (OfRow (row_of p)) ≡ g (OfPrimitive p)) → ((j : ℕ) → f (OfInstance (tree_within d n j)) ≡ g (OfComponent j))
     → (cells : List PlainCell) (c : ℕ) (cell : PlainCell) → slice_get cells c ≡ Some cell → f (cell_at (cells_for (tree_within d n) cells) c) ≡ g cell.kind
-kind_told f g d n rows parts [] c cell h = absurd cc
-kind_told f g d n rows parts (x ∷ xs) zero cell h = let same : x ≡ cell = cc in first x.kind ∙ ap (λ (y : PlainCell). g y.kind) same
+kind_told f g d n rows parts cells c cell h = ap f (at_number (tree_within d n) cells c ∙ ap (at_cell (tree_within d n)) h) ∙ by cell.kind
   where
-    first : (kind : PlainKind) → f (cell_at (add_cell (tree_within d n) kind (cells_for (tree_within d n) xs)) zero) ≡ g kind
-    first (OfPrimitive p) = rows p
-    first (OfComponent j) = parts j
-kind_told f g d n rows parts (x ∷ xs) (suc c) cell h = next x.kind ∙ kind_told f g d n rows parts xs c cell h
-  where
-    next : (kind : PlainKind) → f (cell_at (add_cell (tree_within d n) kind (cells_for (tree_within d n) xs)) (suc c)) ≡ f (cell_at (cells_for (tree_within d n) xs) c)
-    next (OfPrimitive p) = refl
-    next (OfComponent j) = refl
+    by : (kind : PlainKind) → f (at_kind (tree_within d n) kind) ≡ g kind
+    by (OfPrimitive p) = rows p
+    by (OfComponent j) = parts j
 
 abbrev kind_latency : PlainDesign → PlainKind → Option ℕ
 kind_latency d (OfPrimitive p) = None
@@ -128,6 +126,12 @@ reg_name : (tree : PlainTree) (part : ast.PlainComponent) (n : PrimitiveName) (n
 reg_name tree part primitives.Reg numbers r = refl
 reg_name tree part _ numbers r = absurd cc
 
+-- the component of a cell
+pub component_numbered : (tree : PlainTree) (found : ast.PlainCell) (comp : ast.PlainComponent) → cell_of tree found ≡ AComponent comp → component_at (design_of tree) (number_or_0 comp.name (component_names tree)) ≡ component_of tree comp
+component_numbered tree found comp e =
+    let place = part_found found.kind tree.components comp (of_component (primitive_of found.kind) found.numbers (component_among found.kind tree.components) comp e) in
+    ap (component_at (design_of tree)) (or_0 comp.name (component_names tree) place.number place.is) ∙ component_is tree place.number comp place.at
+
 module _ (tree : PlainTree) (k : ℕ) (part : ast.PlainComponent) (at : slice_get tree.components k ≡ Some part) where
   abbrev here : Instance
   here = instance_of (design_of tree) k
@@ -146,12 +150,6 @@ module _ (tree : PlainTree) (k : ℕ) (part : ast.PlainComponent) (at : slice_ge
       levels zero few c h = absurd (omega (arith, few))
       levels (suc n) few c h = kind_told f g (design_of tree) n rows (parts n) (component_at (design_of tree) k).cells c (plain_cell_of tree part found) h
 
-  -- the component of a cell
-  numbered : (found : ast.PlainCell) (comp : ast.PlainComponent) → cell_of tree found ≡ AComponent comp → component_at (design_of tree) (number_or_0 comp.name (component_names tree)) ≡ component_of tree comp
-  numbered found comp e =
-      let place = part_found found.kind tree.components comp (of_component (primitive_of found.kind) found.numbers (component_among found.kind tree.components) comp e) in
-      ap (component_at (design_of tree)) (or_0 comp.name (component_names tree) place.number place.is) ∙ component_is tree place.number comp place.at
-
   -- LATENCY
   pub latency_told : (name : List ℕ) (found : ast.PlainCell) → cell_among name part.cells ≡ Some found → (cell_breaks_none : kind_breaks tree part found (cell_of tree found) ≡ [])
       → found_latency tree (cell_among name part.cells) ≡ latency_at (cell_at (cells_of here) (number_or_0 name (cell_names part)))
@@ -162,7 +160,7 @@ module _ (tree : PlainTree) (k : ℕ) (part : ast.PlainComponent) (at : slice_ge
       by : (of : CellOf) → cell_of tree found ≡ of → kind_breaks tree part found of ≡ [] → latency_of of ≡ kind_latency (design_of tree) (kind_or tree part of)
       by Neither f h = absurd cc
       by (APrimitive p) f h = refl
-      by (AComponent comp) f h = sym (ap (λ (q : PlainComponent). q.latency) (numbered found comp f))
+      by (AComponent comp) f h = sym (ap (λ (q : PlainComponent). q.latency) (component_numbered tree found comp f))
 
   -- A BOUND INPUT
   module _ (v : Invoke) (own : KeptInvoke tree part v) where
@@ -190,7 +188,7 @@ module _ (tree : PlainTree) (k : ℕ) (part : ast.PlainComponent) (at : slice_ge
         by (AComponent comp) e =
             (let found = input_number comp b.name (ap (λ o. is_go_name tree part (cell_go o) b.name) (sym e) ∙ only.1) (ap (λ o. is_among b.name (cell_port_names o)) (sym e) ∙ among) (ap (λ o. is_among b.name (output_names tree part o)) (sym e) ∙ only.0) in
             let count : length (port_names comp.inputs) ≡ length (component_of tree comp).inputs = length-map (signature_ports comp.inputs) (λ q. q.name) ∙ sym (length-map (signature_ports comp.inputs) (decl_of tree comp)) in
-            let part_many : length (part_of child).inputs ≡ length (component_of tree comp).inputs = many ∙ ap (λ o. kind_inputs (design_of tree) (kind_or tree part o)) e ∙ ap (λ (q : PlainComponent). length q.inputs) (numbered own.found comp e) in
+            let part_many : length (part_of child).inputs ≡ length (component_of tree comp).inputs = many ∙ ap (λ o. kind_inputs (design_of tree) (kind_or tree part o)) e ∙ ap (λ (q : PlainComponent). length q.inputs) (component_numbered tree own.found comp e) in
             let few = found.few in
             let port : number_or_0 b.name (found_cell_ports tree (cell_among v.cell part.cells)) ≡ suc found.input =
             ap (λ o. number_or_0 b.name (found_cell_ports tree o)) own.is ∙ ap (λ o. number_or_0 b.name (cell_port_names o)) e ∙ or_0 b.name (cell_port_names (AComponent comp)) (suc found.input) found.number in

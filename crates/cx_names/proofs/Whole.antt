@@ -2,6 +2,7 @@
 use Rattle.std.proofs.Common.{◌≡◌, ℕ, ◌+◌, ◌<◌, ◌≤◌, ◌^◌, true, false, List, [], ◌∷◌, ◌++◌, Option, Some, None, length, map, flat_map, option_map, slice_get, codes, inl, inr, ⊎_elim, refl, sym, ap, ◌∙◌, subst, arith, true≢false}
 use Rattle.std.proofs.lemmas.List.{length-map}
 use Rattle.std.proofs.lemmas.Option.{get_or_from_slice_get, slice_get-map, slice_get_within}
+use Rattle.cx_text.proofs.MemberLaws.{image_in, in_at, in_flat, in_image, in_left, in_right}
 use Rattle.cx_ast.specs.PlainTree as ast
 use Rattle.cx_ast.specs.PlainTree.{PlainTree}
 use Rattle.cx_ast.specs.PlainStatements as statements
@@ -12,7 +13,7 @@ use Rattle.cx_meaning.specs.Control.{groups_of}
 use Rattle.cx_ast.specs.declared.statements.BindItem.{BindItem}
 use Rattle.cx_rules.specs.Invokes.{invoke_in}
 use Rattle.cx_meaning.specs.Instances.{part_of}
-use Rattle.cx_meaning.specs.Sights.{In}
+use Rattle.cx_text.specs.Members.{In}
 use Rattle.cx_rules.specs.Items.{Dynamic, is_comb}
 use Rattle.cx_rules.specs.Items as items
 use Rattle.cx_rules.specs.Ports.{component_of as instance_of}
@@ -21,10 +22,11 @@ use Rattle.cx_rules.specs.Wellformed.{IsAssign, IsForm, IsBind, IsInvoke, IsStat
 use Rattle.cx_numbering.specs.Names.{same_name, number_of, component_names, cell_names, groups_in, always_in, group_names}
 use Rattle.cx_numbering.specs.DesignOf as design
 use Rattle.cx_numbering.specs.DesignOf.{Invoke, Next, number_or_0, is_static_invoke, captures_number, capture_group, input_assign, assign_of, group_of, invoke_groups, invokes_of, control_invokes, control_of, plain_cell_of, component_of, design_of}
-use Rattle.cx_numbering.specs.NameRules.{Standing, standing, named, names_break, visit_block, Visited, is_main, form_breaks}
-use Rattle.cx_names_scopes.proofs.NameLemmas.{number_within, same_name-refl}
+use Rattle.cx_numbering.specs.NameRules.{Standing, standing, named, names_break, visit_block, Visited, is_main, form_breaks, visit_control}
+use Rattle.cx_names_scopes.proofs.NameLemmas.{number_within}
+use Rattle.cx_numbering.proofs.NamesLemmas.{same_name-refl}
 use Rattle.cx_names.specs.Targets.{is_literal, HasTargets}
-use Rattle.cx_names.proofs.Base.{in_left, in_right, in_at, in_map, map_in, in_flat, Distinct, some_at, at_either}
+use Rattle.cx_names.proofs.Base.{Distinct, some_at, at_either}
 use Rattle.cx_names.proofs.Kept.{Kept, KeptPart, kept, kept_part}
 use Rattle.cx_names.proofs.NumberLemmas.{there, or_0, number_at, number_is, cell_found}
 use Rattle.cx_names.proofs.There.{part_is, component_is}
@@ -38,38 +40,27 @@ use Rattle.cx_names.proofs.StaticInvokes.{latency_told, bind_is, bound_once, cap
 use Rattle.cx_names.proofs.InvokedAll.{invoked_all}
 use Rattle.cx_names.proofs.EnabledGroups.{comb_in, named_statement}
 use Rattle.cx_names.proofs.PartLemmas.{distinct_names, distinct_groups, cells_apart, ports_apart, groups_apart, no_primitive_name, main_is_dynamic, inputs_are_ports, outputs_are_ports, main_inputs, main_outputs, cell_is}
+use Rattle.cx_names.proofs.Controls.{invoke_own, control_kept}
 
 module _ (tree : PlainTree) (k : ℕ) (part : ast.PlainComponent) (at : slice_get tree.components k ≡ Some part) (own : KeptPart tree part) (targets : (x : Standing) → In (standing part) x → is_literal x.assign.target.form ≡ false) where
   cells_kept : (cell : ast.PlainCell) → In part.cells cell → KeptCell tree part cell
   cells_kept cell i = kept_cell tree part cell (own.cells cell i)
-
-  abbrev visits : Option statements.PlainBlock → List Visited
-  visits None = []
-  visits (Some block) = visit_block block
-
-  -- an invoke of the control
-  invoke_own : (v : Invoke) → In (control_invokes tree part part.control) v → KeptInvoke tree part v
-  invoke_own v i = kept_invoke tree part v (same_breaks tree part v v.written (own.statements (visited_of v) (by part.control i)))
-    where
-      by : (o : Option statements.PlainBlock) → In (control_invokes tree part o) v → In (visits o) (visited_of v)
-      by None i = absurd i
-      by (Some block) i = invoke_of_block block v i
 
   standing_kept : (x : Standing) (owner : Option ℕ) → Owns tree part x.group owner → In (standing part) x → IsAssign (instance_of (design_of tree) k) owner (assign_of tree part x.assign)
   standing_kept x owner owns i = assign_kept tree k part at x owner owns (targets x i) (own.assigns x i)
 
   always_kept : (a : PlainAssign) → In (component_of tree part).always a → IsAssign (instance_of (design_of tree) k) None a
   always_kept a i =
-      let found = in_map (assign_of tree part) (always_in part.wires) a i in
+      let found = image_in (assign_of tree part) (always_in part.wires) a i in
       let x : Standing = record { group = None; assign = found.0 } in
-      subst (IsAssign (instance_of (design_of tree) k) None) found.2 (standing_kept x None tt (in_left (map (λ b. record { group = None; assign = b }) (always_in part.wires)) _ x (map_in (λ b. record { group = None; assign = b }) (always_in part.wires) found.0 found.1)))
+      subst (IsAssign (instance_of (design_of tree) k) None) found.2 (standing_kept x None tt (in_left (map (λ b. record { group = None; assign = b }) (always_in part.wires)) _ x (in_image (λ b. record { group = None; assign = b }) (always_in part.wires) found.0 found.1)))
 
   -- an assignment of a group of the text
   source_kept : (g : ℕ) (group : ast.PlainGroup) → slice_get (groups_in part.wires) g ≡ Some group → (a : PlainAssign) → In (group_of tree part group).assigns a → IsAssign (instance_of (design_of tree) k) (Some g) a
   source_kept g group stands a i =
-      let found = in_map (assign_of tree part) group.assigns a i in
+      let found = image_in (assign_of tree part) group.assigns a i in
       let x : Standing = record { group = Some group.name; assign = found.0 } in
-      let within = in_flat (λ h. map (λ b. record { group = Some h.name; assign = b }) h.assigns) (groups_in part.wires) group x (in_at (groups_in part.wires) g group stands) (map_in (λ b. record { group = Some group.name; assign = b }) group.assigns found.0 found.1) in
+      let within = in_flat (λ h. map (λ b. record { group = Some h.name; assign = b }) h.assigns) (groups_in part.wires) group x (in_at (groups_in part.wires) g group stands) (in_image (λ b. record { group = Some group.name; assign = b }) group.assigns found.0 found.1) in
       let number = number_is (group_names part) (distinct_groups tree part own) g group.name (slice_get-map (λ h. h.name) (groups_in part.wires) g ∙ ap (λ o. option_map (λ h. h.name) o) stands) in
       subst (IsAssign (instance_of (design_of tree) k) (Some g)) found.2 (standing_kept x (Some g) number (in_right (map (λ b. record { group = None; assign = b }) (always_in part.wires)) _ x within))
 
@@ -93,7 +84,7 @@ module _ (tree : PlainTree) (k : ℕ) (part : ast.PlainComponent) (at : slice_ge
       let names : length (group_names part) ≡ length (groups_in part.wires) = length-map (groups_in part.wires) (λ h. h.name) in
       let number : g ≡ length (group_names part) + r.0 = omega (arith, r.1, firsts, names) in
       let groups : length (part_of (instance_of (design_of tree) k)).groups ≡ length (component_of tree part).groups = ap (λ p. length p.groups) (part_is tree k part at) in
-      let kept_own = invoke_own found.invoke found.stands in
+      let kept_own = invoke_own tree part own found.invoke found.stands in
       ⊎_elim
       (λ calls. subst (λ m. IsAssign (instance_of (design_of tree) k) (Some m) a) (sym number)
       (invoke_kept tree k part at cells_kept found.invoke kept_own (length (group_names part) + r.0) (omega (arith, few, number, groups)) a (subst (λ x. In x.assigns a) (here ∙ calls) i)))
@@ -104,16 +95,6 @@ module _ (tree : PlainTree) (k : ℕ) (part : ast.PlainComponent) (at : slice_ge
   assigns_kept : (owner : Option ℕ) (a : PlainAssign) → StandsIn (component_of tree part) owner a → IsAssign (instance_of (design_of tree) k) owner a
   assigns_kept None a i = always_kept a i
   assigns_kept (Some g) a (few, i) = group_kept g few a i
-
-  control_kept : (v : items.Visited) → In (items.visit Dynamic (control_of tree part part.control)) v → IsStatement (instance_of (design_of tree) k) v
-  control_kept v i = by part.control refl own.statements i
-    where
-      by : (o : Option statements.PlainBlock) → part.control ≡ o → ((w : Visited) → In (visits o) w → form_breaks tree part w.form w.place ≡ []) → In (items.visit Dynamic (control_of tree part o)) v → IsStatement (instance_of (design_of tree) k) v
-      by None e all (inl same) = subst (IsStatement (instance_of (design_of tree) k)) same (record { form = tt; test = λ p t. absurd cc; no_hole = λ p t. absurd cc })
-      by None e all (inr j) = absurd j
-      by (Some block) e all j =
-          let all_split = split_all tree part (invokes_of block) (ap (λ o. control_invokes tree part o) e) in
-          block_whole tree part (IsStatement (instance_of (design_of tree) k)) (statement_kept tree k part at) Dynamic false (design.first tree part) block all all_split v j
 
   -- STATIC INVOKES
   static_of : (v : PlainInvoke) → In (component_of tree part).invokes v → StaticOf tree part v
@@ -134,7 +115,7 @@ module _ (tree : PlainTree) (k : ℕ) (part : ast.PlainComponent) (at : slice_ge
   enabled_call : (v : items.Visited) → In (items.visit Dynamic (control_of tree part part.control)) v → EnablesCalls tree part v
   enabled_call v i = by part.control refl own.statements i
     where
-      by : (o : Option statements.PlainBlock) → part.control ≡ o → ((w : Visited) → In (visits o) w → form_breaks tree part w.form w.place ≡ []) → In (items.visit Dynamic (control_of tree part o)) v → EnablesCalls tree part v
+      by : (o : Option statements.PlainBlock) → part.control ≡ o → ((w : Visited) → In (visit_control o) w → form_breaks tree part w.form w.place ≡ []) → In (items.visit Dynamic (control_of tree part o)) v → EnablesCalls tree part v
       by None e all (inl same) = λ g f. absurd (no_enable g (ap (λ (w : items.Visited). w.form) same ∙ f))
         where
           no_enable : (g : ℕ) → plain.Empty ≡ plain.Enable g → ⊥
@@ -174,14 +155,14 @@ module _ (tree : PlainTree) (k : ℕ) (part : ast.PlainComponent) (at : slice_ge
       with_comb_kept (plain.Timed n) h c = absurd cc
 
       comb_kept : (v : items.Visited) → In (items.visit Dynamic (control_of tree part part.control)) v → comb_in v.form ≡ Some g → is_comb (group_at (component_of tree part) g).kind ≡ true
-      comb_kept v j c = with_comb_kept v.form (subst (λ q. IsForm q v.form) (part_is tree k part at) (control_kept v j).form) c
+      comb_kept v j c = with_comb_kept v.form (subst (λ q. IsForm q v.form) (part_is tree k part at) (control_kept tree k part at own v j).form) c
 
   invokes_kept : (v : PlainInvoke) → In (component_of tree part).invokes v → IsInvoke (instance_of (design_of tree) k) v
   invokes_kept v i =
       let found = static_of v i in
       let n = found.next in
       let w = found.invoke in
-      let kept_own = invoke_own w (split_in n w found.split) in
+      let kept_own = invoke_own tree part own w (split_in n w found.split) in
       let place = cell_found w.cell part.cells kept_own.found kept_own.is in
       let number : number_or_0 w.cell (cell_names part) ≡ place.number = or_0 w.cell (cell_names part) place.number place.is in
       let within : place.number < length part.cells = slice_get_within part.cells place.number kept_own.found place.at in
@@ -190,7 +171,7 @@ module _ (tree : PlainTree) (k : ℕ) (part : ast.PlainComponent) (at : slice_ge
       (record {
         cell = omega (arith, number, within, cells);
         latency = latency_told tree k part at w.cell kept_own.found kept_own.is (cells_kept kept_own.found (in_at part.cells place.number kept_own.found place.at)).kind;
-        inputs = λ a j. (let bind = in_map (input_assign tree part w) w.inputs a j in subst (IsBind (instance_of (design_of tree) k) (number_or_0 w.cell (cell_names part))) bind.2 (bind_is tree k part at w kept_own bind.0 bind.1));
+        inputs = λ a j. (let bind = image_in (input_assign tree part w) w.inputs a j in subst (IsBind (instance_of (design_of tree) k) (number_or_0 w.cell (cell_names part))) bind.2 (bind_is tree k part at w kept_own bind.0 bind.1));
         once = λ l m a b p q e. bound_once tree k part at w kept_own l m a b p q e;
         captures = λ g e. (
             let of = captured n w found.split found.static g e in
@@ -214,9 +195,9 @@ module _ (tree : PlainTree) (k : ℕ) (part : ast.PlainComponent) (at : slice_ge
   component_kept distinct =
       let is = component_is tree k part at in
       record {
-        cells = λ cell i. (let found = in_map (plain_cell_of tree part) part.cells cell (subst (λ p. In p.cells cell) is i) in subst (IsCell (design_of tree) k) found.2 (cell_is tree k part at distinct found.0 (cells_kept found.0 found.1)));
+        cells = λ cell i. (let found = image_in (plain_cell_of tree part) part.cells cell (subst (λ p. In p.cells cell) is i) in subst (IsCell (design_of tree) k) found.2 (cell_is tree k part at distinct found.0 (cells_kept found.0 found.1)));
         assigns = λ owner a s. assigns_kept owner a (subst (λ p. StandsIn p owner a) is s);
-        statements = λ v i. control_kept v (subst (λ p. In (items.visit Dynamic p.control) v) is i);
+        statements = λ v i. control_kept tree k part at own v (subst (λ p. In (items.visit Dynamic p.control) v) is i);
         invokes = λ v i. invokes_kept v (subst (λ p. In p.invokes v) is i);
         invoked = λ n less. subst (λ p. In (flat_map (λ v. invoke_in v.form) (items.visit Dynamic p.control)) n) (sym is) (invoked_all tree part part.control n (subst (λ p. n < length p.invokes) is less));
         captures_apart = λ l m g v w p q e f. captures_apart l m g v w (subst (λ c. slice_get c.invokes l ≡ Some v) is p) (subst (λ c. slice_get c.invokes m ≡ Some w) is q) e f;

@@ -1,5 +1,6 @@
 -- The operands of an assignment that is written stand one behind the other.
 use Rattle.std.proofs.Common.{◌≡◌, ℕ, zero, suc, List, [], ◌∷◌, ◌++◌, flat_map, Option, Some, None, refl, sym, ap, ◌∙◌, subst, append_assoc, append-nil}
+use Rattle.cx_text.specs.Members.{Each}
 use Rattle.cx_text.specs.declared.places.Place.{Place}
 use Rattle.cx_ast.specs.declared.tokens.Token.{Token}
 use Rattle.cx_ast.specs.declared.components.Attribute.{Attribute}
@@ -13,7 +14,7 @@ use Rattle.cx_grammar.specs.Grammar.{Nest, Negation, Parens, Braces, Nested, Gra
 use Rattle.cx_grammar.specs.Calyx.{sign, name, number, behind, before, within, pair, mapped, many, reference, target_of, assign_of, target, literal, literal_of, operand, cmp, window_range, window, prefixed, unary, compared, comp, and_of, next_comp, more_comps, conj, or_of, next_conj, more_conjs, guard, Value, guarded_of, guarded, guard_value, after_operand, value, assign_of, bare_assign, attributes, assign, group_word, marks, assigns, group_of, bare_group, assign_wire, group_wire, wire, wire_list, wires_part, cells, control, nest, component_word, signature, body, component_of, component, imports, components, file, spelled_within}
 use Rattle.cx_grammar.specs.Parsing.{Parse}
 use Rattle.cx_names.proofs.Rising.{Before, NoLater, here, then_later, Rises}
-use Rattle.cx_names.proofs.Spelled.{Chain, chain_earlier, chain_join, chain_later, in_guard, in_guards, Between, Passes, Guards, Nests, Keeps, Gives, gives_empty, gives_one, gives_pair, gives_choice, gives_several, passes}
+use Rattle.cx_names.proofs.Spelled.{Steps, steps_earlier, steps_join, steps_pass, steps_later, stands, in_guard, in_guards, Between, Passes, Nests, Keeps, within_levels, Gives, gives_empty, gives_one, gives_pair, gives_choice, gives_several, passes}
 
 -- operands of conjunctions and disjunctions
 abbrev in_each : List PlainGuard → List OperandItem
@@ -43,35 +44,40 @@ abbrev pub in_assign : PlainAssign → List OperandItem
 in_assign a = in_maybe a.guard ++ a.source ∷ []
 
 -- what is asked of the parts of a tree
+abbrev Guards : Between PlainGuard
+Guards p g q = Steps stands p (in_guard g) q
+
+-- of the parts that nest, the operands of guards
+abbrev nested_operands : (n : Nest) → Nested n → List OperandItem
+nested_operands Negation g = in_guard g
+nested_operands Parens g = in_guard g
+nested_operands Braces b = []
+
 abbrev Operands : Between OperandItem
-Operands p o q = Chain p (o ∷ []) q
+Operands p o q = Steps stands p (o ∷ []) q
 
 abbrev ManyGuards : Between (List PlainGuard)
-ManyGuards p gs q = Chain p (in_each gs) q
+ManyGuards p gs q = Steps stands p (in_each gs) q
 
 abbrev Values : Between Value
-Values p v q = Chain p (in_value v) q
+Values p v q = Steps stands p (in_value v) q
 
 -- of what still waits for what stands before it
 abbrev Compares : Between (OperandItem → PlainGuard)
-Compares p f q = (os : List OperandItem) × Chain p os q × ((o : OperandItem) → in_guard (f o) ≡ o ∷ os)
+Compares p f q = (os : List OperandItem) × Steps stands p os q × ((o : OperandItem) → in_guard (f o) ≡ o ∷ os)
 
 abbrev Guarded : Between (PlainGuard → Value)
-Guarded p k q = (os : List OperandItem) × Chain p os q × ((g : PlainGuard) → in_value (k g) ≡ in_guard g ++ os)
+Guarded p k q = (os : List OperandItem) × Steps stands p os q × ((g : PlainGuard) → in_value (k g) ≡ in_guard g ++ os)
 
 abbrev Follows : Between (OperandItem → Value)
-Follows p f q = (os : List OperandItem) × Chain p os q × ((o : OperandItem) → in_value (f o) ≡ o ∷ os)
+Follows p f q = (os : List OperandItem) × Steps stands p os q × ((o : OperandItem) → in_value (f o) ≡ o ∷ os)
 
 -- an assignment's operands stand in a chain
 abbrev pub Assigns : PlainAssign → Type 0
-Assigns a = (p q : Place) × Chain p (in_assign a) q
+Assigns a = (p q : Place) × Steps stands p (in_assign a) q
 
 abbrev AssignsWith : (List Attribute → PlainAssign) → Type 0
 AssignsWith f = (attrs : List Attribute) → Assigns (f attrs)
-
-abbrev pub Each : {A : Type 0} → (A → Type 0) → List A → Type 0
-Each P [] = Unit {0}
-Each P (x ∷ xs) = P x × Each P xs
 
 abbrev Groups : PlainGroup → Type 0
 Groups g = Each Assigns g.assigns
@@ -93,7 +99,7 @@ HasWires part = Each Wires part.wires
 abbrev Ever : {A : Type 0} → (A → Type 0) → Between A
 Ever P p x q = P x
 
-module _ (spelled : (n : Nest) → Spelling (Nested n)) (deep : (n : Nest) → Keeps (spelled n) (Nests n)) where
+module _ (spelled : (n : Nest) → Spelling (Nested n)) (deep : (n : Nest) → Keeps (spelled n) (Nests stands nested_operands n)) where
   abbrev Has : {A : Type 0} → Grammar A → Between A → Type 0
   Has {A = A} g R = Gives spelled g R
 
@@ -101,7 +107,7 @@ module _ (spelled : (n : Nest) → Spelling (Nested n)) (deep : (n : Nest) → K
   Is {A = A} g P = Gives spelled g (Ever P)
 
   leads : {A : Type 0} (g : Grammar A) → Has g Passes
-  leads g = passes spelled deep g
+  leads g = passes spelled (λ n p ts x rest r s. let a = deep n p ts x rest r s in (a.0, steps_pass stands p (nested_operands n x) a.0 a.1, a.2)) g
 
   has_behind : {A : Type 0} (terminal : Terminal) (g : Grammar A) (R : Between A) → ((p m q : Place) (x : A) → NoLater p m → R m x q → R p x q) → Has g R → Has (behind terminal g) R
   has_behind terminal g R earlier h = gives_pair spelled (λ _ x. x) (sign terminal) g Passes R R (leads (sign terminal)) h (λ p m q x y k r. earlier p m q y k r)
@@ -131,13 +137,13 @@ module _ (spelled : (n : Nest) → Spelling (Nested n)) (deep : (n : Nest) → K
   has_range : Has window_range Guards
   unfolding window_range
   has_range =
-      has_behind t.OpenBracket (Pair (λ from to. During from to) number (behind t.Colon (before number t.CloseBracket))) Guards (λ p m q g h c. chain_earlier p m (in_guard g) q h c)
+      has_behind t.OpenBracket (Pair (λ from to. During from to) number (behind t.Colon (before number t.CloseBracket))) Guards (λ p m q g h c. steps_earlier stands p m (in_guard g) q h c)
       (gives_pair spelled (λ from to. During from to) number (behind t.Colon (before number t.CloseBracket)) Passes Passes Guards (leads number) (leads (behind t.Colon (before number t.CloseBracket))) (λ p m q x y h k. then_later p m q h k))
 
   has_window : Has window Guards
   unfolding window
   has_window =
-      has_behind t.Percent (Choice (mapped (λ n. At n) number) window_range) Guards (λ p m q g h c. chain_earlier p m (in_guard g) q h c)
+      has_behind t.Percent (Choice (mapped (λ n. At n) number) window_range) Guards (λ p m q g h c. steps_earlier stands p m (in_guard g) q h c)
       (gives_choice spelled (mapped (λ n. At n) number) window_range Guards
       (has_mapped (λ n. At n) number Passes Guards (λ p q m n h k. then_later p q m h k) (leads number)) has_range)
 
@@ -149,13 +155,13 @@ module _ (spelled : (n : Nest) → Spelling (Nested n)) (deep : (n : Nest) → K
   unfolding unary
   has_unary =
       gives_choice spelled prefixed (mapped (λ o. Operand o) operand) Guards has_prefixed
-      (has_mapped (λ o. Operand o) operand Operands Guards (λ p q m o h k. chain_later p (o ∷ []) q m h k) has_operand)
+      (has_mapped (λ o. Operand o) operand Operands Guards (λ p q m o h k. steps_later stands p (o ∷ []) q m h k) has_operand)
 
   has_compared : Has compared Compares
   unfolding compared
   has_compared =
       gives_choice spelled (Pair (λ c right left. Compare c left right) cmp operand) (Empty (λ left. Operand left)) Compares
-      (gives_pair spelled (λ c right left. Compare c left right) cmp operand Passes Operands Compares (leads cmp) has_operand (λ p m q c o h k. (o ∷ [], chain_earlier p m (o ∷ []) q h k, λ left. refl)))
+      (gives_pair spelled (λ c right left. Compare c left right) cmp operand Passes Operands Compares (leads cmp) has_operand (λ p m q c o h k. (o ∷ [], steps_earlier stands p m (o ∷ []) q h k, λ left. refl)))
       (gives_empty spelled (λ left. Operand left) Compares (λ p. ([], here p, λ left. refl)))
 
   has_comp : Has comp Guards
@@ -163,35 +169,35 @@ module _ (spelled : (n : Nest) → Spelling (Nested n)) (deep : (n : Nest) → K
   has_comp =
       gives_choice spelled prefixed (Pair (λ o f. f o) operand compared) Guards has_prefixed
       (gives_pair spelled (λ o f. f o) operand compared Operands Compares Guards has_operand has_compared
-      (λ p m q o f h k. subst (λ os. Chain p os q) (sym (k.2 o)) (chain_join p (o ∷ []) m k.0 q h k.1)))
+      (λ p m q o f h k. subst (λ os. Steps stands p os q) (sym (k.2 o)) (steps_join stands p (o ∷ []) m k.0 q h k.1)))
 
   has_next_comp : Has next_comp Guards
   unfolding next_comp
-  has_next_comp = has_behind t.And comp Guards (λ p m q g h c. chain_earlier p m (in_guard g) q h c) has_comp
+  has_next_comp = has_behind t.And comp Guards (λ p m q g h c. steps_earlier stands p m (in_guard g) q h c) has_comp
 
   has_more_comps : Has more_comps ManyGuards
   unfolding more_comps
-  has_more_comps = gives_several spelled (λ xs. xs) next_comp Guards ManyGuards ManyGuards has_next_comp here (λ p m q g gs h k. chain_join p (in_guard g) m (in_each gs) q h k) (λ p q gs h. h)
+  has_more_comps = gives_several spelled (λ xs. xs) next_comp Guards ManyGuards ManyGuards has_next_comp here (λ p m q g gs h k. steps_join stands p (in_guard g) m (in_each gs) q h k) (λ p q gs h. h)
 
   has_conj : Has conj Guards
   unfolding conj
   has_conj =
       gives_pair spelled (λ g gs. and_of (g ∷ gs)) comp more_comps Guards ManyGuards Guards has_comp has_more_comps
-      (λ p m q g gs h k. subst (λ os. Chain p os q) (sym (of_and g gs)) (chain_join p (in_guard g) m (in_each gs) q h k))
+      (λ p m q g gs h k. subst (λ os. Steps stands p os q) (sym (of_and g gs)) (steps_join stands p (in_guard g) m (in_each gs) q h k))
 
   has_next_conj : Has next_conj Guards
   unfolding next_conj
-  has_next_conj = has_behind t.Or conj Guards (λ p m q g h c. chain_earlier p m (in_guard g) q h c) has_conj
+  has_next_conj = has_behind t.Or conj Guards (λ p m q g h c. steps_earlier stands p m (in_guard g) q h c) has_conj
 
   has_more_conjs : Has more_conjs ManyGuards
   unfolding more_conjs
-  has_more_conjs = gives_several spelled (λ xs. xs) next_conj Guards ManyGuards ManyGuards has_next_conj here (λ p m q g gs h k. chain_join p (in_guard g) m (in_each gs) q h k) (λ p q gs h. h)
+  has_more_conjs = gives_several spelled (λ xs. xs) next_conj Guards ManyGuards ManyGuards has_next_conj here (λ p m q g gs h k. steps_join stands p (in_guard g) m (in_each gs) q h k) (λ p q gs h. h)
 
   has_guard : Has guard Guards
   unfolding guard
   has_guard =
       gives_pair spelled (λ g gs. or_of (g ∷ gs)) conj more_conjs Guards ManyGuards Guards has_conj has_more_conjs
-      (λ p m q g gs h k. subst (λ os. Chain p os q) (sym (of_or g gs)) (chain_join p (in_guard g) m (in_each gs) q h k))
+      (λ p m q g gs h k. subst (λ os. Steps stands p os q) (sym (of_or g gs)) (steps_join stands p (in_guard g) m (in_each gs) q h k))
 
   -- VALUES
   in_guarded : (gs hs : List PlainGuard) (o : OperandItem) (g : PlainGuard) → in_value (guarded_of gs (hs, o) g) ≡ in_guard g ++ (in_each gs ++ (in_each hs ++ o ∷ []))
@@ -203,17 +209,17 @@ module _ (spelled : (n : Nest) → Spelling (Nested n)) (deep : (n : Nest) → K
   has_guarded : Has guarded Guarded
   unfolding guarded
   has_guarded =
-      gives_pair spelled guarded_of more_comps (pair more_conjs (behind t.Question operand)) ManyGuards (λ p r q. Chain p (in_each r.0 ++ r.1 ∷ []) q) Guarded has_more_comps
-      (gives_pair spelled (λ hs o. (hs, o)) more_conjs (behind t.Question operand) ManyGuards Operands (λ p r q. Chain p (in_each r.0 ++ r.1 ∷ []) q) has_more_conjs
-      (has_behind t.Question operand Operands (λ p m q o h c. chain_earlier p m (o ∷ []) q h c) has_operand)
-      (λ p m q hs o h k. chain_join p (in_each hs) m (o ∷ []) q h k))
-      (λ p m q gs r h k. (in_each gs ++ (in_each r.0 ++ r.1 ∷ []), chain_join p (in_each gs) m (in_each r.0 ++ r.1 ∷ []) q h k, λ g. in_guarded gs r.0 r.1 g))
+      gives_pair spelled guarded_of more_comps (pair more_conjs (behind t.Question operand)) ManyGuards (λ p r q. Steps stands p (in_each r.0 ++ r.1 ∷ []) q) Guarded has_more_comps
+      (gives_pair spelled (λ hs o. (hs, o)) more_conjs (behind t.Question operand) ManyGuards Operands (λ p r q. Steps stands p (in_each r.0 ++ r.1 ∷ []) q) has_more_conjs
+      (has_behind t.Question operand Operands (λ p m q o h c. steps_earlier stands p m (o ∷ []) q h c) has_operand)
+      (λ p m q hs o h k. steps_join stands p (in_each hs) m (o ∷ []) q h k))
+      (λ p m q gs r h k. (in_each gs ++ (in_each r.0 ++ r.1 ∷ []), steps_join stands p (in_each gs) m (in_each r.0 ++ r.1 ∷ []) q h k, λ g. in_guarded gs r.0 r.1 g))
 
   has_guard_value : Has guard_value Follows
   unfolding guard_value
   has_guard_value =
       gives_pair spelled (λ f k o. k (f o)) compared guarded Compares Guarded Follows has_compared has_guarded
-      (λ p m q f k h l. (h.0 ++ l.0, chain_join p h.0 m l.0 q h.1 l.1, λ o. l.2 (f o) ∙ ap (λ os. os ++ l.0) (h.2 o)))
+      (λ p m q f k h l. (h.0 ++ l.0, steps_join stands p h.0 m l.0 q h.1 l.1, λ o. l.2 (f o) ∙ ap (λ os. os ++ l.0) (h.2 o)))
 
   has_after_operand : Has after_operand Follows
   unfolding after_operand
@@ -224,17 +230,17 @@ module _ (spelled : (n : Nest) → Spelling (Nested n)) (deep : (n : Nest) → K
   has_value =
       gives_choice spelled (Pair (λ g k. k g) prefixed guarded) (Pair (λ o k. k o) operand after_operand) Values
       (gives_pair spelled (λ g k. k g) prefixed guarded Guards Guarded Values has_prefixed has_guarded
-      (λ p m q g k h l. subst (λ os. Chain p os q) (sym (l.2 g)) (chain_join p (in_guard g) m l.0 q h l.1)))
+      (λ p m q g k h l. subst (λ os. Steps stands p os q) (sym (l.2 g)) (steps_join stands p (in_guard g) m l.0 q h l.1)))
       (gives_pair spelled (λ o k. k o) operand after_operand Operands Follows Values has_operand has_after_operand
-      (λ p m q o k h l. subst (λ os. Chain p os q) (sym (l.2 o)) (chain_join p (o ∷ []) m l.0 q h l.1)))
+      (λ p m q o k h l. subst (λ os. Steps stands p os q) (sym (l.2 o)) (steps_join stands p (o ∷ []) m l.0 q h l.1)))
 
   -- the parts that nest, one level deeper
-  nested : (n : Nest) → Keeps (Spells spelled (nest n)) (Nests n)
+  nested : (n : Nest) → Keeps (Spells spelled (nest n)) (Nests stands nested_operands n)
   unfolding nest
-  nested Negation = gives_pair spelled (λ _ g. Not g) (sign t.Not) unary Passes Guards Guards (leads (sign t.Not)) has_unary (λ p m q x g h c. chain_earlier p m (in_guard g) q h c)
+  nested Negation = gives_pair spelled (λ _ g. Not g) (sign t.Not) unary Passes Guards Guards (leads (sign t.Not)) has_unary (λ p m q x g h c. steps_earlier stands p m (in_guard g) q h c)
   nested Parens =
-      has_behind t.OpenParen (before guard t.CloseParen) Guards (λ p m q g h c. chain_earlier p m (in_guard g) q h c)
-      (has_before guard t.CloseParen Guards (λ p q m g c h. chain_later p (in_guard g) q m c h) has_guard)
+      has_behind t.OpenParen (before guard t.CloseParen) Guards (λ p m q g h c. steps_earlier stands p m (in_guard g) q h c)
+      (has_before guard t.CloseParen Guards (λ p q m g c h. steps_later stands p (in_guard g) q m c h) has_guard)
   nested Braces = leads (nest Braces)
 
   -- ASSIGNMENTS
@@ -263,8 +269,8 @@ module _ (spelled : (n : Nest) → Spelling (Nested n)) (deep : (n : Nest) → K
   unfolding bare_assign
   bare_assigns =
       gives_pair spelled (λ o v. assign_of o v) target (behind t.Equal (before value t.Semicolon)) Passes Values (Ever AssignsWith) (leads target)
-      (has_behind t.Equal (before value t.Semicolon) Values (λ p m q v h c. chain_earlier p m (in_value v) q h c)
-      (has_before value t.Semicolon Values (λ p q m v c h. chain_later p (in_value v) q m c h) has_value))
+      (has_behind t.Equal (before value t.Semicolon) Values (λ p m q v h c. steps_earlier stands p m (in_value v) q h c)
+      (has_before value t.Semicolon Values (λ p q m v c h. steps_later stands p (in_value v) q m c h) has_value))
       (λ p m q o v h c attrs. (m, q, c))
 
   assigned : Is assign Assigns
@@ -323,11 +329,7 @@ module _ (spelled : (n : Nest) → Spelling (Nested n)) (deep : (n : Nest) → K
       (gives_pair spelled (λ c cs. c ∷ cs) component components (Ever HasWires) (Ever (Each HasWires)) (Ever (Each HasWires)) is_component all_components (λ p m q c cs h k. (h, k)))
       (λ is cs h. h)
 
-pub nested_within : (levels : ℕ) (n : Nest) → Keeps (spelled_within levels n) (Nests n)
-nested_within zero n p ts x rest r s = absurd s
-nested_within (suc levels) n p ts x rest r s = nested (spelled_within levels) (nested_within levels) n p ts x rest r s
-
 -- in the tree of a text each assignment's operands stand in a chain
 pub written_in_text : (tokens : List Token) (tree : PlainTree) (p : Place) → Rises p tokens → Parse tokens tree → Each HasWires tree.components
 unfolding Parse
-written_in_text tokens tree p r s = (is_file (spelled_within 64) (nested_within 64) p tokens tree [] r s).1
+written_in_text tokens tree p r s = (is_file (spelled_within 64) (within_levels (Nests stands nested_operands) nested 64) p tokens tree [] r s).1

@@ -3,7 +3,7 @@ use Rattle.std.specs.Prelude.{◌≡◌, Bool, true, false}
 use Rattle.cx_ast.specs.declared.operands.OperandForm.{OperandForm}
 use Rattle.cx_ast.specs.declared.operands.OperandForm.TheVariants as operands
 use Rattle.cx_ast.specs.PlainTree.{PlainTree, PlainComponent}
-use Rattle.cx_meaning.specs.Sights.{In}
+use Rattle.cx_text.specs.Members.{In}
 use Rattle.cx_numbering.specs.NameRules.{Standing, standing}
 
 abbrev pub is_literal : OperandForm → Bool

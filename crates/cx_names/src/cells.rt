@@ -1,62 +1,22 @@
 //! Cells by number.
 
-ghost use Rattle.std.specs.Prelude.{◌≡◌, ◌≢◌, IfOk, codes, map};
+ghost use Rattle.std.specs.Prelude.{◌≡◌, ◌≢◌, IfOk, map};
 ghost use Rattle.cx_meaning.specs.Designs.{OfPrimitive};
 ghost use Rattle.cx_ast.specs.PlainTree as written;
 ghost use Rattle.cx_design.specs.PlainForms.{plain_cell, plain_kind};
-ghost use Rattle.cx_numbering.specs.Names.{has_attribute, has_mark, is_on as is_on_of, is_external as is_external_of, cell_of};
+ghost use Rattle.cx_numbering.specs.Names.{cell_of};
 ghost use Rattle.cx_numbering.specs.DesignOf as design;
 ghost use Rattle.cx_names.specs.Sites.{IsSite, tree_at, part_at};
 
 use crate::numbers::number_or_zero;
 use crate::sites::Site;
-use cx_ast::{Attribute, CellItem, Mark};
+use cx_ast::CellItem;
 use cx_design::{Cell, CellKind};
-use cx_names_scopes::{CellKind as Found, is_named, primitive_row};
+use cx_names_parts::is_external;
+use cx_names_scopes::{CellKind as Found, primitive_row};
 use cx_prim::PrimitiveName;
 use cx_text::{Memory, Name};
 use std::alloc::Global;
-
-// Whether an attribute with this number is on: one without a number is.
-fn is_on(number: Option<u64>) -> bool
-    ensures { result ≡ is_on_of number }
-{
-    match number {
-        None => true,
-        Some(number) => number != 0,
-    }
-}
-
-// Whether one of the attributes makes a cell external.
-fn has_external_attribute(attributes: &[Attribute]) -> bool
-    ensures { result ≡ has_attribute (codes "external") attributes.now }
-{
-    for attribute in attributes {
-        if is_named(&attribute.name, b"external") && is_on(attribute.number) {
-            return true;
-        }
-    }
-    false
-}
-
-// Whether one of the marks makes a cell external.
-fn has_external_mark(marks: &[Mark]) -> bool
-    ensures { result ≡ has_mark (codes "external") marks.now }
-{
-    for mark in marks {
-        if is_named(&mark.name, b"external") && mark.number != 0 {
-            return true;
-        }
-    }
-    false
-}
-
-// Whether a cell is a memory that is loaded and dumped.
-fn is_external(item: &CellItem) -> bool
-    ensures { result ≡ is_external_of (written.plain_cell item.now) }
-{
-    has_external_attribute(&item.attributes) || has_external_mark(&item.marks)
-}
 
 // The primitive of a name with numbers.
 fn primitive(name: PrimitiveName, numbers: &[u64]) -> Result<CellKind, Memory>

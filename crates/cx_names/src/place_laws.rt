@@ -7,7 +7,7 @@ ghost use Rattle.cx_ast.specs.PlainTree.{PlainTree, PlainComponent};
 ghost use Rattle.cx_lex.specs.Lex.{Lex};
 ghost use Rattle.cx_grammar.specs.Parsing.{Parse};
 ghost use Rattle.cx_meaning.specs.declared.ports.PlacedPort.{PlacedPort};
-ghost use Rattle.cx_meaning.specs.Sights.{In};
+ghost use Rattle.cx_text.specs.Members.{In};
 ghost use Rattle.cx_rules.specs.Items.{sources_of};
 ghost use Rattle.cx_rules.specs.Accepted.{FirstBreak};
 ghost use Rattle.cx_numbering.specs.DesignOf.{assign_of, design_of};

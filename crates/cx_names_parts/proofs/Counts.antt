@@ -1,20 +1,17 @@
 -- How many numbers below a bound a test takes; tests that hold for more and more numbers hold for no more at some time.
 use Rattle.std.proofs.Common.{◌≡◌, ℕ, zero, suc, ◌+◌, ◌-◌, ◌<◌, ◌≤◌, ◌⊎◌, inl, inr, Bool, true, false, refl, sym, ap, ◌∙◌, arith, subst, true≢false, below_more}
-
-abbrev one : Bool → ℕ
-one true = 1
-one false = 0
+use Rattle.cx_rules.specs.StaticControl.{one_if}
 
 abbrev count : (ℕ → Bool) → ℕ → ℕ
 count p zero = 0
-count p (suc k) = one (p k) + count p k
+count p (suc k) = one_if (p k) + count p k
 
-one_within : (b : Bool) → one b ≤ 1
+one_within : (b : Bool) → one_if b ≤ 1
 one_within true = omega arith
 one_within false = omega arith
 
-one_grows : (a b : Bool) → (a ≡ true → b ≡ true) → one a ≤ one b
-one_grows true b h = subst (λ c. 1 ≤ one c) (sym (h refl)) (omega arith)
+one_grows : (a b : Bool) → (a ≡ true → b ≡ true) → one_if a ≤ one_if b
+one_grows true b h = subst (λ c. 1 ≤ one_if c) (sym (h refl)) (omega arith)
 one_grows false b h = omega arith
 
 count_within : (p : ℕ → Bool) (k : ℕ) → count p k ≤ k
@@ -31,10 +28,10 @@ same_or_more p q zero more = inl (λ i within h. absurd (omega (arith, within)))
 same_or_more p q (suc k) more = by (p k) (q k) refl refl (same_or_more p q k more)
   where
     by : (a b : Bool) → p k ≡ a → q k ≡ b → ((i : ℕ) → i < k → q i ≡ true → p i ≡ true) ⊎ (count p k < count q k)
-        → ((i : ℕ) → i < suc k → q i ≡ true → p i ≡ true) ⊎ (one (p k) + count p k < one (q k) + count q k)
+        → ((i : ℕ) → i < suc k → q i ≡ true → p i ≡ true) ⊎ (one_if (p k) + count p k < one_if (q k) + count q k)
     by a b e f (inr less) = inr (omega (arith, less, one_grows (p k) (q k) (more k)))
     by true b e f (inl same) = inl (λ i within. below_more (λ j. q j ≡ true → p j ≡ true) k same (λ h. e) i (omega (arith, within)))
-    by false true e f (inl same) = let none : one (p k) ≡ 0 = ap one e in let some : one (q k) ≡ 1 = ap one f in inr (omega (arith, none, some, count_grows p q k more))
+    by false true e f (inl same) = let none : one_if (p k) ≡ 0 = ap one_if e in let some : one_if (q k) ≡ 1 = ap one_if f in inr (omega (arith, none, some, count_grows p q k more))
     by false false e f (inl same) = inl (λ i within. below_more (λ j. q j ≡ true → p j ≡ true) k same (λ h. absurd (true≢false (sym h ∙ f))) i (omega (arith, within)))
 
 module _ (t : ℕ → ℕ → Bool) (k : ℕ) (more : (n i : ℕ) → t n i ≡ true → t (suc n) i ≡ true) where

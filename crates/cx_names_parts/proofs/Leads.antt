@@ -3,11 +3,13 @@ use Rattle.std.proofs.Common.{◌≡◌, ◌↔◌, ℕ, zero, suc, ◌<◌, ◌
 use Rattle.std.proofs.lemmas.List.{length-map}
 use Rattle.std.proofs.lemmas.Option.{slice_get-get_or}
 use Rattle.std.specs.declared.vec.Vec.{Vec}
+use Rattle.cx_text.proofs.BoolLaws.{or_left}
+use Rattle.cx_text.specs.Members.{In}
 use Rattle.cx_ast.specs.PlainTree.{PlainTree, PlainComponent, PlainCell}
 use Rattle.cx_numbering.specs.Names.{same_name, number_of, component_names, cell_of}
 use Rattle.cx_numbering.specs.NameRules.{some_part, leads_back, component_kinds}
-use Rattle.cx_names_scopes.proofs.NameLemmas.{same_name-true, same_name-refl}
-use Rattle.cx_graphs.specs.Graphs.{In, Edges, edges_of, targets_of, IsGraph, IsReached, at_start, by_edge, Marked}
+use Rattle.cx_numbering.proofs.NamesLemmas.{same_name-true, same_name-refl}
+use Rattle.cx_graphs.specs.Graphs.{Edges, edges_of, targets_of, IsGraph, IsReached, at_start, by_edge, Marked}
 use Rattle.cx_graphs.specs.Ways.{Way, edge, further, HasCircle, IsTurned}
 use Rattle.cx_names_parts.specs.Leading.{cell_number, numbers_in, component_edges, at_part, leads_at, is_recursive, AreMarks, StandsIn}
 use Rattle.cx_names_parts.proofs.Counts.{closed_all}
@@ -25,16 +27,13 @@ module _ (tree : PlainTree) (name : List ℕ) where
   abbrev pub Named : ℕ → Type 0
   Named k = at_part (λ part. same_name part.name name) (slice_get tree.components k) ≡ true
 
-  or_true : (a b : Bool) → a ≡ true → (a || b) ≡ true
-  or_true a b h = ap (λ c. c || b) h
-
   leads_named : (n k : ℕ) → Named k → leads_at tree name n k ≡ true
   leads_named n k h = by n (slice_get tree.components k) h
     where
       by : (n : ℕ) (o : Option PlainComponent) → at_part (λ part. same_name part.name name) o ≡ true → at_part (leads_back tree name n) o ≡ true
       by n None e = absurd (true≢false (sym e))
       by zero (Some part) e = e
-      by (suc n) (Some part) e = or_true (same_name part.name name) (some_part (leads_back tree name n) (component_kinds tree part)) e
+      by (suc n) (Some part) e = or_left (same_name part.name name) (some_part (leads_back tree name n) (component_kinds tree part)) e
 
   -- a component leads to the name where it has it, or where one does to which it has an edge
   leads_in : (n k : ℕ) → leads_at tree name (suc n) k ≡ true → Named k ⊎ ((i : ℕ) × In (targets_of (component_edges tree) k) i × (leads_at tree name n i ≡ true))

@@ -1,13 +1,15 @@
 -- The components that cells are of, by number.
 use Rattle.std.proofs.Common.{◌≡◌, ℕ, zero, suc, ◌<◌, inl, inr, Bool, true, false, ◌||◌, ◌++◌, List, [], ◌∷◌, Option, Some, None, cond, map, flat_map, length, slice_get, refl, sym, ap, ◌∙◌, subst, true≢false}
 use Rattle.std.proofs.lemmas.Option.{slice_get_within}
+use Rattle.cx_text.specs.Members.{In}
 use Rattle.cx_prim.specs.declared.names.PrimitiveName.{PrimitiveName}
 use Rattle.cx_ast.specs.PlainTree.{PlainTree, PlainComponent, PlainCell}
 use Rattle.cx_numbering.specs.Names.{same_name, number_of, later, primitive_of, component_names, CellOf, Neither, APrimitive, AComponent, or_component, primitive_or, cell_of}
 use Rattle.cx_numbering.specs.NameRules.{component_kinds, some_part, leads_back}
-use Rattle.cx_names_scopes.proofs.NameLemmas.{same_name-true, same_name-refl, part_at}
+use Rattle.cx_names_scopes.proofs.NameLemmas.{part_at}
+use Rattle.cx_numbering.proofs.NamesLemmas.{same_name-true, same_name-refl}
 use Rattle.cx_names_scopes.specs.Scopes.{at_number}
-use Rattle.cx_graphs.specs.Graphs.{In, targets_of}
+use Rattle.cx_graphs.specs.Graphs.{targets_of}
 use Rattle.cx_names_parts.specs.Leading.{number_or, cell_number, if_some, numbers_in, component_edges, at_part, leads_at, is_recursive}
 use Rattle.std.proofs.lemmas.Bool.{or_right}
 

@@ -1,11 +1,12 @@
 -- The graph of components, and which components lead back to one of a name.
 use Rattle.std.specs.Prelude.{◌≡◌, ◌↔◌, ℕ, Bool, false, List, [], ◌∷◌, Option, Some, None, IsTrue, map, length, slice_get}
 use Rattle.std.specs.declared.vec.Vec.{Vec}
+use Rattle.cx_text.specs.Members.{In}
 use Rattle.cx_prim.specs.declared.names.PrimitiveName.{PrimitiveName}
 use Rattle.cx_ast.specs.PlainTree.{PlainTree, PlainComponent, PlainCell}
 use Rattle.cx_numbering.specs.Names.{number_of, primitive_of, component_names, CellOf, Neither, APrimitive, AComponent}
 use Rattle.cx_numbering.specs.NameRules.{leads_back}
-use Rattle.cx_graphs.specs.Graphs.{In, Edges, edges_of, targets_of}
+use Rattle.cx_graphs.specs.Graphs.{Edges, edges_of, targets_of}
 use Rattle.cx_graphs.specs.Ways.{HasCircle, IsTurned}
 use Rattle.cx_names_parts.specs.declared.circles.CellCircles.{CellCircles}
 

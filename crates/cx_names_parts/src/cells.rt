@@ -122,8 +122,8 @@ fn has_mark(marks: &[Mark]) -> bool
     false
 }
 
-// Whether a cell is external.
-fn is_external(cell: &CellItem) -> bool
+/// Whether a cell is external.
+pub fn is_external(cell: &CellItem) -> bool
     ensures { result ≡ is_external_of (plain_cell cell.now) }
 {
     has_attribute(&cell.attributes) || has_mark(&cell.marks)

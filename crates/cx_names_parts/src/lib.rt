@@ -8,5 +8,6 @@ mod components;
 mod edges;
 mod first;
 
+pub use cells::is_external;
 pub use circles::{CellCircles, is_recursive};
 pub use first::first_name_break;

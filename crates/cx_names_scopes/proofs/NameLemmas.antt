@@ -8,6 +8,7 @@ use Rattle.cx_ast.specs.declared.wiring.GroupWord.{GroupWord}
 use Rattle.cx_ast.specs.declared.components.CellItem.{CellItem}
 use Rattle.cx_ast.specs.PlainTree.{plain_cell, plain_component, PlainPort, PlainCell, PlainGroup, PlainComponent}
 use Rattle.cx_numbering.specs.Names.{same_name, number_of, later, is_among, is_own_name, if_not_own, signature_ports, port_names, cell_among, component_among, group_among, Neither, AComponent, or_component}
+use Rattle.cx_numbering.proofs.NamesLemmas.{same_name-pointwise, same_name-true, same_name-refl, is_among-cons}
 use Rattle.cx_names_scopes.specs.declared.index.PartIndex.{PartIndex}
 use Rattle.cx_names_scopes.specs.declared.index.Groups.{Groups}
 use Rattle.cx_names_scopes.specs.declared.numbers.Numbers.{Numbers}
@@ -15,18 +16,6 @@ use Rattle.cx_names_scopes.specs.Scopes.{at_number, word_of}
 use Rattle.cx_names_scopes.specs.Indexed.{IsPartIndex, ArePartIndexes, AreGroups}
 use Rattle.cx_names_scopes.specs.Numbered.{number_in, AreNumbersOf, or_else, number_if, number_from}
 use Rattle.cx_text.proofs.ListLaws.{drop_item}
-
-pub same_name-pointwise : (xs ys : List ℕ) → same_name xs ys ≡ pointwise nat_eq xs ys
-same_name-pointwise [] [] = refl
-same_name-pointwise [] (y ∷ ys) = refl
-same_name-pointwise (x ∷ xs) [] = refl
-same_name-pointwise (x ∷ xs) (y ∷ ys) = ap (λ b. nat_eq x y && b) (same_name-pointwise xs ys)
-
-pub same_name-true : (xs ys : List ℕ) → same_name xs ys ≡ true → xs ≡ ys
-same_name-true xs ys h = (bytes_decides xs ys).0 (sym (same_name-pointwise xs ys) ∙ h)
-
-pub same_name-refl : (xs : List ℕ) → same_name xs xs ≡ true
-same_name-refl xs = same_name-pointwise xs xs ∙ (bytes_decides xs xs).1 refl
 
 -- a name that is there keeps its number
 pub kept_number : (found : List ℕ → Option ℕ) (name n : List ℕ) (number : ℕ) → is_some (found name) ≡ true → found n ≡ or_else (found n) (number_if (same_name name n) number)
@@ -73,15 +62,6 @@ number_from-step None false k rest = refl
 pub or_else-None : (o : Option ℕ) → or_else o None ≡ o
 or_else-None None = refl
 or_else-None (Some n) = refl
-
--- a name is among a list's names where it is the first or among the rest
-pub is_among-cons : (n x : List ℕ) (xs : List (List ℕ)) → is_among n (x ∷ xs) ≡ (same_name x n || is_among n xs)
-is_among-cons n x xs = by (same_name x n) (number_of n xs)
-  where
-    by : (b : Bool) (o : Option ℕ) → is_some (cond b (Some 0) (later o)) ≡ (b || is_some o)
-    by true o = refl
-    by false None = refl
-    by false (Some k) = refl
 
 -- the four names of every component
 pub own_name_is : (name : List ℕ) → is_own_name name ≡ (((same_name (codes "go") name || same_name (codes "clk") name) || same_name (codes "reset") name) || same_name (codes "done") name)

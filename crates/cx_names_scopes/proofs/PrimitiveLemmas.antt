@@ -9,7 +9,8 @@ use Rattle.cx_prim.specs.Rows.{is_output_side}
 use Rattle.cx_ast.specs.PlainTree.{PlainTree, PlainComponent}
 use Rattle.cx_numbering.specs.Names.{same_name, is_among, primitive_among, primitive_of, primitive_names}
 use Rattle.cx_numbering.specs.NameRules.{output_rows}
-use Rattle.cx_names_scopes.proofs.NameLemmas.{same_name-true, is_among-cons, drop_found}
+use Rattle.cx_names_scopes.proofs.NameLemmas.{drop_found}
+use Rattle.cx_numbering.proofs.NamesLemmas.{same_name-true, is_among-cons}
 
 is_timer : PrimitiveName → Bool
 is_timer Timer = true
@@ -35,7 +36,7 @@ pub primitive_absent : (text : List ℕ) → ((name : PrimitiveName) → IsNamed
 unfolding is_timer are_nameable
 primitive_absent text none = absent_among text primitive_names refl none
 
-abbrev texts : List PortRow → List (List ℕ)
+abbrev pub texts : List PortRow → List (List ℕ)
 texts ports = map (λ port. text_of port.name) ports
 
 -- the port of a number has the name, or has not

@@ -8,17 +8,18 @@ use Rattle.std.proofs.lemmas.Bool.{eqb-true, eq-eqb, cases_eq}
 use Rattle.std.proofs.lemmas.List.{length-map, length-append, length-set, get_or-set_same, get_or-set_other, take_all, take_more}
 use Rattle.std.proofs.lemmas.List.FromFn.{get_or-map-range_with_len, length-map-range_with_len}
 use Rattle.std.proofs.lemmas.Option.{slice_get-get_or}
-use Rattle.cx_meaning.specs.Designs.{PlainKind, OfPrimitive, OfComponent, PlainCell, PlainComponent, PlainDesign, component_at}
+use Rattle.cx_text.proofs.MemberLaws.{in_at}
+use Rattle.cx_meaning.specs.Designs.{PlainKind, OfPrimitive, OfComponent, PlainCell, PlainComponent, PlainDesign, component_at, has_number}
 use Rattle.cx_meaning.specs.Instances.{Instance, Node, add_cell, cells_for, part_of}
-use Rattle.cx_meaning.specs.Sights.{In}
+use Rattle.cx_text.specs.Members.{In}
 use Rattle.cx_rules.specs.Ports.{component_of}
 use Rattle.cx_rules.specs.Wellformed.{LeadsTo, by_cell, by_way_of, IsDesign}
 use Rattle.cx_design_sizes.specs.Orders.{IsChildrenFirst}
 use Rattle.cx_design_sizes.proofs.Places.{in_snoc}
-use Rattle.cx_meaning.proofs.SightsLaws.{in_at}
 use Rattle.cx_state.proofs.TreeLemmas.{child_in, tree_is}
 use Rattle.cx_profiling.specs.Counters.{counters_from, Shown, shown_here, shown_at_cell, shown_in, shown_below, first_gained}
-use Rattle.cx_profiling.specs.Instrumented.{has_number, is_reached, gained}
+use Rattle.cx_rules.specs.Counts.{is_one_of}
+use Rattle.cx_profiling.specs.Instrumented.{is_reached, gained}
 use Rattle.cx_profiling.proofs.ReachedLemmas.{is_reached-to}
 use Rattle.cx_profile.specs.Counted.{counted_among}
 use Rattle.cx_profile.specs.Gains.{kind_count, cells_count, shown_count, AreShown}
@@ -60,20 +61,20 @@ instance-length trees counts part known =
     omega arith
 
 -- A COMPONENT THAT IS REACHED stands in the order
-in_has : (ks : List ℕ) (k : ℕ) → In ks k → has_number k ks ≡ true
+in_has : (ks : List ℕ) (k : ℕ) → In ks k → is_one_of k ks ≡ true
 in_has [] k i = absurd i
-in_has (n ∷ ks) k (inl e) = ap (λ b. b || has_number k ks) (eq-eqb k n (sym e))
+in_has (n ∷ ks) k (inl e) = ap (λ b. b || is_one_of k ks) (eq-eqb k n (sym e))
 in_has (n ∷ ks) k (inr i) = ap (λ b. nat_eq k n || b) (in_has ks k i) ∙ by (nat_eq k n)
   where
     by : (b : Bool) → b || true ≡ true
     by true = refl
     by false = refl
 
-has_in : (ks : List ℕ) (k : ℕ) → has_number k ks ≡ true → In ks k
+has_in : (ks : List ℕ) (k : ℕ) → is_one_of k ks ≡ true → In ks k
 has_in [] k h = absurd cc
 has_in (n ∷ ks) k h = by (nat_eq k n) refl h (has_in ks k)
   where
-    by : (b : Bool) → nat_eq k n ≡ b → b || has_number k ks ≡ true → (has_number k ks ≡ true → In ks k) → In (n ∷ ks) k
+    by : (b : Bool) → nat_eq k n ≡ b → b || is_one_of k ks ≡ true → (is_one_of k ks ≡ true → In ks k) → In (n ∷ ks) k
     by true e h more = inl (sym (eqb-true k n e))
     by false e h more = inr (more h)
 
@@ -87,10 +88,10 @@ module _ (d : PlainDesign) (order : List ℕ) (first : IsChildrenFirst d order) 
   leads_in m n (by_cell j cell i e) here = child_in d order first m n cell here i e
   leads_in m n (by_way_of k a b) here = leads_in k n b (leads_in m k a here)
 
-  reached_in : IsDesign d → (k : ℕ) → is_reached d k ≡ true → has_number k order ≡ true
+  reached_in : IsDesign d → (k : ℕ) → is_reached d k ≡ true → is_one_of k order ≡ true
   reached_in rules k h = by (is_reached-to d rules k h)
     where
-      by : (d.main ≡ k) ⊎ LeadsTo d d.main k → has_number k order ≡ true
+      by : (d.main ≡ k) ⊎ LeadsTo d d.main k → is_one_of k order ≡ true
       by (inl e) = in_has order k (subst (In order) e first.main)
       by (inr l) = in_has order k (leads_in d.main k l first.main)
 

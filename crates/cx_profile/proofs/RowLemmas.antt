@@ -16,6 +16,7 @@ use Rattle.cx_profiling.specs.Counters.{is_counted, counters_from, ProfileEntry,
 use Rattle.cx_profile.specs.declared.entries.ProfiledGroup.{ProfiledGroup}
 use Rattle.cx_profile.specs.Profiles.{group_path}
 use Rattle.cx_profile.specs.Rows.{own_rows, first_name, others, names_below, rows_in, rows_below}
+use Rattle.cx_meaning.proofs.InstancesLemmas.{here as instance_here}
 
 -- what is told of each entry
 abbrev of_entries : {A : Type 0} → (ProfileEntry → A) → List Shown → List A
@@ -62,9 +63,6 @@ no_more : (m : ℕ) → m ≡ 0 + m
 no_more m = omega arith
 
 -- PATHS
-instance_here : (i : Instance) → instance_at i [] ≡ i
-instance_here (Node part cells) = refl
-
 cell_first : (cs : List PlainCell) → cell_name cs 0 ≡ first_name cs
 cell_first [] = refl
 cell_first (c ∷ cs) = refl

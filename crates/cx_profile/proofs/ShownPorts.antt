@@ -7,7 +7,7 @@ use Rattle.cx_meaning.specs.declared.ports.PortRef.{PortRef}
 use Rattle.cx_meaning.specs.declared.ports.PortRef.TheVariants as ports
 use Rattle.cx_meaning.specs.Designs.{PlainGroup, PlainKind, OfPrimitive, OfComponent, PlainCell, PlainComponent, PlainDesign, component_at}
 use Rattle.cx_meaning.specs.Instances.{Node, Cells, add_cell, cells_for, tree_within, part_of}
-use Rattle.cx_meaning.specs.Sights.{In}
+use Rattle.cx_text.specs.Members.{In}
 use Rattle.cx_rules.specs.Ports.{component_of}
 use Rattle.cx_profiling.specs.Counters.{is_counted, counters_from, Shown, shown_here, shown_at_cell, shown_in, shown_below, first_gained}
 use Rattle.cx_profiling.specs.Instrumented.{gained}

@@ -6,18 +6,13 @@ use Rattle.std.proofs.Math.Nat.{pow-suc}
 use Rattle.std.proofs.lemmas.Bool.{leb-true, le-leb}
 use Rattle.std.proofs.lemmas.List.{map-append}
 use Rattle.std.proofs.lemmas.List.FromFn.{map-range_with_len_more}
+use Rattle.cx_text.proofs.ListLaws.{range_appended}
 use Rattle.cx_text.specs.declared.places.Place.{Place}
 use Rattle.cx_prim.specs.declared.names.PrimitiveName.TheVariants as primitives
 use Rattle.cx_meaning.specs.Designs.{PlainCell}
 use Rattle.cx_design.specs.declared.cells.Cell.{Cell}
 use Rattle.cx_design.specs.PlainForms.{plain_cell}
 use Rattle.cx_profiling.specs.Instrumented.{new_cell, name_at, counter_cells, width_from, address_width}
-
--- an item for each number, behind a list
-pub range_appended : {A : Type 0} (f : ℕ → A) (old xs ys : List A) (x : A) (n : ℕ) → ys ≡ xs ++ x ∷ [] → xs ≡ old ++ map f (range_with_len 0 n) → x ≡ f n → ys ≡ old ++ map f (range_with_len 0 (n + 1))
-range_appended f old xs ys x n pushed so_far is =
-    pushed ∙ ap (λ l. l ++ x ∷ []) so_far ∙ ap (λ y. (old ++ map f (range_with_len 0 n)) ++ y ∷ []) is ∙ append_assoc old (map f (range_with_len 0 n)) (f n ∷ [])
-    ∙ ap (λ l. old ++ l) (sym (map-range_with_len_more f 0 n n (omega arith)))
 
 -- where what is pushed is seen by a map
 pub range_seen : {A B : Type 0} (see : B → A) (f : ℕ → A) (old : List A) (xs ys : List B) (x : B) (n : ℕ) → ys ≡ xs ++ x ∷ [] → map see xs ≡ old ++ map f (range_with_len 0 n) → see x ≡ f n

@@ -2,6 +2,7 @@
 use Rattle.std.proofs.Common.{◌≡◌, ℕ, zero, suc, ◌-◌, ◌⊎◌, inl, inr, append_assoc, nat_eq, nat_lt, Bool, true, false, ◌||◌, ◌&&◌, is_none, is_some, List, [], ◌∷◌, ◌++◌, Option, Some, None, length, map, flat_map, option_map, codes, refl, sym, ap, ap₂, ◌∙◌, subst}
 use Rattle.std.specs.Prelude.{if◌then◌else◌, not}
 use Rattle.std.proofs.lemmas.List.{append-nil}
+use Rattle.cx_text.proofs.MemberLaws.{flat_in, flat_is_none, image_in, in_either, in_flat, in_image, in_left, in_right}
 use Rattle.cx_text.specs.declared.places.Place.{Place}
 use Rattle.cx_text.specs.declared.diagnostics.Diagnostic.{Diagnostic}
 use Rattle.cx_text.specs.declared.rules.Rule.{Rule}
@@ -20,18 +21,17 @@ use Rattle.cx_ast.specs.PlainTree as ast
 use Rattle.cx_ast.specs.PlainTree.{PlainTree}
 use Rattle.cx_ast.specs.PlainStatements as statements
 use Rattle.cx_meaning.specs.Instances.{Instance}
-use Rattle.cx_meaning.specs.Sights.{In}
+use Rattle.cx_text.specs.Members.{In}
 use Rattle.cx_rules.specs.Ports as design
 use Rattle.cx_numbering.specs.Names.{same_name, is_among, groups_in, always_in, cell_among, group_among, CellOf, Neither, APrimitive, AComponent, cell_of, cell_go, is_external}
 use Rattle.cx_numbering.specs.DesignOf.{kind_of, group_of, design_of}
-use Rattle.cx_numbering.specs.NameRules.{tell_if, path_of, named, duplicates, component_duplicates, guard_operands, Standing, standing, Visited, visit_parts, visit_else, visit_block, visit_all, statements_in, is_component, found_component, is_clock, is_static_end, is_unknown, unknown, is_left_out, is_hole, source_breaks, is_wrong_target, is_one, is_bare_done, assign_breaks, is_comb_word, is_comb_group, enable_breaks, with_breaks, output_rows, output_names, is_go_name, is_reg, found_reg, is_register_in, input_breaks, output_breaks, invoke_on, form_breaks, kind_breaks, is_narrow_memory, port_breaks, some_part, leads_back, cell_breaks, component_breaks, name_breaks, first_break, names_break}
-use Rattle.cx_names.proofs.Base.{in_left, in_right, in_either, in_map, map_in, in_flat, flat_in, append_none, tell_none, first_none}
+use Rattle.cx_numbering.specs.NameRules.{tell_if, path_of, named, duplicates, component_duplicates, guard_operands, Standing, standing, Visited, visit_parts, visit_else, visit_block, visit_all, statements_in, is_component, found_component, is_clock, is_static_end, is_unknown, unknown, is_left_out, is_hole, source_breaks, is_wrong_target, is_one, is_bare_done, assign_breaks, is_comb_word, is_comb_group, enable_breaks, with_breaks, output_rows, output_names, is_go_name, is_reg, found_reg, is_register_in, input_breaks, output_breaks, invoke_on, form_breaks, kind_breaks, is_narrow_memory, port_breaks, some_part, leads_back, cell_breaks, component_breaks, name_breaks, first_break, names_break, visit_control, kinds_of, circle_breaks}
+use Rattle.cx_names.proofs.Base.{append_none, tell_none, first_none}
 use Rattle.cx_names.proofs.Kept.{KeptPart, kept, kept_part}
 use Rattle.cx_promotion.specs.Promotable.{promotable}
 use Rattle.cx_promotion.specs.Rewriting.{PIECE, BELOW_CONTROL, place_of, is_hole_item, bare_enable, promote_assigns, promote_group, is_run, close, cut, cut_if, promote_form, promote_else, promote_all, promote_block, length_of, is_long, enables, promote_component, components_from, made_tree}
 use Rattle.cx_promoted_trees.proofs.PartsPromoted.{component_names-made, MadeKind, neither, a_primitive, a_component, cell_of-made, go_of, latency-made, ports-made, twin, made_group, groups_in-made, always_in-made, name_made, group_names-made}
 use Rattle.cx_text.proofs.ListLaws.{both_none}
-use Rattle.cx_meaning.proofs.SightsLaws.{flat_is_none}
 
 -- LISTS OF BREAKS that are empty
 
@@ -158,15 +158,10 @@ module _ (long : List ℕ → Bool) where
     pub come_block : (below : ℕ) (in_order : Bool) (block : statements.PlainBlock) → CameAll (visit_block block) (visit_block (promote_block long below in_order block))
     come_block below in_order (statements.Braces ss place) = come_cut_if (visit_all ss) (in_order && nat_lt 0 below) (promote_all long below ss) (come_all below ss)
 
--- what a component's control visits
-abbrev visits : Option statements.PlainBlock → List Visited
-visits None = []
-visits (Some block) = visit_block block
-
 pub statements_come : (tree : PlainTree) (part : ast.PlainComponent) (i : Instance) → CameAll (is_long tree part i) (statements_in part) (statements_in (twin tree part i))
 statements_come tree part i = by part.control
   where
-    by : (o : Option statements.PlainBlock) → CameAll (is_long tree part i) (visits o) (visits (option_map (promote_block (is_long tree part i) BELOW_CONTROL true) o))
+    by : (o : Option statements.PlainBlock) → CameAll (is_long tree part i) (visit_control o) (visit_control (option_map (promote_block (is_long tree part i) BELOW_CONTROL true) o))
     by None = all_stay (is_long tree part i) []
     by (Some block) = come_block (is_long tree part i) BELOW_CONTROL true block
 
@@ -187,11 +182,6 @@ part_from tree k (p ∷ parts) part (inr there) = let r = part_from tree (suc k)
 
 module _ (tree : PlainTree) where
   -- RECURSION: components lead back by the same cells
-  abbrev kinds_of : CellOf → List ast.PlainComponent
-  kinds_of Neither = []
-  kinds_of (APrimitive primitive) = []
-  kinds_of (AComponent component) = component ∷ []
-
   abbrev LeadsAlike : List ℕ → ℕ → Type 0
   LeadsAlike name n = (part : ast.PlainComponent) (i : Instance) → leads_back (made_tree tree) name n (promote_component tree part i) ≡ leads_back tree name n part
 
@@ -361,7 +351,7 @@ module _ (tree : PlainTree) where
     group_stands g i a here =
         own.assigns (record { group = Some g.name; assign = a })
         (in_right (map (λ a. record { group = None; assign = a }) (always_in part.wires)) (flat_map of_group (groups_in part.wires)) _
-        (in_flat of_group (groups_in part.wires) g _ i (map_in (λ a. record { group = Some g.name; assign = a }) g.assigns a here)))
+        (in_flat of_group (groups_in part.wires) g _ i (in_image (λ a. record { group = Some g.name; assign = a }) g.assigns a here)))
 
     standing_kept : (x : Standing) → In (standing other) x → assign_breaks (made_tree tree) other x ≡ []
     standing_kept x here =
@@ -376,8 +366,8 @@ module _ (tree : PlainTree) where
         grouped : In (flat_map of_group (groups_in other.wires)) x → assign_breaks (made_tree tree) other x ≡ []
         grouped there =
             let r = flat_in of_group (map (made_group tree part i) (groups_in part.wires)) x (subst (λ gs. In (flat_map of_group gs) x) (groups_in-made tree part i part.wires) there) in
-            let g = in_map (made_group tree part i) (groups_in part.wires) r.0 r.1 in
-            let a = in_map (λ a. record { group = Some r.0.name; assign = a }) r.0.assigns x r.2 in
+            let g = image_in (made_group tree part i) (groups_in part.wires) r.0 r.1 in
+            let a = image_in (λ a. record { group = Some r.0.name; assign = a }) r.0.assigns x r.2 in
             let name : g.0.name ≡ r.0.name = sym (name_made tree part i g.0) ∙ ap (λ (h : ast.PlainGroup). h.name) g.2 in
             subst (λ (y : Standing). assign_breaks (made_tree tree) other y ≡ []) (ap (λ n. record { group = Some n; assign = a.0 }) name ∙ a.2)
             (group_kept g.0 (length_of tree part i g.0) (group_stands g.0 g.1) a.0 (subst (λ (h : ast.PlainGroup). In h.assigns a.0) (sym g.2) a.1))
@@ -534,12 +524,7 @@ module _ (tree : PlainTree) where
     narrow_kept of new a_primitive = refl
     narrow_kept of new (a_component j) = refl
 
-    abbrev circles : PlainTree → ast.PlainComponent → ast.PlainCell → CellOf → List Diagnostic
-    circles t p cell Neither = []
-    circles t p cell (APrimitive primitive) = []
-    circles t p cell (AComponent component) = tell_if (leads_back t p.name (length t.components) component) rules.Recursive cell.place cell.name
-
-    circle_kept : (cell : ast.PlainCell) (of new : CellOf) → MadeKind tree of new → circles tree part cell of ≡ [] → circles (made_tree tree) other cell new ≡ []
+    circle_kept : (cell : ast.PlainCell) (of new : CellOf) → MadeKind tree of new → circle_breaks tree part cell of ≡ [] → circle_breaks (made_tree tree) other cell new ≡ []
     circle_kept cell of new neither none = refl
     circle_kept cell of new a_primitive none = refl
     circle_kept cell of new (a_component {part = component} j) none =

@@ -17,13 +17,13 @@ use Rattle.cx_ast.specs.PlainTree as ast
 use Rattle.cx_ast.specs.PlainTree.{PlainTree}
 use Rattle.cx_rules.specs.Accepted.{KeepsStage}
 use Rattle.cx_rules.specs.Items.{is_plain, sources_of}
-use Rattle.cx_rules.specs.Ports.{component_of}
+use Rattle.cx_rules.specs.Ports.{component_of, is_part_done}
 use Rattle.cx_rules.specs.ShapeRules.{is_hole, some_target}
 use Rattle.cx_rules.specs.CallShape.{is_always}
 use Rattle.cx_numbering.specs.Names.{groups_in}
 use Rattle.cx_numbering.specs.DesignOf.{group_of, design_of}
 use Rattle.cx_promotion.specs.declared.rows.PromotedRow.{PromotedRow}
-use Rattle.cx_promotion.specs.Promotable.{is_done_at, is_done_of_part, is_done, looks_at_done, is_right_enable, is_right, starts, starting_port, is_named, keeps_all, length_if, of_cell, of_source, of_dones, promotable}
+use Rattle.cx_promotion.specs.Promotable.{is_done_at, is_done, looks_at_done, is_right_enable, is_right, starts, starting_port, is_named, keeps_all, length_if, of_cell, of_source, of_dones, promotable}
 use Rattle.cx_promotion.specs.Made.{DesignMade}
 use Rattle.cx_promotion.specs.Rewriting.{length_of, enables, promote_group, row_if, rows_in, rows_from, components_from, made_tree, made_rows, IsPromotedTree}
 use Rattle.cx_promotion.proofs.Twins.{Twins, TwinAt, none_there, a_row_there, a_child_there, beside_each}
@@ -38,7 +38,7 @@ module _ (i j : Instance) (t : Twins SameSignature i j) (always : (part_of i).al
   done_at_same : (at other : At) (p : ℕ) → TwinAt SameSignature at other → is_done_at other p ≡ is_done_at at p
   done_at_same at other p none_there = refl
   done_at_same at other p a_row_there = refl
-  done_at_same at other p (a_child_there {child = child} {twin = twin} below) = ap is_done_of_part (sym (port_same child twin (beside_each SameSignature child twin below) p))
+  done_at_same at other p (a_child_there {child = child} {twin = twin} below) = ap is_part_done (sym (port_same child twin (beside_each SameSignature child twin below) p))
 
   done_same : (p : PortRef) → is_done j p ≡ is_done i p
   done_same (ports.Cell c p) = done_at_same (cell_at (cells_of i) c) (cell_at (cells_of j) c) p (kind_is i j t c)

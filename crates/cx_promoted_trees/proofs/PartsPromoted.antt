@@ -29,6 +29,7 @@ use Rattle.cx_numbering.specs.DesignOf.{number_or_0, Invoke, Next, own_port, cel
 use Rattle.cx_promotion.specs.Promotable.{promoted_assigns, promoted_group}
 use Rattle.cx_promotion.specs.Made.{GroupMade, GroupsMade, a_group}
 use Rattle.cx_promotion.specs.Rewriting.{is_hole_item, bare_enable, promote_assigns, promote_group, length_of, enables, promote_wire, promote_component, components_from, made_tree}
+use Rattle.cx_numbering.proofs.DesignOfLemmas.{assign_is}
 
 module _ (tree : PlainTree) where
   -- COMPONENTS keep their names, their signatures and their order
@@ -172,13 +173,6 @@ module _ (tree : PlainTree) where
     option-made (Some g) = guard-made g
 
     -- ASSIGNMENTS
-    abbrev an_assign : PortRef → PlainGuard → PlacedPort → Place → PlainAssign
-    an_assign target guard source place = record { target = target; guard = guard; source = source; place = place }
-
-    assign_is : (t u : PortRef) (g h : PlainGuard) (s r : PlacedPort) (place : Place) → t ≡ u → g ≡ h → s ≡ r
-        → an_assign t g s place ≡ an_assign u h r place
-    assign_is t u g h s r place a b c = ap (λ x. an_assign x g s place) a ∙ ap (λ x. an_assign u x s place) b ∙ ap (λ x. an_assign u h x place) c
-
     assign-made : (a : ast.PlainAssign) → assign_of (made_tree tree) twin a ≡ assign_of tree part a
     assign-made a = assign_is _ _ _ _ _ _ a.place (port-made a.target.form) (option-made a.guard) (placed-made a.source)
 

@@ -1,33 +1,31 @@
 -- The targets of a promoted tree are targets of the old one.
 use Rattle.std.proofs.Common.{◌≡◌, ℕ, suc, ◌⊎◌, inl, inr, Bool, true, false, List, [], ◌∷◌, map, flat_map, Option, Some, None, refl, subst, if◌then◌else◌}
+use Rattle.cx_text.proofs.MemberLaws.{image_in, in_either, in_image, in_left, in_right}
 use Rattle.cx_ast.specs.declared.operands.OperandForm.{OperandForm}
 use Rattle.cx_ast.specs.PlainTree.{PlainTree, PlainComponent, PlainGroup, PlainAssign, PlainWire, Group, Assign}
 use Rattle.cx_meaning.specs.Instances.{Instance}
-use Rattle.cx_meaning.specs.Sights.{In}
+use Rattle.cx_text.specs.Members.{In}
 use Rattle.cx_numbering.specs.Names.{always_in, groups_in}
 use Rattle.cx_numbering.specs.NameRules.{Standing, standing}
-use Rattle.cx_names.proofs.Base.{in_left, in_right, in_either, in_map, map_in}
 use Rattle.cx_names.specs.Targets.{is_literal, HasTargets}
 use Rattle.cx_rules.specs.Ports.{component_of}
 use Rattle.cx_numbering.specs.DesignOf.{design_of}
 use Rattle.cx_promotion.specs.Rewriting.{is_hole_item, bare_enable, promote_assigns, promote_group, promote_wire, promote_component, enables, length_of, components_from, made_tree}
-
-abbrev AssignHasTarget : PlainAssign → Type 0
-AssignHasTarget a = is_literal a.target.form ≡ false
+use Rattle.cx_names.proofs.TargetLemmas.{HasTarget}
 
 abbrev AllTargets : List PlainAssign → Type 0
-AllTargets assigns = (a : PlainAssign) → In assigns a → AssignHasTarget a
+AllTargets assigns = (a : PlainAssign) → In assigns a → HasTarget a
 
 -- the assignments of wires have targets
 abbrev WireTargets : PlainWire → Type 0
 WireTargets (Group g) = AllTargets g.assigns
-WireTargets (Assign a) = AssignHasTarget a
+WireTargets (Assign a) = HasTarget a
 
 abbrev WiresTargets : List PlainWire → Type 0
 WiresTargets [] = Unit {0}
 WiresTargets (w ∷ ws) = WireTargets w × WiresTargets ws
 
-bare_target : (test : OperandForm → Bool) (a : PlainAssign) (b : Bool) → AssignHasTarget a → AssignHasTarget (if b then record a { guard = None } else a)
+bare_target : (test : OperandForm → Bool) (a : PlainAssign) (b : Bool) → HasTarget a → HasTarget (if b then record a { guard = None } else a)
 bare_target test a true h = h
 bare_target test a false h = h
 
@@ -35,9 +33,9 @@ promoted_targets : (test : OperandForm → Bool) (assigns : List PlainAssign) �
 promoted_targets test [] all a here = absurd here
 promoted_targets test (x ∷ rest) all a here = by (is_hole_item x.target.form) here (promoted_targets test rest (λ y there. all y (inr there)))
   where
-    by : (hole : Bool) → In (if hole then promote_assigns test rest else bare_enable test x ∷ promote_assigns test rest) a → AllTargets (promote_assigns test rest) → AssignHasTarget a
+    by : (hole : Bool) → In (if hole then promote_assigns test rest else bare_enable test x ∷ promote_assigns test rest) a → AllTargets (promote_assigns test rest) → HasTarget a
     by true there after = after a there
-    by false (inl e) after = subst AssignHasTarget e (bare_target test x (test x.target.form) (all x (inl refl)))
+    by false (inl e) after = subst HasTarget e (bare_target test x (test x.target.form) (all x (inl refl)))
     by false (inr there) after = after a there
 
 group_targets : (test : OperandForm → Bool) (length : Option ℕ) (g : PlainGroup) → AllTargets g.assigns → AllTargets (promote_group test length g).assigns
@@ -60,7 +58,7 @@ Stands list = (x : Standing) → In list x → is_literal x.assign.target.form �
 wire_parts : (ws : List PlainWire) → Stands (map (λ a. record { group = None; assign = a }) (always_in ws)) → Stands (flat_map of_group (groups_in ws)) → WiresTargets ws
 wire_parts [] always groups = tt
 wire_parts (Group g ∷ ws) always groups = (
-  λ a here. groups (record { group = Some g.name; assign = a }) (in_left (of_group g) (flat_map of_group (groups_in ws)) _ (map_in (λ x. record { group = Some g.name; assign = x }) g.assigns a here)),
+  λ a here. groups (record { group = Some g.name; assign = a }) (in_left (of_group g) (flat_map of_group (groups_in ws)) _ (in_image (λ x. record { group = Some g.name; assign = x }) g.assigns a here)),
   wire_parts ws always (λ x there. groups x (in_right (of_group g) (flat_map of_group (groups_in ws)) x there)),
 )
 wire_parts (Assign a ∷ ws) always groups = (always (record { group = None; assign = a }) (inl refl), wire_parts ws (λ x there. always x (inr there)) groups)
@@ -76,7 +74,7 @@ groups_back [] all x here = absurd here
 groups_back (Group g ∷ ws) (h, all) x here = by (in_either (of_group g) (flat_map of_group (groups_in ws)) x here) (groups_back ws all)
   where
     by : In (of_group g) x ⊎ In (flat_map of_group (groups_in ws)) x → Stands (flat_map of_group (groups_in ws)) → is_literal x.assign.target.form ≡ false
-    by (inl there) rest = let m = in_map (λ a. record { group = Some g.name; assign = a }) g.assigns x there in subst (λ y. is_literal y.assign.target.form ≡ false) m.2 (h m.0 m.1)
+    by (inl there) rest = let m = image_in (λ a. record { group = Some g.name; assign = a }) g.assigns x there in subst (λ y. is_literal y.assign.target.form ≡ false) m.2 (h m.0 m.1)
     by (inr there) rest = rest x there
 groups_back (Assign a ∷ ws) (h, all) x here = groups_back ws all x here
 

@@ -3,19 +3,19 @@ use Rattle.std.proofs.Common.{◌≡◌, ℕ, zero, suc, List, [], ◌∷◌, Op
 use Rattle.cx_graphs.specs.Graphs as graphs
 use Rattle.cx_graphs.specs.Graphs.{Edges, Bounded, targets_of, IsReached, at_start, by_edge}
 use Rattle.cx_meaning.specs.Designs.{PlainStatement, statements_of, list_of}
-use Rattle.cx_meaning.specs.Sights.{In}
+use Rattle.cx_text.specs.Members.{In}
 use Rattle.cx_design.specs.declared.statements.Statement.{Statement}
 use Rattle.cx_design.specs.PlainForms.{plain_statement}
 use Rattle.cx_race.specs.Links.{Within}
 use Rattle.cx_meaning.proofs.DesignsLemmas.{list_again}
 
 -- the two ways to say what stands in a list of numbers
-pub as_node : (ns : List ℕ) (n : ℕ) → In ns n → graphs.In ns n
+pub as_node : (ns : List ℕ) (n : ℕ) → In ns n → In ns n
 as_node [] n i = absurd i
 as_node (m ∷ ns) n (inl e) = inl e
 as_node (m ∷ ns) n (inr i) = inr (as_node ns n i)
 
-pub from_node : (ns : List ℕ) (n : ℕ) → graphs.In ns n → In ns n
+pub from_node : (ns : List ℕ) (n : ℕ) → In ns n → In ns n
 from_node [] n i = absurd i
 from_node (m ∷ ns) n (inl e) = inl e
 from_node (m ∷ ns) n (inr i) = inr (from_node ns n i)
@@ -46,8 +46,8 @@ arm_at (x ∷ arms) (suc k) = ⊎_elim (λ h. inl (h.0, h.1, inr h.2)) (λ e. in
 pub lists_within : (f : PlainStatement → List ℕ) (count : ℕ) (arms : List PlainStatement) → ((s : PlainStatement) → In arms s → Within count (f s)) → (k : ℕ) → Bounded count (targets_of (map f arms) k)
 lists_within f count arms h k n i =
     ⊎_elim
-    (λ a. h a.0 a.2 n (from_node (f a.0) n (subst (λ l. graphs.In l n) (list_at f arms k a.0 a.1) i)))
-    (λ none. absurd (subst (λ l. graphs.In l n) (none f) i))
+    (λ a. h a.0 a.2 n (from_node (f a.0) n (subst (λ l. In l n) (list_at f arms k a.0 a.1) i)))
+    (λ none. absurd (subst (λ l. In l n) (none f) i))
     (arm_at arms k)
 
 -- nothing is reached from nowhere

@@ -3,6 +3,7 @@ use Rattle.std.proofs.Common.{◌≡◌, ℕ, zero, suc, ◌<◌, ◌≤◌, Lis
 use denote.Struct.Props.{props}
 use Rattle.std.proofs.Math.Logic.{∥∥₁_elim}
 use Rattle.std.proofs.lemmas.List.{get_or_past}
+use Rattle.cx_text.proofs.MemberLaws.{flat_in, image_in, in_at, in_either}
 use Rattle.cx_graphs.specs.Graphs as graphs
 use Rattle.cx_graphs.specs.Graphs.{Bounded, Edges, edges_of, targets_of}
 use Rattle.cx_meaning.specs.declared.ports.PortRef.{PortRef}
@@ -10,14 +11,13 @@ use Rattle.cx_meaning.specs.declared.ports.PortRef.TheVariants as ports
 use Rattle.cx_meaning.specs.declared.ports.PlacedPort.{PlacedPort}
 use Rattle.cx_meaning.specs.Designs.{PlainAssign, PlainGroup, PlainInvoke, PlainComponent, PlainDesign, component_at, group_at, no_group, PlainForm, Empty, Enable, Seq, Par, If, While, Repeat, StaticSeq, StaticPar, StaticIf, StaticRepeat, Timed, PlainStatement}
 use Rattle.cx_meaning.specs.Instances.{Instance, part_of}
-use Rattle.cx_meaning.specs.Sights.{In}
+use Rattle.cx_text.specs.Members.{In}
 use Rattle.cx_meaning.specs.Control.{groups_of}
 use Rattle.cx_rules.specs.Ports.{component_of}
 use Rattle.cx_rules.specs.Items.{operands_of, Visited, Dynamic, visit, statements_in, test_in, option_list, tests_of}
 use Rattle.cx_rules.specs.RaceRule.{enabled_group, enabled_in}
 use Rattle.cx_rules.specs.Invokes.{invoke_at, invokes_of}
 use Rattle.cx_rules.specs.Wellformed.{IsThere, StandsIn, IsAssign, IsForm, IsWith, IsBind, IsDesign}
-use Rattle.cx_design_parts.proofs.Lists.{in_either, flat_in}
 use Rattle.cx_race.specs.Forms.{forms_of, own_groups}
 use Rattle.cx_race.specs.Cells.{cell_in, port_cell, target_in, named_in, named_in_all, targets_in_group, cells_in_group, tested_by, targets_in_capture, named_in_capture, targets_in_invoke, named_in_invoke, named_in_invokes, invoked_by, met_by}
 use Rattle.cx_race.specs.Links.{AreLinks, HasLinks, Within}
@@ -27,7 +27,6 @@ use Rattle.cx_race.proofs.FormLemmas.{visited_forms, enabled_by_forms, groups_by
 use Rattle.cx_race.proofs.CellLemmas.{cell_is, group_list}
 use Rattle.cx_race.proofs.ArmLemmas.{from_node}
 use Rattle.cx_meaning.proofs.DesignsLemmas.{same_part}
-use Rattle.cx_meaning.proofs.SightsLaws.{image_in, in_at}
 
 port_within : (i : Instance) (port : PortRef) → IsThere i port → Within (length (part_of i).cells) (cell_in port)
 port_within i port h c j = let p = cell_is port c j in let there : IsThere i (ports.Cell c p.0) = subst (IsThere i) p.1 h in there.0
@@ -153,7 +152,7 @@ module _ (d : PlainDesign) (keeps : ∥ IsDesign d ∥₁) (k : ℕ) (within : k
 
   lists_there : (f : PlainGroup → List ℕ) → f no_group ≡ [] → ((g : ℕ) → Within (length part.cells) (f (group_at part g))) → (lists : Edges) → lists ≡ map f part.groups
       → (g : ℕ) → Bounded (length part.cells) (targets_of lists g)
-  lists_there f e h lists is g c i = h g c (from_node (f (group_at part g)) c (subst (λ l. graphs.In l c) (ap (λ x. targets_of x g) is ∙ group_list f e part.groups g) i))
+  lists_there f e h lists is g c i = h g c (from_node (f (group_at part g)) c (subst (λ l. In l c) (ap (λ x. targets_of x g) is ∙ group_list f e part.groups g) i))
 
   pub are_footprints : (f : Footprints) → AreLinks part (edges_of f.links.items) → edges_of f.driven.items ≡ map targets_in_group part.groups → edges_of f.named.items ≡ map cells_in_group part.groups
       → AreFootprints part f

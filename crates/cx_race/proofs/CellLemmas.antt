@@ -1,19 +1,21 @@
 -- The cells that statements drive and name, as lists.
 use Rattle.std.proofs.Common.{◌≡◌, ℕ, zero, suc, true, List, [], ◌∷◌, ◌++◌, flat_map, map, get_or, inl, inr, ⊎_elim, refl, sym, ap, ◌∙◌, subst}
+use Rattle.cx_text.proofs.MemberLaws.{flat_in, in_either, in_flat, in_left, in_right}
+use Rattle.cx_text.specs.Members.{In}
 use Rattle.cx_graphs.specs.Graphs.{targets_of}
 use Rattle.cx_meaning.specs.declared.ports.PortRef.{PortRef}
 use Rattle.cx_meaning.specs.declared.ports.PortRef.TheVariants as ports
 use Rattle.cx_meaning.specs.declared.ports.PlacedPort.{PlacedPort}
 use Rattle.cx_meaning.specs.Designs.{PlainGuard, Always, Atom, Negation, All, Any, Compared, Within, PlainGuards, no_guards, a_guard, PlainAssign, PlainGroup, PlainComponent, no_group, group_at, PlainStatement}
 use Rattle.cx_meaning.specs.Instances.{just}
-use Rattle.cx_meaning.specs.Sights.{In, GuardNames, AnyNames}
+use Rattle.cx_meaning.specs.Sights.{GuardNames, AnyNames}
 use Rattle.cx_meaning.specs.Control.{groups_of, targets_cell, assigns_drive, groups_drive, drives}
 use Rattle.cx_rules.specs.Items.{operands_of, operands_in}
 use Rattle.cx_rules.specs.Footprints.{AssignNames}
-use Rattle.cx_design_parts.proofs.Lists.{in_left, in_right, in_either, in_flat, flat_in}
 use Rattle.cx_race.specs.Cells.{cell_in, port_cell, target_in, named_in, driven_in, driven_by}
 use Rattle.cx_meaning.proofs.InstancesLemmas.{just_true, just_same}
 use Rattle.cx_text.proofs.BoolLaws.{or_right, either_true, or_left}
+use Rattle.cx_rules.proofs.FoundLemmas.{guard_operand, operand_named}
 
 -- the list of a group, where the lists are those of all groups
 pub group_list : (f : PlainGroup → List ℕ) → f no_group ≡ [] → (groups : List PlainGroup) (g : ℕ) → targets_of (map f groups) g ≡ f (get_or groups g no_group)
@@ -92,43 +94,10 @@ module _ (part : PlainComponent) where
   is_driven s c i = driven_groups (groups_of s) c i
 
 -- NAMES
-mutual
-  operand_names : (g : PlainGuard) (p : PlacedPort) (q : PortRef) → In (operands_of g) p → p.port ≡ q → GuardNames g q
-  operand_names Always p q i e = absurd i
-  operand_names (Atom a) p q (inl s) e = ap (λ x. x.port) s ∙ e
-  operand_names (Atom a) p q (inr i) e = absurd i
-  operand_names (Negation g) p q i e = operand_names g p q i e
-  operand_names (All gs) p q i e = operands_name gs p q i e
-  operand_names (Any gs) p q i e = operands_name gs p q i e
-  operand_names (Compared c a b) p q (inl s) e = inl (ap (λ x. x.port) s ∙ e)
-  operand_names (Compared c a b) p q (inr (inl s)) e = inr (ap (λ x. x.port) s ∙ e)
-  operand_names (Compared c a b) p q (inr (inr i)) e = absurd i
-  operand_names (Within from to) p q i e = absurd i
-
-  operands_name : (gs : PlainGuards) (p : PlacedPort) (q : PortRef) → In (operands_in gs) p → p.port ≡ q → AnyNames gs q
-  operands_name no_guards p q i e = absurd i
-  operands_name (a_guard g gs) p q i e = ⊎_elim (λ l. inl (operand_names g p q l e)) (λ r. inr (operands_name gs p q r e)) (in_either (operands_of g) (operands_in gs) p i)
-
-mutual
-  named_operand : (g : PlainGuard) (q : PortRef) → GuardNames g q → (p : PlacedPort) × In (operands_of g) p × (p.port ≡ q)
-  named_operand Always q n = absurd n
-  named_operand (Atom p) q n = (p, inl refl, n)
-  named_operand (Negation g) q n = named_operand g q n
-  named_operand (All gs) q n = named_operands gs q n
-  named_operand (Any gs) q n = named_operands gs q n
-  named_operand (Compared c a b) q (inl e) = (a, inl refl, e)
-  named_operand (Compared c a b) q (inr e) = (b, inr (inl refl), e)
-  named_operand (Within from to) q n = absurd n
-
-  named_operands : (gs : PlainGuards) (q : PortRef) → AnyNames gs q → (p : PlacedPort) × In (operands_in gs) p × (p.port ≡ q)
-  named_operands no_guards q n = absurd n
-  named_operands (a_guard g gs) q (inl n) = let r = named_operand g q n in (r.0, in_left (operands_of g) (operands_in gs) r.0 r.1, r.2)
-  named_operands (a_guard g gs) q (inr n) = let r = named_operands gs q n in (r.0, in_right (operands_of g) (operands_in gs) r.0 r.1, r.2)
-
 -- the list has the cells that an assignment names
 pub in_named : (a : PlainAssign) (c p : ℕ) → AssignNames a (ports.Cell c p) → In (named_in a) c
 in_named a c p (inl n) =
-    let o = named_operand a.guard (ports.Cell c p) n in
+    let o = guard_operand a.guard (ports.Cell c p) n in
     in_right (cell_in a.source.port) (flat_map port_cell (operands_of a.guard)) c (in_flat port_cell (operands_of a.guard) o.0 c o.1 (has_cell o.0.port c p o.2))
 in_named a c p (inr e) = in_left (cell_in a.source.port) (flat_map port_cell (operands_of a.guard)) c (has_cell a.source.port c p e)
 
@@ -136,5 +105,5 @@ pub is_named : (a : PlainAssign) (c : ℕ) → In (named_in a) c → (p : ℕ) �
 is_named a c i =
     ⊎_elim
     (λ l. let s = cell_is a.source.port c l in (s.0, inr s.1))
-    (λ r. let o = flat_in port_cell (operands_of a.guard) c r in let s = cell_is o.0.port c o.2 in (s.0, inl (operand_names a.guard o.0 (ports.Cell c s.0) o.1 s.1)))
+    (λ r. let o = flat_in port_cell (operands_of a.guard) c r in let s = cell_is o.0.port c o.2 in (s.0, inl (subst (GuardNames a.guard) s.1 (operand_named a.guard o.0 o.1))))
     (in_either (cell_in a.source.port) (flat_map port_cell (operands_of a.guard)) c i)

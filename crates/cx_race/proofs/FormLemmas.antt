@@ -3,14 +3,14 @@ use Rattle.std.proofs.Common.{◌≡◌, ℕ, List, ◌∷◌, ◌++◌, Option,
 use Rattle.std.proofs.lemmas.Grind.{flat_map-append}
 use Rattle.std.proofs.lemmas.List.{map-append}
 use Rattle.std.proofs.lemmas.List.Folds.{flat_map-map}
+use Rattle.cx_text.proofs.MemberLaws.{in_either, in_left, in_right}
 use Rattle.cx_meaning.specs.declared.ports.PlacedPort.{PlacedPort}
 use Rattle.cx_meaning.specs.Designs.{PlainForm, Empty, Enable, Seq, Par, If, While, Repeat, StaticSeq, StaticPar, StaticIf, StaticRepeat, Timed, PlainStatement, Placed, PlainStatements, no_statements, a_statement, list_of}
-use Rattle.cx_meaning.specs.Sights.{In}
+use Rattle.cx_text.specs.Members.{In}
 use Rattle.cx_meaning.specs.Control.{with_comb, groups_of, groups_in, groups_in_all}
 use Rattle.cx_rules.specs.Items.{Context, Dynamic, InStatic, Branch, below_dynamic, Visited, visit, visit_parts, visit_all, option_list, test_in, tests_of}
 use Rattle.cx_rules.specs.RaceRule.{arms_of, enabled_group, enabled_in}
 use Rattle.cx_rules.specs.Invokes.{invoke_in, invokes_of}
-use Rattle.cx_design_parts.proofs.Lists.{in_left, in_right, in_either}
 use Rattle.cx_race.specs.Forms.{forms_of, forms_below, forms_in, own_groups}
 
 abbrev form_of : Visited → PlainForm

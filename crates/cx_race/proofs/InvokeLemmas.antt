@@ -1,11 +1,11 @@
 -- The cells that static invokes drive and name, as lists.
 use Rattle.std.proofs.Common.{◌≡◌, ℕ, true, ◌||◌, List, [], ◌∷◌, Option, Some, None, ◌⊎◌, inl, inr, ⊎_elim, refl, sym, subst}
+use Rattle.cx_text.proofs.MemberLaws.{flat_in, in_either, in_flat, in_left, in_right}
 use Rattle.cx_meaning.specs.Designs.{PlainInvoke, PlainComponent, group_at, PlainStatement}
-use Rattle.cx_meaning.specs.Sights.{In}
+use Rattle.cx_text.specs.Members.{In}
 use Rattle.cx_meaning.specs.Control.{groups_drive, drives}
 use Rattle.cx_rules.specs.Items.{option_list}
 use Rattle.cx_rules.specs.Invokes.{invoke_at, invokes_of, capture_of, captures_of, is_cell_of, invokes_cell, drives_all}
-use Rattle.cx_design_parts.proofs.Lists.{in_left, in_right, in_either, in_flat, flat_in}
 use Rattle.cx_race.specs.Cells.{named_in_all, targets_in_group, targets_in_capture, named_in_capture, targets_in_invoke, named_in_invoke, targets_in_invokes, invoked_by, driven_by, driven_all_by}
 use Rattle.cx_race.proofs.CellLemmas.{groups_driven, driven_groups, in_driven, is_driven}
 use Rattle.cx_text.proofs.BoolLaws.{or_right, either_true, or_left}

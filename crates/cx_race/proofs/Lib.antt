@@ -6,6 +6,6 @@ pub mod ReadLemmas
 pub mod ReadAllLemmas
 pub mod Bounds
 pub mod ArmLemmas
-mod NameLemmas
+mod AssignLemmas
 mod SharedLemmas
 mod RaceLemmas

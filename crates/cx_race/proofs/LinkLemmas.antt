@@ -4,15 +4,15 @@ use Rattle.std.proofs.lemmas.List.{length-map, length-replicate, map-append, map
 use Rattle.std.proofs.Math.Seq.{take-suc}
 use Rattle.std.specs.declared.vec.Vec.{Vec}
 use Rattle.std.specs.Vec.{vec_len}
+use Rattle.cx_text.proofs.MemberLaws.{in_either, in_left, in_right}
 use Rattle.cx_graphs.specs.Graphs as graphs
 use Rattle.cx_graphs.specs.Graphs.{Edges, edges_of, targets_of}
 use Rattle.cx_meaning.specs.declared.ports.PortRef.{PortRef}
 use Rattle.cx_meaning.specs.declared.ports.PortRef.TheVariants as ports
 use Rattle.cx_meaning.specs.Designs.{PlainAssign, PlainComponent}
-use Rattle.cx_meaning.specs.Sights.{In}
+use Rattle.cx_text.specs.Members.{In}
 use Rattle.cx_design.specs.declared.components.Component.{Component}
 use Rattle.cx_design.specs.PlainForms.{plain_cell, plain_component}
-use Rattle.cx_design_parts.proofs.Lists.{in_left, in_right, in_either}
 use Rattle.cx_race.specs.Cells.{cell_in, target_in, named_in}
 use Rattle.cx_race.specs.Links.{HasLinks, Within, linked}
 use Rattle.cx_race.proofs.ArmLemmas.{as_node, from_node}
@@ -26,7 +26,7 @@ no_targets (suc count) (suc c) = no_targets count c
 
 pub no_links : (count : ℕ) → HasLinks [] (replicate count [])
 no_links count = record {
-  sound = λ c e i. absurd (subst (λ l. graphs.In l e) (no_targets count c) i);
+  sound = λ c e i. absurd (subst (λ l. In l e) (no_targets count c) i);
   all = λ c e a i t n. absurd i;
 }
 
@@ -63,13 +63,13 @@ module _ (assigns : List PlainAssign) (a : PlainAssign) (g : Edges) (has : HasLi
         (λ s. ⊎_elim
         (λ old. let b = has.sound d e (as_node (targets_of g d) e old) in (b.0, in_left assigns (a ∷ []) b.0 b.1, subst (λ x. In (target_in b.0) x) s b.2, b.3))
         (λ new. (a, in_right assigns (a ∷ []) a (inl refl), subst (λ x. In (target_in a) x) s there, new))
-        (in_either (targets_of g d) (named_in a) e (from_node (targets_of g d ++ named_in a) e (subst (λ l. graphs.In l e) (set_here g d (targets_of g d ++ named_in a) within) (subst (λ x. graphs.In (targets_of now x) e) (sym s) i)))))
-        (λ n. let b = has.sound c e (subst (λ l. graphs.In l e) (set_there g d c (targets_of g d ++ named_in a) n) i) in (b.0, in_left assigns (a ∷ []) b.0 b.1, b.2, b.3))
+        (in_either (targets_of g d) (named_in a) e (from_node (targets_of g d ++ named_in a) e (subst (λ l. In l e) (set_here g d (targets_of g d ++ named_in a) within) (subst (λ x. In (targets_of now x) e) (sym s) i)))))
+        (λ n. let b = has.sound c e (subst (λ l. In l e) (set_there g d c (targets_of g d ++ named_in a) n) i) in (b.0, in_left assigns (a ∷ []) b.0 b.1, b.2, b.3))
         (same_or d c);
     all = λ c e b i t n. ⊎_elim
         (λ l. still c e (has.all c e b l t n))
-        (λ s. subst (λ x. graphs.In (targets_of now x) e) (only c (subst (λ x. In (target_in x) c) (sym s) t))
-        (subst (λ l. graphs.In l e) (sym (set_here g d (targets_of g d ++ named_in a) within))
+        (λ s. subst (λ x. In (targets_of now x) e) (only c (subst (λ x. In (target_in x) c) (sym s) t))
+        (subst (λ l. In l e) (sym (set_here g d (targets_of g d ++ named_in a) within))
         (as_node (targets_of g d ++ named_in a) e (in_right (targets_of g d) (named_in a) e (subst (λ x. In (named_in x) e) (sym s) n)))))
         (either b i);
   }
@@ -77,12 +77,12 @@ module _ (assigns : List PlainAssign) (a : PlainAssign) (g : Edges) (has : HasLi
       now : Edges
       now = slice_set g d (targets_of g d ++ named_in a)
 
-      still : (c e : ℕ) → graphs.In (targets_of g c) e → graphs.In (targets_of now c) e
+      still : (c e : ℕ) → In (targets_of g c) e → In (targets_of now c) e
       still c e i = ⊎_elim
-          (λ s. subst (λ x. graphs.In (targets_of now x) e) s
-          (subst (λ l. graphs.In l e) (sym (set_here g d (targets_of g d ++ named_in a) within))
-          (as_node (targets_of g d ++ named_in a) e (in_left (targets_of g d) (named_in a) e (from_node (targets_of g d) e (subst (λ x. graphs.In (targets_of g x) e) (sym s) i))))))
-          (λ n. subst (λ l. graphs.In l e) (sym (set_there g d c (targets_of g d ++ named_in a) n)) i)
+          (λ s. subst (λ x. In (targets_of now x) e) s
+          (subst (λ l. In l e) (sym (set_here g d (targets_of g d ++ named_in a) within))
+          (as_node (targets_of g d ++ named_in a) e (in_left (targets_of g d) (named_in a) e (from_node (targets_of g d) e (subst (λ x. In (targets_of g x) e) (sym s) i))))))
+          (λ n. subst (λ l. In l e) (sym (set_there g d c (targets_of g d ++ named_in a) n)) i)
           (same_or d c)
 
   by_port : (port : PortRef) → a.target ≡ port → Within (length g) (cell_in port) → HasLinks more (linked g (cell_in port) (named_in a))

@@ -2,12 +2,13 @@
 use Rattle.std.proofs.Common.{◌≡◌, ℕ, zero, suc, ◌+◌, ◌<◌, ◌≤◌, false, List, [], ◌∷◌, ◌++◌, Option, Some, None, length, map, slice_get, ◌⊎◌, inl, inr, ⊎_elim, refl, sym, ap, ◌∙◌, subst, arith}
 use Rattle.std.proofs.lemmas.List.{length-map}
 use Rattle.std.proofs.lemmas.Option.{slice_get_within}
+use Rattle.cx_text.proofs.MemberLaws.{in_either, in_left, in_right}
 use Rattle.cx_text.specs.declared.places.Place.{Place}
 use Rattle.cx_text.specs.declared.rules.Rule.{Rule}
 use Rattle.cx_text.specs.declared.rules.Rule.TheVariants as rule
 use Rattle.cx_meaning.specs.Designs.{PlainComponent, PlainDesign, component_at, PlainForm, PlainStatement}
 use Rattle.cx_meaning.specs.Instances.{part_of}
-use Rattle.cx_meaning.specs.Sights.{In}
+use Rattle.cx_text.specs.Members.{In}
 use Rattle.cx_rules.specs.Ports.{component_of, cell_name}
 use Rattle.cx_rules.specs.Items.{Visited, Dynamic, statements_in}
 use Rattle.cx_rules.specs.Spots.{AStatement, Spot, Tells, OnStatement}
@@ -16,7 +17,7 @@ use Rattle.cx_rules.specs.Wellformed.{IsDesign}
 use Rattle.cx_rules.specs.Accepted.{Breaks, stage_of, key_of, comes_before}
 use Rattle.cx_design_parts.specs.Breaks.{Broken, key, first_of}
 use Rattle.cx_design_parts.specs.Answers.{AreBreaks}
-use Rattle.cx_design_parts.proofs.Lists.{first_append, in_left, in_right, in_either}
+use Rattle.cx_design_parts.proofs.Lists.{first_append}
 use Rattle.cx_race.specs.declared.parts.Footprints.{Footprints}
 use Rattle.cx_race.specs.Cells.{targets_in_group, cells_in_group}
 use Rattle.cx_race.specs.Footprints.{AreFootprints}

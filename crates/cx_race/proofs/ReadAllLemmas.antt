@@ -1,12 +1,12 @@
 -- What a statement with static invokes reads is what is reached from the cells that it drives or names.
 use Rattle.std.proofs.Common.{◌≡◌, ℕ, List, ◌++◌, Option, Some, None, flat_map, ⊎_elim, refl, sym, subst}
+use Rattle.cx_text.proofs.MemberLaws.{flat_in, in_either, in_flat, in_left, in_right}
 use Rattle.cx_graphs.specs.Graphs.{Edges, IsReached, at_start, by_edge}
 use Rattle.cx_meaning.specs.Designs.{PlainInvoke, PlainComponent, PlainStatement, group_at}
-use Rattle.cx_meaning.specs.Sights.{In}
+use Rattle.cx_text.specs.Members.{In}
 use Rattle.cx_meaning.specs.Control.{groups_of}
 use Rattle.cx_rules.specs.Items.{tests_of}
 use Rattle.cx_rules.specs.Invokes.{invoke_at, invokes_of, capture_of, ReadsAll, driven, named, captured, fed, tested, through}
-use Rattle.cx_design_parts.proofs.Lists.{in_left, in_right, in_either, in_flat, flat_in}
 use Rattle.cx_race.specs.Cells.{port_cell, named_in, named_in_all, targets_in_group, cells_in_group, tested_by, driven_by, named_in_capture, named_in_invoke, named_in_invokes, invoked_by, met_by, named_all_by}
 use Rattle.cx_race.specs.Links.{AreLinks}
 use Rattle.cx_race.proofs.CellLemmas.{cell_is, has_cell, in_named, is_named}

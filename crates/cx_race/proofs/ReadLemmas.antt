@@ -1,12 +1,12 @@
 -- What a statement reads is what is reached from the cells that it names.
 use Rattle.std.proofs.Common.{ℕ, List, flat_map, ⊎_elim}
+use Rattle.cx_text.proofs.MemberLaws.{flat_in, in_either, in_flat, in_left, in_right}
 use Rattle.cx_graphs.specs.Graphs.{Edges, IsReached, at_start, by_edge}
 use Rattle.cx_meaning.specs.Designs.{PlainComponent, PlainStatement, group_at}
-use Rattle.cx_meaning.specs.Sights.{In}
+use Rattle.cx_text.specs.Members.{In}
 use Rattle.cx_meaning.specs.Control.{groups_of}
 use Rattle.cx_rules.specs.Items.{tests_of}
 use Rattle.cx_rules.specs.Footprints.{Reads, driven, named, tested, through}
-use Rattle.cx_design_parts.proofs.Lists.{in_left, in_right, in_either, in_flat, flat_in}
 use Rattle.cx_race.specs.Cells.{port_cell, named_in, named_in_all, targets_in_group, cells_in_group, named_by}
 use Rattle.cx_race.specs.Links.{AreLinks}
 use Rattle.cx_race.proofs.CellLemmas.{cell_is, has_cell, in_driven, is_driven, in_named, is_named}

@@ -3,7 +3,7 @@ use Rattle.std.proofs.Common.{◌≡◌, ◌≢◌, ℕ, true, List, [], ◌++�
 use Rattle.cx_graphs.specs.Graphs as graphs
 use Rattle.cx_graphs.specs.Graphs.{Edges, targets_of, IsReached}
 use Rattle.cx_meaning.specs.Designs.{PlainComponent, PlainStatement}
-use Rattle.cx_meaning.specs.Sights.{In}
+use Rattle.cx_text.specs.Members.{In}
 use Rattle.cx_meaning.specs.Control.{groups_of}
 use Rattle.cx_rules.specs.Invokes.{drives_all, ReadsAll, driven}
 use Rattle.cx_rules.specs.RaceRule.{Arms, IsShared, IsEnabledTwice, enabled_in}
@@ -37,11 +37,11 @@ pub owners_two : (P : ℕ → Type 0) (o : Owners) → o ≡ Several → Sound P
 owners_two P o e s = subst (Sound P) e s
 
 -- what has an owner is touched
-pub is_touched : (P : ℕ → ℕ → Type 0) (owners : List Owners) (touched : List ℕ) → Tallies P owners touched → (n k : ℕ) → P n k → graphs.In touched n
+pub is_touched : (P : ℕ → ℕ → Type 0) (owners : List Owners) (touched : List ℕ) → Tallies P owners touched → (n k : ℕ) → P n k → In touched n
 is_touched P owners touched t n k h = ⊎_elim (λ nobody. absurd (subst (λ o. Covers o k) nobody ((t.tells n).all k h))) (λ i. i) (t.kept.others n)
 
 -- the least of what several own is the least of what P holds of, where these are one
-pub least_is : (owners : List Owners) (among : List ℕ) (P : ℕ → Type 0) → ((n : ℕ) → graphs.In among n → IsSeveral owners n → P n) → ((n : ℕ) → P n → graphs.In among n × IsSeveral owners n)
+pub least_is : (owners : List Owners) (among : List ℕ) (P : ℕ → Type 0) → ((n : ℕ) → In among n → IsSeveral owners n → P n) → ((n : ℕ) → P n → In among n × IsSeveral owners n)
     → (least : Option ℕ) → IsLeast owners among least → IsLeastOf P least
 least_is owners among P sound all None l = λ n p. let h = all n p in l n h.0 h.1
 least_is owners among P sound all (Some n) l = (sound n l.0 l.1, λ m lt p. let h = all m p in let few = l.2 m h.0 h.1 in absurd (omega (arith, lt, few)))
@@ -78,15 +78,15 @@ module _ (part : PlainComponent) (arms : List PlainStatement) (g members cells :
   nowhere m f k none = ap (λ l. l ++ flat_map (targets_of m) (targets_of (map groups_of arms) k)) (none f) ∙ ap (λ gs. flat_map (targets_of m) gs) (none groups_of)
 
   driver : (c k : ℕ) (s : PlainStatement) → slice_get arms k ≡ Some s → drives_all part s c ≡ true → Driver c k
-  driver c k s e h = subst (λ l. graphs.In l c) (sym (driven_are k s e)) (as_node (driven_all_by part s) c (in_driven_all part s c h))
+  driver c k s e h = subst (λ l. In l c) (sym (driven_are k s e)) (as_node (driven_all_by part s) c (in_driven_all part s c h))
 
   reader : (c k : ℕ) (s : PlainStatement) → slice_get arms k ≡ Some s → ReadsAll part s c → Reader c k
   reader c k s e h = subst (λ l. IsReached g l c) (sym (named_are k s e)) (all_reads_reached part s g links c h)
 
   is_driver : (c k : ℕ) → Driver c k → (s : PlainStatement) × (slice_get arms k ≡ Some s) × (drives_all part s c ≡ true)
   is_driver c k h = ⊎_elim
-      (λ a. (a.0, a.1, is_driven_all part a.0 c (from_node (driven_all_by part a.0) c (subst (λ l. graphs.In l c) (driven_are k a.0 a.1) h))))
-      (λ none. absurd (subst (λ l. graphs.In l c) (nowhere members (invoked_by part) k none) h))
+      (λ a. (a.0, a.1, is_driven_all part a.0 c (from_node (driven_all_by part a.0) c (subst (λ l. In l c) (driven_are k a.0 a.1) h))))
+      (λ none. absurd (subst (λ l. In l c) (nowhere members (invoked_by part) k none) h))
       (arm_at arms k)
 
   is_reader : (c k : ℕ) → Reader c k → (s : PlainStatement) × (slice_get arms k ≡ Some s) × ReadsAll part s c
@@ -99,7 +99,7 @@ module _ (part : PlainComponent) (arms : List PlainStatement) (g members cells :
   shared_by c j k differ dj rk = let a = is_driver c j dj in let b = is_reader c k rk in (two_arms arms j k a.0 b.0 differ a.1 b.1, a.2, b.2)
 
   module _ (d : Tallies Driver driving driven_ones) (r : Tallies Reader reading read_ones) where
-    shared : (c : ℕ) → graphs.In driven_ones c → IsSeveral reading c → IsShared part arms c
+    shared : (c : ℕ) → In driven_ones c → IsSeveral reading c → IsShared part arms c
     shared c i several =
         let covered = d.some c i in
         let j = an_owner (Driver c) (owners_at driving c) covered.0 covered.1 ((d.tells c).sound) in
@@ -109,7 +109,7 @@ module _ (part : PlainComponent) (arms : List PlainStatement) (g members cells :
         (λ differ. shared_by c j.0 two.0 differ j.1 two.3)
         (same_or j.0 two.0)
 
-    is_shared : (c : ℕ) → IsShared part arms c → graphs.In driven_ones c × IsSeveral reading c
+    is_shared : (c : ℕ) → IsShared part arms c → In driven_ones c × IsSeveral reading c
     is_shared c h =
         let two = h.0 in (
           is_touched Driver driving driven_ones d c two.one (driver c two.one two.first two.first_stands h.1),
@@ -127,22 +127,22 @@ module _ (arms : List PlainStatement) (owners : List Owners) (touched : List ℕ
   Enabler = Starts (targets_of (map enabled_in arms))
 
   enabler : (g k : ℕ) (s : PlainStatement) → slice_get arms k ≡ Some s → In (enabled_in s) g → Enabler g k
-  enabler g k s e i = subst (λ l. graphs.In l g) (sym (list_at enabled_in arms k s e)) (as_node (enabled_in s) g i)
+  enabler g k s e i = subst (λ l. In l g) (sym (list_at enabled_in arms k s e)) (as_node (enabled_in s) g i)
 
   is_enabler : (g k : ℕ) → Enabler g k → (s : PlainStatement) × (slice_get arms k ≡ Some s) × In (enabled_in s) g
   is_enabler g k h = ⊎_elim
-      (λ a. (a.0, a.1, from_node (enabled_in a.0) g (subst (λ l. graphs.In l g) (list_at enabled_in arms k a.0 a.1) h)))
-      (λ none. absurd (subst (λ l. graphs.In l g) (none enabled_in) h))
+      (λ a. (a.0, a.1, from_node (enabled_in a.0) g (subst (λ l. In l g) (list_at enabled_in arms k a.0 a.1) h)))
+      (λ none. absurd (subst (λ l. In l g) (none enabled_in) h))
       (arm_at arms k)
 
-  twice : (g : ℕ) → graphs.In touched g → IsSeveral owners g → IsEnabledTwice arms g
+  twice : (g : ℕ) → In touched g → IsSeveral owners g → IsEnabledTwice arms g
   twice g i several =
       let two = owners_two (Enabler g) (owners_at owners g) several ((t.tells g).sound) in
       let a = is_enabler g two.0 two.3 in
       let b = is_enabler g two.1 two.4 in
       (two_arms arms two.0 two.1 a.0 b.0 two.2 a.1 b.1, a.2, b.2)
 
-  is_twice : (g : ℕ) → IsEnabledTwice arms g → graphs.In touched g × IsSeveral owners g
+  is_twice : (g : ℕ) → IsEnabledTwice arms g → In touched g × IsSeveral owners g
   is_twice g h =
       let two = h.0 in
       let one = enabler g two.one two.first two.first_stands h.1 in

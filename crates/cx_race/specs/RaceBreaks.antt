@@ -3,7 +3,7 @@ use Rattle.std.specs.Prelude.{◌≡◌, ℕ, ◌<◌, List, [], ◌∷◌, Opti
 use Rattle.cx_text.specs.declared.places.Place.{Place}
 use Rattle.cx_text.specs.declared.rules.Rule.TheVariants as rule
 use Rattle.cx_meaning.specs.Designs.{PlainComponent, PlainDesign}
-use Rattle.cx_meaning.specs.Sights.{In}
+use Rattle.cx_text.specs.Members.{In}
 use Rattle.cx_rules.specs.Spots.{AStatement, Spot, OnStatement}
 use Rattle.cx_rules.specs.RaceRule.{BreaksRace}
 use Rattle.cx_rules.specs.Accepted.{key_of}

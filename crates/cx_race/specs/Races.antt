@@ -2,7 +2,7 @@
 use Rattle.std.specs.Prelude.{◌≡◌, ℕ, ◌<◌, List, Option, Some, None, length}
 use Rattle.cx_graphs.specs.Graphs.{Bounded, IsGraph, edges_of, targets_of}
 use Rattle.cx_meaning.specs.Control.{groups_of}
-use Rattle.cx_meaning.specs.Sights.{In}
+use Rattle.cx_text.specs.Members.{In}
 use Rattle.cx_meaning.specs.Designs.{PlainComponent, PlainStatement, group_at}
 use Rattle.cx_rules.specs.Ports.{cell_name}
 use Rattle.cx_rules.specs.RaceRule.{IsShared, IsEnabledTwice, enabled_in}

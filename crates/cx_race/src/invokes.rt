@@ -8,8 +8,8 @@ ghost use Rattle.cx_race.specs.Cells.{invoked_by, met_by, named_in_capture, name
 
 use crate::cells::{add_assigns, add_targets, tested};
 use crate::forms::invokes;
-use crate::telling::group_of;
 use cx_design::{Assign, Component, Statement, StaticInvoke};
+use cx_design_parts::group_of;
 use cx_text::Memory;
 use std::alloc::Global;
 
@@ -116,7 +116,7 @@ fn add_capture_names(
 }
 
 /// The assignments of a group, where the component has it.
-#[tactic(auto, using(crate::proofs::NameLemmas::assigns_of_group))]
+#[tactic(auto, using(crate::proofs::AssignLemmas::assigns_of_group))]
 fn assigns_of(component: &Component, number: u32) -> &[Assign]
     ensures value { plain_assigns result.now ≡ (group_at (plain_component component.now) number).assigns }
 {

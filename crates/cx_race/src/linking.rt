@@ -3,7 +3,7 @@
 ghost use Rattle.std.specs.Prelude.{◌≡◌, ◌<◌, [], ◌∷◌, IfOk, OnOk, length, replicate};
 ghost use Rattle.cx_graphs.specs.Graphs.{edges_of};
 ghost use Rattle.cx_meaning.specs.Designs.{PlainAssign, component_at};
-ghost use Rattle.cx_meaning.specs.Sights.{In};
+ghost use Rattle.cx_text.specs.Members.{In};
 ghost use Rattle.cx_design.specs.PlainForms.{plain_assign, plain_assigns};
 ghost use Rattle.cx_design.specs.PlainDesigns.{plain_design};
 ghost use Rattle.cx_race.specs.Cells.{named_in, target_in};

@@ -2,7 +2,7 @@
 
 ghost use Rattle.std.specs.Prelude.{◌≡◌, IfOk, OnOk, length, map};
 ghost use Rattle.cx_meaning.specs.Designs.{PlainStatement};
-ghost use Rattle.cx_meaning.specs.Sights.{In};
+ghost use Rattle.cx_text.specs.Members.{In};
 ghost use Rattle.cx_rules.specs.RaceRule.{IsEnabledTwice, IsShared, enabled_in};
 ghost use Rattle.cx_design.specs.PlainForms.{plain_component, plain_statement};
 ghost use Rattle.cx_graphs.specs.Tallies.{IsClear};

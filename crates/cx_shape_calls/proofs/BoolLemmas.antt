@@ -1,7 +1,7 @@
 -- Tests of lists and of numbers, and the elements that they tell of.
 use Rattle.std.proofs.Common.{◌≡◌, ◌≢◌, ℕ, suc, Bool, true, false, ◌&&◌, ◌||◌, nat_eq, List, [], ◌∷◌, length, filter, cond, inl, inr, refl, sym, ap, ◌∙◌, subst, arith, tests, true≢false}
 use Rattle.std.specs.List.{list_any}
-use Rattle.cx_meaning.specs.Sights.{In}
+use Rattle.cx_text.specs.Members.{In}
 use Rattle.cx_text.proofs.BoolLaws.{or_right, or_left}
 
 pub not_same : (x y : ℕ) → nat_eq x y ≡ false → x ≢ y

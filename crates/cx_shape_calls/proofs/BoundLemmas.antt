@@ -2,6 +2,7 @@
 use Rattle.std.proofs.Common.{◌≡◌, ◌≢◌, ℕ, zero, suc, ◌<◌, Bool, true, false, ◌||◌, not, ◌↔◌, nat_eq, List, [], ◌∷◌, ◌++◌, Option, Some, length, replicate, slice_get, set, refl, sym, ap, ◌∙◌, subst, arith, true≢false}
 use Rattle.std.specs.List.{list_any}
 use Rattle.std.proofs.lemmas.List.{length-replicate, length-set}
+use Rattle.cx_text.proofs.MemberLaws.{in_at, number_in}
 use Rattle.cx_meaning.specs.declared.ports.PortRef.{PortRef}
 use Rattle.cx_meaning.specs.Designs.{PlainAssign}
 use Rattle.cx_meaning.specs.Active.{same_port}
@@ -10,7 +11,6 @@ use Rattle.cx_rules.specs.InvokeShape.{input_port}
 use Rattle.cx_shape_calls.specs.StaticInvokes.{is_bound, some_unbound, AreBound}
 use Rattle.cx_shape_calls.proofs.BoolLemmas.{any_in, any_has, not_same}
 use Rattle.cx_shape_calls.proofs.InvokeLemmas.{unbound_sound, unbound_complete}
-use Rattle.cx_meaning.proofs.SightsLaws.{number_in, in_at}
 use Rattle.cx_text.proofs.BoolLaws.{from_not, false_if, or_false}
 use Rattle.cx_text.proofs.ListLaws.{there_below, set_same, set_other}
 use Rattle.cx_text.proofs.NumberLaws.{from_eq}

@@ -1,12 +1,13 @@
 -- The list of a component's breaks has those of the rule, and no others.
 use Rattle.std.proofs.Common.{◌≡◌, ◌+◌, ◌<◌, ℕ, zero, suc, Bool, true, false, ◌&&◌, ◌||◌, not, nat_eq, List, [], ◌∷◌, ◌++◌, Option, Some, None, length, get_or, slice_get, ◌⊎◌, inl, inr, ⊎_elim, refl, sym, ap, ◌∙◌, subst, arith, true≢false}
+use Rattle.cx_text.proofs.MemberLaws.{in_at, in_either, in_left, in_right}
 use Rattle.cx_text.specs.declared.places.Place.{Place}
 use Rattle.cx_text.specs.declared.rules.Rule.{Rule}
 use Rattle.cx_text.specs.declared.rules.Rule.TheVariants as rules
 use Rattle.cx_meaning.specs.Designs.{PlainAssign, PlainGroup, PlainDesign, component_at, group_at, no_group}
 use Rattle.cx_meaning.specs.Instances.{Instance, part_of}
 use Rattle.cx_meaning.specs.Active.{Owned, owned, owned_by_groups, same_port, source_order}
-use Rattle.cx_meaning.specs.Sights.{In}
+use Rattle.cx_text.specs.Members.{In}
 use Rattle.cx_rules.specs.Ports.{component_of, is_part_port, path_of}
 use Rattle.cx_rules.specs.Items.{is_plain}
 use Rattle.cx_rules.specs.ShapeRules.{is_hole_of, some_target}
@@ -18,7 +19,7 @@ use Rattle.cx_rules.proofs.ForeignLemmas.{sorted_among, owned_among, split, grou
 use Rattle.cx_design_parts.specs.Breaks.{Broken, key, first_of}
 use Rattle.cx_design_parts.specs.Numbered.{numbered}
 use Rattle.cx_design_parts.specs.Answers.{AreBreaksBy}
-use Rattle.cx_design_parts.proofs.Lists.{first_append, in_left, in_right, in_either, in_numbered, numbered_in}
+use Rattle.cx_design_parts.proofs.Lists.{first_append, in_numbered, numbered_in}
 use Rattle.cx_design_parts.proofs.Families.{Either, breaks_of_either, breaks_of_same}
 use Rattle.cx_callees.specs.Callees.{PlainCallee, called_of}
 use Rattle.cx_shape_calls.specs.Forms.{times, is_none, is_calling}
@@ -29,22 +30,17 @@ use Rattle.cx_shape_calls.proofs.BoolLemmas.{any_in, any_has}
 use Rattle.cx_callees.proofs.TargetLemmas.{callee, target_of, is_dynamic}
 use Rattle.cx_callees.proofs.CalledLemmas.{called_sound, called_all, driven_by, part_callee}
 use Rattle.cx_shape_calls.proofs.WrongLemmas.{IsBroken, sound, complete}
-use Rattle.cx_text.proofs.OptionLaws.{some_is, none_some_also}
+use Rattle.cx_text.proofs.OptionLaws.{some_is, none_some_also, same_some}
 use Rattle.cx_text.proofs.ListLaws.{front, get_end}
-use Rattle.cx_meaning.proofs.SightsLaws.{in_at}
 use Rattle.cx_text.proofs.NumberLaws.{before_more}
 use Rattle.cx_meaning.proofs.DesignsLemmas.{there_below, same_part as part_is}
 use Rattle.cx_rules.proofs.KeyOrder.{before_irreflexive}
 use Rattle.cx_text.proofs.BoolLaws.{from_not, or_left, or_right, both_true}
 use Rattle.std.proofs.lemmas.Bool.{not_from_false}
 
-abbrev one_or : {A : Type 0} → A → Option A → A
-one_or x None = x
-one_or x (Some y) = y
-
 get_is : (groups : List PlainGroup) (n : ℕ) (group : PlainGroup) → slice_get groups n ≡ Some group → (get_or groups n no_group ≡ group) × (n < length groups)
 get_is [] n group e = absurd (cc)
-get_is (x ∷ xs) zero group e = (ap (one_or x) e, omega arith)
+get_is (x ∷ xs) zero group e = (same_some x group e, omega arith)
 get_is (x ∷ xs) (suc n) group e = let r = get_is xs n group e in (r.0, omega (arith, r.1))
 
 there_in : (groups : List PlainGroup) (g : ℕ) (a : PlainAssign) → In (get_or groups g no_group).assigns a → g < length groups

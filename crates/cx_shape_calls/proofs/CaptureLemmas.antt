@@ -9,7 +9,7 @@ use Rattle.cx_meaning.specs.declared.ports.PortRef.TheVariants as ports
 use Rattle.cx_meaning.specs.Designs.{PlainAssign, PlainCell, PlainComponent}
 use Rattle.cx_meaning.specs.Active.{same_port}
 use Rattle.cx_rules.specs.ShapeRules.{some_target}
-use Rattle.cx_rules.specs.CallShape.{write_en_of, is_reg_kind, is_register_cell, is_register, captured_from, captured}
+use Rattle.cx_rules.specs.CallShape.{write_en_of, is_reg_kind, is_register_cell, is_register, captured_from, captured, added}
 use Rattle.cx_callees.specs.Callees.{is_cell}
 use Rattle.cx_shape_calls.specs.Forms.{register_of, with_register, registers_in}
 use Rattle.cx_text.proofs.NumberLaws.{apart_numbers, true_lt, from_eq, equal}
@@ -192,10 +192,6 @@ registers_are part (a ∷ rest) q =
     spread false b c = refl
 
 -- the captured registers from a number on
-abbrev added : ℕ → Bool → List ℕ → List ℕ
-added r true rest = r ∷ rest
-added r false rest = rest
-
 up_captured : (assigns : List PlainAssign) (r : ℕ) (cells : List PlainCell) → Up r (captured_from assigns r cells)
 up_captured assigns r [] = tt
 up_captured assigns r (cell ∷ cells) = choice (is_reg_kind cell.kind && some_target (same_port (write_en_of r)) assigns) (up_captured assigns (suc r) cells)

@@ -5,6 +5,8 @@ use denote.Struct.Props.{props}
 use Rattle.std.proofs.Math.Logic.{∥∥₁_elim}
 use Rattle.std.proofs.Math.Seq.{take-suc}
 use Rattle.std.proofs.lemmas.List.{map-append}
+use Rattle.cx_text.proofs.MemberLaws.{in_left, in_right}
+use Rattle.cx_text.specs.Members.{In}
 use Rattle.cx_graphs.specs.Graphs as graphs
 use Rattle.cx_graphs.specs.Graphs.{Edges, targets_of}
 use Rattle.cx_graphs.specs.Ways.{Targets, Way, edge, further, LeadsWithin, both}
@@ -14,8 +16,8 @@ use Rattle.cx_meaning.specs.declared.ports.PortRef.TheVariants as ports
 use Rattle.cx_meaning.specs.Designs.{PlainAssign, PlainComponent, PlainDesign, component_at, group_at}
 use Rattle.cx_meaning.specs.Instances.{Instance, At, Nothing, OfRow, OfInstance, part_of, cells_of, cell_at}
 use Rattle.cx_meaning.specs.Active.{Active, group, nothing}
-use Rattle.cx_meaning.specs.Sights.{In, PartPort, Go, AnInput, AnOutput, ItsDone, part_port, output_port}
-use Rattle.cx_rules.specs.Ports.{component_of}
+use Rattle.cx_meaning.specs.Sights.{PartPort, Go, AnInput, AnOutput, ItsDone, part_port, output_port}
+use Rattle.cx_rules.specs.Ports.{component_of, is_part_output}
 use Rattle.cx_rules.specs.Footprints.{AssignNames, Leads, Depends, at_once, by_way_of}
 use Rattle.cx_rules.specs.Wellformed.{IsDesign, StandsIn, IsThere, port_count}
 use Rattle.cx_design.specs.declared.groups.Assign.{Assign}
@@ -25,20 +27,20 @@ use Rattle.cx_design_leads.specs.Edges.{Between, HasEdges, LeadsInGroup, ReadsIn
 use Rattle.cx_design_leads.proofs.NodeLemmas.{below_is, distinct, within}
 use Rattle.cx_rules.proofs.FoundLemmas.{same_is, source_in}
 use Rattle.cx_meaning.specs.Active.{same_port}
-use Rattle.cx_design_leads.proofs.DriverLemmas.{driver_of, of_owner, leads_either, leads_by_group, by_group_leads}
+use Rattle.cx_design_leads.proofs.DriverLemmas.{driver_of, of_owner, leads_either}
+use Rattle.cx_design_leads.proofs.WayLemmas.{way_depends, node_way, group_sound, group_all}
 use Rattle.cx_design_leads.proofs.ThereLemmas.{leads_there}
 use Rattle.cx_callees.specs.Callees.{PlainCallee, callee_at, callee_of}
 use Rattle.cx_shape_calls.specs.Forms.{count_of}
+use Rattle.cx_shape_calls.specs.Decisions.{cell_number, port_number}
 use Rattle.cx_shape_calls.specs.Inputs.{IsDependent, AreDependent, AreDependentPorts, IsInputOf, is_an_input, is_input}
 use Rattle.cx_callees.proofs.TargetLemmas.{target_of}
 use Rattle.cx_meaning.proofs.PortsLemmas.{same_self}
-use Rattle.cx_meaning.proofs.SightsLaws.{in_left, in_right}
 use Rattle.cx_graphs.proofs.Marks.{in_left as node_before, in_right as node_behind, in_either}
 use Rattle.cx_meaning.proofs.DesignsLemmas.{group_there}
 use Rattle.cx_text.proofs.OptionLaws.{some_is}
 use Rattle.cx_rules.proofs.PortsLemmas.{part_is}
 
--- OPERANDS of a guard are what it names
 -- PORTS of a component's cell
 input_below : (part : PlainComponent) (p : ℕ) → is_an_input (part_port part p) ≡ true → p < suc (length part.inputs)
 input_below part zero h = absurd (true≢false (sym h))
@@ -69,20 +71,14 @@ out_of part (suc n) h =
     choice true r e = inl (r, e)
     choice false r e = inr e
 
-abbrev is_out : PartPort → Bool
-is_out Go = false
-is_out (AnInput n) = false
-is_out (AnOutput n) = true
-is_out ItsDone = true
-
-out_above : (part : PlainComponent) (q : ℕ) → is_out (part_port part q) ≡ true → suc (length part.inputs) ≤ q
+out_above : (part : PlainComponent) (q : ℕ) → is_part_output (part_port part q) ≡ true → suc (length part.inputs) ≤ q
 out_above part zero h = absurd (true≢false (sym h))
 out_above part (suc n) h = choice (nat_lt n (length part.inputs)) refl h
   where
     not_less : (x y : ℕ) → nat_lt x y ≡ false → suc y ≤ suc x
     not_less x y e = grind (arith, tests)
 
-    choice : (b : Bool) → nat_lt n (length part.inputs) ≡ b → is_out (cond b (AnInput n) (output_port (length part.outputs) (n - length part.inputs))) ≡ true → suc (length part.inputs) ≤ suc n
+    choice : (b : Bool) → nat_lt n (length part.inputs) ≡ b → is_part_output (cond b (AnInput n) (output_port (length part.outputs) (n - length part.inputs))) ≡ true → suc (length part.inputs) ≤ suc n
     choice true e h = absurd (true≢false (sym h))
     choice false e h = not_less n (length part.inputs) e
 
@@ -93,41 +89,11 @@ an_input (AnOutput n) h = absurd (true≢false (sym h))
 an_input ItsDone h = absurd (true≢false (sym h))
 
 -- WAYS of nodes and chains of ports
-module _ (i : Instance) (act : Active) (targets : Targets) (sound : (m n : ℕ) → graphs.In (targets m) n → Between i (Leads i act) m n) where
-  record Chain (m n : ℕ) : Type 0 where
-    from : PortRef
-    to : PortRef
-    is_from : node_of i from ≡ Some m
-    is_to : node_of i to ≡ Some n
-    depends : Depends i act from to
-
-  way_depends : {m n : ℕ} → Way targets m n → Chain m n
-  way_depends {m} {n} (edge e) = let b = sound m n e in record { from = b.from; to = b.to; is_from = b.is_from; is_to = b.is_to; depends = at_once b.leads }
-  way_depends {m} {n} (further k e w) =
-      let b = sound m k e in
-      let r = way_depends w in
-      record {
-        from = b.from;
-        to = r.to;
-        is_from = b.is_from;
-        is_to = r.is_to;
-        depends = by_way_of b.to b.leads (subst (λ p. Depends i act p r.to) (sym (distinct i b.to r.from k b.is_to r.is_from)) r.depends);
-      }
-
+module _ (i : Instance) (act : Active) (targets : Targets) (sound : (m n : ℕ) → In (targets m) n → Between i (Leads i act) m n) where
   pub between_depends : (p q : PortRef) (m n : ℕ) → node_of i p ≡ Some m → node_of i q ≡ Some n → Way targets m n → Depends i act p q
   between_depends p q m n e f w =
-      let r = way_depends w in
+      let r = way_depends i act targets sound w in
       subst (λ x. Depends i act p x) (distinct i r.to q n r.is_to f) (subst (λ x. Depends i act x r.to) (distinct i r.from p m r.is_from e) r.depends)
-
-module _ (i : Instance) (act : Active) (targets : Targets) (all : (m n : ℕ) → Between i (Leads i act) m n → graphs.In (targets m) n)
-    (has : (p q : PortRef) → Leads i act p q → (m : ℕ) × (node_of i p ≡ Some m)) where
-  node_way : {p q : PortRef} (n : ℕ) → node_of i q ≡ Some n → Depends i act p q → (m : ℕ) × (node_of i p ≡ Some m) × Way targets m n
-  node_way {p} {q} n e (at_once l) =
-      let m = has p q l in (m.0, m.1, edge (all m.0 n (record { from = p; to = q; is_from = m.1; is_to = e; leads = l })))
-  node_way {p} {q} n e (by_way_of r l d) =
-      let w = node_way n e d in
-      let m = has p r l in
-      (m.0, m.1, further w.0 (all m.0 w.0 (record { from = p; to = r; is_from = m.1; is_to = w.1; leads = l })) w.2)
 
 last_leads : {i : Instance} {act : Active} {p q : PortRef} → Depends i act p q → (r : PortRef) × Leads i act r q
 last_leads {i} {act} {p} {q} (at_once l) = (p, l)
@@ -141,13 +107,6 @@ module _ (d : PlainDesign) (k : ℕ) where
   same_part : part_of at ≡ component_at d k
   same_part = part_is d k
 
-  abbrev cell_or : PortRef → ℕ
-  cell_or (ports.Cell c p) = c
-  cell_or (ports.Input n) = 0
-  cell_or (ports.Output n) = 0
-  cell_or (ports.Done g) = 0
-  cell_or (ports.Literal w v) = 0
-
   abbrev is_row : At → Bool
   is_row Nothing = false
   is_row (OfRow row) = true
@@ -155,7 +114,7 @@ module _ (d : PlainDesign) (k : ℕ) where
 
   no_row : (p : PortRef) (c q : ℕ) (child : Instance) → cell_at (cells_of at) c ≡ OfInstance child → ReadsInRow at p (ports.Cell c q) → ⊥
   no_row p c q child stands r =
-      let same : r.cell ≡ c = ap cell_or r.wanted.2 in
+      let same : r.cell ≡ c = ap cell_number r.wanted.2 in
       true≢false (sym (ap is_row r.stands) ∙ ap (λ v. is_row (cell_at (cells_of at) v)) same ∙ ap is_row stands)
 
   module _ (design : IsDesign d) (within : k < length d.components) where
@@ -178,20 +137,6 @@ module _ (d : PlainDesign) (k : ℕ) where
 
   -- UNDER A GROUP
   module _ (g : ℕ) (graph more : Edges) (bare : HasEdges at (Leads at nothing) graph) (own : HasEdges at (LeadsInGroup at g) more) where
-    group_sound : (m n : ℕ) → graphs.In (both graph more m) n → Between at (Leads at (group g)) m n
-    group_sound m n e =
-        ⊎_elim
-        (λ j. let b = bare.sound m n j in record { from = b.from; to = b.to; is_from = b.is_from; is_to = b.is_to; leads = by_group_leads at g b.from b.to m b.is_from (inl b.leads) })
-        (λ j. let b = own.sound m n j in record { from = b.from; to = b.to; is_from = b.is_from; is_to = b.is_to; leads = by_group_leads at g b.from b.to m b.is_from (inr b.leads) })
-        (in_either (targets_of graph m) (targets_of more m) n e)
-
-    group_all : (m n : ℕ) → Between at (Leads at (group g)) m n → graphs.In (both graph more m) n
-    group_all m n b =
-        ⊎_elim
-        (λ l. node_before (targets_of graph m) (targets_of more m) n (bare.all m n (record { from = b.from; to = b.to; is_from = b.is_from; is_to = b.is_to; leads = l })))
-        (λ l. node_behind (targets_of graph m) (targets_of more m) n (own.all m n (record { from = b.from; to = b.to; is_from = b.is_from; is_to = b.is_to; leads = l })))
-        (leads_by_group at g b.from b.to m b.is_from b.leads)
-
     module _ (c p : ℕ) (child : Instance) (stands : cell_at (cells_of at) c ≡ OfInstance child) (input : is_an_input (part_port (part_of child) p) ≡ true)
         (start first last : ℕ) (is_start : node_of at (ports.Cell c p) ≡ Some start) (is_first : node_of at (ports.Cell c (suc (length (part_of child).inputs))) ≡ Some first)
         (is_last : node_of at (ports.Cell c (suc (length (part_of child).inputs + length (part_of child).outputs))) ≡ Some last) where
@@ -237,19 +182,12 @@ module _ (d : PlainDesign) (k : ℕ) where
             is_input = kind.1;
             output = q;
             is_output = out_of part q above;
-            depends = between_depends at (group g) (both graph more) group_sound (ports.Cell c p) (ports.Cell c q) start n is_start (node_is q few ∙ ap Some (sym is)) (subst (λ v. Way (both graph more) v n) from w);
+            depends = between_depends at (group g) (both graph more) (group_sound at g graph more bare own) (ports.Cell c p) (ports.Cell c q) start n is_start (node_is q few ∙ ap Some (sym is)) (subst (λ v. Way (both graph more) v n) from w);
           }
 
-      out_is : (q : ℕ) → ((m : ℕ) × (part_port part q ≡ AnOutput m)) ⊎ (part_port part q ≡ ItsDone) → is_out (part_port part q) ≡ true
-      out_is q (inl e) = ap is_out e.1
-      out_is q (inr e) = ap is_out e
-
-      abbrev port_or : PortRef → ℕ
-      port_or (ports.Cell c p) = p
-      port_or (ports.Input n) = 0
-      port_or (ports.Output n) = 0
-      port_or (ports.Done g) = 0
-      port_or (ports.Literal w v) = 0
+      out_is : (q : ℕ) → ((m : ℕ) × (part_port part q ≡ AnOutput m)) ⊎ (part_port part q ≡ ItsDone) → is_part_output (part_port part q) ≡ true
+      out_is q (inl e) = ap is_part_output e.1
+      out_is q (inr e) = ap is_part_output e
 
       abbrev child_part : At → PlainComponent
       child_part Nothing = part_of child
@@ -258,16 +196,16 @@ module _ (d : PlainDesign) (k : ℕ) where
 
       pub depends_reaches : IsDesign d → k < length d.components → IsDependent at g (ports.Cell c p) → Reaches graph more start first last
       depends_reaches design within r =
-          let cell : r.cell ≡ c = sym (ap cell_or r.is) in
-          let port : r.input ≡ p = sym (ap port_or r.is) in
+          let cell : r.cell ≡ c = sym (ap cell_number r.is) in
+          let port : r.input ≡ p = sym (ap port_number r.is) in
           let same : part_of r.child ≡ part = ap child_part (sym r.stands ∙ ap (λ v. cell_at (cells_of at) v) cell ∙ stands) in
           let q = r.output in
           let depends : Depends at (group g) (ports.Cell c p) (ports.Cell c q) = subst (λ v. Depends at (group g) (ports.Cell c p) (ports.Cell v q)) cell (subst (λ x. Depends at (group g) x (ports.Cell r.cell q)) (sym r.is) r.depends) in
-          let out : is_out (part_port part q) ≡ true = out_is q (subst (λ x. ((m : ℕ) × (part_port x q ≡ AnOutput m)) ⊎ (part_port x q ≡ ItsDone)) same r.is_output) in
+          let out : is_part_output (part_port part q) ≡ true = out_is q (subst (λ x. ((m : ℕ) × (part_port x q ≡ AnOutput m)) ⊎ (part_port x q ≡ ItsDone)) same r.is_output) in
           let above : suc (length part.inputs) ≤ q = out_above part q out in
           let led = last_leads depends in
           let few : q < 2 + length part.inputs + length part.outputs = subst (λ n. q < n) count (led_there design within (group g) led.0 c q child stands led.1) in
-          let w = node_way at (group g) (both graph more) group_all (λ x y l. leads_there d k design within (group g) x y l) (before + q) (node_is q few) depends in
+          let w = node_way at (group g) (both graph more) (group_all at g graph more bare own) (λ x y l. leads_there d k design within (group g) x y l) (before + q) (node_is q few) depends in
           let from : w.0 ≡ start = some_is w.0 start (sym w.1 ∙ is_start) in
           (before + q, omega (arith, above, first_at), omega (arith, few, last_at), inr (start, inl refl, subst (λ v. Way (both graph more) v (before + q)) from w.2))
 

@@ -2,11 +2,13 @@
 use Rattle.std.proofs.Common.{◌≡◌, ◌<◌, ◌≤◌, ℕ, zero, suc, ◌+◌, Bool, true, false, not, ◌↔◌, is_some, nat_eq, List, [], ◌∷◌, ◌++◌, Option, Some, None, length, length-append, map, get_or, slice_get, inl, inr, ⊎_elim, refl, sym, ap, ◌∙◌, subst, arith, true≢false}
 use denote.Struct.Props.{props}
 use Rattle.std.proofs.Math.Logic.{∥∥₁_elim}
+use Rattle.cx_text.proofs.MemberLaws.{flat_in, in_flat}
+use Rattle.cx_text.specs.Members.{In}
 use Rattle.cx_graphs.specs.Graphs.{Edges, IsReached, at_start, by_edge}
 use Rattle.cx_meaning.specs.declared.ports.PortRef.TheVariants as ports
 use Rattle.cx_meaning.specs.Designs.{PlainAssign, PlainCell, PlainInvoke, PlainComponent, PlainDesign, Always, component_at}
 use Rattle.cx_meaning.specs.Instances.{Instance, At, Nothing, OfRow, OfInstance, part_of, cells_of, cell_at}
-use Rattle.cx_meaning.specs.Sights.{In, GuardNames}
+use Rattle.cx_meaning.specs.Sights.{GuardNames}
 use Rattle.cx_rules.specs.Ports.{component_of, cell_name}
 use Rattle.cx_rules.specs.Items.{sources_of}
 use Rattle.cx_rules.specs.Wellformed.{IsDesign, IsThere}
@@ -15,7 +17,6 @@ use Rattle.cx_design.specs.declared.components.Component.{Component}
 use Rattle.cx_design.specs.declared.invokes.StaticInvoke.{StaticInvoke}
 use Rattle.cx_design.specs.declared.cells.Cell.{Cell}
 use Rattle.cx_design.specs.PlainForms.{plain_cell, plain_component, plain_invoke}
-use Rattle.cx_design_parts.proofs.Lists.{in_flat, flat_in}
 use Rattle.cx_meaning.proofs.DesignsLemmas.{same_part}
 use Rattle.cx_race.specs.Cells.{named_in, named_in_all}
 use Rattle.cx_race.specs.Links.{AreLinks}
@@ -179,22 +180,3 @@ module _ (d : PlainDesign) (keeps : ∥ IsDesign d ∥₁) (k : ℕ) (within : k
       (λ g. absurd (let none : GuardNames Always (ports.Cell c n.0) = subst (λ guard. GuardNames guard (ports.Cell c n.0)) bind.no_guard g in none))
       (λ e. let there : IsThere here (ports.Cell c n.0) = subst (IsThere here) e bind.source in in_part c there.0)
       n.1)
-
--- the name of a cell by its number, which is empty where there is none
-abbrev named : Option PlainCell → List ℕ
-named None = []
-named (Some cell) = cell.name
-
-name_of_cell : (cells : List PlainCell) (c : ℕ) → cell_name cells c ≡ named (slice_get cells c)
-name_of_cell [] c = refl
-name_of_cell (cell ∷ cells) zero = refl
-name_of_cell (cell ∷ cells) (suc c) = name_of_cell cells c
-
-pub name_there : (cells list : List Cell) (n : ℕ) (x : Cell) → list ≡ cells → n < length list → x ≡ get_or list n x → cell_name (map plain_cell cells) n ≡ x.name
-name_there cells list n x same within at =
-    name_of_cell (map plain_cell cells) n ∙ ap (λ l. named (slice_get (map plain_cell l) n)) (sym same) ∙ ap named (item_at plain_cell list n x within at)
-
-pub name_past : (cells list : List Cell) (n : ℕ) → list ≡ cells → length list ≤ n → cell_name (map plain_cell cells) n ≡ []
-name_past cells list n same past =
-    name_of_cell (map plain_cell cells) n ∙ ap (λ l. named (slice_get (map plain_cell l) n)) (sym same)
-    ∙ ap named (slice_get_past (map plain_cell list) n (omega (arith, past, length-map list plain_cell)))

@@ -3,7 +3,7 @@ use Rattle.std.proofs.Common.{◌≡◌, ◌+◌, ◌<◌, ℕ, Bool, true, List
 use Rattle.cx_text.specs.declared.places.Place.{Place}
 use Rattle.cx_meaning.specs.Designs.{PlainInvoke, PlainComponent, PlainDesign, component_at, PlainForm, Empty, Enable, Seq, Par, If, While, Repeat, StaticSeq, StaticPar, StaticIf, StaticRepeat, Timed}
 use Rattle.cx_meaning.specs.Instances.{Instance, part_of}
-use Rattle.cx_meaning.specs.Sights.{In}
+use Rattle.cx_text.specs.Members.{In}
 use Rattle.cx_rules.specs.Ports.{component_of, cell_name}
 use Rattle.cx_rules.specs.Items.{Visited, statements_in}
 use Rattle.cx_rules.specs.Invokes.{invoke_at, invoke_in}

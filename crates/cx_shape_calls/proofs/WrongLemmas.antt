@@ -1,11 +1,12 @@
 -- An assignment of a group that calls is wrong exactly where it breaks a condition.
 use Rattle.std.proofs.Common.{◌≡◌, ◌≢◌, ℕ, zero, suc, ◌+◌, ◌-◌, Bool, true, false, ◌&&◌, not, nat_eq, nat_lt, cond, List, [], ◌∷◌, Option, Some, None, length, ◌⊎◌, inl, inr, ⊎_elim, refl, sym, ap, ◌∙◌, subst, true≢false}
+use Rattle.cx_text.specs.Members.{In}
 use Rattle.cx_meaning.specs.declared.ports.PortRef.{PortRef}
 use Rattle.cx_meaning.specs.declared.ports.PortRef.TheVariants as ports
 use Rattle.cx_meaning.specs.Designs.{PlainAssign, PlainComponent, group_at}
 use Rattle.cx_meaning.specs.Instances.{Instance, At, Nothing, OfRow, OfInstance, part_of, cells_of, cell_at}
 use Rattle.cx_meaning.specs.Active.{same_port}
-use Rattle.cx_meaning.specs.Sights.{In, PartPort, Go, AnInput, AnOutput, ItsDone, part_port, later_port}
+use Rattle.cx_meaning.specs.Sights.{PartPort, Go, AnInput, AnOutput, ItsDone, part_port, later_port}
 use Rattle.cx_rules.specs.Ports.{is_primitive_enable, enables_cell}
 use Rattle.cx_rules.specs.ShapeRules.{is_hole_of}
 use Rattle.cx_rules.specs.CallShape.{Calls, go_port, done_port, captured, with_target, wanted_dones, is_register_enable, is_right_go, is_right_enable, is_right_done, CallBreak, another_cell, wrong_go, input_by_output, wrong_enable, wrong_done}

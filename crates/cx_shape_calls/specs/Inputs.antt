@@ -1,12 +1,13 @@
 -- Inputs of component cells that depend on an output or the done of their own cell.
 use Rattle.std.specs.Prelude.{◌≡◌, ℕ, ◌⊎◌, nat_eq, Bool, true, false, List, Some}
+use Rattle.cx_text.specs.Members.{In}
 use Rattle.cx_graphs.specs.Graphs.{edges_of}
 use Rattle.cx_meaning.specs.declared.ports.PortRef.{PortRef}
 use Rattle.cx_meaning.specs.declared.ports.PortRef.TheVariants as ports
 use Rattle.cx_meaning.specs.Designs.{PlainAssign, PlainComponent}
 use Rattle.cx_meaning.specs.Instances.{Instance, OfInstance, part_of, cells_of, cell_at}
 use Rattle.cx_meaning.specs.Active.{group, nothing}
-use Rattle.cx_meaning.specs.Sights.{In, PartPort, Go, AnInput, AnOutput, ItsDone, part_port}
+use Rattle.cx_meaning.specs.Sights.{PartPort, Go, AnInput, AnOutput, ItsDone, part_port}
 use Rattle.cx_rules.specs.Footprints.{Leads, Depends}
 use Rattle.cx_design_leads.specs.Nodes.{IsNodesOf, node_count}
 use Rattle.cx_design_leads.specs.Edges.{HasEdges, IsClear, IsGroupOf}

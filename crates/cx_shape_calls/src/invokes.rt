@@ -6,7 +6,7 @@ ghost use Rattle.cx_graphs.specs.Graphs.{edges_of};
 ghost use Rattle.cx_meaning.specs.Designs.{PlainAssign, component_at};
 ghost use Rattle.cx_meaning.specs.Active.{same_port};
 ghost use Rattle.cx_meaning.specs.Instances.{cell_at, cells_of};
-ghost use Rattle.cx_meaning.specs.Sights.{In};
+ghost use Rattle.cx_text.specs.Members.{In};
 ghost use Rattle.cx_rules.specs.Ports.{component_of};
 ghost use Rattle.cx_rules.specs.InvokeShape.{input_port};
 ghost use Rattle.cx_design.specs.PlainForms.{plain_assigns, plain_invoke};

@@ -1,7 +1,6 @@
 //! Whether a statement breaks the rule.
 
 ghost use Rattle.std.specs.Prelude.{◌≡◌, IfOk, slice_get};
-ghost use Rattle.cx_rules.specs.Ports as ports;
 ghost use Rattle.cx_rules.specs.Items.{option_list};
 ghost use Rattle.cx_rules.specs.Invokes.{invoke_at};
 ghost use Rattle.cx_rules.specs.Invokes as rules;
@@ -10,7 +9,7 @@ ghost use Rattle.cx_design_parts.specs.Breaks.{first_of, plain_spot};
 ghost use Rattle.cx_shape_calls.specs.StaticInvokes as invokes;
 
 use cx_design::{Component, Form};
-use cx_design_parts::{Break, FirstBreak, Spot, Visited};
+use cx_design_parts::{Break, FirstBreak, Spot, Visited, cell_name};
 use cx_text::{Memory, Name, Rule};
 use std::alloc::Global;
 
@@ -77,16 +76,6 @@ fn invoked_name(part: &Component, number: u32) -> &[u8]
 {
     match part.invokes.as_slice().get(number as usize) {
         Some(invoke) => cell_name(part, invoke.cell),
-        None => &[],
-    }
-}
-
-/// The name of a cell by its number, which is empty where there is none.
-fn cell_name(part: &Component, cell: u32) -> &[u8]
-    ensures value { result.now ≡ ports.cell_name (plain_component part.now).cells cell }
-{
-    match part.cells.as_slice().get(cell as usize) {
-        Some(cell) => cell.name.bytes(),
         None => &[],
     }
 }

@@ -1,5 +1,6 @@
 -- The list of breaks has the breaks of the rules on shapes, and no others.
 use Rattle.std.proofs.Common.{◌≡◌, ◌≢◌, ◌+◌, ◌-◌, ◌<◌, ◌≤◌, ℕ, zero, suc, nat_eq, Bool, true, false, not, ◌&&◌, ◌||◌, is_none, List, [], ◌∷◌, ◌++◌, Option, Some, None, length, slice_get, ◌⊎◌, inl, inr, ⊎_elim, refl, sym, ap, ◌∙◌, subst, arith, tests, true≢false, add-one}
+use Rattle.cx_text.proofs.MemberLaws.{in_either, in_left, in_right}
 use Rattle.cx_text.specs.declared.places.Place.{Place}
 use Rattle.cx_text.specs.declared.rules.Rule.{Rule}
 use Rattle.cx_text.specs.declared.rules.Rule.TheVariants as rules
@@ -7,7 +8,7 @@ use Rattle.cx_meaning.specs.Designs.{PlainGroup, PlainInvoke, PlainComponent, Pl
 use Rattle.cx_meaning.specs.Instances.{Instance, part_of}
 use Rattle.cx_meaning.specs.Active.{Owned, source_order}
 use Rattle.cx_meaning.specs.Islands.{kind_length}
-use Rattle.cx_meaning.specs.Sights.{In}
+use Rattle.cx_text.specs.Members.{In}
 use Rattle.cx_rules.specs.Ports.{component_of, is_primitive_enable, is_part_port, path_of}
 use Rattle.cx_rules.specs.Items.{Range, ranges_of, Context, InStatic, Visited, statements_in, is_plain, is_comb}
 use Rattle.cx_rules.specs.StaticControl.{is_static, is_in_static, may_stand, is_timed, form_has_length, has_length, written_length}
@@ -17,15 +18,13 @@ use Rattle.cx_rules.specs.ShapeRules.{is_hole, is_hole_of, some_target, owner_le
 use Rattle.cx_rules.specs.Accepted.{key_of}
 use Rattle.cx_design_parts.specs.Breaks.{Broken, first_of}
 use Rattle.cx_design_parts.specs.Answers.{AreBreaksBy}
-use Rattle.cx_design_parts.proofs.Lists.{first_append, in_left, in_right, in_either, in_numbered, numbered_in}
-use Rattle.cx_shape_rules.specs.ShapeBreaks.{ShapeFamily, told_if, lacks_done, is_bad_length, is_bad_static, group_breaks, is_always_enable, is_owned_by_comb, is_comb_enable, some_bad, is_bad_guard, assign_break, assign_breaks, is_amiss, is_other, is_wrong, has_wrong_length, is_wrong_invoke, has_wrong_invoke, statement_breaks, is_wrong_control, has_wrong_control, control_breaks, group_breaks_at, assign_breaks_at, statement_breaks_at, groups_breaks, assigns_breaks, statements_breaks, parts_breaks, control_breaks_at, component_breaks, components_breaks, shape_breaks}
+use Rattle.cx_design_parts.specs.Numbered.{counted}
+use Rattle.cx_design_parts.proofs.Lists.{first_append, in_numbered, numbered_in, broken, in_all, all_hold, next_counted}
+use Rattle.cx_shape_rules.specs.ShapeBreaks.{ShapeFamily, told_if, lacks_done, is_bad_length, is_bad_static, group_breaks, is_always_enable, is_owned_by_comb, is_comb_enable, some_bad, is_bad_guard, assign_break, assign_breaks, is_amiss, is_other, is_wrong, has_wrong_length, is_wrong_invoke, has_wrong_invoke, statement_breaks, is_wrong_control, has_wrong_control, control_breaks, group_breaks_at, assign_breaks_at, statement_breaks_at, groups_breaks, assigns_breaks, statements_breaks, parts_breaks, control_breaks_at, component_breaks, shape_breaks}
 use Rattle.cx_shape_rules.proofs.PartLemmas.{group_there, below_there}
 use Rattle.cx_rules.proofs.KeyOrder.{before_irreflexive}
 use Rattle.cx_meaning.proofs.DesignsLemmas.{there_below, same_part}
 use Rattle.cx_text.proofs.BoolLaws.{both_true, and_true, either_true, or_left, or_right, from_not}
-
-abbrev broken : Rule → Spot → Place → List ℕ → Broken
-broken r spot place name = record { rule = r; spot = spot; place = place; name = name }
 
 -- what the list tells is a break
 abbrev Holds : PlainDesign → Broken → Type 0
@@ -333,28 +332,8 @@ parts_hold d k b within h =
 component_holds : (d : PlainDesign) (k : ℕ) (b : Broken) → k < length d.components → In (component_breaks d k) b → Holds d b
 component_holds d k b within h = ⊎_elim (parts_hold d k b within) (control_holds d k b within) (in_either (parts_breaks d k) (control_breaks_at d k) b h)
 
-components_hold : (d : PlainDesign) (k left : ℕ) (b : Broken) → k + left ≤ length d.components → In (components_breaks d k left) b → Holds d b
-components_hold d k zero b few h = absurd h
-components_hold d k (suc left) b few h =
-    ⊎_elim
-    (component_holds d k b (omega (arith, few)))
-    (components_hold d (suc k) left b (omega (arith, few)))
-    (in_either (component_breaks d k) (components_breaks d (suc k) left) b h)
-
-in_components : (d : PlainDesign) (k left m : ℕ) (b : Broken) → m < left → In (component_breaks d (k + m)) b → In (components_breaks d k left) b
-in_components d k zero m b few h = absurd (omega (arith, few))
-in_components d k (suc left) zero b few h =
-    let same : k + 0 ≡ k = omega arith in in_left (component_breaks d k) (components_breaks d (suc k) left) b (subst (λ n. In (component_breaks d n) b) same h)
-in_components d k (suc left) (suc m) b few h =
-    let same : k + suc m ≡ suc k + m = omega arith in
-    in_right (component_breaks d k) (components_breaks d (suc k) left) b (in_components d (suc k) left m b (omega (arith, few)) (subst (λ n. In (component_breaks d n) b) same h))
-
-in_design : (d : PlainDesign) (k : ℕ) (b : Broken) → k < length d.components → In (component_breaks d k) b → In (shape_breaks d) b
-in_design d k b within h =
-    let same : k ≡ 0 + k = omega arith in in_components d 0 (length d.components) k b within (subst (λ n. In (component_breaks d n) b) same h)
-
 in_parts : (d : PlainDesign) (k : ℕ) (b : Broken) → k < length d.components → In (parts_breaks d k) b → In (shape_breaks d) b
-in_parts d k b within h = in_design d k b within (in_left (parts_breaks d k) (control_breaks_at d k) b h)
+in_parts d k b within h = in_all (component_breaks d) (length d.components) k b within (in_left (parts_breaks d k) (control_breaks_at d k) b h)
 
 -- where the breaks of a part stand
 group_in : (d : PlainDesign) (spot : Spot) (place : Place) (name : List ℕ) (r : GroupRule) (o : OnGroup r d spot place name) (b : Broken)
@@ -507,7 +486,7 @@ module _ (d : PlainDesign) (spot : Spot) (place : Place) (name : List ℕ) where
       let b = broken rules.StaticShape spot place name in
       let spot_is : record { component = k; part = Itself 0 } ≡ spot = ap (λ p. record { component = k; part = p }) (sym o.is) in
       let is : has_wrong_control part ≡ true = ap (is_wrong_control part) o.static ∙ control_is_wrong part o.latency o.control in
-      in_design d k b o.within
+      in_all (component_breaks d) (length d.components) k b o.within
       (in_right (parts_breaks d k) (control_breaks_at d k) b
       (subst (λ s. In (control_breaks s part) b) (sym spot_is) (told_has (has_wrong_control part) rules.StaticShape spot part.place part.name place name is o.tells)))
 
@@ -528,7 +507,7 @@ all_breaks d rule spot place name (inr (inr (inr (inr (inr (inr (inr (inr o)))))
 -- the list is that of the rules
 pub are_breaks : (d : PlainDesign) → AreBreaksBy (ShapeFamily d) (shape_breaks d)
 are_breaks d = record {
-  by_family = λ b h. components_hold d 0 (length d.components) b (omega arith) h;
+  by_family = λ b h. all_hold (component_breaks d) (Holds d) (length d.components) b (λ k. component_holds d k b) h;
   all_family = λ rule spot place name o. (broken rule spot place name, all_breaks d rule spot place name o, before_irreflexive (key_of rule spot place));
 }
 
@@ -536,18 +515,11 @@ are_breaks d = record {
 pub next_component : (d : PlainDesign) (n count : ℕ) (best one two three next rest : Option Broken) → n < count
     → one ≡ first_of best (groups_breaks d n) → two ≡ first_of one (assigns_breaks d n) → three ≡ first_of two (statements_breaks d n)
     → next ≡ first_of three (control_breaks_at d n)
-    → first_of best (components_breaks d n (count - n)) ≡ rest → first_of next (components_breaks d (n + 1) (count - (n + 1))) ≡ rest
+    → first_of best (counted (component_breaks d) n (count - n)) ≡ rest → first_of next (counted (component_breaks d) (n + 1) (count - (n + 1))) ≡ rest
 next_component d n count best one two three next rest few e f g h so_far =
-    let left = count - (n + 1) in
-    let more = components_breaks d (suc n) left in
-    let at : count - n ≡ suc left = omega (arith, few) in
     let parts : three ≡ first_of best (parts_breaks d n) =
     g ∙ ap (λ b. first_of b (statements_breaks d n)) (f ∙ ap (λ b. first_of b (assigns_breaks d n)) e ∙ sym (first_append best (groups_breaks d n) (assigns_breaks d n)))
     ∙ sym (first_append best (groups_breaks d n ++ assigns_breaks d n) (statements_breaks d n)) in
     let joined : next ≡ first_of best (component_breaks d n) =
     h ∙ ap (λ b. first_of b (control_breaks_at d n)) parts ∙ sym (first_append best (parts_breaks d n) (control_breaks_at d n)) in
-    ap (λ m. first_of next (components_breaks d m left)) (add-one n)
-    ∙ ap (λ b. first_of b more) joined
-    ∙ sym (first_append best (component_breaks d n) more)
-    ∙ ap (λ m. first_of best (components_breaks d n m)) (sym at)
-    ∙ so_far
+    next_counted (component_breaks d) n count best next rest few joined so_far

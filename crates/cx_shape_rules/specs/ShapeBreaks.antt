@@ -14,7 +14,7 @@ use Rattle.cx_rules.specs.Invokes.{invoke_at, invoke_length, form_lasts}
 use Rattle.cx_rules.specs.Spots.{Itself, AnAssign, AStatement, AGroup, Spot, OnAssign, OnStatement, OnGroup}
 use Rattle.cx_rules.specs.ShapeRules.{is_hole, is_hole_of, some_target, owner_length, is_bad_range, enabled_name, BreaksNoDone, BreaksAlwaysEnable, BreaksCombEnable, BreaksStaticGuard, GroupBreaksStaticShape, BreaksStaticControl, BreaksLength, BreaksInvokeLength, BreaksPartLength}
 use Rattle.cx_design_parts.specs.Breaks.{Broken}
-use Rattle.cx_design_parts.specs.Numbered.{numbered}
+use Rattle.cx_design_parts.specs.Numbered.{numbered, counted}
 
 -- THE RULES that this list is of
 abbrev pub ShapeFamily : PlainDesign → Rule → Spot → Place → List ℕ → Type 0
@@ -156,11 +156,6 @@ control_breaks_at d k = control_breaks (record { component = k; part = Itself 0 
 abbrev pub component_breaks : PlainDesign → ℕ → List Broken
 component_breaks d k = parts_breaks d k ++ control_breaks_at d k
 
--- of the components from number k on, so many of them
-abbrev pub components_breaks : PlainDesign → ℕ → ℕ → List Broken
-components_breaks d k zero = []
-components_breaks d k (suc left) = component_breaks d k ++ components_breaks d (suc k) left
-
 -- THE BREAKS of a design
 abbrev pub shape_breaks : PlainDesign → List Broken
-shape_breaks d = components_breaks d 0 (length d.components)
+shape_breaks d = counted (component_breaks d) 0 (length d.components)

@@ -18,17 +18,6 @@ fn group_of(part: &Component, number: usize) -> Option<&Group>
     part.groups.as_slice().get(number)
 }
 
-/// The name of a group; none for a number that names no group.
-#[tactic(auto, using(crate::proofs::PartLemmas::group_number))]
-pub fn group_name(part: &Component, number: usize) -> &[u8]
-    ensures value { result.now ≡ (group_at (plain_component part.now) number).name }
-{
-    match group_of(part, number) {
-        Some(group) => group.name.bytes(),
-        None => &[],
-    }
-}
-
 /// The kind of a group; plain for a number that names no group.
 #[tactic(auto, using(crate::proofs::PartLemmas::group_number))]
 fn group_kind(part: &Component, number: usize) -> GroupKind

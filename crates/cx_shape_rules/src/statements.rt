@@ -13,10 +13,10 @@ ghost use Rattle.cx_shape_rules.specs.ShapeBreaks.{statement_breaks};
 
 use crate::invokes::{invoke_length, invoke_of, is_timed, is_written};
 use crate::measures::{Measure, is_branch};
-use crate::owners::{group_length, group_name};
+use crate::owners::group_length;
 use crate::telling::add_named;
 use cx_design::{Component, Form};
-use cx_design_parts::{Context, FirstBreak, Spot, Visited};
+use cx_design_parts::{Context, FirstBreak, Spot, Visited, group_name};
 use cx_text::{Memory, Rule};
 use std::alloc::Global;
 
@@ -105,7 +105,7 @@ fn enabled_name<'a>(part: &'a Component, form: &Form) -> &'a [u8]
     ensures value { result.now ≡ rules.enabled_name (plain_component part.now) (plain_form form.now) }
 {
     match form {
-        Form::Enable(group) => group_name(part, *group as usize),
+        Form::Enable(group) => group_name(part, *group),
         Form::Empty
         | Form::Seq(_)
         | Form::Par(_)

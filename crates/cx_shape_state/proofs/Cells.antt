@@ -9,50 +9,17 @@ use Rattle.cx_meaning.specs.declared.ports.PortRef.TheVariants as ports
 use Rattle.cx_meaning.specs.Rows.{side_of}
 use Rattle.cx_meaning.specs.Designs.{PlainKind, OfPrimitive, OfComponent, PlainCell, PlainDesign, component_at}
 use Rattle.cx_meaning.specs.Instances.{Instance, Cells, At, Nothing, OfRow, OfInstance, part_of, cells_of, cell_at, cell_count, add_cell, cells_for, tree_within}
-use Rattle.cx_meaning.proofs.CycleLemmas.{row_within, count_for}
+use Rattle.cx_meaning.proofs.CycleLemmas.{row_within}
 use Rattle.cx_meaning.specs.Sights.{PartPort, Go, AnInput, AnOutput, ItsDone, part_port}
 use Rattle.cx_rules.specs.Ports.{component_of}
 use Rattle.cx_design_parts.specs.Outputs.{ReadsFirst, read_count}
 use Rattle.cx_design_parts.proofs.OutputLemmas.{row_of-reads_first}
 use Rattle.cx_shape_state.specs.Waits.{side_basis, part_basis, cell_basis, input_basis, basis_of, reads_at, reader_of}
 use Rattle.cx_shape_state.specs.Joining.{IsWithin}
-
-count_within : (d : PlainDesign) (n k : ℕ) → 0 < n → cell_count (cells_of (tree_within d n k)) ≡ length (component_at d k).cells
-count_within d zero k h = absurd (omega (arith, h))
-count_within d (suc n) k h = count_for (tree_within d n) (component_at d k).cells
-
-pub count_is : (d : PlainDesign) (k : ℕ) → k < length d.components → cell_count (cells_of (component_of d k)) ≡ length (component_at d k).cells
-count_is d k h = count_within d (length d.components) k (omega (arith, h))
-
--- the outputs of each primitive read its first inputs
-abbrev pub AllRead : Cells → Type 0
-AllRead cells = (c : ℕ) (row : Row) → cell_at cells c ≡ OfRow row → ReadsFirst row
-
-abbrev pub row_or : Row → At → Row
-row_or other Nothing = other
-row_or other (OfRow row) = row
-row_or other (OfInstance child) = other
-
-add_reads : (child : ℕ → Instance) (kind : PlainKind) (rest : Cells) → AllRead rest → AllRead (add_cell child kind rest)
-add_reads child (OfPrimitive p) rest h zero row e = subst ReadsFirst (ap (row_or row) e) (row_of-reads_first p)
-add_reads child (OfPrimitive p) rest h (suc c) row e = h c row e
-add_reads child (OfComponent k) rest h zero row e = absurd (cc)
-add_reads child (OfComponent k) rest h (suc c) row e = h c row e
-
-for_reads : (child : ℕ → Instance) (cells : List PlainCell) → AllRead (cells_for child cells)
-for_reads child [] c row e = absurd (cc)
-for_reads child (cell ∷ cells) c row e = add_reads child cell.kind (cells_for child cells) (for_reads child cells) c row e
-
-pub all_read : (d : PlainDesign) (n k : ℕ) → AllRead (cells_of (tree_within d n k))
-all_read d zero k c row e = absurd (cc)
-all_read d (suc n) k c row e = for_reads (tree_within d n) (component_at d k).cells c row e
-
-abbrev cell_or : ℕ → Option ℕ → ℕ
-cell_or other None = other
-cell_or other (Some c) = c
+use Rattle.cx_text.proofs.OptionLaws.{some_is}
 
 if_some : (b : Bool) (d c : ℕ) → cond b (Some d) None ≡ Some c → (b ≡ true) × (d ≡ c)
-if_some true d c e = (refl, ap (cell_or d) e)
+if_some true d c e = (refl, some_is d c e)
 if_some false d c e = absurd (cc)
 
 -- the reader of a port, and the port

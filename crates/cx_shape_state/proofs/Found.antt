@@ -6,7 +6,7 @@ use Rattle.cx_rules.specs.Ports.{component_of}
 use Rattle.cx_rules.specs.Footprints.{Rests}
 use Rattle.cx_rules.specs.ShapeRules.{LeadsToInput}
 use Rattle.cx_shape_state.specs.Resting.{rests_at}
-use Rattle.cx_shape_state.proofs.Cells.{AllRead, all_read}
+use Rattle.cx_design_parts.proofs.ReadLemmas.{AllRead, all_read}
 use Rattle.cx_shape_state.proofs.RestLemmas.{to_rests, from_rests, true_rests, rests_true}
 use Rattle.cx_shape_state.proofs.InnerLemmas.{inner_leads, inner_or_leads}
 use Rattle.cx_meaning.specs.Instances.{cells_of}

@@ -1,12 +1,13 @@
 -- The graph of a component: what a cell waits for.
 use Rattle.std.proofs.Common.{◌≡◌, ◌+◌, ◌<◌, ℕ, zero, suc, nat_eq, Bool, true, false, cond, List, [], ◌∷◌, Option, Some, None, length, flat_map, get_or, ◌⊎◌, inl, inr, ⊎_elim, refl, sym, ap, ◌∙◌, subst, arith}
 use Rattle.std.proofs.lemmas.Bool.{eqb-true, eq-eqb}
+use Rattle.cx_text.specs.Members.{In}
 use Rattle.cx_meaning.specs.declared.ports.PlacedPort.{PlacedPort}
 use Rattle.cx_meaning.specs.Designs.{PlainAssign, PlainGroup, group_at, no_group}
 use Rattle.cx_meaning.specs.Instances.{Instance, part_of, cell_count, cells_of}
 use Rattle.cx_meaning.specs.Sights as sights
 use Rattle.cx_rules.specs.Items.{sources_of}
-use Rattle.cx_graphs.specs.Graphs.{In, Edges, targets_of, IsGraph}
+use Rattle.cx_graphs.specs.Graphs.{Edges, targets_of, IsGraph}
 use Rattle.cx_shape_state.specs.declared.basis.Basis.{Basis}
 use Rattle.cx_shape_state.specs.declared.basis.Basis.TheVariants as basis
 use Rattle.cx_shape_state.specs.Waits.{basis_of, reader_of, waits_on, if_reader, always_waits, group_waits, waits_of, tabled, waits}
@@ -15,12 +16,12 @@ use Rattle.cx_shape_state.proofs.Cells.{reader_within, basis_within}
 use Rattle.cx_graphs.proofs.Marks.{in_left, in_right, in_either}
 
 module _ {A : Type 0} (f : A → List ℕ) where
-  in_flat : (xs : List A) (x : A) (n : ℕ) → sights.In xs x → In (f x) n → In (flat_map f xs) n
+  in_flat : (xs : List A) (x : A) (n : ℕ) → In xs x → In (f x) n → In (flat_map f xs) n
   in_flat [] x n i j = absurd i
   in_flat (y ∷ xs) x n (inl e) j = in_left (f y) (flat_map f xs) n (subst (λ v. In (f v) n) (sym e) j)
   in_flat (y ∷ xs) x n (inr i) j = in_right (f y) (flat_map f xs) n (in_flat xs x n i j)
 
-  flat_in : (xs : List A) (n : ℕ) → In (flat_map f xs) n → (x : A) × sights.In xs x × In (f x) n
+  flat_in : (xs : List A) (n : ℕ) → In (flat_map f xs) n → (x : A) × In xs x × In (f x) n
   flat_in [] n i = absurd i
   flat_in (y ∷ xs) n i = ⊎_elim (λ p. (y, inl refl, p)) (λ q. let rest = flat_in xs n q in (rest.0, inr rest.1, rest.2)) (in_either (f y) (flat_map f xs) n i)
 
@@ -74,18 +75,18 @@ module _ (i : Instance) (inputs : Bool) where
   -- a continuous assignment of an input that a cell reads, and a port that it names
   pub record AlwaysWaits (c m : ℕ) : Type 0 where
     pub assign : PlainAssign
-    pub stands : sights.In (part_of i).always assign
+    pub stands : In (part_of i).always assign
     pub reader : reader_of i assign.target ≡ Some c
     pub port : PlacedPort
-    pub named : sights.In (sources_of assign) port
+    pub named : In (sources_of assign) port
     pub waits : In (waits_on c (basis_of i inputs port.port)) m
 
   -- an assignment of a group
   pub record GroupWaits (c m : ℕ) : Type 0 where
     pub group : PlainGroup
-    pub there : sights.In (part_of i).groups group
+    pub there : In (part_of i).groups group
     pub assign : PlainAssign
-    pub stands : sights.In group.assigns assign
+    pub stands : In group.assigns assign
     pub reader : reader_of i assign.target ≡ Some c
     pub same : c ≡ m
 
@@ -109,7 +110,7 @@ module _ (i : Instance) (inputs : Bool) where
       (in_if_reader (reader_of i w.assign.target) c m (flat_map (λ p. waits_on c (basis_of i inputs p.port)) (sources_of w.assign)) w.reader
       (in_flat (λ p. waits_on c (basis_of i inputs p.port)) (sources_of w.assign) w.port m w.named w.waits)))
 
-  group_in : (groups : List PlainGroup) (g c : ℕ) (a : PlainAssign) → sights.In (get_or groups g no_group).assigns a → reader_of i a.target ≡ Some c
+  group_in : (groups : List PlainGroup) (g c : ℕ) (a : PlainAssign) → In (get_or groups g no_group).assigns a → reader_of i a.target ≡ Some c
       → In (flat_map (λ x. flat_map (group_waits i c) x.assigns) groups) c
   group_in [] g c a j e = absurd j
   group_in (x ∷ groups) zero c a j e =
@@ -119,7 +120,7 @@ module _ (i : Instance) (inputs : Bool) where
       in_right (flat_map (group_waits i c) x.assigns) (flat_map (λ y. flat_map (group_waits i c) y.assigns) groups) c (group_in groups g c a j e)
 
   -- where a group drives an input that a cell reads, the cell waits on itself
-  pub driven_waits : (g c : ℕ) (a : PlainAssign) → sights.In (group_at (part_of i) g).assigns a → reader_of i a.target ≡ Some c → In (waits_of i inputs c) c
+  pub driven_waits : (g c : ℕ) (a : PlainAssign) → In (group_at (part_of i) g).assigns a → reader_of i a.target ≡ Some c → In (waits_of i inputs c) c
   driven_waits g c a j e = in_right (always_of c) (groups_of c) c (group_in (part_of i).groups g c a j e)
 
   on_within : (bound c m : ℕ) (b : Basis) → c < bound → IsWithin bound b → In (waits_on c b) m → m < bound

@@ -2,6 +2,7 @@
 use Rattle.std.proofs.Common.{◌≡◌, ◌<◌, ℕ, zero, suc, nat_lt, nat_eq, Bool, true, false, cond, ◌&&◌, not, List, [], ◌∷◌, ◌⊎◌, inl, inr, ⊎_elim, refl, sym, ap, ◌∙◌, subst, arith, true≢false}
 use Rattle.std.proofs.lemmas.Bool.{eqb-true, eq-eqb, ltb-true}
 use Rattle.std.proofs.lemmas.Bool.Decides.{nat_tests}
+use Rattle.cx_text.specs.Members.{In}
 use Rattle.cx_prim.specs.declared.ports.PortRow.{PortRow}
 use Rattle.cx_prim.specs.declared.ports.Side.{Side}
 use Rattle.cx_prim.specs.declared.ports.Side.TheVariants as sides
@@ -12,12 +13,12 @@ use Rattle.cx_meaning.specs.Rows.{side_of, side_from}
 use Rattle.cx_meaning.specs.Designs.{PlainAssign, group_at}
 use Rattle.cx_meaning.specs.Instances.{Instance, OfRow, OfInstance, part_of, cells_of, cell_at}
 use Rattle.cx_meaning.specs.Active.{nothing}
-use Rattle.cx_meaning.specs.Sights.{In, AnOutput, ItsDone, part_port}
+use Rattle.cx_meaning.specs.Sights.{AnOutput, ItsDone, part_port}
 use Rattle.cx_rules.specs.Items.{sources_of}
 use Rattle.cx_rules.specs.Footprints.{AssignNames, Rests, literal_rests, input_rests, registered_rests, output_rests, done_rests, combinational_rests, SideLeads, PartLeads, CellLeads, Leads, Depends, at_once, by_way_of}
 use Rattle.cx_rules.specs.ShapeRules.{LeadsToInput}
 use Rattle.cx_design_parts.specs.Outputs.{is_plain, is_write_data, is_read_port, read_count}
-use Rattle.cx_shape_state.proofs.Cells.{AllRead}
+use Rattle.cx_design_parts.proofs.ReadLemmas.{AllRead}
 use Rattle.cx_shape_state.proofs.Names.{Drives, drives, mentions}
 use Rattle.cx_shape_state.proofs.RestLemmas.{RestsBy, by_literal, by_input, by_registered, by_output, by_done, by_combinational}
 use Rattle.cx_rules.proofs.FoundLemmas.{source_in, source_named}

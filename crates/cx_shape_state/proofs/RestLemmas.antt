@@ -1,5 +1,6 @@
 -- What the graph of a component finds is what rests on state.
 use Rattle.std.proofs.Common.{◌≡◌, ◌<◌, ℕ, nat_lt, Bool, true, false, Some, length, ◌⊎◌, inl, inr, refl, sym, ap, ◌∙◌, subst, true≢false}
+use Rattle.cx_text.specs.Members.{In}
 use Rattle.cx_prim.specs.declared.ports.Side.{Side}
 use Rattle.cx_prim.specs.declared.ports.Side.TheVariants as sides
 use Rattle.cx_prim.specs.Rows.{Row}
@@ -9,7 +10,7 @@ use Rattle.cx_meaning.specs.Rows.{side_of}
 use Rattle.cx_meaning.specs.Designs.{PlainAssign, group_at}
 use Rattle.cx_meaning.specs.Instances.{Instance, At, Nothing, OfRow, OfInstance, part_of, cells_of, cell_at, cell_count}
 use Rattle.cx_meaning.proofs.CycleLemmas.{row_within}
-use Rattle.cx_meaning.specs.Sights.{In, PartPort, Go, AnInput, AnOutput, ItsDone, part_port}
+use Rattle.cx_meaning.specs.Sights.{PartPort, Go, AnInput, AnOutput, ItsDone, part_port}
 use Rattle.cx_rules.specs.Items.{sources_of}
 use Rattle.cx_rules.specs.Footprints.{AssignNames, Rests, literal_rests, input_rests, registered_rests, output_rests, done_rests, combinational_rests}
 use Rattle.cx_graphs.specs.Graphs as graphs
@@ -21,7 +22,8 @@ use Rattle.cx_shape_state.specs.declared.basis.Basis.{Basis}
 use Rattle.cx_shape_state.specs.declared.basis.Basis.TheVariants as basis
 use Rattle.cx_shape_state.specs.Waits.{side_basis, part_basis, cell_basis, input_basis, basis_of, reader_of, waits_on, waits_of, waits}
 use Rattle.cx_shape_state.specs.Resting.{rests_by, rests_at}
-use Rattle.cx_shape_state.proofs.Cells.{AllRead, reader, reader_is, row_or}
+use Rattle.cx_shape_state.proofs.Cells.{reader, reader_is}
+use Rattle.cx_design_parts.proofs.ReadLemmas.{AllRead, row_or}
 use Rattle.cx_shape_state.proofs.Graph.{graph_length, targets_are, target_within, AlwaysWaits, GroupWaits, waits_either, always_in, driven_waits}
 use Rattle.cx_shape_state.proofs.Names.{group_number}
 use Rattle.cx_rules.proofs.FoundLemmas.{source_in, source_named}
@@ -130,30 +132,30 @@ module _ (i : Instance) (inputs : Bool) where
   Found basis.Nothing = ⊥
   Found (basis.Cell c) = IsGrounded (waits i inputs) c
 
-  to_target : (c m : ℕ) → c < cell_count (cells_of i) → graphs.In (waits_of i inputs c) m → graphs.In (targets_of (waits i inputs) c) m
-  to_target c m within j = subst (λ l. graphs.In l m) (sym (targets_are i inputs c within)) j
+  to_target : (c m : ℕ) → c < cell_count (cells_of i) → In (waits_of i inputs c) m → In (targets_of (waits i inputs) c) m
+  to_target c m within j = subst (λ l. In l m) (sym (targets_are i inputs c within)) j
 
-  from_target : (c m : ℕ) → graphs.In (targets_of (waits i inputs) c) m → graphs.In (waits_of i inputs c) m
-  from_target c m j = subst (λ l. graphs.In l m) (targets_are i inputs c (target_within i inputs c m j)) j
+  from_target : (c m : ℕ) → In (targets_of (waits i inputs) c) m → In (waits_of i inputs c) m
+  from_target c m j = subst (λ l. In l m) (targets_are i inputs c (target_within i inputs c m j)) j
 
-  no_circle : (n : ℕ) → IsGrounded (waits i inputs) n → graphs.In (targets_of (waits i inputs) n) n → ⊥
+  no_circle : (n : ℕ) → IsGrounded (waits i inputs) n → In (targets_of (waits i inputs) n) n → ⊥
   no_circle n (grounded within targets) j = no_circle n (targets n j) j
 
   -- the combinational outputs of a cell
   abbrev Sound : ℕ → Type 0
   Sound c = (p : ℕ) (row : Row) → cell_at (cells_of i) c ≡ OfRow row → side_of row p ≡ sides.Output → RestsBy i inputs (ports.Cell c p)
 
-  named_rests : (c : ℕ) (a : PlainAssign) → c < cell_count (cells_of i) → IsGrounded (waits i inputs) c → ((x : ℕ) → graphs.In (targets_of (waits i inputs) c) x → Sound x)
+  named_rests : (c : ℕ) (a : PlainAssign) → c < cell_count (cells_of i) → IsGrounded (waits i inputs) c → ((x : ℕ) → In (targets_of (waits i inputs) c) x → Sound x)
       → In (part_of i).always a → reader_of i a.target ≡ Some c → (q : PortRef) → AssignNames a q → RestsBy i inputs q
   named_rests c a within ground below stands reads q names = subst (RestsBy i inputs) source.2 (by_basis (basis_of i inputs source.0.port) refl)
     where
       source : (p : _) × In (sources_of a) p × (p.port ≡ q)
       source = source_in a q names
 
-      it_waits : (m : ℕ) (b : Basis) → basis_of i inputs source.0.port ≡ b → graphs.In (waits_on c b) m → graphs.In (targets_of (waits i inputs) c) m
+      it_waits : (m : ℕ) (b : Basis) → basis_of i inputs source.0.port ≡ b → In (waits_on c b) m → In (targets_of (waits i inputs) c) m
       it_waits m b e j =
           to_target c m within
-          (always_in i inputs c m (record { assign = a; stands = stands; reader = reads; port = source.0; named = source.1; waits = subst (λ x. graphs.In (waits_on c x) m) (sym e) j }))
+          (always_in i inputs c m (record { assign = a; stands = stands; reader = reads; port = source.0; named = source.1; waits = subst (λ x. In (waits_on c x) m) (sym e) j }))
 
       by_basis : (b : Basis) → basis_of i inputs source.0.port ≡ b → RestsBy i inputs source.0.port
       by_basis basis.State e = state_rests source.0.port e
@@ -169,7 +171,7 @@ module _ (i : Instance) (inputs : Bool) where
     reader_from : (c p m : ℕ) (row : Row) (a : PlainAssign) → cell_at (cells_of i) c ≡ OfRow row → side_of row p ≡ sides.Output → row.reads p m ≡ true → a.target ≡ ports.Cell c m → reader_of i a.target ≡ Some c
     reader_from c p m row a at side r t = ap (reader_of i) t ∙ reader_is i c m row at (sym (reads_is c p m row at side) ∙ r)
 
-    grounded_step : (c : ℕ) → c < cell_count (cells_of i) → IsGrounded (waits i inputs) c → ((x : ℕ) → graphs.In (targets_of (waits i inputs) c) x → Sound x) → Sound c
+    grounded_step : (c : ℕ) → c < cell_count (cells_of i) → IsGrounded (waits i inputs) c → ((x : ℕ) → In (targets_of (waits i inputs) c) x → Sound x) → Sound c
     grounded_step c within ground below p row at side =
         by_combinational row at side
         (λ m g a r j t. no_circle c ground (to_target c c within (driven_waits i inputs g c a j (reader_from c p m row a at side r t))))
@@ -184,7 +186,7 @@ module _ (i : Instance) (inputs : Bool) where
     found_rests q basis.Nothing e f = absurd f
     found_rests q (basis.Cell d) e f = let on = on_cell q d e in subst (RestsBy i inputs) (sym on.port_is) (grounded_rests d f on.number on.row on.row_is on.output)
 
-    on_found : (c m : ℕ) (b : Basis) → Found b → graphs.In (waits_on c b) m → IsGrounded (waits i inputs) m
+    on_found : (c m : ℕ) (b : Basis) → Found b → In (waits_on c b) m → IsGrounded (waits i inputs) m
     on_found c m basis.State f j = absurd j
     on_found c m basis.Nothing f j = absurd f
     on_found c m (basis.Cell d) f (inl e) = subst (IsGrounded (waits i inputs)) e f

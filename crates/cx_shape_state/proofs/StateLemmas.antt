@@ -1,6 +1,7 @@
 -- The list of breaks has the breaks of the rules that speak of what rests on state, and no others.
 use Rattle.std.proofs.Common.{◌≡◌, ◌+◌, ◌-◌, ◌<◌, ◌≤◌, ℕ, zero, suc, Bool, true, false, ◌&&◌, not, List, [], ◌∷◌, Option, Some, None, length, slice_get, ◌⊎◌, inl, inr, ⊎_elim, refl, sym, ap, ◌∙◌, subst, arith, true≢false, add-one}
 use Rattle.std.specs.List.{list_all}
+use Rattle.cx_text.proofs.MemberLaws.{in_either, in_left, in_right}
 use Rattle.cx_text.specs.declared.places.Place.{Place}
 use Rattle.cx_text.specs.declared.rules.Rule.{Rule}
 use Rattle.cx_text.specs.declared.rules.Rule.TheVariants as rule
@@ -10,7 +11,7 @@ use Rattle.cx_meaning.specs.declared.ports.PlacedPort.{PlacedPort}
 use Rattle.cx_meaning.specs.Designs.{PlainDesign, component_at, group_at, PlainForm, Empty, Enable, Seq, Par, If, While, Repeat, StaticSeq, StaticPar, StaticIf, StaticRepeat, Timed, PlainStatement}
 use Rattle.cx_meaning.specs.Instances.{Instance, part_of}
 use Rattle.cx_meaning.specs.Active.{Owned, source_order}
-use Rattle.cx_meaning.specs.Sights.{In}
+use Rattle.cx_text.specs.Members.{In}
 use Rattle.cx_rules.specs.Ports.{component_of, path_of}
 use Rattle.cx_rules.specs.Items.{sources_of, Visited, statements_in}
 use Rattle.cx_rules.specs.Footprints.{AssignNames, Rests}
@@ -20,15 +21,12 @@ use Rattle.cx_rules.specs.Accepted.{key_of}
 use Rattle.cx_design_parts.specs.Breaks.{Broken, first_of}
 use Rattle.cx_design_parts.specs.Numbered.{numbered}
 use Rattle.cx_design_parts.specs.Answers.{AreBreaksBy}
-use Rattle.cx_design_parts.proofs.Lists.{first_append, in_left, in_right, in_either, in_numbered, numbered_in}
+use Rattle.cx_design_parts.proofs.Lists.{first_append, in_numbered, numbered_in, broken, in_all, all_hold}
 use Rattle.cx_shape_state.specs.Resting.{rests_at}
 use Rattle.cx_shape_state.proofs.Found.{found_rests, rests_found, inner_rests, inner_apart, leads_found}
-use Rattle.cx_shape_state.specs.StateBreaks.{StateBreaks, break_unless, all_rest, done_break, output_break, target_breaks, is_input, none_input, is_kept, kept_breaks, assign_breaks, static_test, test_breaks, assign_breaks_at, test_breaks_at, component_breaks, components_breaks, state_breaks}
+use Rattle.cx_shape_state.specs.StateBreaks.{StateBreaks, break_unless, all_rest, done_break, output_break, target_breaks, is_input, none_input, is_kept, kept_breaks, assign_breaks, static_test, test_breaks, assign_breaks_at, test_breaks_at, component_breaks, state_breaks}
 use Rattle.cx_rules.proofs.KeyOrder.{before_irreflexive}
 use Rattle.cx_rules.proofs.FoundLemmas.{source_in, source_named}
-
-abbrev broken : Rule → Spot → Place → List ℕ → Broken
-broken r spot place name = record { rule = r; spot = spot; place = place; name = name }
 
 abbrev Holds : PlainDesign → Broken → Type 0
 Holds d b = StateBreaks d b.rule b.spot b.place b.name
@@ -188,27 +186,6 @@ component_holds d k b within h =
     test_holds d k found.0 found.1 within found.2 (static_test found.1.form) b refl (subst (λ n. In (test_breaks_at d k n found.1) b) same found.3))
     (in_either (numbered (assign_breaks_at d k) 0 (source_order (component_at d k))) (numbered (test_breaks_at d k) 0 (statements_in (component_at d k))) b h)
 
-components_hold : (d : PlainDesign) (k left : ℕ) (b : Broken) → k + left ≤ length d.components → In (components_breaks d k left) b → Holds d b
-components_hold d k zero b few h = absurd h
-components_hold d k (suc left) b few h =
-    ⊎_elim
-    (component_holds d k b (omega (arith, few)))
-    (components_hold d (suc k) left b (omega (arith, few)))
-    (in_either (component_breaks d k) (components_breaks d (suc k) left) b h)
-
--- each break stands in the list
-in_components : (d : PlainDesign) (k left m : ℕ) (b : Broken) → m < left → In (component_breaks d (k + m)) b → In (components_breaks d k left) b
-in_components d k zero m b few h = absurd (omega (arith, few))
-in_components d k (suc left) zero b few h =
-    let same : k + 0 ≡ k = omega arith in in_left (component_breaks d k) (components_breaks d (suc k) left) b (subst (λ n. In (component_breaks d n) b) same h)
-in_components d k (suc left) (suc m) b few h =
-    let same : k + suc m ≡ suc k + m = omega arith in
-    in_right (component_breaks d k) (components_breaks d (suc k) left) b (in_components d (suc k) left m b (omega (arith, few)) (subst (λ n. In (component_breaks d n) b) same h))
-
-in_design : (d : PlainDesign) (k : ℕ) (b : Broken) → k < length d.components → In (component_breaks d k) b → In (state_breaks d) b
-in_design d k b within h =
-    let same : k ≡ 0 + k = omega arith in in_components d 0 (length d.components) k b within (subst (λ n. In (component_breaks d n) b) same h)
-
 assign_in : (d : PlainDesign) (r : Rule) (spot : Spot) (place : Place) (name : List ℕ) (rules : AssignRule) (o : OnAssign rules d spot place name)
     → ((s : Spot) → In (assign_breaks (component_of d spot.component) s o.assign) (broken r s place name)) → In (state_breaks d) (broken r spot place name)
 assign_in d r spot place name rules o has =
@@ -216,7 +193,7 @@ assign_in d r spot place name rules o has =
     let order = source_order (component_at d k) in
     let same : o.number ≡ 0 + o.number = omega arith in
     let spot_is : record { component = k; part = AnAssign o.number } ≡ spot = ap (λ part. record { component = k; part = part }) (sym o.is) in
-    in_design d k (broken r spot place name) o.within
+    in_all (component_breaks d) (length d.components) k (broken r spot place name) o.within
     (in_left (numbered (assign_breaks_at d k) 0 order) (numbered (test_breaks_at d k) 0 (statements_in (component_at d k))) (broken r spot place name)
     (in_numbered (assign_breaks_at d k) 0 order o.number o.assign (broken r spot place name) o.stands
     (subst (λ n. In (assign_breaks_at d k n o.assign) (broken r spot place name)) same
@@ -231,7 +208,7 @@ statement_in d r spot place name rules o p t has =
     let same : o.number ≡ 0 + o.number = omega arith in
     let own : Spot = record { component = k; part = AStatement o.number } in
     let spot_is : own ≡ spot = ap (λ part. record { component = k; part = part }) (sym o.is) in
-    in_design d k (broken r spot place name) o.within
+    in_all (component_breaks d) (length d.components) k (broken r spot place name) o.within
     (in_right (numbered (assign_breaks_at d k) 0 (source_order (component_at d k))) (numbered (test_breaks_at d k) 0 list) (broken r spot place name)
     (in_numbered (test_breaks_at d k) 0 list o.number o.statement (broken r spot place name) o.stands
     (subst (λ n. In (test_breaks_at d k n o.statement) (broken r spot place name)) same
@@ -325,19 +302,6 @@ all_breaks d rule.TooLarge spot place name o = absurd o
 -- the list is that of the rules
 pub are_breaks : (d : PlainDesign) → AreBreaksBy (StateBreaks d) (state_breaks d)
 are_breaks d = record {
-  by_family = λ b h. components_hold d 0 (length d.components) b (omega arith) h;
+  by_family = λ b h. all_hold (component_breaks d) (Holds d) (length d.components) b (λ k. component_holds d k b) h;
   all_family = λ r spot place name o. (broken r spot place name, all_breaks d r spot place name o, before_irreflexive (key_of r spot place));
 }
-
--- one more component is looked at
-pub next_component : (d : PlainDesign) (n count : ℕ) (best next rest : Option Broken) → n < count → next ≡ first_of best (component_breaks d n)
-    → first_of best (components_breaks d n (count - n)) ≡ rest → first_of next (components_breaks d (n + 1) (count - (n + 1))) ≡ rest
-next_component d n count best next rest few step so_far =
-    let left = count - (n + 1) in
-    let more = components_breaks d (suc n) left in
-    let at : count - n ≡ suc left = omega (arith, few) in
-    ap (λ m. first_of next (components_breaks d m left)) (add-one n)
-    ∙ ap (λ b. first_of b more) step
-    ∙ sym (first_append best (component_breaks d n) more)
-    ∙ ap (λ m. first_of best (components_breaks d n m)) (sym at)
-    ∙ so_far

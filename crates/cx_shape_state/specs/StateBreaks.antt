@@ -15,7 +15,7 @@ use Rattle.cx_rules.specs.Items.{sources_of, Visited, statements_in}
 use Rattle.cx_rules.specs.Spots.{AnAssign, AStatement, Spot, OnAssign, OnStatement}
 use Rattle.cx_rules.specs.ShapeRules.{BreaksDoneNotState, BreaksStaticTest, BreaksOutputNotState, BreaksKept}
 use Rattle.cx_design_parts.specs.Breaks.{Broken}
-use Rattle.cx_design_parts.specs.Numbered.{numbered}
+use Rattle.cx_design_parts.specs.Numbered.{numbered, counted}
 use Rattle.cx_shape_state.specs.Resting.{rests_at}
 
 -- THE FAMILY: the breaks of done-not-state and of output-not-state, and those of static-shape at the port of a static if
@@ -100,11 +100,6 @@ test_breaks_at d k n v = test_breaks (component_of d k) (record { component = k;
 abbrev pub component_breaks : PlainDesign → ℕ → List Broken
 component_breaks d k = numbered (assign_breaks_at d k) 0 (source_order (component_at d k)) ++ numbered (test_breaks_at d k) 0 (statements_in (component_at d k))
 
--- of the components from number k on, so many of them
-abbrev pub components_breaks : PlainDesign → ℕ → ℕ → List Broken
-components_breaks d k zero = []
-components_breaks d k (suc left) = component_breaks d k ++ components_breaks d (suc k) left
-
 -- THE BREAKS of a design
 abbrev pub state_breaks : PlainDesign → List Broken
-state_breaks d = components_breaks d 0 (length d.components)
+state_breaks d = counted (component_breaks d) 0 (length d.components)

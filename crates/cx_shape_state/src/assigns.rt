@@ -4,8 +4,7 @@ ghost use Rattle.std.specs.Prelude.{◌≡◌, ◌<◌, IfOk, length, true};
 ghost use Rattle.std.specs.List.{list_all};
 ghost use Rattle.cx_rules.specs.Ports.{component_of};
 ghost use Rattle.cx_rules.specs.Items.{sources_of};
-ghost use Rattle.cx_meaning.specs.Designs.{component_at, group_at};
-ghost use Rattle.cx_design.specs.PlainForms.{plain_assign, plain_component};
+ghost use Rattle.cx_design.specs.PlainForms.{plain_assign};
 ghost use Rattle.cx_design.specs.PlainDesigns.{plain_design};
 ghost use Rattle.cx_design_parts.specs.Breaks.{first_of, plain_spot};
 ghost use Rattle.cx_design_parts.specs.Plain.{plain_owned};
@@ -15,8 +14,10 @@ ghost use Rattle.cx_shape_state.specs.StateBreaks as breaks;
 ghost use Rattle.cx_shape_state.specs.StateBreaks.{assign_breaks, done_break, kept_breaks, output_break, target_breaks};
 
 use crate::Resting;
-use cx_design::{Assign, Component, Design, PlacedPort, PortRef};
-use cx_design_parts::{Break, FirstBreak, OwnedAssign, Spot, component, operands, path};
+use cx_design::{Assign, Design, PlacedPort, PortRef};
+use cx_design_parts::{
+    Break, FirstBreak, OwnedAssign, Spot, component, group_name, operands, path,
+};
 use cx_text::{Memory, Name, Rule};
 use std::alloc::Global;
 
@@ -75,7 +76,7 @@ fn add_done(
 {
     let rests = all_rest(alloc, design, spot.component, resting, true, assign)?;
     if !rests && first.is_first(Rule::DoneNotState, spot, assign.place) {
-        let name = group_name(alloc, component(design, spot.component), group)?;
+        let name = Name::from_bytes(alloc, group_name(component(design, spot.component), group))?;
         first.keep(Break {
             rule: Rule::DoneNotState,
             spot,
@@ -241,15 +242,5 @@ fn port_rests(
         resting.rests(design, number, port.port)
     } else {
         resting.rests_inside(design, number, port.port)
-    }
-}
-
-/// The name of a group by its number, which is empty where there is none.
-fn group_name(alloc: Global, part: &Component, group: u32) -> Result<Name, Memory>
-    ensures value { IfOk result (λ name. name ≡ (group_at (plain_component part.now) group).name) }
-{
-    match part.groups.as_slice().get(group as usize) {
-        Some(group) => Name::from_bytes(alloc, group.name.bytes()),
-        None => Name::from_bytes(alloc, b"".as_slice()),
     }
 }

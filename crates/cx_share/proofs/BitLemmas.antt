@@ -8,8 +8,9 @@ use Rattle.std.proofs.lemmas.Nat.Bits.{bit_at-zero, bit_at-lt, bit_at_or, bit_at
 use Rattle.cx_share.specs.Bits.{bit_in, marks_of}
 use Rattle.cx_meaning.specs.Instances.{just}
 use Rattle.cx_share.specs.Marks.{Adds}
-use Rattle.cx_share.proofs.MarkLemmas.{or-false, just_itself, by_at, by_long, by_past}
-use Rattle.cx_meaning.proofs.InstancesLemmas.{just_other}
+use Rattle.cx_share.proofs.MarkLemmas.{by_at, by_long, by_past}
+use Rattle.cx_text.proofs.BoolLaws.{or_false}
+use Rattle.cx_meaning.proofs.InstancesLemmas.{just_other, just_same}
 
 or-true : (a : Bool) → (a || true) ≡ true
 or-true true = refl
@@ -56,7 +57,7 @@ bit_put words bit word inside there c = ⊎_elim (λ e. same e) (λ h. other h) 
         ∙ ap (λ x. nat_eq x 1) (bit_at_set_same w64 word (bit % 64) within)
 
     same : c ≡ bit → bit_in (set words (bit / 64) new) c ≡ (bit_in words c || just bit c)
-    same e = rw e (here ∙ sym (or-true (bit_in words bit)) ∙ ap (λ v. bit_in words bit || v) (sym (just_itself bit)))
+    same e = rw e (here ∙ sym (or-true (bit_in words bit)) ∙ ap (λ v. bit_in words bit || v) (sym (just_same bit)))
 
     in_word : (c ≡ bit → ⊥) → c / 64 ≡ bit / 64 → bit_in (set words (bit / 64) new) c ≡ bit_in words c
     in_word h e =
@@ -70,7 +71,7 @@ bit_put words bit word inside there c = ⊎_elim (λ e. same e) (λ h. other h) 
     kept h = ⊎_elim (λ e. in_word h e) (λ n. ap (λ x. nat_eq (bit_at x (c % 64)) 1) (get_or-set_other words (bit / 64) (c / 64) new 0 n)) (cases_eq (c / 64) (bit / 64))
 
     other : (c ≡ bit → ⊥) → bit_in (set words (bit / 64) new) c ≡ (bit_in words c || just bit c)
-    other h = kept h ∙ sym (or-false (bit_in words c)) ∙ ap (λ v. bit_in words c || v) (sym (just_other bit c (λ e. h (sym e))))
+    other h = kept h ∙ sym (or_false (bit_in words c)) ∙ ap (λ v. bit_in words c || v) (sym (just_other bit c (λ e. h (sym e))))
 
 pub bits_added : (count bit : ℕ) (old new : List ℕ) → ((c : ℕ) → bit_in new c ≡ (bit_in old c || just bit c)) → Adds (marks_of count old) (marks_of count new) (just bit)
 bits_added count bit old new h = record {
@@ -86,7 +87,7 @@ adds_past count bit words past = record {
   count = refl;
   marks = λ c lt.
       let below : c < count = omega (arith, marks_long count words) in
-      sym (or-false (get_or (marks_of count words) c false)) ∙ ap (λ v. get_or (marks_of count words) c false || v) (sym (just_other bit c (λ e. absurd (omega (arith, e)))));
+      sym (or_false (get_or (marks_of count words) c false)) ∙ ap (λ v. get_or (marks_of count words) c false || v) (sym (just_other bit c (λ e. absurd (omega (arith, e)))));
 }
 
 pub bit_tested : (count : ℕ) (words : List ℕ) (c word : ℕ) → c < count → word ≡ get_or words (c / 64) 0 → nat_eq (bit_and (word / 2 ^ (c % 64)) 1) 1 ≡ get_or (marks_of count words) c false

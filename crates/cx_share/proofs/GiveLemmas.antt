@@ -16,16 +16,16 @@ use Rattle.cx_sharing.specs.Uses.{kind_in, is_candidate, is_combinational, assig
 use Rattle.cx_share.specs.declared.giving.Kept as memory
 use Rattle.cx_share.specs.Marks.{Adds, AreMarks}
 use Rattle.cx_share.specs.Givings.{no_kept, Within, AllWithin, AllNear, IsNear, Put, KeptBy, AreKeepers, plain_kept}
-use Rattle.cx_share.proofs.MarkLemmas.{or-comm, or-false, just_is, just_itself}
-use Rattle.cx_text.proofs.BoolLaws.{or_assoc}
-use Rattle.cx_meaning.proofs.InstancesLemmas.{just_other}
+use Rattle.std.proofs.Math.Bool.{or_comm}
+use Rattle.cx_text.proofs.BoolLaws.{or_assoc, or_false}
+use Rattle.cx_meaning.proofs.InstancesLemmas.{just_other, just_is, just_same}
 
 -- a reversed list
 pub any-reverse : {A : Type 0} (p : A → Bool) (xs : List A) → list_any p (reverse xs) ≡ list_any p xs
 any-reverse p [] = refl
 any-reverse p (x ∷ xs) =
-    ap (list_any p) (reverse-append (x ∷ []) xs) ∙ list_any-append p (reverse xs) (x ∷ []) ∙ ap (λ v. list_any p (reverse xs) || v) (or-false (p x))
-    ∙ or-comm (list_any p (reverse xs)) (p x) ∙ ap (λ v. p x || v) (any-reverse p xs)
+    ap (list_any p) (reverse-append (x ∷ []) xs) ∙ list_any-append p (reverse xs) (x ∷ []) ∙ ap (λ v. list_any p (reverse xs) || v) (or_false (p x))
+    ∙ or_comm (list_any p (reverse xs)) (p x) ∙ ap (λ v. p x || v) (any-reverse p xs)
 
 and-comm : (a b : Bool) → (a && b) ≡ (b && a)
 and-comm true true = refl
@@ -121,10 +121,10 @@ put_there cell x old inside = record {
 }
   where
     is_one : (c : ℕ) → is_in c (x ∷ []) ≡ just x c
-    is_one c = or-false (nat_eq x c) ∙ sym (just_is x c)
+    is_one c = or_false (nat_eq x c) ∙ sym (just_is x c)
 
     here : get_or (set old x cell) x 0 ≡ (if is_in x (x ∷ []) then cell else get_or old x 0)
-    here = get_or-set_same old x cell 0 inside ∙ ap (λ v. if v then cell else get_or old x 0) (sym (is_one x ∙ just_itself x))
+    here = get_or-set_same old x cell 0 inside ∙ ap (λ v. if v then cell else get_or old x 0) (sym (is_one x ∙ just_same x))
 
     same : (c : ℕ) → c ≡ x → get_or (set old x cell) c 0 ≡ (if is_in c (x ∷ []) then cell else get_or old c 0)
     same c e = rw e here
@@ -137,7 +137,7 @@ put_past cell x old outside = record {
   count = refl;
   cells = λ c below.
       let apart : x ≡ c → ⊥ = λ e. absurd (omega (arith, e)) in
-      ap (λ v. if v then cell else get_or old c 0) (sym (or-false (nat_eq x c) ∙ sym (just_is x c) ∙ just_other x c apart));
+      ap (λ v. if v then cell else get_or old c 0) (sym (or_false (nat_eq x c) ∙ sym (just_is x c) ∙ just_other x c apart));
 }
 
 pub put_next : (cell : ℕ) (given : List ℕ) (i : ℕ) (old mid new : List ℕ) → i < length given → Put cell (take i given) old mid → Put cell (get_or given i 0 ∷ []) mid new
@@ -238,7 +238,7 @@ near_kept part c k row same none there wide m = record {
   count = ap length there ∙ wide;
   marks = λ y lt.
       let below : y < length row = omega (arith, wide) in
-      ap (λ xs. get_or xs y false) there ∙ m y below ∙ sym (or-false (meet part c y)) ∙ ap (λ n. meet part n y || false) (sym same)
+      ap (λ xs. get_or xs y false) there ∙ m y below ∙ sym (or_false (meet part c y)) ∙ ap (λ n. meet part n y || false) (sym same)
       ∙ ap (λ xs. meet part k.cell y || list_any (λ x. meet part x y) xs) (sym none);
 }
 
@@ -251,7 +251,7 @@ near_given part c before new row same more p wide m n = record {
       let there : y < length before.near = omega (arith, n.count) in
       p.marks y there ∙ ap (λ v. v || get_or row y false) (n.marks y lt) ∙ ap (λ v. (meet part before.cell y || list_any (λ x. meet part x y) before.given.items) || v) (m y below)
       ∙ or_assoc (meet part before.cell y) (list_any (λ x. meet part x y) before.given.items) (meet part c y)
-      ∙ ap (λ v. meet part before.cell y || v) (ap (λ v. list_any (λ x. meet part x y) before.given.items || v) (sym (or-false (meet part c y))) ∙ sym (list_any-append (λ x. meet part x y) before.given.items (c ∷ [])))
+      ∙ ap (λ v. meet part before.cell y || v) (ap (λ v. list_any (λ x. meet part x y) before.given.items || v) (sym (or_false (meet part c y))) ∙ sym (list_any-append (λ x. meet part x y) before.given.items (c ∷ [])))
       ∙ ap (λ xs. meet part before.cell y || list_any (λ x. meet part x y) xs) (sym more) ∙ ap (λ d. meet part d y || list_any (λ x. meet part x y) new.given.items) (sym same);
 }
 

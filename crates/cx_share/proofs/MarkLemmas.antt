@@ -7,37 +7,11 @@ use Rattle.std.proofs.lemmas.List.Folds.{list_any_more}
 use Rattle.cx_text.proofs.ListLaws.{take_all}
 use Rattle.cx_meaning.specs.Instances.{Set, just}
 use Rattle.cx_share.specs.Marks.{AreMarks, Adds, any_of, marks_by}
-use Rattle.cx_text.proofs.BoolLaws.{or_assoc}
+use Rattle.cx_text.proofs.BoolLaws.{or_assoc, or_false}
 use Rattle.cx_text.proofs.NumberLaws.{eq_next}
 
-pub or-false : (a : Bool) → (a || false) ≡ a
-or-false true = refl
-or-false false = refl
-
-pub or-comm : (a b : Bool) → (a || b) ≡ (b || a)
-or-comm true true = refl
-or-comm true false = refl
-or-comm false true = refl
-or-comm false false = refl
-
-eq_less : (d : ℕ) → false ≡ nat_eq zero (suc d)
-eq_less d = grind (arith, tests)
-
-eq_more : (c : ℕ) → false ≡ nat_eq (suc c) zero
-eq_more c = grind (arith, tests)
-
-pub just_is : (c d : ℕ) → just c d ≡ nat_eq c d
-just_is zero zero = refl
-just_is zero (suc d) = eq_less d
-just_is (suc c) zero = eq_more c
-just_is (suc c) (suc d) = just_is c d ∙ eq_next c d
-
-pub just_itself : (c : ℕ) → just c c ≡ true
-just_itself zero = refl
-just_itself (suc c) = just_itself c
-
 pub adds_none : (xs : List Bool) → Adds xs xs (λ c. false)
-adds_none xs = record { count = refl; marks = λ c lt. sym (or-false (get_or xs c false)) }
+adds_none xs = record { count = refl; marks = λ c lt. sym (or_false (get_or xs c false)) }
 
 pub adds_then : (a b c : List Bool) (s t : Set) → Adds a b s → Adds b c t → Adds a c (λ n. s n || t n)
 adds_then a b c s t p q = record {

@@ -8,8 +8,10 @@ use Rattle.cx_text.proofs.ListLaws.{take_all}
 use Rattle.cx_meaning.specs.Instances.{Set, just}
 use Rattle.cx_share.specs.Marks.{AreMarks, Adds, any_of}
 use Rattle.cx_share.specs.Tables.{row_at, IsTable, Joins, pairs_of, between, marked_pairs, in_order}
-use Rattle.cx_share.proofs.MarkLemmas.{or-comm, or-false, adds_none, adds_then, adds_same, adds_step, any_of-map, just_itself}
-use Rattle.cx_meaning.proofs.InstancesLemmas.{just_other}
+use Rattle.cx_share.proofs.MarkLemmas.{adds_none, adds_then, adds_same, adds_step, any_of-map}
+use Rattle.cx_text.proofs.BoolLaws.{or_false}
+use Rattle.std.proofs.Math.Bool.{or_comm}
+use Rattle.cx_meaning.proofs.InstancesLemmas.{just_other, just_same}
 
 pub joins_none : (rows : List (List Bool)) → Joins rows rows (λ x y. false)
 joins_none rows = record { count = refl; rows = λ x lt. adds_none (row_at rows x) }
@@ -59,7 +61,7 @@ joins_row rows one row set_of inside p = record {
     here : Adds (row_at rows one) (row_at (set rows one row) one) (λ y. just one one && set_of y)
     here =
         let at : row_at (set rows one row) one ≡ row = get_or-set_same rows one row [] inside in
-        rw at (adds_same (row_at rows one) row set_of (λ y. just one one && set_of y) (λ y lt. and-true (just one one) (set_of y) (just_itself one)) p)
+        rw at (adds_same (row_at rows one) row set_of (λ y. just one one && set_of y) (λ y lt. and-true (just one one) (set_of y) (just_same one)) p)
 
     same : (x : ℕ) → x ≡ one → Adds (row_at rows x) (row_at (set rows one row) x) (λ y. just one x && set_of y)
     same x e = rw e here
@@ -131,13 +133,13 @@ between_next from n p x y le = ⊎_elim (λ lt. before lt) (λ past. inside past
         let here : nat_lt x n ≡ true = lt-ltb x n lt in
         let there : nat_lt x (suc n) ≡ true = lt-ltb x (suc n) (omega arith) in
         let other : just n x ≡ false = just_other n x (λ e. absurd (omega (arith, e))) in
-        rw (first, here, there, other) (or-false (p x y)))
+        rw (first, here, there, other) (or_false (p x y)))
         (λ beyond.
         let here : nat_lt x n ≡ false = le-ltb x n beyond in
         ⊎_elim
         (λ (e : n ≡ x).
         let there : nat_lt x (suc n) ≡ true = lt-ltb x (suc n) (omega arith) in
-        let same : just n x ≡ true = ap (just n) (sym e) ∙ just_itself n in
+        let same : just n x ≡ true = ap (just n) (sym e) ∙ just_same n in
         rw (first, here, there, same) refl)
         (λ h.
         let there : nat_lt x (suc n) ≡ false = le-ltb x (suc n) (omega (arith, h)) in
@@ -162,7 +164,7 @@ between_then a b c p x y ab bc = ⊎_elim (λ lt. before lt) (λ past. inside pa
         (λ lt.
         let second : nat_lt x b ≡ true = lt-ltb x b lt in
         let third : nat_lt x c ≡ true = lt-ltb x c (omega arith) in
-        rw (first, second, third) (or-false (p x y)))
+        rw (first, second, third) (or_false (p x y)))
         (λ beyond. let second : nat_lt x b ≡ false = le-ltb x b beyond in rw (first, second) refl)
         (cases_lt x b)
 
@@ -225,7 +227,7 @@ joins_absent rows one ones others none = joins_eq rows rows (λ x y. false) (λ 
         ⊎_elim
         (λ (e : one ≡ x).
         let here : get_or ones x false ≡ false = ap (λ n. get_or ones n false) (sym e) ∙ none in
-        let same : just one x ≡ true = ap (just one) (sym e) ∙ just_itself one in
+        let same : just one x ≡ true = ap (just one) (sym e) ∙ just_same one in
         rw (same, here) refl)
         (λ h. let other : just one x ≡ false = just_other one x h in rw other refl)
         (cases_eq one x)
@@ -251,7 +253,7 @@ grown true false false false e = refl
 order_next : (sets : List (List Bool)) (i : ℕ) (d : List Bool) (x y : ℕ) → i < length sets
     → (in_order (take i sets) y x || (get_or (get_or sets i d) x false && list_any (λ s. get_or s y false) (take i sets))) ≡ in_order (take (suc i) sets) y x
 order_next [] i d x y lt = absurd (omega arith)
-order_next (s ∷ ss) zero d x y lt = and-false (get_or s x false) ∙ sym (or-false (get_or s y false && false) ∙ and-false (get_or s y false))
+order_next (s ∷ ss) zero d x y lt = and-false (get_or s x false) ∙ sym (or_false (get_or s y false && false) ∙ and-false (get_or s y false))
 order_next (s ∷ ss) (suc i) d x y lt =
     let below : i < length ss = let h : suc i < suc (length ss) = lt in omega arith in
     let new = get_or ss i d in
@@ -281,7 +283,7 @@ order_before set rest later count a b c t wide m f g =
     joins_same count a c (λ x y. in_order rest x y || marked_pairs set later x y) (in_order (set ∷ rest)) t
     (λ x y h k.
     let below : y < length later = omega (arith, wide) in
-    ap (λ v. in_order rest x y || (get_or set x false && v)) (m y below) ∙ or-comm (in_order rest x y) (get_or set x false && list_any (λ s. get_or s y false) rest))
+    ap (λ v. in_order rest x y || (get_or set x false && v)) (m y below) ∙ or_comm (in_order rest x y) (get_or set x false && list_any (λ s. get_or s y false) rest))
     (joins_then a b c (in_order rest) (marked_pairs set later) f g)
 
 -- the marks of one more set
@@ -289,7 +291,7 @@ pub later_more : (set later new : List Bool) (rest : List (List Bool)) → AreMa
     → AreMarks new (any_of (λ s n. get_or s n false) (set ∷ rest))
 later_more set later new rest m p c lt =
     let below : c < length later = omega (arith, p.count) in
-    p.marks c below ∙ ap (λ v. v || get_or set c false) (m c below) ∙ or-comm (any_of (λ s n. get_or s n false) rest c) (get_or set c false)
+    p.marks c below ∙ ap (λ v. v || get_or set c false) (m c below) ∙ or_comm (any_of (λ s n. get_or s n false) rest c) (get_or set c false)
 
 pub earlier_more : (sets : List (List Bool)) (i : ℕ) (set earlier new : List Bool) → i < length sets → set ≡ get_or sets i set → AreMarks earlier (any_of (λ s n. get_or s n false) (take i sets))
     → Adds earlier new (λ c. get_or set c false) → AreMarks new (any_of (λ s n. get_or s n false) (take (i + 1) sets))

@@ -2,6 +2,7 @@
 use Rattle.std.proofs.Common.{◌≡◌, ℕ, zero, suc, ◌+◌, ◌<◌, true, false, nat_eq, List, [], ◌∷◌, ◌++◌, Option, None, Some, option_map, get_or, length, map, flat_map, refl, sym, ap, ◌∙◌, arith, append_assoc, add-one}
 use Rattle.std.proofs.Math.Path.{fun_ext}
 use Rattle.std.proofs.lemmas.List.{length-map, get_or-map}
+use Rattle.cx_text.proofs.ListLaws.{two_maps}
 use Rattle.cx_ast.specs.PlainTree as ast
 use Rattle.cx_ast.specs.declared.components.Attribute.{Attribute}
 use Rattle.cx_ast.specs.declared.components.Mark.{Mark}
@@ -25,11 +26,10 @@ use Rattle.std.specs.declared.vec.Vec.{Vec}
 use Rattle.cx_share.specs.Marks.{lists_of}
 use Rattle.cx_share.specs.Givings.{AreKeepers, AllKeepers}
 use Rattle.cx_share.specs.Naming.{name_by, AreKeeperNames}
-use Rattle.cx_share.proofs.MarkLemmas.{just_is, just_itself}
-use Rattle.cx_meaning.proofs.InstancesLemmas.{just_other}
+use Rattle.cx_meaning.proofs.InstancesLemmas.{just_other, just_is, just_same}
 
 pub stays_itself : (part : PlainComponent) (c : ℕ) → keeper part c ≡ c → stays part c ≡ true
-stays_itself part c e = ap (λ k. nat_eq k c) e ∙ sym (just_is c c) ∙ just_itself c
+stays_itself part c e = ap (λ k. nat_eq k c) e ∙ sym (just_is c c) ∙ just_same c
 
 pub goes : (part : PlainComponent) (c : ℕ) → (keeper part c ≡ c → ⊥) → stays part c ≡ false
 goes part c h = sym (just_is (keeper part c) c) ∙ just_other (keeper part c) c h
@@ -83,18 +83,14 @@ counts_at f g xs ys i x y e lt lt' at at' =
 pub counts_long : {A B : Type 0} (f : A → ℕ) (g : B → ℕ) (xs : List A) (ys : List B) → map f xs ≡ map g ys → length xs ≡ length ys
 counts_long f g xs ys e = sym (length-map xs f) ∙ ap length e ∙ length-map ys g
 
-map-map : {A B C : Type 0} (f : A → B) (g : B → C) (h : A → C) → ((x : A) → g (f x) ≡ h x) → (xs : List A) → map g (map f xs) ≡ map h xs
-map-map f g h same [] = refl
-map-map f g h same (x ∷ xs) = ap (λ y. y ∷ map g (map f xs)) (same x) ∙ ap (λ ys. h x ∷ ys) (map-map f g h same xs)
-
 -- a component of the design of a tree has as many cells as that of the tree
 pub counts_alike : (tree : Tree) (parts : List Component) → map design.plain_component parts ≡ (design_of (ast.plain_tree tree)).components
     → map (λ part. length part.cells.items) parts ≡ map (λ item. length item.cells.items) tree.components.items
 counts_alike tree parts e =
-    sym (map-map design.plain_component (λ c. length c.cells) (λ part. length part.cells.items) (λ part. length-map part.cells.items design.plain_cell) parts)
+    sym (two_maps design.plain_component (λ c. length c.cells) (λ part. length part.cells.items) (λ part. length-map part.cells.items design.plain_cell) parts)
     ∙ ap (map (λ c. length c.cells)) e
-    ∙ map-map (component_of (ast.plain_tree tree)) (λ c. length c.cells) (λ item. length item.cells) (λ item. length-map item.cells (plain_cell_of (ast.plain_tree tree) item)) (map ast.plain_component tree.components.items)
-    ∙ map-map ast.plain_component (λ item. length item.cells) (λ item. length item.cells.items) (λ item. length-map item.cells.items ast.plain_cell) tree.components.items
+    ∙ two_maps (component_of (ast.plain_tree tree)) (λ c. length c.cells) (λ item. length item.cells) (λ item. length-map item.cells (plain_cell_of (ast.plain_tree tree) item)) (map ast.plain_component tree.components.items)
+    ∙ two_maps ast.plain_component (λ item. length item.cells) (λ item. length item.cells.items) (λ item. length-map item.cells.items ast.plain_cell) tree.components.items
 
 -- THE SHARED TREE and its rows
 pub tree_made : (d : PlainDesign) (t : ast.PlainTree) (imports : List ImportItem) (components : List ast.PlainComponent) (whole : ast.PlainTree) → d ≡ design_of t → imports ≡ t.imports

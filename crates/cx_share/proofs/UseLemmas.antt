@@ -20,7 +20,8 @@ use Rattle.cx_sharing.specs.Uses.{assigns_use, group_uses, uses}
 use Rattle.cx_share.specs.Marks.{Adds, any_of, marks_by}
 use Rattle.cx_share.specs.Tables.{AreWide}
 use Rattle.cx_share.specs.Using.{arm_marks, group_marks}
-use Rattle.cx_share.proofs.MarkLemmas.{or-false, adds_none, adds_same, adds_then, by_at, by_long, by_same, filled}
+use Rattle.cx_share.proofs.MarkLemmas.{adds_none, adds_same, adds_then, by_at, by_long, by_same, filled}
+use Rattle.cx_text.proofs.BoolLaws.{or_false}
 
 -- the cells of ports
 pub port_cells : (ps : List PlacedPort) (c : ℕ) → any_of just (flat_map port_cell ps) c ≡ list_any (λ p. targets_cell p.port c) ps
@@ -29,7 +30,7 @@ port_cells (p ∷ ps) c =
     list_any-append (λ x. just x c) (port_cell p) (flat_map port_cell ps) ∙ ap (λ v. v || any_of just (flat_map port_cell ps) c) (one p.port) ∙ ap (λ v. targets_cell p.port c || v) (port_cells ps c)
   where
     one : (port : PortRef) → list_any (λ x. just x c) (cell_in port) ≡ targets_cell port c
-    one (ports.Cell d n) = or-false (just d c)
+    one (ports.Cell d n) = or_false (just d c)
     one (ports.Input n) = refl
     one (ports.Output n) = refl
     one (ports.Done g) = refl

@@ -1,15 +1,16 @@
 -- THE DESIGN OF THE SHARED TREE is the shared design, where the tree breaks no rule on names; and the shared tree is accepted, where the tree is.
 use Rattle.std.proofs.Common.{◌≡◌, ℕ, zero, suc, ◌<◌, ◌≤◌, ◌^◌, inl, inr, List, [], ◌∷◌, Option, Some, None, length, map, get_or, flat_map, codes, refl, sym, ap, ap₂, ◌∙◌, subst, arith}
+use Rattle.cx_text.proofs.MemberLaws.{image_in}
 use Rattle.cx_ast.specs.declared.operands.OperandForm.{OperandForm}
 use Rattle.cx_ast.specs.declared.operands.OperandForm.TheVariants as operands
 use Rattle.cx_ast.specs.PlainTree as ast
 use Rattle.cx_ast.specs.PlainTree.{PlainTree}
 use Rattle.cx_ast.specs.PlainStatements as statements
-use Rattle.cx_meaning.specs.Sights.{In}
+use Rattle.cx_text.specs.Members.{In}
 use Rattle.cx_rules.specs.Accepted.{IsAccepted}
 use Rattle.cx_numbering.specs.Names.{cell_names}
 use Rattle.cx_numbering.specs.DesignOf.{number_or_0, Invoke, control_invokes, component_of, design_of}
-use Rattle.cx_numbering.specs.NameRules.{names_break, named, visit_block, Visited, Standing, standing}
+use Rattle.cx_numbering.specs.NameRules.{names_break, named, visit_block, Visited, Standing, standing, visit_control}
 use Rattle.cx_meaning.specs.Designs.{PlainComponent, PlainDesign, no_component}
 use Rattle.cx_meaning.specs.Instances.{State, tree_of, words_of}
 use Rattle.cx_meaning.specs.Cycles.{Fault}
@@ -21,7 +22,7 @@ use Rattle.cx_rules.specs.Flat.{IsFlatPart, IsFlat}
 use Rattle.cx_rules.specs.Sizes.{sizes_of, design_size}
 use Rattle.cx_rules.specs.Wellformed.{IsDesign}
 use Rattle.cx_names.specs.Targets.{is_literal, HasTargets}
-use Rattle.cx_names.proofs.Base.{Distinct, in_map, append_none, tell_none}
+use Rattle.cx_names.proofs.Base.{Distinct, append_none, tell_none}
 use Rattle.cx_names.proofs.Kept.{KeptPart, kept, kept_part}
 use Rattle.cx_names.proofs.InvokeLemmas.{kept_invoke}
 use Rattle.cx_names.proofs.Statements.{invoke_of_block, visited_of, same_breaks}
@@ -47,17 +48,13 @@ use Rattle.cx_shared_trees.proofs.NamesShared.{shared_standing, standing-shared,
 pub distinct_cells : (tree : PlainTree) (item : ast.PlainComponent) → KeptPart tree item → Distinct (cell_names item)
 distinct_cells tree item own = distinct_names (λ (c : ast.PlainCell). named c.name c.place) (λ (c : ast.PlainCell). c.name) item.cells (λ c. refl) (append_none _ _ (append_none _ _ own.twice).0).1
 
-abbrev visits : Option statements.PlainBlock → List Visited
-visits None = []
-visits (Some block) = visit_block block
-
 -- what an invoke captures are registers
 captures_registers : (tree : PlainTree) (item : ast.PlainComponent) (own : KeptPart tree item) (k : Invoke) → In (control_invokes tree item item.control) k → IsInvoke tree item (distinct_cells tree item own) k
 captures_registers tree item own k i b j =
     let kept_k = kept_invoke tree item k (same_breaks tree item k k.written (own.statements (visited_of k) (stands item.control i))) in
     not_not _ (tell_none _ _ _ _ (append_none _ _ (kept_k.outputs b j)).1)
   where
-    stands : (o : Option statements.PlainBlock) → In (control_invokes tree item o) k → In (visits o) (visited_of k)
+    stands : (o : Option statements.PlainBlock) → In (control_invokes tree item o) k → In (visit_control o) (visited_of k)
     stands None i = absurd i
     stands (Some block) i = invoke_of_block block k i
 
@@ -104,10 +101,10 @@ literal_named name (operands.Literal width value) = refl
 
 pub targets-shared : (tree : PlainTree) → names_break tree ≡ None → HasTargets tree → HasTargets (shared_tree tree)
 targets-shared tree none has part i x j =
-    let r = in_map (shared_item tree) tree.components part (subst (λ list. In list part) (shared_items tree tree.components) i) in
+    let r = image_in (shared_item tree) tree.components part (subst (λ list. In list part) (shared_items tree tree.components) i) in
     let own = kept_parts tree none r.0 r.1 in
     let apart = distinct_cells tree r.0 own in
-    let y = in_map (shared_standing tree r.0 own apart) (standing r.0) x (subst (λ list. In list x) (standing-shared tree r.0 own apart) (subst (λ p. In (standing p) x) (sym r.2) j)) in
+    let y = image_in (shared_standing tree r.0 own apart) (standing r.0) x (subst (λ list. In list x) (standing-shared tree r.0 own apart) (subst (λ p. In (standing p) x) (sym r.2) j)) in
     ap (λ (z : Standing). is_literal z.assign.target.form) (sym y.2) ∙ literal_named (new_name tree r.0) y.0.assign.target.form ∙ has r.0 r.1 y.0 y.1
 
 -- WHAT EVERY DESIGN KEEPS

@@ -3,6 +3,7 @@ use Rattle.std.proofs.Common.{◌≡◌, ℕ, zero, suc, ◌+◌, inl, inr, Bool
 use Rattle.std.specs.Prelude.{if◌then◌else◌, not}
 use Rattle.std.proofs.lemmas.Bool.{or_right}
 use Rattle.std.proofs.lemmas.List.{map-append}
+use Rattle.cx_text.proofs.MemberLaws.{flat_is_none, image_in}
 use Rattle.cx_text.specs.declared.places.Place.{Place}
 use Rattle.cx_text.specs.declared.rules.Rule.{Rule}
 use Rattle.cx_text.specs.declared.rules.Rule.TheVariants as rules
@@ -22,12 +23,12 @@ use Rattle.cx_ast.specs.PlainTree.{PlainTree}
 use Rattle.cx_ast.specs.PlainGuards as guards
 use Rattle.cx_ast.specs.PlainStatements as statements
 use Rattle.cx_meaning.specs.Designs.{PlainComponent}
-use Rattle.cx_meaning.specs.Sights.{In}
+use Rattle.cx_text.specs.Members.{In}
 use Rattle.cx_numbering.specs.Names.{same_name, is_among, cell_names, groups_in, always_in, cell_among, group_among, CellOf, Neither, APrimitive, AComponent, cell_of, cell_go, is_external}
 use Rattle.cx_numbering.specs.DesignOf.{design_of}
-use Rattle.cx_numbering.specs.NameRules.{tell_if, named, duplicates, bind_names, component_duplicates, operands_of, operands_in, guard_operands, Standing, standing, Visited, visit_parts, visit_else, visit_block, visit_all, statements_in, is_component, found_component, is_clock, is_static_end, is_unknown, unknown, is_left_out, is_hole, source_breaks, is_wrong_target, is_one, is_bare_done, assign_breaks, is_comb_word, is_comb_group, enable_breaks, with_breaks, output_rows, output_names, is_go_name, is_reg, found_reg, is_register_in, input_breaks, output_breaks, invoke_on, form_breaks, kind_breaks, is_narrow_memory, port_breaks, component_kinds, some_part, leads_back, cell_breaks, component_breaks, name_breaks, first_break, names_break}
-use Rattle.cx_names_scopes.proofs.NameLemmas.{is_among-cons}
-use Rattle.cx_names.proofs.Base.{Distinct, in_map, append_none, tell_none, first_none}
+use Rattle.cx_numbering.specs.NameRules.{tell_if, named, duplicates, bind_names, component_duplicates, operands_of, operands_in, guard_operands, Standing, standing, Visited, visit_parts, visit_else, visit_block, visit_all, statements_in, is_component, found_component, is_clock, is_static_end, is_unknown, unknown, is_left_out, is_hole, source_breaks, is_wrong_target, is_one, is_bare_done, assign_breaks, is_comb_word, is_comb_group, enable_breaks, with_breaks, output_rows, output_names, is_go_name, is_reg, found_reg, is_register_in, input_breaks, output_breaks, invoke_on, form_breaks, kind_breaks, is_narrow_memory, port_breaks, component_kinds, some_part, leads_back, cell_breaks, component_breaks, name_breaks, first_break, names_break, visit_control, kinds_of, circle_breaks}
+use Rattle.cx_numbering.proofs.NamesLemmas.{is_among-cons}
+use Rattle.cx_names.proofs.Base.{Distinct, append_none, tell_none, first_none}
 use Rattle.cx_names.proofs.Kept.{KeptPart, kept, kept_part}
 use Rattle.cx_copies.specs.Naming.{named_operand_form, named_operand, named_guard, named_guards, named_bind, named_form, named_else, named_block, named_statements, named_assign, named_group}
 use Rattle.cx_sharing.specs.Giving.{stays}
@@ -35,7 +36,6 @@ use Rattle.cx_sharing.specs.SharedTree.{left_cells, shared_components, shared_tr
 use Rattle.cx_sharing.proofs.LimitsShared.{gone_is}
 use Rattle.cx_shared_trees.proofs.TreeDesign.{shared_item, shared_items, component_names-shared, shared_of, cell_of-shared, own_part, new_name, twin, KeptCell, the_same, of_one_kind, kept_pair, cell_ports-shared, groups-shared, always-shared, group_names-shared, kind_of_cell, primitive_is, latency_kept}
 use Rattle.cx_text.proofs.ListLaws.{both_none}
-use Rattle.cx_meaning.proofs.SightsLaws.{flat_is_none}
 
 -- LISTS OF BREAKS that are empty
 
@@ -103,11 +103,6 @@ many_parts [] (item ∷ items) = refl
 many_parts (part ∷ parts) (item ∷ items) = ap suc (many_parts parts items)
 
 -- RECURSION: the components of the cells that stay are those of the cells
-abbrev kinds_of : CellOf → List ast.PlainComponent
-kinds_of Neither = []
-kinds_of (APrimitive primitive) = []
-kinds_of (AComponent component) = component ∷ []
-
 module _ (tree : PlainTree) where
   kinds_kept : (of : CellOf) → kinds_of (shared_of tree of) ≡ map (shared_item tree) (kinds_of of)
   kinds_kept Neither = refl
@@ -349,14 +344,10 @@ module _ (tree : PlainTree) where
       all_visit (statements.StatementThen (statements.Placed attributes form place) rest) =
           ap (λ z. record { form = named_form new form; place = place } ∷ z) (two_visited (visit_parts form) (visit_all rest) _ _ (parts_visit form) (all_visit rest))
 
-    abbrev visits : Option statements.PlainBlock → List Visited
-    visits None = []
-    visits (Some block) = visit_block block
-
     pub statements-shared : statements_in other ≡ map shared_visited (statements_in item)
     statements-shared = by item.control
       where
-        by : (o : Option statements.PlainBlock) → visits (option_map (named_block new) o) ≡ map shared_visited (visits o)
+        by : (o : Option statements.PlainBlock) → visit_control (option_map (named_block new) o) ≡ map shared_visited (visit_control o)
         by None = refl
         by (Some block) = block_visit block
 
@@ -482,12 +473,7 @@ module _ (tree : PlainTree) where
     narrow_kept (APrimitive p) = refl
     narrow_kept (AComponent c) = refl
 
-    abbrev circles : PlainTree → ast.PlainComponent → ast.PlainCell → CellOf → List Diagnostic
-    circles t part cell Neither = []
-    circles t part cell (APrimitive primitive) = []
-    circles t part cell (AComponent component) = tell_if (leads_back t part.name (length t.components) component) rules.Recursive cell.place cell.name
-
-    circle_kept : (cell : ast.PlainCell) (of : CellOf) → circles tree item cell of ≡ [] → circles (shared_tree tree) other cell (shared_of tree of) ≡ []
+    circle_kept : (cell : ast.PlainCell) (of : CellOf) → circle_breaks tree item cell of ≡ [] → circle_breaks (shared_tree tree) other cell (shared_of tree of) ≡ []
     circle_kept cell Neither none = refl
     circle_kept cell (APrimitive p) none = refl
     circle_kept cell (AComponent c) none =
@@ -499,7 +485,7 @@ module _ (tree : PlainTree) where
         let one = append_none _ _ two.0 in
         both_none _ _ (both_none _ _ (ap (kind_breaks (shared_tree tree) other cell) (cell_of-shared tree cell) ∙ kind_kept cell (cell_of tree cell) one.0)
         (retold _ _ _ cell.place _ _ (ap (λ b. is_external cell && not (same_name item.name (codes "main") && b)) (ap (is_narrow_memory (shared_tree tree) other) (cell_of-shared tree cell) ∙ narrow_kept (cell_of tree cell))) one.1))
-        (ap (circles (shared_tree tree) other cell) (cell_of-shared tree cell) ∙ circle_kept cell (cell_of tree cell) two.1)
+        (ap (circle_breaks (shared_tree tree) other cell) (cell_of-shared tree cell) ∙ circle_kept cell (cell_of tree cell) two.1)
 
     groups_named : (gs : List ast.PlainGroup) → map (λ (g : ast.PlainGroup). named g.name g.place) (map (named_group new) gs) ≡ map (λ (g : ast.PlainGroup). named g.name g.place) gs
     groups_named [] = refl
@@ -521,10 +507,10 @@ module _ (tree : PlainTree) where
         (flat_is_none (port_breaks (shared_tree tree) other false) item.outputs (λ port i. own.outputs port i)))
         (flat_is_none (cell_breaks (shared_tree tree) other) other.cells (λ cell i. cell_kept cell (own.cells cell (cells_in (own_part tree item) 0 item.cells cell i)))))
         (flat_is_none (assign_breaks (shared_tree tree) other) (standing other) (λ x i.
-        let r = in_map shared_standing (standing item) x (subst (λ list. In list x) standing-shared i) in
+        let r = image_in shared_standing (standing item) x (subst (λ list. In list x) standing-shared i) in
         subst (λ y. assign_breaks (shared_tree tree) other y ≡ []) r.2 (assign_kept r.0 (own.assigns r.0 r.1)))))
         (flat_is_none (λ (v : Visited). form_breaks (shared_tree tree) other v.form v.place) (statements_in other) (λ v i.
-        let r = in_map shared_visited (statements_in item) v (subst (λ list. In list v) statements-shared i) in
+        let r = image_in shared_visited (statements_in item) v (subst (λ list. In list v) statements-shared i) in
         subst (λ (y : Visited). form_breaks (shared_tree tree) other y.form y.place ≡ []) r.2 (form_kept r.0.form r.0.place (own.statements r.0 r.1))))
 
 -- ALL NAMES
@@ -539,5 +525,5 @@ names_shared tree apart none =
     one.1)
     (ap (duplicates []) (named_parts (design_of tree).components tree.components) ∙ two.1))
     (flat_is_none (component_breaks (shared_tree tree)) (shared_tree tree).components (λ x i.
-    let r = in_map (shared_item tree) tree.components x (subst (λ list. In list x) (shared_items tree tree.components) i) in
+    let r = image_in (shared_item tree) tree.components x (subst (λ list. In list x) (shared_items tree tree.components) i) in
     subst (λ y. component_breaks (shared_tree tree) y ≡ []) r.2 (component_kept_names tree r.0 (kept_part tree r.0 (all.parts r.0 r.1)) (apart r.0 r.1)))))

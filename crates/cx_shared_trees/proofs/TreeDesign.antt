@@ -24,7 +24,7 @@ use Rattle.cx_meaning.specs.declared.ports.PlacedPort.{PlacedPort}
 use Rattle.cx_meaning.specs.Designs.{PlainGuard, PlainGuards, Always, Atom, Negation, All, Any, Compared, a_guard, guards_of, PlainAssign, PlainInvoke, PlainGroup, OfPrimitive, OfComponent, PlainCell, PlainStatement, PlainStatements, Placed, no_statements, a_statement, PlainComponent}
 use Rattle.cx_meaning.specs.declared.kinds.GroupKind.TheVariants as kinds
 use Rattle.cx_meaning.specs.Designs as plain
-use Rattle.cx_meaning.specs.Sights.{In}
+use Rattle.cx_text.specs.Members.{In}
 use Rattle.cx_rules.specs.Ports.{cell_name}
 use Rattle.cx_numbering.specs.Names.{same_name, number_of, later, is_external, cell_names, component_names, port_names, groups_in, always_in, group_names, component_among, cell_among, CellOf, Neither, APrimitive, AComponent, primitive_or, cell_of, cell_port_names, found_cell_ports, latency_of, found_latency, cell_go, primitive_of}
 use Rattle.cx_numbering.specs.DesignOf.{number_or_0, Invoke, own_port, cell_port, port_of, placed_of, comparison_of, guard_of, guards_in, guard_or_always, assign_of, kind_of, group_of, go_port, found_go, at, input_assign, go_guard, go_assign, register_of, capture_assigns, register_done, done_assign, invoke_group, invokes_in, invokes_else, invokes_of, invokes_all, group_number, comb_number, of_block, form_of, else_of, block_of, parts_of, all_of, invoke_groups, control_invokes, control_of, kind_or, plain_cell_of, component_of, Next, invoke_latency, is_static_invoke, static_capture, capture_count, after_static, after, past, captures_number, plain_invoke_of, invoke_form, captures_for, groups_for, static_for, static_invokes, first}
@@ -46,6 +46,7 @@ use Rattle.cx_sharing.proofs.RemainingLemmas.{counted, from_zero}
 use Rattle.cx_sharing.proofs.CandidateLemmas.{candidate_is}
 use Rattle.cx_shared_trees.proofs.NumberLemmas.{names_of, number_kept, new_zero}
 use Rattle.cx_meaning.proofs.DesignsLemmas.{if_is, while_is, static_if_is}
+use Rattle.cx_numbering.proofs.DesignOfLemmas.{assign_is}
 
 -- COMPONENTS keep their names, their signatures and their order
 abbrev pub shared_item : PlainTree → ast.PlainComponent → ast.PlainComponent
@@ -380,13 +381,6 @@ module _ (tree : PlainTree) (item : ast.PlainComponent) where
     option-shared (Some g) = guard-shared g
 
     -- ASSIGNMENTS
-    abbrev an_assign : PortRef → PlainGuard → PlacedPort → Place → PlainAssign
-    an_assign target guard source place = record { target = target; guard = guard; source = source; place = place }
-
-    assign_is : (t u : PortRef) (g h : PlainGuard) (s r : PlacedPort) (place : Place) → t ≡ u → g ≡ h → s ≡ r
-        → an_assign t g s place ≡ an_assign u h r place
-    assign_is t u g h s r place a b c = ap (λ x. an_assign x g s place) a ∙ ap (λ x. an_assign u x s place) b ∙ ap (λ x. an_assign u h x place) c
-
     assign-shared : (a : ast.PlainAssign) → assign_of (shared_tree tree) twin (named_assign new_name a) ≡ moved_assign new_port (assign_of tree item a)
     assign-shared a = assign_is _ _ _ _ _ _ a.place (port-shared a.target.form) (option-shared a.guard) (placed-shared a.source)
 

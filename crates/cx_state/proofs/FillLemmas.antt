@@ -3,9 +3,10 @@ use Rattle.std.proofs.Common.{◌≡◌, ℕ, zero, suc, ◌+◌, ◌<◌, ◌�
 use Rattle.std.specs.List.{slice_get}
 use Rattle.std.proofs.lemmas.Bool.{cases_lt}
 use Rattle.std.proofs.lemmas.List.{get_or-set_same, get_or-set_other, length-set}
+use Rattle.cx_text.proofs.MemberLaws.{in_at}
 use Rattle.cx_meaning.specs.Designs.{PlainKind, OfPrimitive, OfComponent, PlainCell}
 use Rattle.cx_meaning.specs.Instances.{Instance, Node, Cells, add_cell, cells_for}
-use Rattle.cx_meaning.specs.Sights.{In}
+use Rattle.cx_text.specs.Members.{In}
 use Rattle.cx_rules.specs.Sizes.{instances_below, instances_in}
 use Rattle.cx_design.specs.declared.cells.Cell.{Cell}
 use Rattle.cx_design.specs.PlainForms.{plain_cell, plain_kind}
@@ -20,7 +21,6 @@ use Rattle.cx_state.specs.Tables.{no_row, row_at}
 use Rattle.cx_state.specs.Filling.{total, total_before, HaveSome, numbered, row_placed, placed}
 use Rattle.cx_state.proofs.PreOrder.{before}
 use Rattle.cx_text.proofs.OptionLaws.{none_is_some}
-use Rattle.cx_meaning.proofs.SightsLaws.{in_at}
 
 -- COUNTS: what the tallies tell of the component cells is so
 abbrev pub AreCounted : (ℕ → Instance) → List LimitTally → List PlainCell → Type 0

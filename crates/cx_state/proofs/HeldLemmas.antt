@@ -17,7 +17,7 @@ use Rattle.cx_state.specs.Tables.{IsNumber}
 use Rattle.cx_state.specs.States.{PlainInstance, instance_state, inputs_held, StandsFor, HoldsKind, HoldCells, FitsPart, IsStateOf, under_path}
 use Rattle.cx_state.proofs.StandLemmas.{past, shift, none_more}
 use Rattle.cx_laws.specs.Widths.{HoldsStates, HoldsWidths}
-use Rattle.cx_meaning.proofs.InstancesLemmas.{nowhere, kind_skip}
+use Rattle.cx_meaning.proofs.InstancesLemmas.{instance_along, kind_skip}
 use Rattle.cx_text.proofs.ListLaws.{there_below, append-front}
 
 -- NUMBERS: an instance with a primitive cell has one
@@ -44,18 +44,6 @@ mutual
   numbered_below (an_instance child rest) k (suc x) path c row e =
       let r = numbered_below rest (suc k) x path c row e in
       (instances_below child + r.0, past child rest k r.0 ∙ r.1 ∙ ap (λ m. Some (m ∷ path)) (shift k x))
-
-mutual
-  joined : (i : Instance) (path below : Path) → instance_at (instance_at i path) below ≡ instance_at i (path ++ below)
-  joined (Node part cells) [] below = refl
-  joined (Node part cells) (c ∷ path) below = joined_below cells c path below
-
-  joined_below : (cells : Cells) (c : ℕ) (path below : Path) → instance_at (child_at cells c path) below ≡ child_at cells c (path ++ below)
-  joined_below no_cells c path below = nowhere below
-  joined_below (a_primitive row rest) zero path below = nowhere below
-  joined_below (a_primitive row rest) (suc c) path below = joined_below rest c path below
-  joined_below (an_instance child rest) zero path below = joined child path below
-  joined_below (an_instance child rest) (suc c) path below = joined_below rest c path below
 
 -- CELLS: a primitive cell of a state of the design holds a state of its row
 pub record Holds (row : Row) (h : Option CellState) : Type 0 where
@@ -88,7 +76,7 @@ module _ (d : PlainDesign) (rows : List PlainInstance) (state : IsStateOf d rows
 
   pub holds_states : (s : State) → StandsFor (tree_of d) rows s → (path : Path) → HoldsStates (instance_at (tree_of d) path) (under_path path s)
   holds_states s stands path below c row e =
-      let whole = cell_fits s stands (path ++ below) c row (ap (λ i. cell_at (cells_of i) c) (sym (joined (tree_of d) path below)) ∙ e) in
+      let whole = cell_fits s stands (path ++ below) c row (ap (λ i. cell_at (cells_of i) c) (sym (instance_along (tree_of d) path below)) ∙ e) in
       subst (λ q. IsState row.shape (s q)) (append_assoc path below (c ∷ [])) whole
 
   held_there : (held : List Seen) (n : ℕ) (b : BitVector) → get_or held n Undefined ≡ Value b → slice_get held n ≡ Some (Value b)

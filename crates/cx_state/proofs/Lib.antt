@@ -15,6 +15,6 @@ pub mod ReadLemmas
 pub mod ChangeLemmas
 mod WriteLemmas
 mod MainLemmas
-mod HeldLemmas
+pub mod HeldLemmas
 pub mod TablesLemmas
 pub mod StatesLemmas

@@ -10,7 +10,7 @@ use Rattle.cx_prim.specs.Table.{row_of}
 use Rattle.cx_meaning.specs.Designs.{PlainKind, OfPrimitive, OfComponent, PlainCell, PlainDesign, component_at}
 use Rattle.cx_meaning.specs.Instances.{State, part_of, instance_at, tree_of, if_external, externals_from}
 use Rattle.cx_meaning.specs.Instances as meaning
-use Rattle.cx_meaning.specs.Sights.{In}
+use Rattle.cx_text.specs.Members.{In}
 use Rattle.cx_rules.specs.Wellformed.{IsDesign, IsExternal, first_number}
 use Rattle.cx_rules.specs.Externals.{sizes_in, numbers_of, row_for, rows_of, external_rows}
 use Rattle.cx_rules.specs.Externals as externals

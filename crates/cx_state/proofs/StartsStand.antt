@@ -23,7 +23,7 @@ use Rattle.cx_state.proofs.Takes.{none_for, none_past}
 use Rattle.cx_meaning.proofs.InstancesLemmas.{not_just, main_path, here, some_cells, just_same, kind_skip}
 use Rattle.cx_text.proofs.OptionLaws.{none_is_some}
 use Rattle.cx_text.proofs.ListLaws.{there_below}
-use Rattle.cx_meaning.proofs.CyclesLemmas.{start_row}
+use Rattle.cx_meaning.proofs.CyclesLemmas.{start_row, start_deep}
 
 -- the words for cell c
 abbrev words_at : List PlainCell → List (List ℕ) → ℕ → Option (List ℕ)
@@ -101,18 +101,6 @@ loaded_is (x ∷ xs) k (suc c) ws d = by x.external ws (λ vs. ap (λ n. loaded_
 
 -- STARTS at paths
 
-mutual
-  started_deep : (i : Instance) (path : Path) (c : ℕ) (row : Row) → cell_at (cells_of (instance_at i path)) c ≡ OfRow row → start_at i (path ++ c ∷ []) ≡ row.start
-  started_deep (Node part cells) [] c row e = start_row cells c row e
-  started_deep (Node part cells) (x ∷ path) c row e = deep_below cells x path c row e
-
-  deep_below : (cells : Cells) (x : ℕ) (path : Path) (c : ℕ) (row : Row) → cell_at (cells_of (child_at cells x path)) c ≡ OfRow row → start_below cells x (path ++ c ∷ []) ≡ row.start
-  deep_below no_cells x path c row e = cc
-  deep_below (a_primitive one rest) zero path c row e = cc
-  deep_below (a_primitive one rest) (suc x) path c row e = deep_below rest x path c row e
-  deep_below (an_instance child rest) zero path c row e = started_deep child path c row e
-  deep_below (an_instance child rest) (suc x) path c row e = deep_below rest x path c row e
-
 deep_start : (i : Instance) (ws : List (List ℕ)) (above : Path) (x c : ℕ) → start i ws ((above ++ x ∷ []) ++ c ∷ []) ≡ start_at i ((above ++ x ∷ []) ++ c ∷ [])
 deep_start i ws [] x c = refl
 deep_start i ws (y ∷ []) x c = refl
@@ -139,7 +127,7 @@ module _ (d : PlainDesign) (rows : List InstanceRow) (children : List ℕ) (ws :
       let own = own_start zero c path held at e in
       let none : path ≡ [] = main_path (tree_of d) path at in
       let self : instance_at (tree_of d) path ≡ tree_of d = ap (instance_at (tree_of d)) none ∙ here (tree_of d) in
-      let row_start : start_at (tree_of d) (c ∷ []) ≡ own.0.start = ap (λ p. start_at (tree_of d) (p ++ c ∷ [])) (sym none) ∙ started_deep (tree_of d) path c own.0 own.1 in
+      let row_start : start_at (tree_of d) (c ∷ []) ≡ own.0.start = ap (λ p. start_at (tree_of d) (p ++ c ∷ [])) (sym none) ∙ start_deep (tree_of d) path c own.0 own.1 in
       let zero_and : c ≡ 0 + c = omega arith in
       ap (λ p. start (tree_of d) ws (p ++ c ∷ [])) none
       ∙ ap (loaded_at (externals_of (part_of (tree_of d))) ws c) row_start
@@ -153,7 +141,7 @@ module _ (d : PlainDesign) (rows : List InstanceRow) (children : List ℕ) (ws :
       (λ (z : suc n ≡ 0). absurd (omega arith))
       (λ (p : HasParent (tree_of d) (suc n) path).
       ap (λ q. start (tree_of d) ws (q ++ c ∷ [])) p.is ∙ deep_start (tree_of d) ws p.path p.cell c ∙ ap (λ q. start_at (tree_of d) (q ++ c ∷ [])) (sym p.is)
-      ∙ started_deep (tree_of d) path c own.0 own.1
+      ∙ start_deep (tree_of d) path c own.0 own.1
       ∙ sym (own.2 ∙ ap (row_started own.0) (words_none (part_of (instance_at (tree_of d) path)).cells c)))
       (stands (tree_of d) (suc n) path at).parent
 

@@ -6,7 +6,7 @@ use Rattle.std.proofs.lemmas.List.{length-map}
 use Rattle.std.proofs.lemmas.Option.{slice_get-map}
 use Rattle.cx_meaning.specs.Designs.{PlainKind, OfPrimitive, OfComponent, PlainCell}
 use Rattle.cx_meaning.specs.Instances.{Instance, Path, add_cell, cells_for, behind, paths_of, paths_below}
-use Rattle.cx_meaning.specs.Sights.{In}
+use Rattle.cx_text.specs.Members.{In}
 use Rattle.cx_rules.specs.Sizes.{instances_below}
 use Rattle.cx_design_sizes.specs.Capped.{capped}
 use Rattle.cx_design_sizes.specs.declared.tallies.LimitTally.{LimitTally}

@@ -4,9 +4,10 @@ use Rattle.std.specs.List.{slice_get}
 use Rattle.std.proofs.lemmas.Bool.{cases_lt}
 use Rattle.std.proofs.lemmas.List.{get_or-set_same, get_or-set_other, length-set, length-replicate, get_or-replicate, length-append, get_or_append_left, get_or-append-add}
 use Rattle.std.proofs.lemmas.Option.{slice_get-get_or}
+use Rattle.cx_text.proofs.MemberLaws.{in_at}
 use Rattle.cx_meaning.specs.Designs.{PlainKind, OfPrimitive, OfComponent, PlainCell, PlainDesign, component_at}
 use Rattle.cx_meaning.specs.Instances.{Instance, Node, Cells, no_cells, OfInstance, a_primitive, an_instance, add_cell, cells_for, cell_at, cells_of, part_of, instance_at, child_at, Path, paths_of, tree_of}
-use Rattle.cx_meaning.specs.Sights.{In}
+use Rattle.cx_text.specs.Members.{In}
 use Rattle.cx_text.specs.declared.rules.Rule.TheVariants.{Limit}
 use Rattle.cx_rules.specs.Accepted.{KeepsStage}
 use Rattle.cx_rules.specs.LimitRule.{OnInstances, order_of, word_of}
@@ -30,7 +31,6 @@ use Rattle.cx_meaning.proofs.InstancesLemmas.{kind_skip, here as instance_self}
 use Rattle.cx_state.proofs.TablesLemmas.{one_path}
 use Rattle.cx_text.proofs.OptionLaws.{none_is_some}
 use Rattle.cx_text.proofs.ListLaws.{there_below}
-use Rattle.cx_meaning.proofs.SightsLaws.{in_at}
 
 -- main, or an instance whose instance above comes before number n
 abbrev Reached : PlainDesign → ℕ → ℕ → Path → Type 0

@@ -1,7 +1,7 @@
 -- Loaded words that fit the external memories are taken by them.
 use Rattle.std.proofs.Common.{◌≡◌, ℕ, ◌^◌, ◌<◌, Bool, true, false, inl, inr, List, [], ◌∷◌, map, All, Some, None, refl, sym, ap, ◌∙◌, subst}
 use Rattle.std.proofs.lemmas.List.Elements.{All-head, All-tail}
-use Rattle.cx_text.specs.Loading.{PlainMemory, FitsShape, FitsRows, word_count, plain_memory}
+use Rattle.cx_text.specs.Loading.{PlainMemory, FitsShape, FitsRows, word_count, plain_memory, words_loaded}
 use Rattle.cx_text.specs.declared.loading.LoadedMemory.{LoadedMemory}
 use Rattle.cx_prim.specs.Table.{row_of}
 use Rattle.cx_meaning.specs.Designs.{PlainKind, OfPrimitive, OfComponent, PlainCell, PlainDesign, component_at}
@@ -39,13 +39,10 @@ kind_takes d k cell (OfPrimitive p) m is external same fit =
     takes_shape (row_of p).shape (first_number p.numbers) (word_count (sizes_in p.numbers)) m.words (memory_shape p external.1)
     (record { length = fit.count ∙ ap word_count sizes; in_range = subst (λ w. All (λ word. word < 2 ^ w) m.words) width fit.in_range }) external.2
 
-abbrev words_of_all : List PlainMemory → List (List ℕ)
-words_of_all memories = map (λ (m : PlainMemory). m.words) memories
-
 cell_takes : (d : PlainDesign) (k : ℕ) (cell : PlainCell) (cells : List PlainCell) (b : Bool) (memories : List PlainMemory) → cell.external ≡ b → (b ≡ true → IsExternal d k cell.kind)
-    → ((rest : List PlainMemory) → map (λ (m : PlainMemory). m.shape) rest ≡ rows_of cells → All FitsShape rest → TakeWords cells (words_of_all rest))
+    → ((rest : List PlainMemory) → map (λ (m : PlainMemory). m.shape) rest ≡ rows_of cells → All FitsShape rest → TakeWords cells (words_loaded rest))
     → map (λ (m : PlainMemory). m.shape) memories ≡ if_external b cell (rows_of cells) → All FitsShape memories
-    → KindTakes cell.kind (words_for b (words_of_all memories)) × TakeWords cells (words_past b (words_of_all memories))
+    → KindTakes cell.kind (words_for b (words_loaded memories)) × TakeWords cells (words_past b (words_loaded memories))
 cell_takes d k cell cells false memories is external later same fit = (kind_none cell.kind, later memories same fit)
 cell_takes d k cell cells true [] is external later same fit = (kind_none cell.kind, take_none cells)
 cell_takes d k cell cells true (m ∷ ms) is external later same fit = (
@@ -54,12 +51,12 @@ cell_takes d k cell cells true (m ∷ ms) is external later same fit = (
 )
 
 all_take : (d : PlainDesign) (k : ℕ) (cells : List PlainCell) (memories : List PlainMemory) → AreExternal d k cells → map (λ (m : PlainMemory). m.shape) memories ≡ rows_of cells → All FitsShape memories
-    → TakeWords cells (words_of_all memories)
+    → TakeWords cells (words_loaded memories)
 all_take d k [] memories external same fit = tt
 all_take d k (cell ∷ cells) memories external same fit =
     cell_takes d k cell cells cell.external memories refl (external cell (inl refl)) (λ rest e f. all_take d k cells rest (λ x i e. external x (inr i) e) e f) same fit
 
-words_plain : (memories : List LoadedMemory) → words_of_all (map plain_memory memories) ≡ words_in memories
+words_plain : (memories : List LoadedMemory) → words_loaded (map plain_memory memories) ≡ words_in memories
 words_plain [] = refl
 words_plain (m ∷ ms) = ap (λ ws. m.words.items ∷ ws) (words_plain ms)
 

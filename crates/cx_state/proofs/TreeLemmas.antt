@@ -4,15 +4,15 @@ use Rattle.std.specs.List.{slice_get}
 use Rattle.std.proofs.lemmas.Bool.{cases_lt}
 use Rattle.std.proofs.lemmas.List.{length-append, length-map, take_more, take_all}
 use Rattle.std.proofs.lemmas.Option.{slice_get-get_or}
+use Rattle.cx_text.proofs.MemberLaws.{number_in}
 use Rattle.cx_meaning.specs.Designs.{PlainKind, OfPrimitive, OfComponent, PlainCell, PlainDesign, component_at}
 use Rattle.cx_meaning.specs.Instances.{Instance, Node, Cells, no_cells, a_primitive, an_instance, Path, add_cell, cells_for, tree_within, behind, paths_of, paths_below, instance_at, child_at}
-use Rattle.cx_meaning.specs.Sights.{In}
+use Rattle.cx_text.specs.Members.{In}
 use Rattle.cx_rules.specs.Ports.{component_of}
 use Rattle.cx_rules.specs.Sizes.{instances_below, instances_in}
 use Rattle.cx_design_sizes.specs.Orders.{IsChildrenFirst}
 use Rattle.cx_design_sizes.proofs.Places.{in_snoc}
 use Rattle.cx_text.proofs.OptionLaws.{none_is_some}
-use Rattle.cx_meaning.proofs.SightsLaws.{number_in}
 use Rattle.cx_meaning.proofs.InstancesLemmas.{cells_same}
 
 in_take : {A : Type 0} (xs : List A) (i : ℕ) (x : A) → In (take i xs) x → In xs x

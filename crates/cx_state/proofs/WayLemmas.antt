@@ -2,10 +2,11 @@
 use Rattle.std.proofs.Common.{◌≡◌, ℕ, zero, suc, ◌+◌, ◌-◌, ◌^◌, ◌<◌, ◌≤◌, List, [], ◌∷◌, ◌++◌, length, map, get_or, Option, Some, None, append_assoc, refl, sym, ap, ◌∙◌, subst, arith}
 use Rattle.std.specs.Prelude.{codes}
 use Rattle.std.specs.List.{slice_get}
+use Rattle.cx_text.proofs.MemberLaws.{in_at}
 use Rattle.cx_meaning.specs.declared.ports.PortRef.{PortRef}
 use Rattle.cx_meaning.specs.Designs.{OfComponent, PlainCell, PlainDesign, component_at}
 use Rattle.cx_meaning.specs.Instances.{Instance, Node, Path, cells_for, tree_of, paths_of, instance_at}
-use Rattle.cx_meaning.specs.Sights.{In}
+use Rattle.cx_text.specs.Members.{In}
 use Rattle.cx_rules.specs.Ports.{component_of, cell_name}
 use Rattle.cx_design.specs.declared.cells.Cell.{Cell}
 use Rattle.cx_design.specs.PlainForms.{plain_cell}
@@ -18,7 +19,6 @@ use Rattle.cx_state.specs.Steps.{step_below, next_step}
 use Rattle.cx_state.proofs.TreeLemmas.{child_in, tree_is, child_is}
 use Rattle.cx_state.proofs.StepLemmas.{IsStepOf, found}
 use Rattle.cx_text.proofs.ListLaws.{there_below}
-use Rattle.cx_meaning.proofs.SightsLaws.{in_at}
 use Rattle.cx_meaning.proofs.InstancesLemmas.{here as instance_self}
 
 -- so far: what is written, and behind it the path from the component that is reached

@@ -1,7 +1,7 @@
 -- The numbers of instances as they are given out, instance by instance.
 use Rattle.std.specs.Prelude.{◌≡◌, ℕ, zero, suc, ◌+◌, ◌≤◌, List, [], ◌∷◌, set}
 use Rattle.cx_meaning.specs.Designs.{PlainKind, OfPrimitive, OfComponent, PlainCell}
-use Rattle.cx_meaning.specs.Sights.{In}
+use Rattle.cx_text.specs.Members.{In}
 use Rattle.cx_design_sizes.specs.declared.tallies.LimitTally.{LimitTally}
 use Rattle.cx_state.specs.Steps.{instances_at}
 use Rattle.cx_state.specs.declared.tables.InstanceRow.{InstanceRow}

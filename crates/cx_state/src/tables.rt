@@ -10,7 +10,7 @@ ghost use Rattle.cx_design.specs.PlainDesigns.{plain_design};
 ghost use Rattle.cx_design_sizes.specs.Orders.{IsChildrenFirst};
 ghost use Rattle.cx_design_sizes.specs.Tallies.{AreTallied};
 ghost use Rattle.cx_state.specs.Steps as steps;
-ghost use Rattle.cx_state.specs.Tables.{IsTable};
+ghost use Rattle.cx_state.specs.Tables.{IsTable, child_of};
 ghost use Rattle.cx_state.specs.Filling.{HaveSome, numbered, placed, row_placed, total};
 
 use cx_design::{Cell, CellKind, Checked, Design};
@@ -33,6 +33,22 @@ pub struct InstanceRow {
 pub struct InstanceTable {
     pub rows: Vec<InstanceRow>,
     pub children: Vec<usize>,
+}
+
+impl InstanceTable {
+    /// What stands for a cell of an instance; 0 where the table has nothing.
+    pub fn child_of(&self, instance: usize, cell: u32) -> usize
+        ensures value { result ≡ child_of self.now.rows.items self.now.children.items instance cell }
+    {
+        let first = match self.rows.get(instance) {
+            Some(row) => row.first,
+            None => 0,
+        };
+        match self.children.get(first.saturating_add(cell as usize)) {
+            Some(child) => *child,
+            None => 0,
+        }
+    }
 }
 
 /// The instances at a cell, with all below; 0 for a primitive.

@@ -6,7 +6,7 @@ use Rattle.cx_meaning.specs.declared.ports.PortRef.{PortRef}
 use Rattle.cx_meaning.specs.declared.ports.PortRef.TheVariants as ports
 use Rattle.cx_meaning.specs.Designs.{PlainAssign, PlainDesign, PlainComponent, PlainKind, PlainCell, PlainStatement, OfPrimitive, OfComponent, component_at, group_at}
 use Rattle.cx_meaning.specs.Instances.{Instance, Cells, At, Nothing, OfRow, OfInstance, add_cell, cells_for, tree_within, Path, State, just, put, under, cell_at, cells_of, part_of, instance_at, paths_of, tree_of}
-use Rattle.cx_meaning.specs.Sights.{In}
+use Rattle.cx_text.specs.Members.{In}
 use Rattle.cx_meaning.specs.Calls.{if_instance, called_by, called_in, called}
 use Rattle.cx_meaning.specs.Control.{targets_cell, assigns_drive}
 use Rattle.cx_rules.specs.Items.{Dynamic, visit}

@@ -9,10 +9,12 @@ use Rattle.cx_meaning.specs.declared.ports.PortRef.{PortRef}
 use Rattle.cx_meaning.specs.declared.ports.PortRef.TheVariants as ports
 use Rattle.cx_meaning.specs.Designs.{PlainAssign}
 use Rattle.cx_meaning.specs.Instances.{just}
+use Rattle.cx_meaning.proofs.InstancesLemmas.{just_is}
 use Rattle.cx_meaning.specs.Control.{targets_cell, assigns_drive}
 use Rattle.cx_eval_cycle.specs.Passes.{IsAscending, listed_in}
-use Rattle.cx_text.proofs.NumberLaws.{from_eq, eq_next}
+use Rattle.cx_text.proofs.NumberLaws.{from_eq}
 use Rattle.cx_text.proofs.BoolLaws.{swapped, once}
+use Rattle.cx_text.proofs.OptionLaws.{some_is}
 
 -- the cells, with those of targets
 abbrev pub with_target : List ℕ → PortRef → List ℕ
@@ -25,18 +27,6 @@ with_target found (ports.Literal w v) = found
 abbrev pub with_targets : List ℕ → List PlainAssign → List ℕ
 with_targets found [] = found
 with_targets found (a ∷ rest) = with_targets (with_target found a.target) rest
-
-eq_less : (d : ℕ) → false ≡ nat_eq zero (suc d)
-eq_less d = grind (arith, tests)
-
-eq_more : (c : ℕ) → false ≡ nat_eq (suc c) zero
-eq_more c = grind (arith, tests)
-
-pub just_is : (c d : ℕ) → just c d ≡ nat_eq c d
-just_is zero zero = refl
-just_is zero (suc d) = eq_less d
-just_is (suc c) zero = eq_more c
-just_is (suc c) (suc d) = just_is c d ∙ eq_next c d
 
 grouped : (a b c : Bool) → (b || a) || c ≡ a || (b || c)
 grouped true true c = refl
@@ -79,14 +69,10 @@ listed_targets found (a ∷ rest) q =
 pub listed_are_driven : (cells : List ℕ) (assigns : List PlainAssign) → cells ≡ with_targets [] assigns → (q : ℕ) → listed_in cells q ≡ assigns_drive assigns q
 listed_are_driven cells assigns e q = ap (λ xs. listed_in xs q) e ∙ listed_targets [] assigns q
 
-abbrev value_or : ℕ → Option ℕ → ℕ
-value_or n None = n
-value_or n (Some m) = m
-
 -- a number of a list stands at its place
 stands : (xs : List ℕ) (k m : ℕ) → slice_get xs k ≡ Some m → (k < length xs) × (get_or xs k 0 ≡ m)
 stands [] k m e = absurd (cc)
-stands (x ∷ xs) zero m e = (omega arith, ap (value_or x) e)
+stands (x ∷ xs) zero m e = (omega arith, some_is x m e)
 stands (x ∷ xs) (suc k) m e = let h = stands xs k m e in let l : k < length xs = h.0 in (omega (arith, l), h.1)
 
 pub ascends : (xs : List ℕ) → IsStrictlySortedBy nat_cmp xs → IsAscending xs

@@ -1,6 +1,7 @@
 -- Idle edges of all cells, one after the other.
 use Rattle.std.proofs.Common.{◌≡◌, ℕ, zero, suc, ◌+◌, ◌<◌, ◌≤◌, Bool, true, false, ◌||◌, nat_eq, List, [], ◌∷◌, length, get_or, set, Option, Some, None, ⊎_elim, refl, sym, ap, ◌∙◌, subst, arith, if◌then◌else◌}
 use Rattle.std.proofs.lemmas.Bool.{eq-eqb, cases_lt, or_from}
+use Rattle.std.proofs.Math.Bool.{or_comm}
 use Rattle.cx_prim.specs.CellStates.{CellState}
 use Rattle.cx_meaning.specs.Designs.{PlainCell}
 use Rattle.cx_meaning.specs.Instances.{Set}
@@ -17,12 +18,6 @@ use Rattle.cx_text.proofs.ListLaws.{get_same}
 abbrev pub first_numbers : ℕ → List ℕ
 first_numbers zero = []
 first_numbers (suc k) = k ∷ first_numbers k
-
-either_comm : (a b : Bool) → (a || b) ≡ (b || a)
-either_comm true true = refl
-either_comm true false = refl
-either_comm false true = refl
-either_comm false false = refl
 
 either_true : (b c : Bool) → (b ≡ false → c ≡ true) → (b || c) ≡ true
 either_true true c f = refl
@@ -63,5 +58,5 @@ next_rested xs initial held k d old new lt count so_far holds is value fits =
     let here : new ≡ kind_rested (get_or xs k d).kind (get_or held k None) = value ∙ ap (kind_rested (get_or xs k d).kind) (is ∙ get_same held k old None inside) in
     let one : set held k new ≡ rested_cells (listed_in (first_numbers (suc k))) xs initial =
     ap (set held k) here ∙ ap (λ (hs : List (Option CellState)). set hs k (kind_rested (get_or xs k d).kind (get_or hs k None))) so_far
-    ∙ sym (one_rested (listed_in (first_numbers k)) (listed_in (first_numbers (suc k))) xs initial k d (λ e. either_comm (nat_eq k e) (listed_in (first_numbers k) e)) (later k k (omega arith)) lt count) in
+    ∙ sym (one_rested (listed_in (first_numbers k)) (listed_in (first_numbers (suc k))) xs initial k d (λ e. or_comm (nat_eq k e) (listed_in (first_numbers k) e)) (later k k (omega arith)) lt count) in
     (subst (λ j. set held k new ≡ rested_cells (listed_in (first_numbers j)) xs initial) next one, set_holds xs held k d new holds fits)

@@ -4,7 +4,7 @@ use Rattle.cx_meaning.specs.declared.ports.PortRef.{PortRef}
 use Rattle.cx_meaning.specs.declared.ports.PortRef.TheVariants as ports
 use Rattle.cx_meaning.specs.Designs.{PlainAssign, PlainGroup, PlainDesign, PlainComponent, component_at, group_at, no_group}
 use Rattle.cx_meaning.specs.Instances.{Instance, Path, part_of, instance_at, paths_of, tree_of}
-use Rattle.cx_meaning.specs.Sights.{In}
+use Rattle.cx_text.specs.Members.{In}
 use Rattle.cx_meaning.specs.Islands.{kind_length, group_length}
 use Rattle.cx_meaning.specs.Control.{targets_cell, assigns_drive, group_drives}
 use Rattle.cx_state.specs.Tables.{IsNumber, IsTable, row_at}

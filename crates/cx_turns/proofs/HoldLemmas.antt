@@ -32,7 +32,7 @@ use Rattle.cx_turns.specs.Islands.{HasPart}
 use Rattle.cx_turns.specs.Machines.{IsInstance}
 use Rattle.cx_turns.specs.Children.{IsPart, HasChild, IsInputOf, HoldsInput, HoldsFirst, HoldsCall}
 use Rattle.cx_turns.proofs.ChildLemmas.{cell_in}
-use Rattle.cx_turns.proofs.Measures.{instance_child}
+use Rattle.cx_state.proofs.TableLemmas.{further}
 use Rattle.cx_text.proofs.NumberLaws.{same_or}
 use Rattle.cx_meaning.proofs.SightsLaws.{input_at}
 use Rattle.cx_text.proofs.ListLaws.{there_below}
@@ -69,7 +69,7 @@ module _ (d : PlainDesign) (design : IsDesign d) (table : List InstanceRow) (chi
 module _ (d : PlainDesign) (n c child k : ℕ) (part : IsPart d n c) (is_child : HasChild d n c child) (input : IsInputOf d child k) where
   child_input : (path : Path) → (number : IsNumber d n path) → k < length (part_of ((part path number).0)).inputs
   child_input path number =
-      subst (λ i. k < length (part_of i).inputs) (instance_child (tree_of d) path c (part path number).0 (part path number).1) (input (path ++ c ∷ []) (is_child path number))
+      subst (λ i. k < length (part_of i).inputs) (further (tree_of d) path c (part path number).0 (part path number).1) (input (path ++ c ∷ []) (is_child path number))
 
   pub input_there : (IsDesign d) → (table : List InstanceRow) (children : List ℕ) → IsTable d table children → IsPort d n (ports.Cell c (suc k))
   input_there design table children is_table path number =
@@ -85,7 +85,7 @@ module _ (d : PlainDesign) (n c child k : ℕ) (part : IsPart d n c) (is_child :
       let p = part path number in
       let lt : k < length (part_of p.0).inputs = child_input path number in
       ap (λ x. cell_width x (suc k)) p.1 ∙ ap (part_width (part_of p.0)) (input_at (part_of p.0) k lt)
-      ∙ ap (λ i. declared_width (part_of i).inputs k) (sym (instance_child (tree_of d) path c p.0 p.1))
+      ∙ ap (λ i. declared_width (part_of i).inputs k) (sym (further (tree_of d) path c p.0 p.1))
 
 -- ONE INPUT HELD
 module _ (rows : List PlainInstance) (n k : ℕ) (x : Seen) where

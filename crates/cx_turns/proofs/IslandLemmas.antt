@@ -5,7 +5,7 @@ use Rattle.cx_text.specs.declared.limits.TheConstants.{REPETITIONS}
 use Rattle.cx_meaning.specs.Designs.{PlainDesign, PlainComponent, PlainForm}
 use Rattle.cx_meaning.specs.Instances.{Instance, Path, part_of, instance_at, paths_of, tree_of}
 use Rattle.cx_meaning.specs.Active.{Entry, entries}
-use Rattle.cx_meaning.specs.Sights.{In}
+use Rattle.cx_text.specs.Members.{In}
 use Rattle.cx_meaning.specs.Islands.{History, form_length, form_flat, active_in}
 use Rattle.cx_rules.specs.Items.{Visited, Dynamic, statements_in}
 use Rattle.cx_rules.specs.StaticControl.{is_island}

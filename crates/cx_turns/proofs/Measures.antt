@@ -4,7 +4,7 @@ use Rattle.cx_meaning.specs.Designs.{PlainDesign, PlainForm, Empty, Enable, Seq,
 use Rattle.std.specs.List.{slice_get}
 use Rattle.cx_state.specs.Tables.{IsNumber}
 use Rattle.cx_meaning.specs.Instances.{Instance, Node, Cells, no_cells, a_primitive, an_instance, Nothing, OfRow, OfInstance, cell_at, cells_of, part_of, Path, instance_at, child_at, paths_of, tree_of}
-use Rattle.cx_meaning.proofs.InstancesLemmas.{here}
+use Rattle.cx_state.proofs.TableLemmas.{further}
 
 abbrev mutual
   pub form_steps : PlainForm → ℕ
@@ -63,29 +63,6 @@ child_work (an_instance own rest) zero child e =
     omega (arith, equal)
 child_work (an_instance own rest) (suc c) child e = let h : work child ≤ work_below rest = child_work rest c child e in omega (arith, h)
 
-cell_child : (cells : Cells) (k : ℕ) (child : Instance) → cell_at cells k ≡ OfInstance child → child_at cells k [] ≡ child
-cell_child no_cells k child e = cc
-cell_child (a_primitive row rest) zero child e = cc
-cell_child (a_primitive row rest) (suc k) child e = cell_child rest k child e
-cell_child (an_instance own rest) zero child e =
-    let f : OfInstance own ≡ OfInstance child = e in
-    let same : own ≡ child = cc in
-    here own ∙ same
-cell_child (an_instance own rest) (suc k) child e = cell_child rest k child e
-
--- the instance at a cell of the instance at a path
-mutual
-  pub instance_child : (i : Instance) (path : Path) (c : ℕ) (child : Instance) → cell_at (cells_of (instance_at i path)) c ≡ OfInstance child → instance_at i (path ++ c ∷ []) ≡ child
-  instance_child (Node part cells) [] c child e = cell_child cells c child e
-  instance_child (Node part cells) (k ∷ path) c child e = deeper_child cells k path c child e
-
-  deeper_child : (cells : Cells) (k : ℕ) (path : Path) (c : ℕ) (child : Instance) → cell_at (cells_of (child_at cells k path)) c ≡ OfInstance child → child_at cells k (path ++ c ∷ []) ≡ child
-  deeper_child no_cells k path c child e = cc
-  deeper_child (a_primitive row rest) zero path c child e = cc
-  deeper_child (a_primitive row rest) (suc k) path c child e = deeper_child rest k path c child e
-  deeper_child (an_instance own rest) zero path c child e = instance_child own path c child e
-  deeper_child (an_instance own rest) (suc k) path c child e = deeper_child rest k path c child e
-
 got_path : (paths : List Path) (n : ℕ) (path : Path) → slice_get paths n ≡ Some path → get_or paths n [] ≡ path
 got_path [] n path e = cc
 got_path (p ∷ paths) zero path e = let f : Some p ≡ Some path = e in cc
@@ -103,7 +80,7 @@ pub call_falls : (d : PlainDesign) (n c number : ℕ) (path : Path) (child : Ins
 call_falls d n c number path child at there e =
     let i : Instance = instance_at (tree_of d) path in
     let j : Instance = instance_at (tree_of d) (path ++ c ∷ []) in
-    let is : j ≡ child = instance_child (tree_of d) path c child e in
+    let is : j ≡ child = further (tree_of d) path c child e in
     let above : below d n ≡ work_below (cells_of i) = ap (λ p. below_it (instance_at (tree_of d) p)) (got_path (paths_of (tree_of d)) n path at) ∙ below_cells i in
     let own : below d number ≡ below_it j = ap (λ p. below_it (instance_at (tree_of d) p)) (got_path (paths_of (tree_of d)) number (path ++ c ∷ []) there) in
     let less : work child ≤ work_below (cells_of i) = child_work (cells_of i) c child e in

@@ -1,14 +1,14 @@
 -- Parts of statements stand in the control, and are less work.
 use Rattle.std.proofs.Common.{◌≡◌, ℕ, zero, suc, ◌≤◌, ◌<◌, List, [], ◌∷◌, length, get_or, Option, inr, sym, subst, arith}
+use Rattle.cx_text.proofs.MemberLaws.{in_left, in_right}
 use Rattle.cx_meaning.specs.declared.ports.PlacedPort.{PlacedPort}
 use Rattle.cx_meaning.specs.Designs.{PlainDesign, If, PlainStatement}
-use Rattle.cx_meaning.specs.Sights.{In}
+use Rattle.cx_text.specs.Members.{In}
 use Rattle.cx_rules.specs.Items.{Visited, Dynamic, visit, visit_all}
 use Rattle.cx_design.specs.declared.statements.Statement.{Statement}
 use Rattle.cx_design.specs.PlainForms.{plain_statement, plain_statements}
 use Rattle.cx_turns.specs.Machines.{StandsIn, StandIn, FormStands}
 use Rattle.cx_turns.proofs.Measures.{steps, all_steps}
-use Rattle.cx_meaning.proofs.SightsLaws.{in_left, in_right}
 
 part_visited : (parts : List Statement) (k : ℕ) (x : Statement) (v : Visited) → k < length parts → In (visit Dynamic (plain_statement (get_or parts k x))) v → In (visit_all Dynamic (plain_statements parts)) v
 part_visited [] k x v lt h = absurd (omega arith)

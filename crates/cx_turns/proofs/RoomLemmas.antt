@@ -11,7 +11,7 @@ use Rattle.cx_design_parts.specs.Items.{plain_visited}
 use Rattle.std.specs.Vec.{vec_len, vec_capacity}
 use Rattle.cx_meaning.specs.Designs.{PlainDesign, PlainComponent, PlainForm, component_at, no_component}
 use Rattle.cx_meaning.specs.Instances.{Path, part_of, instance_at, paths_of, tree_of}
-use Rattle.cx_meaning.specs.Sights.{In}
+use Rattle.cx_text.specs.Members.{In}
 use Rattle.cx_rules.specs.Accepted.{IsAccepted}
 use Rattle.cx_rules.specs.Wellformed.{IsDesign}
 use Rattle.cx_rules.specs.Items.{Visited, statements_in}

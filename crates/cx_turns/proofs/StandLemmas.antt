@@ -1,5 +1,6 @@
 -- What a design keeps of the statements of its instances: the ports of their tests, and their groups.
 use Rattle.std.proofs.Common.{◌≡◌, ℕ, ◌<◌, Bool, true, false, List, [], length, Option, Some, None, inl, inr, refl, sym, ap, ◌∙◌, subst}
+use Rattle.cx_text.proofs.MemberLaws.{number_in}
 use Rattle.cx_text.specs.declared.places.Place.{Place}
 use Rattle.cx_text.specs.declared.rules.Rule.TheVariants.{Literal}
 use Rattle.cx_meaning.specs.declared.ports.PortRef.{PortRef}
@@ -7,7 +8,7 @@ use Rattle.cx_meaning.specs.declared.ports.PortRef.TheVariants as ports
 use Rattle.cx_meaning.specs.declared.ports.PlacedPort.{PlacedPort}
 use Rattle.cx_meaning.specs.Designs.{PlainDesign, PlainComponent, PlainForm, Enable, component_at}
 use Rattle.cx_meaning.specs.Instances.{Instance, Path, part_of, instance_at, tree_of}
-use Rattle.cx_meaning.specs.Sights.{In}
+use Rattle.cx_text.specs.Members.{In}
 use Rattle.cx_rules.specs.Accepted.{IsAccepted}
 use Rattle.cx_rules.specs.Spots.{AStatement}
 use Rattle.cx_rules.specs.Items.{Visited, Dynamic, statements_in, test_in}
@@ -22,7 +23,6 @@ use Rattle.cx_turns.specs.Groups.{IsGroupOf}
 use Rattle.cx_turns.specs.Machines.{FormStands}
 use Rattle.cx_turns.specs.Tests.{comb_active}
 use Rattle.cx_meaning.proofs.DesignsLemmas.{same_part}
-use Rattle.cx_meaning.proofs.SightsLaws.{number_in}
 use Rattle.cx_text.proofs.ListLaws.{there_below}
 
 kept_literal : (port : PortRef) → ((w v : ℕ) → port ≡ ports.Literal w v → keeps_literal w v ≡ false → ⊥) → IsKept port

@@ -6,15 +6,12 @@ use Rattle.cx_state.specs.declared.tables.InstanceRow.{InstanceRow}
 use Rattle.cx_state.specs.Tables.{IsTable, row_at}
 use Rattle.cx_turns.specs.declared.tables.GroupTable.{GroupTable}
 use Rattle.cx_turns.specs.GroupRows.{IsGroup, AreTables, AreGroups}
-
-abbrev value_or : {A : Type 0} → A → Option A → A
-value_or a None = a
-value_or a (Some b) = b
+use Rattle.cx_text.proofs.OptionLaws.{same_some}
 
 -- one more element, which keeps what those of a list keep
 pub pushed : {A : Type 0} (P : ℕ → A → Type 0) (xs : List A) (x : A) → ((k : ℕ) (y : A) → slice_get xs k ≡ Some y → P k y) → P (length xs) x
     → (k : ℕ) (y : A) → slice_get (xs ++ x ∷ []) k ≡ Some y → P k y
-pushed P [] x h last zero y e = subst (P zero) (ap (value_or x) e) last
+pushed P [] x h last zero y e = subst (P zero) (same_some x y e) last
 pushed P [] x h last (suc k) y e = absurd (cc)
 pushed P (z ∷ xs) x h last zero y e = h zero y e
 pushed P (z ∷ xs) x h last (suc k) y e = pushed (λ j. P (suc j)) xs x (λ j. h (suc j)) last k y e

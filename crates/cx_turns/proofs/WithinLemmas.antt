@@ -7,12 +7,12 @@ use Rattle.cx_meaning.specs.declared.ports.PortRef.{PortRef}
 use Rattle.cx_meaning.specs.declared.ports.PortRef.TheVariants as ports
 use Rattle.cx_meaning.specs.Designs.{PlainAssign, PlainDesign, component_at, group_at}
 use Rattle.cx_meaning.specs.Instances.{Instance, part_of}
-use Rattle.cx_meaning.specs.Sights.{In}
+use Rattle.cx_text.specs.Members.{In}
 use Rattle.cx_meaning.specs.Control.{targets_cell, assigns_drive, group_drives}
 use Rattle.cx_rules.specs.Ports.{component_of}
 use Rattle.cx_rules.specs.Wellformed.{IsThere, IsDesign}
 use Rattle.cx_eval_cycle.specs.Passes.{listed_in}
-use Rattle.cx_turns.proofs.DriveLemmas.{just_is}
+use Rattle.cx_meaning.proofs.InstancesLemmas.{just_is}
 use Rattle.cx_text.proofs.NumberLaws.{equal, from_eq}
 use Rattle.cx_text.proofs.BoolLaws.{or_right}
 use Rattle.cx_meaning.proofs.DesignsLemmas.{same_part}

@@ -3,7 +3,7 @@ use Rattle.std.specs.Prelude.{◌≡◌, ℕ, ◌<◌, ◌^◌, List, Option, So
 use Rattle.cx_meaning.specs.Designs.{PlainDesign, PlainForm, PlainStatement, Placed, PlainStatements}
 use Rattle.cx_text.specs.declared.places.Place.{Place}
 use Rattle.cx_meaning.specs.Instances.{Path, part_of, instance_at, paths_of, tree_of}
-use Rattle.cx_meaning.specs.Sights.{In}
+use Rattle.cx_text.specs.Members.{In}
 use Rattle.cx_rules.specs.Accepted.{IsAccepted}
 use Rattle.cx_rules.specs.Wellformed.{IsDesign}
 use Rattle.cx_rules.specs.Items.{Visited, Dynamic, visit, visit_all, statements_in}

@@ -3,7 +3,7 @@ use Rattle.std.specs.Prelude.{◌≡◌, ℕ, ◌<◌, ◌≤◌, List, length, 
 use Rattle.std.specs.Vec.{vec_len, vec_capacity}
 use Rattle.cx_meaning.specs.Designs.{PlainDesign, PlainComponent, PlainForm, component_at}
 use Rattle.cx_meaning.specs.Active.{Entry}
-use Rattle.cx_meaning.specs.Sights.{In}
+use Rattle.cx_text.specs.Members.{In}
 use Rattle.cx_rules.specs.Items.{Visited, statements_in}
 use Rattle.cx_design.specs.declared.actives.Active.{Active}
 use Rattle.cx_design.specs.declared.actives.Active.TheVariants as actives

@@ -11,7 +11,7 @@ use Rattle.cx_state.proofs.ChangeLemmas.{one_number}
 use Rattle.cx_turns.specs.Children.{HasChild, IsPart}
 use Rattle.cx_turns.specs.Machines.{IsInstance}
 use Rattle.cx_turns.proofs.ChildLemmas.{append_one, under_child, put_child, child_after, called_is}
-use Rattle.cx_turns.proofs.Measures.{instance_child}
+use Rattle.cx_state.proofs.TableLemmas.{further}
 use Rattle.cx_weave.specs.declared.strands.Strand.{Strand}
 use Rattle.cx_weave.specs.Calls.{HoldsAs}
 use Rattle.cx_orders.specs.Open.{Open}
@@ -22,12 +22,12 @@ use Rattle.std.proofs.lemmas.Option.{slice_get-get_or}
 
 -- the child at a cell
 one_below : (i : Instance) (c : ℕ) (child : Instance) → cell_at (cells_of i) c ≡ OfInstance child → instance_at i (c ∷ []) ≡ child
-one_below (Node part cells) c child e = instance_child (Node part cells) [] c child e
+one_below (Node part cells) c child e = further (Node part cells) [] c child e
 
 pub child_is : (d : PlainDesign) (n c : ℕ) → IsPart d n c → (path : Path) → IsNumber d n path → instance_at (tree_of d) (path ++ c ∷ []) ≡ instance_at (instance_at (tree_of d) path) (c ∷ [])
 child_is d n c part path number =
     let p = part path number in
-    instance_child (tree_of d) path c p.0 p.1 ∙ sym (one_below (instance_at (tree_of d) path) c p.0 p.1)
+    further (tree_of d) path c p.0 p.1 ∙ sym (one_below (instance_at (tree_of d) path) c p.0 p.1)
 
 -- its number
 pub same_child : (d : PlainDesign) (n c m k : ℕ) → HasChild d n c m → HasChild d n c k → (path : Path) → IsNumber d n path → m ≡ k

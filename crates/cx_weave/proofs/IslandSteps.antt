@@ -1,6 +1,7 @@
 -- A cycle of an island of which the samples are kept, as a turn of its strand.
 use Rattle.std.proofs.Common.{◌≡◌, ℕ, zero, suc, ◌≤◌, Bool, true, false, ◌&&◌, nat_eq, List, [], length, Option, Some, None, Result, Ok, Err, refl, sym, ap, ◌∙◌, subst, arith, if◌then◌else◌}
 use Rattle.std.proofs.Math.Path.{fun_ext}
+use Rattle.cx_meaning.specs.Control.{form_drives}
 use Rattle.cx_meaning.specs.declared.ports.PortRef.{PortRef}
 use Rattle.cx_meaning.specs.Designs.{PlainComponent, PlainDesign, PlainForm}
 use Rattle.cx_meaning.specs.Instances.{Instance, Path, State, Set, part_of, instance_at, tree_of}
@@ -31,7 +32,7 @@ use Rattle.cx_turns.proofs.TestLemmas.{tells_own}
 use Rattle.cx_weave.specs.declared.strands.Strand.{Strand}
 use Rattle.cx_orders.specs.Open.{InIsland}
 use Rattle.cx_orders.specs.Steps.{step, turned}
-use Rattle.cx_orders.specs.Leaves.{form_drives, is_tested, sampled_now, samples_now, own_island}
+use Rattle.cx_orders.specs.Leaves.{is_tested, sampled_now, samples_now, own_island}
 use Rattle.cx_weave.specs.Strands.{AnIsland, IsAtCycle, IsShown, KeptBefore, Knows, ListDriven, Shows, plain_strand}
 use Rattle.cx_weave.specs.Strides.{TurnTold, HasRested, HasStepped, IslandTaken, StepTold}
 use Rattle.cx_orders.proofs.Runs.{tested_fine}

@@ -4,8 +4,8 @@ use Rattle.std.proofs.Math.Seq.{drop-cons}
 use Rattle.std.proofs.lemmas.List.{get_or_past, length-map}
 use Rattle.cx_meaning.specs.Designs.{PlainAssign, PlainComponent, PlainDesign, PlainForm, PlainStatement, Placed, component_at, group_at, no_group}
 use Rattle.cx_meaning.specs.Instances.{Instance, Path, part_of, instance_at, paths_of, tree_of}
-use Rattle.cx_meaning.specs.Sights.{In}
-use Rattle.cx_meaning.specs.Control.{assigns_drive, group_drives, groups_drive, groups_in, groups_in_all, groups_of, targets_cell, with_comb}
+use Rattle.cx_text.specs.Members.{In}
+use Rattle.cx_meaning.specs.Control.{form_drives, assigns_drive, group_drives, groups_drive, groups_in, groups_in_all, groups_of, targets_cell, with_comb}
 use Rattle.cx_rules.specs.Ports.{component_of}
 use Rattle.cx_rules.specs.Wellformed.{IsDesign, IsThere}
 use Rattle.cx_design.specs.declared.statements.Statement.{Statement}
@@ -16,7 +16,6 @@ use Rattle.cx_state.specs.declared.tables.InstanceRow.{InstanceRow}
 use Rattle.cx_state.specs.Tables.{IsNumber, IsTable, row_at}
 use Rattle.cx_turns.specs.Islands.{HasPart}
 use Rattle.cx_eval_cycle.specs.Passes.{listed_in}
-use Rattle.cx_orders.specs.Leaves.{form_drives}
 use Rattle.cx_weave.specs.Marks.{is_marked}
 use Rattle.cx_weave.specs.Strands.{ListDriven}
 use Rattle.cx_text.proofs.BoolLaws.{or_false}

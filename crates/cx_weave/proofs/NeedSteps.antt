@@ -15,7 +15,7 @@ use Rattle.cx_state.specs.Tables.{IsNumber}
 use Rattle.cx_turns.specs.Children.{IsPart, HasChild, HasControl}
 use Rattle.cx_turns.specs.Groups.{HasLength}
 use Rattle.cx_turns.proofs.ChildLemmas.{child_after}
-use Rattle.cx_turns.proofs.Measures.{instance_child}
+use Rattle.cx_state.proofs.TableLemmas.{further}
 use Rattle.cx_weave.specs.declared.needs.Piece.{Piece}
 use Rattle.cx_weave.specs.Rows.{Covers, CoversBehind, CoversFrom}
 use Rattle.cx_weave.specs.Takes.{island_takes, call_takes, called_need, kind_need, control_need, below_need, need, needs, all_needs}
@@ -116,7 +116,7 @@ module _ (d : PlainDesign) (n : ℕ) (k : Piece) where
       let i = instance_at (tree_of d) path in
       let p = part path number in
       let after : n < m = child_after d n c m part has path number in
-      let below : below_need k (cells_of i) c ≡ control_need k (instance_at (tree_of d) (path ++ c ∷ [])) = child_is k (cells_of i) c p.0 p.1 ∙ ap (control_need k) (sym (instance_child (tree_of d) path c p.0 p.1)) in
+      let below : below_need k (cells_of i) c ≡ control_need k (instance_at (tree_of d) (path ++ c ∷ [])) = child_is k (cells_of i) c p.0 p.1 ∙ ap (control_need k) (sym (further (tree_of d) path c p.0 p.1)) in
       let covers : Covers inner (below_need k (cells_of i) c) = subst (λ x. Covers x (below_need k (cells_of i) c)) (sym is) (subst (λ x. Covers (get_or table m 0) x) (sym below) (behind m (path ++ c ∷ []) after (has path number))) in
       let e : need k i (Placed (Enable g) no_place) ≡ call_takes k + below_need k (cells_of i) c =
       kind_called k i (below_need k (cells_of i)) g (group_at (part_of i) g).kind (length path number) ∙ ap (called_need k (below_need k (cells_of i))) calls in
@@ -131,7 +131,7 @@ needs_call d n k g c m control length part has controls path number calls =
     let child = instance_at (tree_of d) (path ++ c ∷ []) in
     let below : below_need k (cells_of i) c ≡ need k child control =
     child_is k (cells_of i) c p.0 p.1
-    ∙ ap (control_need k) (sym (instance_child (tree_of d) path c p.0 p.1)) ∙ control_is k child ∙ ap (need k child) (sym (controls (path ++ c ∷ []) (has path number))) in
+    ∙ ap (control_need k) (sym (further (tree_of d) path c p.0 p.1)) ∙ control_is k child ∙ ap (need k child) (sym (controls (path ++ c ∷ []) (has path number))) in
     kind_called k i (below_need k (cells_of i)) g (group_at (part_of i) g).kind (length path number) ∙ ap (called_need k (below_need k (cells_of i))) calls ∙ ap (λ x. call_takes k + x) below
 
 -- A TABLE, filled from its last row

@@ -2,6 +2,7 @@
 use Rattle.std.proofs.Common.{◌≡◌, ◌≢◌, ℕ, zero, suc, ◌+◌, ◌<◌, true, List, [], ◌∷◌, ◌++◌, length, get_or, take, drop, Option, Some, None, refl, sym, ap, ◌∙◌, subst, append_assoc, arith}
 use Rattle.std.specs.Prelude.{is_some}
 use Rattle.std.proofs.lemmas.List.{take-append-drop}
+use Rattle.cx_text.proofs.MemberLaws.{in_left, in_right}
 use Rattle.cx_text.specs.declared.places.Place.{Place}
 use Rattle.cx_meaning.specs.declared.ports.PlacedPort.{PlacedPort}
 use Rattle.cx_meaning.specs.declared.kinds.GroupKind.{GroupKind}
@@ -10,7 +11,7 @@ use Rattle.cx_meaning.specs.Designs.{PlainDesign, PlainForm, Empty, Enable, Seq,
 use Rattle.cx_meaning.specs.Instances.{Instance, Node, Cells, no_cells, a_primitive, an_instance, Nothing, OfRow, OfInstance, cell_at, cells_of, part_of, Path, instance_at, tree_of}
 use Rattle.cx_meaning.specs.Islands.{kind_length}
 use Rattle.cx_meaning.specs.Calls.{called}
-use Rattle.cx_meaning.specs.Sights.{In}
+use Rattle.cx_text.specs.Members.{In}
 use Rattle.cx_rules.specs.Items.{Dynamic, visit, visit_all}
 use Rattle.cx_rules.specs.StaticControl.{is_island_form}
 use Rattle.cx_design.specs.declared.statements.Statement.{Statement}
@@ -19,7 +20,8 @@ use Rattle.cx_state.specs.Tables.{IsNumber}
 use Rattle.cx_turns.specs.Children.{IsPart, HasChild, HasControl}
 use Rattle.cx_turns.specs.Groups.{HasLength, IsGroupOf}
 use Rattle.cx_turns.specs.Machines.{FormStands, StandsIn, StandIn}
-use Rattle.cx_turns.proofs.Measures.{all_steps, instance_child, steps}
+use Rattle.cx_turns.proofs.Measures.{all_steps, steps}
+use Rattle.cx_state.proofs.TableLemmas.{further}
 use Rattle.cx_weave.specs.declared.strands.Strand.{Strand}
 use Rattle.cx_weave.specs.declared.strands.Arms.{Arms}
 use Rattle.cx_orders.specs.Open.{Open, InSeq, InRepeat, an_arm, beside, open_with, open_form, open_island, open_called, open_kind, open_enable, open_control, open_below, open_statement, open_statements}
@@ -28,7 +30,6 @@ use Rattle.cx_weave.specs.Strands.{PlainStrand, AnIdling, AGroup, AChoice, ATest
 use Rattle.cx_weave.specs.Strides.{OpensAs, OpenAs, LeftShown, LeavesAs}
 use Rattle.cx_weave.proofs.PartSteps.{both_shown}
 use Rattle.cx_text.proofs.NumberLaws.{never}
-use Rattle.cx_meaning.proofs.SightsLaws.{in_left, in_right}
 
 -- a form of an instance, as it is opened
 abbrev pub opens : Instance → PlainForm → Open
@@ -55,7 +56,7 @@ child_control : (d : PlainDesign) (n c : ℕ) → IsPart d n c → (path : Path)
     → open_below (cells_of (instance_at (tree_of d) path)) c ≡ open_statement (instance_at (tree_of d) (path ++ c ∷ [])) (part_of (instance_at (tree_of d) (path ++ c ∷ []))).control
 child_control d n c part path number =
     let p = part path number in
-    child_opens (cells_of (instance_at (tree_of d) path)) c p.0 p.1 ∙ ap open_control (sym (instance_child (tree_of d) path c p.0 p.1)) ∙ control_opens (instance_at (tree_of d) (path ++ c ∷ []))
+    child_opens (cells_of (instance_at (tree_of d) path)) c p.0 p.1 ∙ ap open_control (sym (further (tree_of d) path c p.0 p.1)) ∙ control_opens (instance_at (tree_of d) (path ++ c ∷ []))
 
 kind_called : (i : Instance) (child : ℕ → Open) (g : ℕ) (kind : GroupKind) → None ≡ kind_length kind → open_kind i child g kind ≡ open_called child g (called i g)
 kind_called i child g kinds.Plain e = refl

@@ -13,12 +13,11 @@ use Rattle.cx_turns.specs.Turns as turns
 use Rattle.cx_turns.specs.Turns.{Rested}
 use Rattle.cx_turns.proofs.ChildLemmas.{under_child, put_child}
 use Rattle.cx_turns.proofs.PathLemmas.{under_put, put_put}
-use Rattle.cx_turns.proofs.Measures.{instance_child}
+use Rattle.cx_state.proofs.TableLemmas.{further}
 use Rattle.cx_weave.specs.Deep.{IsDeep, deep, with_one}
 use Rattle.cx_orders.specs.Leaves.{rested}
 use Rattle.cx_weave.specs.Strides.{HasRested}
-use Rattle.cx_turns.proofs.DriveLemmas.{just_is}
-use Rattle.cx_meaning.proofs.InstancesLemmas.{no_child, just_true}
+use Rattle.cx_meaning.proofs.InstancesLemmas.{no_child, just_true, just_is}
 
 below_idle : (i : Instance) (c e : ℕ) (below : Path) (x : CellState) → ((child : Instance) → cell_at (cells_of i) c ≡ OfInstance child → ⊥) → idle_at i (c ∷ e ∷ below) x ≡ x
 below_idle (Node part cells) c e below x none = no_child cells c e below x none
@@ -147,7 +146,7 @@ module _ (d : PlainDesign) (n : ℕ) where
         let x : State = deep below top i (under_path path s) in
         let t : State = put_path path x s in
         let own : State = rested p.0 every_cell (under k x) in
-        let there : instance_at (tree_of d) (path ++ k ∷ []) ≡ p.0 = instance_child (tree_of d) path k p.0 p.1 in
+        let there : instance_at (tree_of d) (path ++ k ∷ []) ≡ p.0 = further (tree_of d) path k p.0 p.1 in
         let seen : under_path (path ++ k ∷ []) t ≡ under k x = under_child path k t ∙ ap (under k) (under_put path x s) in
         let after : StandsFor (tree_of d) new (put_path (path ++ k ∷ []) (rested (instance_at (tree_of d) (path ++ k ∷ [])) every_cell (under_path (path ++ k ∷ []) t)) t) = child.rests (path ++ k ∷ []) t (has path number) (rests.stands path s number stands) in
         let after2 : StandsFor (tree_of d) new (put_path (path ++ k ∷ []) own t) =

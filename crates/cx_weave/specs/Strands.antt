@@ -1,5 +1,6 @@
 -- Strands as plain data, and the open statements that they show.
 use Rattle.std.specs.Prelude.{◌≡◌, ℕ, zero, suc, ◌+◌, ◌<◌, ◌≤◌, Bool, true, List, [], ◌∷◌, ◌++◌, length, slice_get, Option, Some, None}
+use Rattle.cx_meaning.specs.Control.{form_drives}
 use Rattle.cx_bits.specs.BitVector.{BitVector}
 use Rattle.cx_meaning.specs.declared.ports.PortRef.{PortRef}
 use Rattle.cx_meaning.specs.declared.ports.PlacedPort.{PlacedPort}
@@ -24,7 +25,7 @@ use Rattle.cx_weave.specs.declared.strands.Strand.{Strand, Strand-F, fold-Strand
 use Rattle.cx_weave.specs.declared.strands.Arms.{Arms, Arms-F, fold-Arms}
 use Rattle.cx_weave.specs.declared.strands.Arms.TheOpen as strands
 use Rattle.cx_orders.specs.Open.{Open, Idling, InGroup, Choosing, Testing, InIsland, Capturing, Closing, Waiting, InSeq, InPar, InLoop, InRepeat, InCall, Opens, no_arms, an_arm, beside}
-use Rattle.cx_orders.specs.Leaves.{form_drives, is_tested}
+use Rattle.cx_orders.specs.Leaves.{is_tested}
 
 mutual
   pub data PlainStrand : Type 0 where

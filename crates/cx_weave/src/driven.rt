@@ -1,14 +1,13 @@
 //! The cells that the groups of a statement drive.
 
 ghost use Rattle.std.specs.Prelude.{◌≡◌, ◌||◌, ◌&&◌, ◌<◌, ◌≤◌, [], ◌∷◌, ℕ, nat_eq, not, All, length, vec_capacity};
-ghost use Rattle.cx_meaning.specs.Control.{groups_drive, groups_in, groups_in_all, groups_of, with_comb};
+ghost use Rattle.cx_meaning.specs.Control.{form_drives, groups_drive, groups_in, groups_in_all, groups_of, with_comb};
 ghost use Rattle.cx_meaning.specs.Instances.{Path, part_of, instance_at, tree_of};
 ghost use Rattle.cx_design.specs.PlainForms.{plain_form, plain_statement, plain_statements};
 ghost use Rattle.cx_eval_cycle.specs.Passes.{IsAscending, listed_in};
 ghost use Rattle.cx_turns.specs.Groups.{ListWithin};
 ghost use Rattle.cx_turns.specs.Machines.{design_of, IsPlan, IsInstance};
 ghost use Rattle.cx_state.specs.Tables.{IsNumber};
-ghost use Rattle.cx_orders.specs.Leaves.{form_drives};
 ghost use Rattle.cx_weave.specs.Marks.{HasMarks, Lists, is_marked, set_count};
 ghost use Rattle.cx_weave.specs.Strands.{ListDriven};
 

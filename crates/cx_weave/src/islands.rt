@@ -2,12 +2,12 @@
 
 ghost use Rattle.std.specs.Prelude.{◌≡◌, ◌≤◌, ◌<◌, ◌-◌, ◌^◌, length};
 ghost use Rattle.std.specs.Vec.{vec_capacity, vec_len};
+ghost use Rattle.cx_meaning.specs.Control.{form_drives};
 ghost use Rattle.cx_meaning.specs.Islands as islands;
 ghost use Rattle.cx_laws.specs.Samples.{form_ifs};
 ghost use Rattle.cx_interp_islands.specs.Rooms.{samples_of};
 ghost use Rattle.cx_interp_islands.specs.Sampled.{AreSampled};
 ghost use Rattle.cx_eval_cycle.specs.Passes.{IsAscending};
-ghost use Rattle.cx_orders.specs.Leaves.{form_drives};
 ghost use Rattle.cx_design.specs.PlainForms.{plain_component, plain_form};
 ghost use Rattle.cx_turns.specs.Islands.{HasPart, IsIsland, SampledBefore, SamplesTaken};
 ghost use Rattle.cx_turns.specs.Machines.{design_of, rows_of, IsPlan, IsAt, IsInstance, FormStands};

@@ -1,5 +1,6 @@
 -- The list of breaks has the breaks of the rules on widths, literals, targets and sources, and no others.
 use Rattle.std.proofs.Common.{◌≡◌, ◌+◌, ◌-◌, ◌<◌, ◌≤◌, ℕ, zero, suc, Bool, true, false, not, cond, List, [], ◌∷◌, ◌++◌, Option, Some, None, length, slice_get, flat_map, ◌⊎◌, inl, inr, ⊎_elim, refl, sym, ap, ◌∙◌, subst, arith, true≢false, add-one}
+use Rattle.cx_text.proofs.MemberLaws.{flat_in, in_either, in_flat, in_left, in_right}
 use Rattle.cx_text.specs.declared.places.Place.{Place}
 use Rattle.cx_text.specs.declared.rules.Rule.{Rule}
 use Rattle.cx_text.specs.declared.rules.Rule.TheVariants as rule
@@ -9,7 +10,7 @@ use Rattle.cx_meaning.specs.declared.ports.PlacedPort.{PlacedPort}
 use Rattle.cx_meaning.specs.Designs.{PlainAssign, PlainDesign, component_at}
 use Rattle.cx_meaning.specs.Instances.{Instance}
 use Rattle.cx_meaning.specs.Active.{Owned, source_order}
-use Rattle.cx_meaning.specs.Sights.{In}
+use Rattle.cx_text.specs.Members.{In}
 use Rattle.cx_rules.specs.Ports.{component_of, keeps_literal, is_source_only, is_target_only, path_of}
 use Rattle.cx_rules.specs.Items.{operands_of, atoms_of, sources_of, Visited, statements_in, test_in}
 use Rattle.cx_rules.specs.Spots.{ABind, AnAssign, AStatement, Spot, Tells, OnAssign, OnBind, OnStatement, AssignRule, StatementRule, binds_in}
@@ -17,13 +18,11 @@ use Rattle.cx_rules.specs.WidthRules.{pairs_of, first_unequal, first_wide, is_wi
 use Rattle.cx_rules.specs.Accepted.{Breaks, stage_of, key_of}
 use Rattle.cx_design_parts.specs.Breaks.{Broken, first_of}
 use Rattle.cx_design_parts.specs.Answers.{AreBreaks}
-use Rattle.cx_design_parts.proofs.Lists.{first_append, in_left, in_right, in_either, in_flat, flat_in, in_numbered, numbered_in}
-use Rattle.cx_widths.specs.WidthBreaks.{told_port, port_if, is_bad, literal_break, source_break, target_break, operand_breaks, assign_breaks, condition_breaks, test_breaks, assign_breaks_at, condition_breaks_at, bind_breaks_at, assigns_breaks, conditions_breaks, binds_breaks, component_breaks, components_breaks, width_breaks}
+use Rattle.cx_design_parts.specs.Numbered.{counted}
+use Rattle.cx_design_parts.proofs.Lists.{first_append, in_numbered, numbered_in, broken, in_all, all_hold, next_counted}
+use Rattle.cx_widths.specs.WidthBreaks.{told_port, port_if, is_bad, literal_break, source_break, target_break, operand_breaks, assign_breaks, condition_breaks, test_breaks, assign_breaks_at, condition_breaks_at, bind_breaks_at, assigns_breaks, conditions_breaks, binds_breaks, component_breaks, width_breaks}
 use Rattle.cx_text.proofs.BoolLaws.{from_not}
 use Rattle.cx_rules.proofs.KeyOrder.{before_irreflexive}
-
-abbrev broken : Rule → Spot → Place → List ℕ → Broken
-broken r spot place name = record { rule = r; spot = spot; place = place; name = name }
 
 -- what the list tells is a break
 abbrev Holds : PlainDesign → Broken → Type 0
@@ -203,26 +202,6 @@ component_holds d k b within h =
     assign_holds d (record { component = k; part = ABind found.0 }) (component_of d k) (bound found.1) (on_bind d k found.0 found.1 within found.2) b (subst (λ n. In (bind_breaks_at d k n found.1) b) same found.3))
     (in_either (assigns_breaks d k ++ conditions_breaks d k) (binds_breaks d k) b h)
 
-components_hold : (d : PlainDesign) (k left : ℕ) (b : Broken) → k + left ≤ length d.components → In (components_breaks d k left) b → Holds d b
-components_hold d k zero b few h = absurd h
-components_hold d k (suc left) b few h =
-    ⊎_elim
-    (component_holds d k b (omega (arith, few)))
-    (components_hold d (suc k) left b (omega (arith, few)))
-    (in_either (component_breaks d k) (components_breaks d (suc k) left) b h)
-
-in_components : (d : PlainDesign) (k left m : ℕ) (b : Broken) → m < left → In (component_breaks d (k + m)) b → In (components_breaks d k left) b
-in_components d k zero m b few h = absurd (omega (arith, few))
-in_components d k (suc left) zero b few h =
-    let same : k + 0 ≡ k = omega arith in in_left (component_breaks d k) (components_breaks d (suc k) left) b (subst (λ n. In (component_breaks d n) b) same h)
-in_components d k (suc left) (suc m) b few h =
-    let same : k + suc m ≡ suc k + m = omega arith in
-    in_right (component_breaks d k) (components_breaks d (suc k) left) b (in_components d (suc k) left m b (omega (arith, few)) (subst (λ n. In (component_breaks d n) b) same h))
-
-in_design : (d : PlainDesign) (k : ℕ) (b : Broken) → k < length d.components → In (component_breaks d k) b → In (width_breaks d) b
-in_design d k b within h =
-    let same : k ≡ 0 + k = omega arith in in_components d 0 (length d.components) k b within (subst (λ n. In (component_breaks d n) b) same h)
-
 -- where the breaks of a part stand
 assign_in : (d : PlainDesign) (r : Rule) (spot : Spot) (place : Place) (name : List ℕ) (rules : AssignRule) (o : OnAssign rules d spot place name)
     → ((s : Spot) → In (assign_breaks (component_of d spot.component) s o.assign.assign) (broken r s place name)) → In (width_breaks d) (broken r spot place name)
@@ -232,7 +211,7 @@ assign_in d r spot place name rules o has =
     let same : o.number ≡ 0 + o.number = omega arith in
     let own : Spot = record { component = k; part = AnAssign o.number } in
     let spot_is : own ≡ spot = ap (λ part. record { component = k; part = part }) (sym o.is) in
-    in_design d k (broken r spot place name) o.within
+    in_all (component_breaks d) (length d.components) k (broken r spot place name) o.within
     (in_left (assigns_breaks d k ++ conditions_breaks d k) (binds_breaks d k) (broken r spot place name)
     (in_left (assigns_breaks d k) (conditions_breaks d k) (broken r spot place name)
     (in_numbered (assign_breaks_at d k) 0 order o.number o.assign (broken r spot place name) o.stands
@@ -247,7 +226,7 @@ bind_in d r spot place name rules o has =
     let same : o.number ≡ 0 + o.number = omega arith in
     let own : Spot = record { component = k; part = ABind o.number } in
     let spot_is : own ≡ spot = ap (λ part. record { component = k; part = part }) (sym o.is) in
-    in_design d k (broken r spot place name) o.within
+    in_all (component_breaks d) (length d.components) k (broken r spot place name) o.within
     (in_right (assigns_breaks d k ++ conditions_breaks d k) (binds_breaks d k) (broken r spot place name)
     (in_numbered (bind_breaks_at d k) 0 binds o.number o.assign (broken r spot place name) o.stands
     (subst (λ n. In (bind_breaks_at d k n o.assign) (broken r spot place name)) same
@@ -267,7 +246,7 @@ statement_in d r spot place name rules o p t has =
     let same : o.number ≡ 0 + o.number = omega arith in
     let own : Spot = record { component = k; part = AStatement o.number } in
     let spot_is : own ≡ spot = ap (λ part. record { component = k; part = part }) (sym o.is) in
-    in_design d k (broken r spot place name) o.within
+    in_all (component_breaks d) (length d.components) k (broken r spot place name) o.within
     (in_left (assigns_breaks d k ++ conditions_breaks d k) (binds_breaks d k) (broken r spot place name)
     (in_right (assigns_breaks d k) (conditions_breaks d k) (broken r spot place name)
     (in_numbered (condition_breaks_at d k) 0 list o.number o.statement (broken r spot place name) o.stands
@@ -397,24 +376,17 @@ all_breaks d rule.TooLarge spot place name h o = absurd o
 -- the list is that of the stage
 pub are_breaks : (d : PlainDesign) → AreBreaks 3 d (width_breaks d)
 are_breaks d = record {
-  in_stage = λ b h. (components_hold d 0 (length d.components) b (omega arith) h).0;
-  break = λ b h. (components_hold d 0 (length d.components) b (omega arith) h).1;
+  in_stage = λ b h. (all_hold (component_breaks d) (Holds d) (length d.components) b (λ k. component_holds d k b) h).0;
+  break = λ b h. (all_hold (component_breaks d) (Holds d) (length d.components) b (λ k. component_holds d k b) h).1;
   all = λ r spot place name s o. (broken r spot place name, all_breaks d r spot place name s o, before_irreflexive (key_of r spot place));
 }
 
 -- one more component is looked at
 pub next_component : (d : PlainDesign) (n count : ℕ) (best one two next rest : Option Broken) → n < count
     → one ≡ first_of best (assigns_breaks d n) → two ≡ first_of one (conditions_breaks d n) → next ≡ first_of two (binds_breaks d n)
-    → first_of best (components_breaks d n (count - n)) ≡ rest → first_of next (components_breaks d (n + 1) (count - (n + 1))) ≡ rest
+    → first_of best (counted (component_breaks d) n (count - n)) ≡ rest → first_of next (counted (component_breaks d) (n + 1) (count - (n + 1))) ≡ rest
 next_component d n count best one two next rest few e f g so_far =
-    let left = count - (n + 1) in
-    let more = components_breaks d (suc n) left in
-    let at : count - n ≡ suc left = omega (arith, few) in
     let joined : next ≡ first_of best (component_breaks d n) =
     g ∙ ap (λ b. first_of b (binds_breaks d n)) (f ∙ ap (λ b. first_of b (conditions_breaks d n)) e ∙ sym (first_append best (assigns_breaks d n) (conditions_breaks d n)))
     ∙ sym (first_append best (assigns_breaks d n ++ conditions_breaks d n) (binds_breaks d n)) in
-    ap (λ m. first_of next (components_breaks d m left)) (add-one n)
-    ∙ ap (λ b. first_of b more) joined
-    ∙ sym (first_append best (component_breaks d n) more)
-    ∙ ap (λ m. first_of best (components_breaks d n m)) (sym at)
-    ∙ so_far
+    next_counted (component_breaks d) n count best next rest few joined so_far

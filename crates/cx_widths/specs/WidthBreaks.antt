@@ -14,7 +14,7 @@ use Rattle.cx_rules.specs.Items.{operands_of, atoms_of, Visited, statements_in, 
 use Rattle.cx_rules.specs.Spots.{ABind, AnAssign, AStatement, Spot, binds_in}
 use Rattle.cx_rules.specs.WidthRules.{pairs_of, first_unequal, first_wide, is_wide}
 use Rattle.cx_design_parts.specs.Breaks.{Broken}
-use Rattle.cx_design_parts.specs.Numbered.{numbered}
+use Rattle.cx_design_parts.specs.Numbered.{numbered, counted}
 
 -- a break that is told of a port, where there is one
 abbrev pub told_port : Rule → Instance → Spot → Place → Option PortRef → List Broken
@@ -84,11 +84,6 @@ binds_breaks d k = numbered (bind_breaks_at d k) 0 (binds_in (component_at d k))
 abbrev pub component_breaks : PlainDesign → ℕ → List Broken
 component_breaks d k = assigns_breaks d k ++ conditions_breaks d k ++ binds_breaks d k
 
--- of the components from number k on, so many of them
-abbrev pub components_breaks : PlainDesign → ℕ → ℕ → List Broken
-components_breaks d k zero = []
-components_breaks d k (suc left) = component_breaks d k ++ components_breaks d (suc k) left
-
 -- THE BREAKS of a design
 abbrev pub width_breaks : PlainDesign → List Broken
-width_breaks d = components_breaks d 0 (length d.components)
+width_breaks d = counted (component_breaks d) 0 (length d.components)

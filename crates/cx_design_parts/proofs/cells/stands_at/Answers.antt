@@ -1,9 +1,10 @@
 use Rattle.std.proofs.Common.{◌≡◌, ◌<◌, ℕ, Some, None, length, slice_get, sym, ◌∙◌, ap, subst, arith}
 use Rattle.std.proofs.lemmas.List.{length-map}
 use Rattle.cx_meaning.specs.Designs.{PlainCell, component_at}
+use Rattle.cx_meaning.proofs.InstancesLemmas.{at_cell, at_kind}
 use Rattle.cx_design.specs.PlainForms.{plain_cell, plain_kind, plain_component}
 use Rattle.cx_design.specs.PlainDesigns.{plain_design}
-use Rattle.cx_design_parts.proofs.CellLemmas.{at_component, at_cell, at_kind, part_there}
+use Rattle.cx_design_parts.proofs.CellLemmas.{at_component, part_there}
 use Rattle.cx_design_parts.proofs.cells.stands_at.Goals as goal
 
 pub component-requires-in-Part : goal.component-requires-in-Part

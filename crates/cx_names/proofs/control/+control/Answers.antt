@@ -2,13 +2,14 @@ use Rattle.std.proofs.Common.{◌≡◌, true, false, ◌∷◌, ◌+◌, [], �
 use Rattle.std.proofs.lemmas.List.{drop_all, map_push}
 use Rattle.cx_ast.specs.PlainStatements as written
 use Rattle.cx_meaning.specs.Designs.{PlainForm, PlainStatement}
+use Rattle.cx_meaning.proofs.DesignsLemmas.{joined_none, if_is, static_if_is}
 use Rattle.cx_design.specs.declared.statements.Form.TheFolds.{fold-roll-Form}
 use Rattle.cx_design.specs.declared.statements.Form.TheVariants as forms
 use Rattle.cx_design.specs.PlainForms.{form_step, statement_step, plain_form, plain_statement}
 use Rattle.cx_numbering.specs.DesignOf.{past, invokes_in, invokes_of, invokes_else, form_of, else_of}
 use Rattle.cx_names.specs.Sites.{tree_at, part_at}
 use Rattle.cx_names.specs.Added.{made_of, next_of, added, invokes_at}
-use Rattle.cx_names.proofs.ControlLemmas.{added_append, next_added, one_more, added_more, joined_none, if_parts, static_if_parts}
+use Rattle.cx_names.proofs.ControlLemmas.{added_append, next_added, one_more, added_more}
 use Rattle.cx_text.proofs.ListLaws.{drop_item}
 use Rattle.cx_ast.proofs.PlainStatementsLemmas.{if_form, static_if_form}
 use Rattle.cx_names.proofs.control.+control.Goals as goal
@@ -24,7 +25,7 @@ form-returns-in_ok-no-in-If-clause-value t c =
     let count : next_of (made_of c.boxed_block.new.draft) ≡ past tree part (next_of made) yes = ap next_of c.in_ok-yes-in-If.ensures.made ∙ next_added tree part made yes in
     ap plain_form (sym (forms.rolls-If c.in_ok-test-in-If.test c.in_ok-comb-in-If.comb c.in_ok-yes-in-If.yes c.in_ok-no-in-If.no))
     ∙ fold-roll-Form PlainForm PlainStatement form_step statement_step _
-    ∙ if_parts c.in_ok-test-in-If.ensures c.in_ok-comb-in-If.ensures c.in_ok-yes-in-If.ensures.value (c.in_ok-no-in-If.ensures.value ∙ ap (λ m. else_of tree part false m c.args.place (written.else_of (option_map written.plain_block c.in-If.no))) count)
+    ∙ if_is c.in_ok-test-in-If.ensures c.in_ok-comb-in-If.ensures c.in_ok-yes-in-If.ensures.value (c.in_ok-no-in-If.ensures.value ∙ ap (λ m. else_of tree part false m c.args.place (written.else_of (option_map written.plain_block c.in-If.no))) count)
     ∙ ap (form_of tree part (next_of made) c.args.place) (sym item)
 
 pub form-returns-in_ok-no-in-If-clause-made : goal.form-returns-in_ok-no-in-If-clause-made
@@ -52,7 +53,7 @@ form-returns-in_ok-no-in-StaticIf-clause-value t c =
     let count : next_of (made_of c.boxed_block-in-StaticIf.new.draft) ≡ past tree part (next_of made) yes = ap next_of c.in_ok-yes-in-StaticIf.ensures.made ∙ next_added tree part made yes in
     ap plain_form (sym (forms.rolls-StaticIf c.in-StaticIf.length c.in_ok-test-in-StaticIf.test c.in_ok-yes-in-StaticIf.yes c.in_ok-no-in-StaticIf.no))
     ∙ fold-roll-Form PlainForm PlainStatement form_step statement_step _
-    ∙ static_if_parts c.in-StaticIf.length c.in_ok-test-in-StaticIf.ensures c.in_ok-yes-in-StaticIf.ensures.value (c.in_ok-no-in-StaticIf.ensures.value ∙ ap (λ m. else_of tree part true m c.args.place (written.else_of (option_map written.plain_block c.in-StaticIf.no))) count)
+    ∙ static_if_is c.in-StaticIf.length c.in_ok-test-in-StaticIf.ensures c.in_ok-yes-in-StaticIf.ensures.value (c.in_ok-no-in-StaticIf.ensures.value ∙ ap (λ m. else_of tree part true m c.args.place (written.else_of (option_map written.plain_block c.in-StaticIf.no))) count)
     ∙ ap (form_of tree part (next_of made) c.args.place) (sym item)
 
 pub form-returns-in_ok-no-in-StaticIf-clause-made : goal.form-returns-in_ok-no-in-StaticIf-clause-made

@@ -4,7 +4,7 @@ use Rattle.cx_design.specs.PlainForms.{plain_statement}
 use Rattle.cx_numbering.specs.DesignOf.{all_of, invokes_all}
 use Rattle.cx_names.specs.Sites.{tree_at, part_at}
 use Rattle.cx_names.specs.Added.{made_of, next_of, added}
-use Rattle.cx_names.proofs.ControlLemmas.{joined}
+use Rattle.cx_meaning.proofs.DesignsLemmas.{joined}
 use Rattle.cx_names.proofs.control.+control.Given as goal
 
 -- the statements so far, and those of the items that are left, are all; so is what is made for invokes

@@ -1,6 +1,6 @@
 use Rattle.std.proofs.Common.{◌+◌, ap}
+use Rattle.cx_text.proofs.ListLaws.{range_appended}
 use Rattle.cx_meaning.specs.declared.ports.PortRef.TheVariants as ports
-use Rattle.cx_profile.proofs.StepLemmas.{range_appended}
 use Rattle.cx_profile.proofs.outputs.with_ports_from.Goals as goal
 
 pub loop-number-preserved : goal.loop-number-preserved

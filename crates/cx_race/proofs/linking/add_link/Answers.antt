@@ -1,5 +1,5 @@
 use Rattle.std.proofs.Common.{inl, refl, sym, subst}
-use Rattle.cx_meaning.specs.Sights.{In}
+use Rattle.cx_text.specs.Members.{In}
 use Rattle.cx_race.specs.Cells.{cell_in}
 use Rattle.cx_race.proofs.linking.add_link.Goals as goal
 

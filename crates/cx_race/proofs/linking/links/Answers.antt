@@ -2,7 +2,7 @@ use Rattle.std.proofs.Common.{◌≡◌, ◌<◌, [], length, sym, subst, ◌∙
 use Rattle.std.proofs.lemmas.List.{length-map}
 use Rattle.cx_graphs.specs.Graphs.{edges_of}
 use Rattle.cx_meaning.specs.Designs.{component_at}
-use Rattle.cx_meaning.specs.Sights.{In}
+use Rattle.cx_text.specs.Members.{In}
 use Rattle.cx_design.specs.PlainForms.{plain_assigns}
 use Rattle.cx_design.specs.PlainDesigns.{plain_design}
 use Rattle.cx_race.specs.Cells.{target_in}

@@ -1,4 +1,5 @@
 use Rattle.std.proofs.Common.{◌≡◌, length, map, ap, subst, ◌∙◌}
+use Rattle.cx_text.specs.Members.{In}
 use Rattle.cx_graphs.specs.Graphs as graphs
 use Rattle.cx_graphs.specs.Graphs.{edges_of, targets_of}
 use Rattle.cx_rules.specs.RaceRule.{enabled_in}
@@ -13,7 +14,7 @@ pub tally-requires-clause-within : goal.tally-requires-clause-within
 tally-requires-clause-within c =
     let arms = map plain_statement c.args.arms.now in
     let same : edges_of c.as_slice.result.now ≡ map enabled_in arms = ap edges_of c.as_slice.ensures.value ∙ c.in_ok-lists.ensures.value in
-    λ k n i. lists_within enabled_in (length c.args.groups.now.owners.items) arms c.requires.enabled k n (subst (λ g. graphs.In (targets_of g k) n) same i)
+    λ k n i. lists_within enabled_in (length c.args.groups.now.owners.items) arms c.requires.enabled k n (subst (λ g. In (targets_of g k) n) same i)
 
 pub returns-clause-least : goal.returns-clause-least
 returns-clause-least c =

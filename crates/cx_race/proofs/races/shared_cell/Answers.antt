@@ -1,4 +1,5 @@
 use Rattle.std.proofs.Common.{◌≡◌, ◌<◌, length, map, sym, ap, subst, ◌∙◌}
+use Rattle.cx_text.specs.Members.{In}
 use Rattle.cx_graphs.specs.Graphs as graphs
 use Rattle.cx_graphs.specs.Graphs.{edges_of, targets_of}
 use Rattle.cx_meaning.specs.Control.{groups_of}
@@ -15,7 +16,7 @@ tally_groups-requires-clause-groups_within c =
     let f = c.args.footprints.now in
     let arms = map plain_statement c.args.arms.now in
     let same : edges_of c.as_slice-enabled.result.now ≡ map groups_of arms = ap edges_of c.as_slice-enabled.ensures.value ∙ c.in_ok-enabled.ensures.value in
-    λ k n i. subst (λ m. n < length m) (sym c.as_slice.ensures.value) (lists_within groups_of (length f.driven.items) arms c.requires.within.groups k n (subst (λ l. graphs.In (targets_of l k) n) same i))
+    λ k n i. subst (λ m. n < length m) (sym c.as_slice.ensures.value) (lists_within groups_of (length f.driven.items) arms c.requires.within.groups k n (subst (λ l. In (targets_of l k) n) same i))
 
 pub tally_groups-requires-clause-within : goal.tally_groups-requires-clause-within
 tally_groups-requires-clause-within c =
@@ -23,7 +24,7 @@ tally_groups-requires-clause-within c =
     let invoked = invoked_by (plain_component c.args.part.now) in
     let same : edges_of c.as_slice-2.result.now ≡ map invoked arms = ap edges_of c.as_slice-2.ensures.value ∙ c.in_ok-invoked.ensures.value in
     let size = c.requires.driving.size in
-    λ k n i. subst (λ m. n < m) (sym size) (lists_within invoked (length c.args.footprints.now.links.items) arms c.requires.within.invoked k n (subst (λ l. graphs.In (targets_of l k) n) same i))
+    λ k n i. subst (λ m. n < m) (sym size) (lists_within invoked (length c.args.footprints.now.links.items) arms c.requires.within.invoked k n (subst (λ l. In (targets_of l k) n) same i))
 
 pub tally_reached-requires-clause-groups_within : goal.tally_reached-requires-clause-groups_within
 tally_reached-requires-clause-groups_within c =
@@ -31,7 +32,7 @@ tally_reached-requires-clause-groups_within c =
     let arms = map plain_statement c.args.arms.now in
     let same : edges_of c.as_slice-enabled.result.now ≡ map groups_of arms = ap edges_of c.as_slice-enabled.ensures.value ∙ c.in_ok-enabled.ensures.value in
     let size : length f.driven.items ≡ length c.as_slice-4.result.now = sym c.requires.within.same ∙ ap length (sym c.as_slice-4.ensures.value) in
-    λ k n i. subst (λ m. n < m) size (lists_within groups_of (length f.driven.items) arms c.requires.within.groups k n (subst (λ l. graphs.In (targets_of l k) n) same i))
+    λ k n i. subst (λ m. n < m) size (lists_within groups_of (length f.driven.items) arms c.requires.within.groups k n (subst (λ l. In (targets_of l k) n) same i))
 
 pub tally_reached-requires-clause-within : goal.tally_reached-requires-clause-within
 tally_reached-requires-clause-within c =
@@ -39,7 +40,7 @@ tally_reached-requires-clause-within c =
     let arms = map plain_statement c.args.arms.now in
     let met = met_by (plain_component c.args.part.now) in
     let same : edges_of c.as_slice-5.result.now ≡ map met arms = ap edges_of c.as_slice-5.ensures.value ∙ c.in_ok-met.ensures.value in
-    λ k n i. subst (λ m. n < length m) (sym c.as_slice-3.ensures.value) (lists_within met (length f.links.items) arms c.requires.within.met k n (subst (λ l. graphs.In (targets_of l k) n) same i))
+    λ k n i. subst (λ m. n < length m) (sym c.as_slice-3.ensures.value) (lists_within met (length f.links.items) arms c.requires.within.met k n (subst (λ l. In (targets_of l k) n) same i))
 
 pub returns-clause-least : goal.returns-clause-least
 returns-clause-least c =

@@ -1,8 +1,9 @@
 use Rattle.std.proofs.Common.{◌≡◌, ◌<◌, ◌++◌, ◌∙◌, Some, true, length, slice_get, ap, sym, subst, arith}
 use Rattle.std.proofs.lemmas.List.{length-map}
+use Rattle.cx_text.specs.Members.{In}
 use Rattle.cx_text.proofs.ListLaws.{read_at}
 use Rattle.cx_text.proofs.OptionLaws.{same_some}
-use Rattle.cx_graphs.specs.Graphs.{edges_of, In, IsReached}
+use Rattle.cx_graphs.specs.Graphs.{edges_of, IsReached}
 use Rattle.cx_meaning.specs.Designs.{component_at}
 use Rattle.cx_design.specs.PlainForms.{plain_assigns, plain_invoke}
 use Rattle.cx_design.specs.PlainDesigns.{plain_design}

@@ -13,13 +13,13 @@ use Rattle.cx_graphs.proofs.EdgeLemmas.{length-no_edges}
 use Rattle.cx_meaning.specs.Designs.{PlainDesign, component_at}
 use Rattle.cx_shape_state.specs.Joining.{joined}
 use Rattle.cx_shape_state.specs.Waits.{always_waits, group_waits}
-use Rattle.cx_shape_state.proofs.Cells.{count_is}
+use Rattle.cx_design_parts.proofs.ReadLemmas.{component_cells}
 use Rattle.cx_shape_state.proofs.WaitLemmas.{graph_is}
 use Rattle.cx_rules.proofs.PortsLemmas.{part_is}
 use Rattle.cx_shape_state.proofs.waiting.waits.Goals as goal
 
 cells_are : (d : PlainDesign) (k : ℕ) (part : Component) → k < length d.components → plain_component part ≡ component_at d k → length part.cells.items ≡ cell_count (cells_of (component_of d k))
-cells_are d k part within e = sym (length-map part.cells.items _) ∙ ap (λ p. length p.cells) e ∙ sym (count_is d k within)
+cells_are d k part within e = sym (length-map part.cells.items _) ∙ ap (λ p. length p.cells) e ∙ sym (component_cells d k within)
 
 pub add_always-requires-clause-count : goal.add_always-requires-clause-count
 add_always-requires-clause-count c =

@@ -1,11 +1,10 @@
 use Rattle.std.proofs.Common.{◌&&◌, ◌<◌, not, ℕ, List, get_or, length, sym, ap, ◌∙◌, subst}
 use Rattle.std.specs.Prelude.{All}
 use Rattle.std.proofs.lemmas.List.Sorted.{IsNonDecreasingBy-from_sort}
-use Rattle.cx_meaning.specs.Control.{groups_in}
+use Rattle.cx_meaning.specs.Control.{form_drives, groups_in}
 use Rattle.cx_design.specs.PlainForms.{plain_form}
 use Rattle.cx_eval_cycle.specs.Passes.{listed_in}
 use Rattle.cx_turns.specs.Machines.{design_of}
-use Rattle.cx_orders.specs.Leaves.{form_drives}
 use Rattle.cx_weave.specs.Marks.{Lists, is_marked}
 use Rattle.cx_weave.specs.Strands.{ListDriven}
 use Rattle.cx_weave.proofs.MarkLists.{listed_at, lists_cleared, lists_inside, lists_start, moved_ascends, moved_marked, set_none}

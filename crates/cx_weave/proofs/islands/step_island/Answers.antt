@@ -1,6 +1,7 @@
 use Rattle.std.proofs.Common.{rules, ◌≡◌, ◌<◌, ◌+◌, ◌-◌, suc, Ok, Err, Some, None, [], length, get_or, sym, ap, ◌∙◌, subst, arith}
 use Rattle.std.proofs.lemmas.List.{with_items_is}
 use Rattle.std.specs.Vec.{vec_capacity, with_items}
+use Rattle.cx_meaning.specs.Control.{form_drives}
 use Rattle.cx_text.specs.declared.limits.TheConstants.{REPETITIONS}
 use Rattle.cx_meaning.specs.Instances.{part_of, instance_at, paths_of, tree_of}
 use Rattle.cx_meaning.specs.Islands.{form_length}
@@ -13,7 +14,6 @@ use Rattle.cx_turns.proofs.IslandLemmas.{island_short}
 use Rattle.cx_state.specs.ReadStates.{state_in}
 use Rattle.cx_weave.specs.declared.strands.Island.{Island}
 use Rattle.cx_weave.specs.declared.strands.Strand.TheVariants as strands
-use Rattle.cx_orders.specs.Leaves.{form_drives}
 use Rattle.cx_weave.specs.Strands.{AnIsland, KeptBefore, ListDriven}
 use Rattle.cx_weave.specs.Strides.{HasStepped, IslandTaken}
 use Rattle.cx_weave.proofs.IslandSteps.{island_ends, island_goes, island_held, island_kept, island_stops}

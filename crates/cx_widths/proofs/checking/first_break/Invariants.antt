@@ -1,10 +1,11 @@
 use Rattle.std.proofs.Common.{◌≡◌, ◌-◌, None, length}
 use Rattle.cx_design.specs.PlainDesigns.{plain_design}
 use Rattle.cx_design_parts.specs.Breaks.{first_of}
-use Rattle.cx_widths.specs.WidthBreaks.{components_breaks}
+use Rattle.cx_design_parts.specs.Numbered.{counted}
+use Rattle.cx_widths.specs.WidthBreaks.{component_breaks}
 use Rattle.cx_widths.proofs.checking.first_break.Given as goal
 
 -- the first so far, with the components that are left, is the first of all
 abbrev pub invariant-loop-number : goal.invariant-loop-number
 invariant-loop-number l =
-    let d = plain_design l.design in first_of l.first (components_breaks d l.number (length l.design.components.items - l.number)) ≡ first_of None (components_breaks d 0 (length l.design.components.items))
+    let d = plain_design l.design in first_of l.first (counted (component_breaks d) l.number (length l.design.components.items - l.number)) ≡ first_of None (counted (component_breaks d) 0 (length l.design.components.items))

@@ -1,7 +1,9 @@
 use Rattle.std.proofs.Common.{rules, ◌<◌, length, slice_set, sym, ◌∙◌, subst}
 use Rattle.std.proofs.lemmas.List.{length-map, length-set}
-use Rattle.cx_graphs.specs.Graphs.{In, edges_of}
-use Rattle.cx_graphs.proofs.Lists.{in_before, the_last}
+use Rattle.cx_text.proofs.MemberLaws.{in_left}
+use Rattle.cx_text.specs.Members.{In}
+use Rattle.cx_graphs.specs.Graphs.{edges_of}
+use Rattle.cx_graphs.proofs.Lists.{the_last}
 use Rattle.cx_graphs.proofs.Additions.{cleared}
 use Rattle.cx_design_leads.proofs.EdgeLemmas.{spread_less}
 use Rattle.cx_design_leads.proofs.leading.GroupLeads.clear.Goals as goal
@@ -21,7 +23,7 @@ loop-target-preserved c =
     let e = c.in-Some.ensures.some in
     let h : t < length lists = c.loop-target.invariant.within t (subst (λ l. In l t) (sym e) (the_last rest t)) in
     record {
-      within = λ n i. subst (λ k. n < k) (sym (length-set lists t list)) (c.loop-target.invariant.within n (subst (λ l. In l n) (sym e) (in_before rest _ n i)));
+      within = λ n i. subst (λ k. n < k) (sym (length-set lists t list)) (c.loop-target.invariant.within n (subst (λ l. In l n) (sym e) (in_left rest _ n i)));
       spread = λ count s. spread_less count (edges_of lists) (edges_of (slice_set lists t list)) c.loop-target.self.targets.items rest t e
           (length-map (slice_set lists t list) (λ v. v.items) ∙ length-set lists t list ∙ sym (length-map lists (λ v. v.items)))
           (cleared lists t list h c.clear.ensures.items) (c.loop-target.invariant.spread count s);

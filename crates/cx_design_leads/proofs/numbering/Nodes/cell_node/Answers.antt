@@ -1,7 +1,7 @@
 use Rattle.std.proofs.Common.{◌≤◌, sym, ap, ◌∙◌, arith}
-use Rattle.cx_meaning.specs.Instances.{cells_of}
+use Rattle.cx_meaning.specs.Instances.{cells_of, cell_count}
 use Rattle.cx_rules.specs.Wellformed.{port_count}
-use Rattle.cx_design_leads.specs.Nodes.{below, cell_count, ports_before}
+use Rattle.cx_design_leads.specs.Nodes.{below, ports_before}
 use Rattle.cx_design_leads.proofs.NodeLemmas.{beyond, below_none}
 use Rattle.cx_design_leads.proofs.numbering.Nodes.cell_node.Goals as goal
 

@@ -2,11 +2,11 @@ use Rattle.std.proofs.Common.{rules, ◌≡◌, ◌+◌, length, sym, ap, ◌∙
 use Rattle.std.specs.Prelude.{slice_index}
 use Rattle.std.proofs.lemmas.List.{length-map}
 use Rattle.cx_meaning.specs.Designs.{PlainComponent}
-use Rattle.cx_meaning.specs.Instances.{cells_of, part_of}
+use Rattle.cx_meaning.specs.Instances.{cells_of, part_of, cell_count}
 use Rattle.cx_rules.specs.Ports.{component_of}
 use Rattle.cx_design.specs.PlainDesigns.{plain_design}
 use Rattle.cx_design.specs.PlainForms.{plain_group}
-use Rattle.cx_design_leads.specs.Nodes.{cell_count, ports_before, first_input, first_output, first_done}
+use Rattle.cx_design_leads.specs.Nodes.{ports_before, first_input, first_output, first_done}
 use Rattle.cx_design_leads.proofs.NodeLemmas.{cells_of_part, part_is}
 use Rattle.cx_design_leads.proofs.numbering.Nodes.new.Goals as goal
 
