@@ -3,7 +3,7 @@ use Rattle.std.proofs.Common.{◌≡◌, ℕ, zero, suc, ◌<◌, Bool, true, �
 use Rattle.std.specs.Prelude.{◌↔◌, IsTrue}
 use Rattle.cx_text.specs.Members.{In}
 use Rattle.cx_graphs.specs.Graphs.{Edges, IsGraph, edges_of, targets_of}
-use Rattle.cx_graphs.specs.Ways.{LeadsWithin}
+use Rattle.cx_graphs.specs.Ways.{HasCircle, LeadsWithin}
 use Rattle.cx_graphs.proofs.Lists.{get_last, some_is}
 use Rattle.cx_meaning.specs.declared.ports.PortRef.{PortRef}
 use Rattle.cx_meaning.specs.Instances.{Instance, part_of}
@@ -15,7 +15,7 @@ use Rattle.cx_design_leads.specs.Edges.{HasEdges, IsGroupOf, LeadsInGroup}
 use Rattle.cx_design_leads.specs.declared.leading.GroupLeads.{GroupLeads}
 use Rattle.cx_design_leads.proofs.NodeLemmas.{within}
 use Rattle.cx_comb.specs.Circles.{AreCircles, AreGroupCircles}
-use Rattle.cx_comb.specs.Pruning.{ServesGroups}
+use Rattle.cx_comb.specs.Pruning.{IsPruned, ServesGroups}
 
 pub no_circles : (i : Instance) → AreGroupCircles i []
 no_circles i g found e = absurd (cc)
@@ -45,6 +45,9 @@ edges_within i relation g h m n e = let b = h.sound m n e in within i b.to n b.i
 
 pub leads_graph : (i : Instance) (relation : PortRef → PortRef → Type 0) (g : Edges) → HasEdges i relation g → IsGraph g
 leads_graph i relation g h n m e = subst (λ k. m < k) (sym h.same_length) (edges_within i relation g h n m e)
+
+pub served : (i : Instance) (graph pruned : Edges) → HasEdges i (Leads i nothing) graph → (HasCircle (targets_of graph) → ⊥) → (marks : List Bool) × IsPruned i graph marks pruned → ServesGroups i pruned
+served i graph pruned edges none p = record { graph = graph; marks = p.0; edges = edges; no_circle = none; is_pruned = p.1 }
 
 pub pruned_length : (i : Instance) (pruned : Edges) → ServesGroups i pruned → length pruned ≡ node_count i
 pruned_length i pruned s = s.is_pruned.kept.same_length ∙ s.edges.same_length

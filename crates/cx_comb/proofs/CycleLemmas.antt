@@ -1,12 +1,11 @@
 -- Ports that depend on themselves are circles of nodes.
-use Rattle.std.proofs.Common.{◌≡◌, ℕ, ◌<◌, Bool, inl, inr, ⊎_elim, Some, List, length, sym, ◌∙◌, subst}
+use Rattle.std.proofs.Common.{◌≡◌, ℕ, ◌<◌, Bool, Some, List, length, sym, ◌∙◌, subst}
 use Rattle.std.specs.Prelude.{◌↔◌, IsTrue}
 use denote.Struct.Props.{props}
 use Rattle.std.proofs.Math.Logic.{∥∥₁_elim}
-use Rattle.cx_text.proofs.MemberLaws.{in_either, in_left, in_right}
 use Rattle.cx_text.specs.Members.{In}
 use Rattle.cx_graphs.specs.Graphs.{Edges, targets_of, Marked}
-use Rattle.cx_graphs.specs.Ways.{Targets, Way, edge, further, HasCircle, HasCircleFrom, both}
+use Rattle.cx_graphs.specs.Ways.{Targets, Way, HasCircle, HasCircleFrom, both}
 use Rattle.cx_meaning.specs.declared.ports.PortRef.{PortRef}
 use Rattle.cx_meaning.specs.Designs.{PlainDesign}
 use Rattle.cx_meaning.specs.Instances.{Instance}

@@ -3,4 +3,5 @@ mod CircleFacts
 mod CycleLemmas
 mod MarkFacts
 mod PruneLemmas
+mod OwnerLemmas
 mod TargetLemmas

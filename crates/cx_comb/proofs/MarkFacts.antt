@@ -2,8 +2,7 @@
 use Rattle.std.proofs.Common.{◌≡◌, ℕ, zero, suc, ◌<◌, inl, inr, ⊎_elim, Bool, List, [], ◌∷◌, length, get_or, refl, sym, subst, arith}
 use Rattle.std.proofs.lemmas.Bool.{cases_lt}
 use Rattle.std.proofs.lemmas.List.{get_or_past}
-use Rattle.cx_graphs.specs.Graphs as graphs
-use Rattle.cx_graphs.specs.Graphs.{Edges, IsReached, at_start, by_edge, Marked, targets_of}
+use Rattle.cx_graphs.specs.Graphs.{Edges, IsReached, at_start, by_edge, Marked}
 use Rattle.cx_graphs.specs.Ways.{IsTurned}
 use Rattle.cx_meaning.specs.Designs.{PlainAssign, PlainComponent, PlainDesign, PlainGroup, component_at, group_at, no_group}
 use Rattle.cx_text.specs.Members.{In}

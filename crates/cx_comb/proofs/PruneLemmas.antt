@@ -70,3 +70,19 @@ pruned_circle g more pruned starts sub (n, comes, way) = (
       (λ m k i. ⊎_elim (λ j. in_left (targets_of g m) (targets_of more m) k (sub m k j)) (λ j. in_right (targets_of g m) (targets_of more m) k j) (in_either (targets_of pruned m) (targets_of more m) k i))
       way,
 )
+
+-- where no edge of the group leads to a node from which the group is reached, a way to one goes along the graph alone
+module _ (g more : Edges) (back : ℕ → Type 0) (from_more : (m n : ℕ) → In (targets_of more m) n → back m) (along : (m n : ℕ) → In (targets_of g m) n → back n → back m)
+    (never : (m n : ℕ) → In (targets_of more m) n → back n → ⊥) where
+  plain_way : {a b : ℕ} → back b → Way (both g more) a b → Way (targets_of g) a b × back a
+  plain_way {a} {b} h (edge e) = ⊎_elim (λ i. (edge i, along a b i h)) (λ i. absurd (never a b i h)) (in_either (targets_of g a) (targets_of more a) b e)
+  plain_way {a} {b} h (further k e w) =
+      let r = plain_way h w in ⊎_elim (λ i. (further k i r.0, along a k i r.1)) (λ i. absurd (never a k i r.1)) (in_either (targets_of g a) (targets_of more a) k e)
+
+  pub no_circle_back : (HasCircle (targets_of g) → ⊥) → HasCircle (both g more) → ⊥
+  no_circle_back none (n, w) =
+      ⊎_elim
+      (λ v. none (n, v))
+      (λ r. let circle : Way (both g more) r.node r.node = ⊎_elim (λ same. subst (Way (both g more) r.node) same r.on) (λ v. way_join r.on v) r.to in
+      none (r.node, (plain_way (from_more r.node r.target r.leads) circle).0))
+      (way_by g more g back (λ m k i h. i) from_more along w)

@@ -2,15 +2,16 @@
 use Rattle.std.proofs.Common.{◌≡◌, ℕ, zero, suc, ◌+◌, ◌<◌, ◌⊎◌, inl, inr, ⊎_elim, Bool, Some, None, List, [], ◌∷◌, ◌++◌, length, refl, sym, ap, ◌∙◌, subst, arith}
 use Rattle.std.proofs.lemmas.List.{length-append, length-map}
 use Rattle.std.specs.declared.vec.Vec.{Vec}
+use Rattle.cx_text.proofs.ListLaws.{there_below}
 use Rattle.cx_text.proofs.MemberLaws.{in_left}
-use Rattle.cx_graphs.specs.Graphs as graphs
-use Rattle.cx_graphs.specs.Graphs.{Edges, edges_of, targets_of, Bounded, Marked}
-use Rattle.cx_graphs.proofs.Lists.{in_last, the_last}
+use Rattle.cx_graphs.specs.Graphs.{Edges, edges_of, targets_of, Marked}
+use Rattle.cx_graphs.proofs.Lists.{get_last, in_last, the_last}
 use Rattle.cx_meaning.specs.Designs.{PlainAssign, PlainGroup}
 use Rattle.cx_meaning.specs.Instances.{Instance}
 use Rattle.cx_text.specs.Members.{In}
 use Rattle.cx_design_leads.specs.Nodes.{node_count}
 use Rattle.cx_design_leads.specs.Links.{driven_node}
+use Rattle.cx_comb.specs.Owning.{AreTargetLists}
 use Rattle.cx_comb.specs.Pruning.{AddsTargets, HasTargets, AreMarked, IsKept}
 use Rattle.cx_text.proofs.OptionLaws.{some_is, none_some_also}
 use Rattle.cx_text.proofs.NumberLaws.{same_or_not}
@@ -109,3 +110,27 @@ more_kept g marks count xs after x e k are = subst (λ l. IsKeptSo g marks (coun
 
 pub all_kept : (g : Edges) (marks : List Bool) (kept : Edges) → IsKeptSo g marks (length g) kept → ((m n : ℕ) → In (targets_of g m) n → m < length g) → IsKept g marks kept
 all_kept g marks kept k within = record { same_length = k.same_length; sound = k.sound; all = λ m n i marked. k.all m n (within m n i) i marked }
+
+-- the nodes that each group drives, group by group
+pub no_lists : (i : Instance) → AreTargetLists i [] []
+no_lists i = record { count = refl; within = λ k m j. absurd j; all = λ k g a m e j f. absurd (cc) }
+
+pub more_lists : {A : Type 0} (i : Instance) (groups more : List PlainGroup) (g : PlainGroup) (xs after : List (Vec ℕ A)) (x : Vec ℕ A) → more ≡ groups ++ g ∷ [] → after ≡ xs ++ x ∷ []
+    → AreTargetLists i groups (edges_of xs) → AddsTargets i g.assigns [] x.items → AreTargetLists i more (edges_of after)
+more_lists i groups more g xs after x same e are adds = subst (λ l. AreTargetLists i l (edges_of after)) (sym same) (subst (λ l. AreTargetLists i (groups ++ g ∷ []) (edges_of l)) (sym e) (record {
+  count = let so_far = are.count in omega (arith, so_far, length-map xs (λ v. v.items), length-map (xs ++ x ∷ []) (λ v. v.items), length-append xs (x ∷ []), length-append groups (g ∷ []));
+  within = λ k m j. ⊎_elim
+      (λ last. ⊎_elim (λ none. absurd none) (λ below. below) (adds.within m (subst (λ l. In l m) (snoc_at xs x) (subst (λ n. In (targets_of (edges_of (xs ++ x ∷ [])) n) m) last j))))
+      (λ d. are.within k m (subst (λ l. In l m) (snoc_other xs x k d) j))
+      (same_or_not k (length xs));
+  all = λ k h a m f j drives. ⊎_elim
+      (λ earlier. let below = there_below groups k h earlier in
+      let other : k ≡ length xs → ⊥ = λ last. omega (arith, last, below, long) in
+      subst (λ l. In l m) (sym (snoc_other xs x k other)) (are.all k h a m earlier j drives))
+      (λ last. subst (λ n. In (targets_of (edges_of (xs ++ x ∷ [])) n) m) (long ∙ sym last.0)
+      (subst (λ l. In l m) (sym (snoc_at xs x)) (adds.all a m (subst (λ (v : PlainGroup). In v.assigns a) (sym last.1) j) drives)))
+      (get_last groups g h k f);
+}))
+  where
+    long : length xs ≡ length groups
+    long = sym (length-map xs (λ v. v.items)) ∙ are.count

@@ -1,3 +1,4 @@
 pub mod Circles
 pub mod CombBreaks
 pub mod Pruning
+pub mod Owning

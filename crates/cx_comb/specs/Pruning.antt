@@ -1,6 +1,5 @@
 -- What is left of a graph for the search of circles under one group.
 use Rattle.std.specs.Prelude.{◌≡◌, ℕ, ◌<◌, ◌⊎◌, Bool, List, Some, length}
-use Rattle.cx_graphs.specs.Graphs as graphs
 use Rattle.cx_graphs.specs.Graphs.{Edges, targets_of, Marked, Bounded}
 use Rattle.cx_meaning.specs.Designs.{PlainAssign, PlainGroup, group_at}
 use Rattle.cx_meaning.specs.Instances.{Instance, part_of}

@@ -3,6 +3,7 @@
 
 mod checking;
 mod circles;
+mod owning;
 mod pruning;
 mod telling;
 

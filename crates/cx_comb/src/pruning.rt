@@ -68,7 +68,7 @@ fn group_targets(
 }
 
 /// Adds the nodes that assignments drive.
-fn add_targets(
+pub fn add_targets(
     targets: &mut Vec<u32>,
     design: &Design,
     number: usize,

@@ -1,27 +1,23 @@
 use Rattle.std.proofs.Common.{◌≡◌, ◌<◌, length, sym, ◌∙◌, subst}
 use Rattle.std.proofs.lemmas.List.{length-map}
 use Rattle.cx_graphs.specs.Graphs.{Bounded, edges_of}
-use Rattle.std.specs.Prelude.{◌↔◌, IsTrue}
-use Rattle.cx_graphs.specs.Ways.{HasCircleFrom, LeadsWithin, both}
 use Rattle.cx_graphs.specs.Walks.{IsReady}
 use Rattle.cx_rules.specs.Ports.{component_of}
 use Rattle.cx_design.specs.PlainDesigns.{plain_design}
 use Rattle.cx_design.specs.PlainForms.{plain_component}
 use Rattle.cx_design_leads.specs.Nodes.{node_count}
-use Rattle.cx_comb.proofs.CircleFacts.{pruned_length, pruned_graph, group_within}
+use Rattle.cx_comb.proofs.CircleFacts.{pruned_length}
 use Rattle.cx_comb.proofs.CycleLemmas.{group_found}
 use Rattle.cx_comb.proofs.circles.is_circular.Goals as goal
 
 pub meets_circle-requires : goal.meets_circle-requires
 meets_circle-requires c =
     let i = component_of (plain_design c.args.design.now) c.args.number in
-    let group = c.in_ok-add_group.ensures.value in
     let long : length c.args.pruned.now ≡ node_count i = sym (length-map c.args.pruned.now (λ v. v.items)) ∙ pruned_length i (edges_of c.args.pruned.now) c.requires.pruned in
     record {
-      ready = subst (λ n. IsReady n c.args.walk.now) (sym long) c.requires.walk;
-      graph = pruned_graph i (edges_of c.args.pruned.now) c.requires.pruned;
-      more = subst (λ n. LeadsWithin n (edges_of c.as_slice.result.now)) (sym long) (subst (λ lists. LeadsWithin (node_count i) (edges_of lists)) (sym c.as_slice.ensures.value) (group_within i c.args.group c.add_group.new.self group));
-      starts = subst (λ n. Bounded n c.as_slice-2.result.now) (sym long) (subst (Bounded (node_count i)) (sym c.as_slice-2.ensures.value) group.spread.within);
+      pruned = (i, c.requires.pruned, c.requires.owners, c.in_ok-add_group.ensures.value);
+      len = c.requires.len ∙ sym long;
+      walk = subst (λ n. IsReady n c.args.walk.now) (sym long) c.requires.walk;
     }
 
 pub clear-requires : goal.clear-requires
@@ -43,10 +39,9 @@ returns c =
     let long : length c.args.pruned.now ≡ node_count i = sym (length-map c.args.pruned.now (λ v. v.items)) ∙ pruned_length i pruned serves in
     let within : k < length d.components = subst (λ n. k < n) (sym (length-map design.components.items plain_component)) c.requires.within in
     record {
-      walk = subst (λ n. IsReady n c.meets_circle.new.self) long c.in_ok-found.ensures.ready;
+      walk = subst (λ n. IsReady n c.meets_circle.new.walk) long c.in_ok-found.ensures.walk;
       more = c.clear.ensures.value (node_count i) group.spread;
       value = group_found d k design.keeps within serves.graph serves.edges c.args.group serves.marks pruned (edges_of more.edges.items) more.targets.items found serves.no_circle serves.is_pruned group.edges
           group.spread.from_targets
-          (subst (λ l. IsTrue found ↔ HasCircleFrom (both pruned (edges_of more.edges.items)) l) c.as_slice-2.ensures.value
-          (subst (λ l. IsTrue found ↔ HasCircleFrom (both pruned (edges_of l)) c.as_slice-2.result.now) c.as_slice.ensures.value c.in_ok-found.ensures.value));
+          c.in_ok-found.ensures.value;
     }
