@@ -9,7 +9,7 @@ use Rattle.cx_text.proofs.MemberLaws.{in_left, in_right}
 use Rattle.cx_text.specs.Members.{In}
 use Rattle.cx_graphs.specs.Graphs as graphs
 use Rattle.cx_graphs.specs.Graphs.{Edges, targets_of}
-use Rattle.cx_graphs.specs.Ways.{Targets, Way, edge, further, LeadsWithin, both}
+use Rattle.cx_graphs.specs.Ways.{Targets, Way, LeadsWithin, both}
 use Rattle.cx_graphs.specs.Reach.{Reaches}
 use Rattle.cx_meaning.specs.declared.ports.PortRef.{PortRef}
 use Rattle.cx_meaning.specs.declared.ports.PortRef.TheVariants as ports
@@ -36,7 +36,6 @@ use Rattle.cx_shape_calls.specs.Decisions.{cell_number, port_number}
 use Rattle.cx_shape_calls.specs.Inputs.{IsDependent, AreDependent, AreDependentPorts, IsInputOf, is_an_input, is_input}
 use Rattle.cx_callees.proofs.TargetLemmas.{target_of}
 use Rattle.cx_meaning.proofs.PortsLemmas.{same_self}
-use Rattle.cx_graphs.proofs.Marks.{in_left as node_before, in_right as node_behind, in_either}
 use Rattle.cx_meaning.proofs.DesignsLemmas.{group_there}
 use Rattle.cx_text.proofs.OptionLaws.{some_is}
 use Rattle.cx_rules.proofs.PortsLemmas.{part_is}

@@ -1,22 +1,21 @@
 -- Whether a static invoke breaks the rule, by what is found of it.
-use Rattle.std.proofs.Common.{◌≡◌, ◌<◌, ◌≤◌, ℕ, zero, suc, ◌+◌, Bool, true, false, not, ◌↔◌, is_some, nat_eq, List, [], ◌∷◌, ◌++◌, Option, Some, None, length, length-append, map, get_or, slice_get, inl, inr, ⊎_elim, refl, sym, ap, ◌∙◌, subst, arith, true≢false}
+use Rattle.std.proofs.Common.{◌≡◌, ◌<◌, ℕ, zero, suc, ◌+◌, Bool, true, false, not, ◌↔◌, is_some, nat_eq, List, [], ◌∷◌, ◌++◌, Some, length, length-append, map, get_or, slice_get, inl, inr, ⊎_elim, refl, sym, ap, ◌∙◌, subst, arith, true≢false}
 use denote.Struct.Props.{props}
 use Rattle.std.proofs.Math.Logic.{∥∥₁_elim}
 use Rattle.cx_text.proofs.MemberLaws.{flat_in, in_flat}
 use Rattle.cx_text.specs.Members.{In}
 use Rattle.cx_graphs.specs.Graphs.{Edges, IsReached, at_start, by_edge}
 use Rattle.cx_meaning.specs.declared.ports.PortRef.TheVariants as ports
-use Rattle.cx_meaning.specs.Designs.{PlainAssign, PlainCell, PlainInvoke, PlainComponent, PlainDesign, Always, component_at}
+use Rattle.cx_meaning.specs.Designs.{PlainAssign, PlainInvoke, PlainComponent, PlainDesign, Always, component_at}
 use Rattle.cx_meaning.specs.Instances.{Instance, At, Nothing, OfRow, OfInstance, part_of, cells_of, cell_at}
 use Rattle.cx_meaning.specs.Sights.{GuardNames}
-use Rattle.cx_rules.specs.Ports.{component_of, cell_name}
+use Rattle.cx_rules.specs.Ports.{component_of}
 use Rattle.cx_rules.specs.Items.{sources_of}
 use Rattle.cx_rules.specs.Wellformed.{IsDesign, IsThere}
 use Rattle.cx_rules.specs.InvokeShape.{LeadsToCell, itself, through, InvokeBreak, another_kind, unbound, restless, fed_back}
 use Rattle.cx_design.specs.declared.components.Component.{Component}
 use Rattle.cx_design.specs.declared.invokes.StaticInvoke.{StaticInvoke}
-use Rattle.cx_design.specs.declared.cells.Cell.{Cell}
-use Rattle.cx_design.specs.PlainForms.{plain_cell, plain_component, plain_invoke}
+use Rattle.cx_design.specs.PlainForms.{plain_component, plain_invoke}
 use Rattle.cx_meaning.proofs.DesignsLemmas.{same_part}
 use Rattle.cx_race.specs.Cells.{named_in, named_in_all}
 use Rattle.cx_race.specs.Links.{AreLinks}
@@ -24,8 +23,6 @@ use Rattle.cx_race.proofs.CellLemmas.{cell_is, has_cell, in_named, is_named}
 use Rattle.cx_race.proofs.ArmLemmas.{as_node, from_node}
 use Rattle.cx_shape_calls.specs.StaticInvokes.{is_bound, some_unbound, input_count, is_restless, FeedsBack, IsWrong, IsMarkOf, AreMarksOf}
 use Rattle.cx_rules.specs.Invokes.{invoke_at}
-use Rattle.std.proofs.lemmas.List.{length-map}
-use Rattle.std.proofs.lemmas.Option.{slice_get_past}
 use Rattle.cx_text.proofs.ListLaws.{front, get_end, item_at}
 use Rattle.cx_text.proofs.NumberLaws.{from_eq}
 use Rattle.cx_text.proofs.OptionLaws.{same_some}

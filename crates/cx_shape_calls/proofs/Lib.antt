@@ -8,3 +8,4 @@ mod BreakLemmas
 mod StatementLemmas
 mod InvokeLemmas
 mod BoundLemmas
+mod LeadLemmas

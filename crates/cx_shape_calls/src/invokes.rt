@@ -1,8 +1,9 @@
 //! Static invokes that break the rule.
 
-ghost use Rattle.std.specs.Prelude.{◌≡◌, ◌<◌, ◌↔◌, ◌∷◌, ◌++◌, ℕ, [], false, replicate, true, IfOk, IsTrue, List, Some, length, not};
+ghost use Rattle.std.specs.Prelude.{◌≡◌, ◌<◌, ◌↔◌, ◌∷◌, ◌++◌, ℕ, [], false, replicate, true, IfOk, IsTrue, List, OnOk, Some, length, not};
 ghost use Rattle.std.specs.List.{list_any};
-ghost use Rattle.cx_graphs.specs.Graphs.{edges_of};
+ghost use Rattle.cx_graphs.specs.Graphs.{Bounded, IsGraph, IsReached, edges_of};
+ghost use Rattle.cx_graphs.specs.Tallies.{IsClear};
 ghost use Rattle.cx_meaning.specs.Designs.{PlainAssign, component_at};
 ghost use Rattle.cx_meaning.specs.Active.{same_port};
 ghost use Rattle.cx_meaning.specs.Instances.{cell_at, cells_of};
@@ -18,7 +19,7 @@ ghost use Rattle.cx_shape_calls.specs.StaticInvokes.{AreBound, AreMarksOf, Feeds
 
 use cx_design::{Assign, Design, PortRef, StaticInvoke};
 use cx_design_parts::{At, component, stands_at};
-use cx_graphs::reached;
+use cx_graphs::{Owners, Tally};
 use cx_race::{add_assigns, links};
 use cx_shape_state::{Resting, all_rest};
 use cx_text::Memory;
@@ -51,9 +52,11 @@ fn marks(
     ensures marks { IfOk result (λ marks. AreMarksOf (component_of (plain_design design.now) number) (length (component_at (plain_design design.now) number).invokes) marks.items) }
 {
     let invokes = component(design, number).invokes.as_slice();
+    let mut tally = Tally::new(alloc, links.len())?;
     let mut marks = Vec::new(alloc);
     for place in 0..invokes.len() {
-        let wrong = is_wrong_invoke(alloc, design, number, resting, links, &invokes[place])?;
+        let invoke = &invokes[place];
+        let wrong = is_wrong_invoke(alloc, design, number, resting, links, &mut tally, invoke)?;
         marks.push(wrong)?;
     }
     Ok(marks)
@@ -66,12 +69,15 @@ fn is_wrong_invoke(
     number: usize,
     resting: &Resting,
     links: &[Vec<u32>],
+    tally: &mut Tally,
     invoke: &StaticInvoke,
 ) -> Result<bool, Memory>
     requires within { number < length design.now.components.items }
     requires tells { Tells (component_of (plain_design design.now) number) resting.now }
     requires links { AreLinks (component_at (plain_design design.now) number) (edges_of links.now) }
+    requires tally { IsClear (length links.now) tally.old.owners.items tally.old.touched.items }
     requires stands { In (component_at (plain_design design.now) number).invokes (plain_invoke invoke.now) }
+    ensures tally { OnOk result (IsClear (length links.now) tally.new.owners.items tally.new.touched.items) }
     ensures value { IfOk result (IsMarkOf (component_of (plain_design design.now) number) (plain_invoke invoke.now)) }
 {
     if invoke.latency.is_none() {
@@ -87,7 +93,7 @@ fn is_wrong_invoke(
     if restless {
         return Ok(true);
     }
-    let fed_back = is_fed_back(alloc, design, number, links, invoke)?;
+    let fed_back = is_fed_back(alloc, design, number, links, tally, invoke)?;
     Ok(fed_back)
 }
 
@@ -199,15 +205,43 @@ fn is_fed_back(
     design: &Design,
     number: usize,
     links: &[Vec<u32>],
+    tally: &mut Tally,
     invoke: &StaticInvoke,
 ) -> Result<bool, Memory>
     requires within { number < length design.now.components.items }
     requires links { AreLinks (component_at (plain_design design.now) number) (edges_of links.now) }
+    requires tally { IsClear (length links.now) tally.old.owners.items tally.old.touched.items }
     requires stands { In (component_at (plain_design design.now) number).invokes (plain_invoke invoke.now) }
+    ensures tally { OnOk result (IsClear (length links.now) tally.new.owners.items tally.new.touched.items) }
     ensures value { IfOk result (λ fed_back. IsTrue fed_back ↔ FeedsBack (component_at (plain_design design.now) number) (plain_invoke invoke.now).inputs invoke.now.cell) }
 {
     let mut named = Vec::new(alloc);
     add_assigns(alloc, &mut named, invoke.inputs.as_slice())?;
-    let marks = reached(alloc, links, named.as_slice())?;
-    Ok(marks[invoke.cell as usize])
+    let fed_back = lead_to(alloc, links, tally, named, invoke.cell)?;
+    Ok(fed_back)
+}
+
+/// Whether links lead from one of some cells to a cell, or it is one of them. A tally of the cells serves meanwhile and is
+/// empty again at the end, so what is not reached costs nothing.
+fn lead_to(
+    alloc: Global,
+    links: &[Vec<u32>],
+    tally: &mut Tally,
+    cells: Vec<u32>,
+    cell: u32,
+) -> Result<bool, Memory>
+    requires graph { IsGraph (edges_of links.now) }
+    requires tally { IsClear (length links.now) tally.old.owners.items tally.old.touched.items }
+    requires cells { Bounded (length links.now) cells.items }
+    requires within { cell < length links.now }
+    ensures tally { OnOk result (IsClear (length links.now) tally.new.owners.items tally.new.touched.items) }
+    ensures value { IfOk result (λ lead. IsTrue lead ↔ IsReached (edges_of links.now) cells.items cell) }
+{
+    let mut lists = Vec::new(alloc);
+    lists.push(cells)?;
+    let mut groups = Tally::new(alloc, 0)?;
+    tally.tally_reached(links, &mut groups, &[], &[], lists.as_slice())?;
+    let lead = !tally.owners[cell as usize].is(Owners::Nobody);
+    tally.clear();
+    Ok(lead)
 }

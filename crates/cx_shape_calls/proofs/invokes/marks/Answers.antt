@@ -28,6 +28,8 @@ loop-place-preserved c =
     let n = c.loop-place.place in
     let is : invoke_at (part_of i) n ≡ Some (plain_invoke x) =
     ap (λ p. invoke_at p n) (same_part d (length d.components) c.args.number)
-    ∙ got_invoke part c.component.result.now c.as_slice-invokes.result.now n x c.component.ensures.value c.as_slice-invokes.ensures.value c.loop-place-test.true c.index-invokes-place.is in
-    subst (λ l. AreMarksOf i (n + 1) l) (sym c.in_ok-push.ensures.items)
-    (marks_more i n c.loop-place.marks.items c.in_ok-wrong.wrong (plain_invoke x) is c.loop-place.invariant c.in_ok-wrong.ensures.value)
+    ∙ got_invoke part c.component.result.now c.as_slice-invokes.result.now n x c.component.ensures.value c.as_slice-invokes.ensures.value c.loop-place-test.true c.index-invokes-place.is in (
+      subst (λ l. AreMarksOf i (n + 1) l) (sym c.in_ok-push.ensures.items)
+          (marks_more i n c.loop-place.marks.items c.in_ok-wrong.wrong (plain_invoke x) is c.loop-place.invariant.0 c.in_ok-wrong.ensures.value),
+      c.in_ok-wrong.ensures.tally,
+    )
