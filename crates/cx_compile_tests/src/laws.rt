@@ -6,12 +6,12 @@ ghost use Rattle.cx_commands.specs.declared.stops.Stop.TheVariants.{More};
 ghost use Rattle.cx_compile_tests.specs.Alike.{EndsAlike, WaitsAlike};
 
 use crate::stepped::{ADD_THREE, FIVE};
+use cx_compiler::flat_laws::{
+    accepted_texts_run_as_meant, what_is_run_is_accepted, what_is_run_is_flat,
+};
 use cx_compiler::net_of;
 use cx_control::laws::machine_runs;
 use cx_driver::{Stop, interp};
-use cx_flat_texts::laws::{
-    accepted_texts_run_as_meant, what_is_run_is_accepted, what_is_run_is_flat,
-};
 use cx_wiring_runs::laws::design_is_realised;
 use std::alloc::Global;
 use std::process::Abort;

@@ -5,14 +5,14 @@ use Rattle.cx_text.specs.declared.limits.TheConstants.{COMPILE_SIZE}
 use Rattle.cx_meaning.specs.Designs.{PlainDesign}
 use Rattle.cx_rules.specs.Counts.{counted_design_size}
 use Rattle.cx_rules.specs.Sizes.{design_size}
-use Rattle.cx_flat_texts.specs.Runnable.{runnable}
+use Rattle.cx_compiler.specs.Runnable.{runnable}
 use Rattle.cx_commands.specs.declared.stops.Stop.{Stop}
 use Rattle.cx_commands.specs.declared.stops.Stop.TheVariants as stops
 use Rattle.cx_compiler.specs.Texts.{IsDesignOf, IsTextRefusal}
 use Rattle.cx_compiler.specs.Compiled.{IsCompiled, IsCompilable, counted_too_large, CompileBreak, Compiles, IsCompileStop, IsRealised, IsRunTooLarge, IsRunWritten, written_net, written_source}
 use Rattle.cx_compiler.specs.Promise.{KeepsPromise}
-use Rattle.cx_power.proofs.SourceLemmas.{source_reset}
-use Rattle.cx_scripts.specs.Laws.{SourcesRealiseAlways}
+use Rattle.cx_emitted.proofs.SourceResets.{source_reset}
+use Rattle.cx_emitted.specs.ScriptLaws.{SourcesRealiseAlways}
 use Rattle.cx_compiler.proofs.MeantLemmas.{TextsRunAsMeant, text_runs}
 use Rattle.cx_compiler.proofs.PromiseLemmas.{promise_is_kept}
 use Rattle.cx_compiler.proofs.RunLayers.{RunLaws, can_bytes, can_nets, text_can}

@@ -20,7 +20,7 @@ use Rattle.cx_flattening.specs.Fair.{IsAssignOf}
 use Rattle.cx_flattening.specs.FlatDesign.{reached_from, flat_of, renumbered_part, flat_design}
 use Rattle.cx_flattening.specs.Flattened.{Kids, kid_at, kid_if, own_port, child_port, invoke_port, always_if, always_from, copies_if, copies, flat_component, flat_part, flat_kids}
 use Rattle.cx_flattening.specs.Whole.{is_static}
-use Rattle.cx_bytes.specs.Laws.{HasGuards}
+use Rattle.cx_emitted.specs.ByteLaws.{HasGuards}
 use Rattle.cx_flattening.proofs.FlatKeeps.{enabled_in}
 use Rattle.cx_rules.proofs.ForeignLemmas.{OwnerOf, continuous, of_group, owner_of}
 

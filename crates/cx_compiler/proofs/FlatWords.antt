@@ -12,7 +12,7 @@ use Rattle.cx_flattening.specs.FlatDesign.{flat_of, renumbered_cell, renumbered_
 use Rattle.cx_flattening.specs.Flattened.{Kids, inner_cell, wire_of, kept_if, kept, block, blocks, flat_cells, flat_part, flat_kids}
 use Rattle.cx_flattening.proofs.Reached.{itself, flat_component_is}
 use Rattle.cx_vtree.specs.Layout.{is_word}
-use Rattle.cx_compiler.proofs.WrittenNets.{HasWords}
+use Rattle.cx_compiler.specs.Words.{HasWords}
 
 kept_in : (kids : Kids) (cs : List PlainCell) (x : PlainCell) → In (kept kids cs) x → In cs x
 kept_in [] cs x i = i

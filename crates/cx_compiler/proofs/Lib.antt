@@ -1,3 +1,11 @@
+pub mod TextNames
+pub mod PlainNames
+pub mod StaticEnds
+pub mod RunnableLemmas
+pub mod CountedSizes
+pub mod RunDesigns
+pub mod TextRuns
+pub mod TextForms
 pub mod RowWidths
 pub mod Once
 pub mod TextLemmas
@@ -24,3 +32,9 @@ pub mod OwedLemmas
 pub mod PromiseLemmas
 pub mod OneSource
 pub mod OneRefusal
+pub mod DepthLemmas
+pub mod WordLemmas
+pub mod KeptParts
+pub mod KeptEnds
+pub mod KeptNames
+pub mod KeptTexts

@@ -17,8 +17,8 @@ use Rattle.cx_numbering.specs.DesignOf.{design_of}
 use Rattle.cx_numbering.specs.NameRules.{names_break}
 use Rattle.cx_flattening.specs.Told.{told}
 use Rattle.cx_flattening.specs.Whole.{whole_main}
-use Rattle.cx_flat_texts.specs.Runnable.{runnable, RunsAsMeant}
-use Rattle.cx_flat_texts.proofs.TextForms.{text_means_the_same}
+use Rattle.cx_compiler.specs.Runnable.{runnable, RunsAsMeant}
+use Rattle.cx_compiler.proofs.TextForms.{text_means_the_same}
 use Rattle.cx_commands.specs.Unread.{HasTree}
 use Rattle.cx_commands.specs.declared.stops.Stop.TheVariants as stops
 use Rattle.cx_compiler.specs.Interpreted.{left_of, left_told, run_left, loaded_left, design_left, design_result, meant_left, loaded_meant, design_meant, meant_result, dumped}
@@ -46,7 +46,7 @@ module _ (d : PlainDesign) (runs : RunsAsMeant d) where
   pub design_meant_is : (json : List ℕ) (budget : ℕ) → meant_result d json budget ≡ design_result (runnable d) json budget
   design_meant_is json budget = ap dumped (design_left_is json budget)
 
--- OF AN ACCEPTED TEXT, by the law of cx_flat_texts
+-- OF AN ACCEPTED TEXT, by the law on what is run of it
 abbrev pub TextsRunAsMeant : Type 0
 TextsRunAsMeant = (text : List ℕ) (tree : PlainTree) → HasTree text tree → names_break tree ≡ None → IsAccepted (design_of tree)
     → design_size (design_of tree) < 2 ^ 32 → RunsAsMeant (design_of tree)

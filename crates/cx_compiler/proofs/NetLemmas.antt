@@ -5,7 +5,7 @@ use Rattle.cx_text.specs.Loading.{PlainRow}
 use Rattle.cx_meaning.specs.Designs.{PlainDesign}
 use Rattle.cx_rules.specs.Externals.{external_rows}
 use Rattle.cx_rules.specs.Sizes.{design_size}
-use Rattle.cx_flat_texts.specs.Runnable.{runnable}
+use Rattle.cx_compiler.specs.Runnable.{runnable}
 use Rattle.cx_net.specs.Nets.{PlainNet}
 use Rattle.cx_emit.specs.Emitted.{CanBeEmitted}
 use Rattle.cx_commands.specs.declared.stops.Stop.{Stop}

@@ -14,9 +14,9 @@ use Rattle.cx_vtree.specs.Plain.{PlainSource}
 use Rattle.cx_vtree.specs.Meaning.{State}
 use Rattle.cx_vtree.specs.SimRun.{Outcome, DoneAt, NotDone, SimRun}
 use Rattle.cx_vtree.proofs.Runs.{one_outcome}
-use Rattle.cx_power.specs.Resets.{IsReset}
-use Rattle.cx_power.specs.Power.{HasPower, PowerRun}
-use Rattle.cx_power.proofs.ResetLemmas.{forgets}
+use Rattle.cx_emitted.specs.Resets.{IsReset}
+use Rattle.cx_emitted.specs.Power.{HasPower, PowerRun}
+use Rattle.cx_emitted.proofs.ResetLemmas.{forgets}
 use Rattle.cx_net.specs.Realises.{HasOutcome, comes, waits, Realises}
 use Rattle.cx_net.proofs.FollowLemmas.{never_loops}
 use Rattle.cx_compiler.proofs.BelowLemmas.{cycle_within, main_grows}

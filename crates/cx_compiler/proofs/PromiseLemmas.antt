@@ -17,8 +17,8 @@ use Rattle.cx_rules.specs.Flat.{IsFlat}
 use Rattle.cx_vtree.specs.Plain.{PlainSource}
 use Rattle.cx_vtree.specs.SimRun.{Outcome, DoneAt, LoopAt, NotDone, SimRun}
 use Rattle.cx_vtree.proofs.Runs.{one_outcome}
-use Rattle.cx_power.specs.Resets.{IsReset}
-use Rattle.cx_scripts.specs.Always.{RealisesAlways}
+use Rattle.cx_emitted.specs.Resets.{IsReset}
+use Rattle.cx_emitted.specs.Always.{RealisesAlways}
 use Rattle.cx_compiler.specs.Texts.{IsDesignOf, IsRunOf}
 use Rattle.cx_compiler.specs.Interpreted.{told_of, loaded_result, design_result, meant_result, Interprets}
 use Rattle.cx_commands.specs.declared.stops.Stop.TheVariants as stops
@@ -27,7 +27,7 @@ use Rattle.cx_compiler.specs.Simulated.{IsVerilogOf, told_outcome, LoadedDoes, S
 use Rattle.cx_compiler.specs.Promise.{a_fault, EndsOrFaults, ends_so, faults, IsRunIn, KeepsPromise, PromiseIsKept}
 use Rattle.cx_compiler.proofs.Once.{Told}
 use Rattle.cx_compiler.proofs.TextLemmas.{accepted_once, one_design, text_of_design}
-use Rattle.cx_flat_texts.specs.Runnable.{runnable}
+use Rattle.cx_compiler.specs.Runnable.{runnable}
 use Rattle.cx_compiler.proofs.MeantLemmas.{design_meant_is, run_meant, text_meant}
 use Rattle.cx_compiler.proofs.OneSource.{one_source_of}
 use Rattle.cx_net.proofs.FollowLemmas.{never_loops}

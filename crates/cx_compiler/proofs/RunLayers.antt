@@ -7,8 +7,8 @@ use Rattle.cx_rules.specs.Counts.{counted_design_size}
 use Rattle.cx_rules.specs.Flat.{IsFlat}
 use Rattle.cx_rules.specs.Sizes.{design_size, weight_of}
 use Rattle.cx_rules.specs.Wellformed.{IsDesign}
-use Rattle.cx_flat_texts.specs.Runnable.{runnable, CanBeFlattened}
-use Rattle.cx_flat_texts.proofs.RunnableLemmas.{by_static, without_static}
+use Rattle.cx_compiler.specs.Runnable.{runnable, CanBeFlattened}
+use Rattle.cx_compiler.proofs.RunnableLemmas.{by_static, without_static}
 use Rattle.cx_vtree.specs.Sound.{is_sound}
 use Rattle.cx_vtree.specs.Spelling.{text_of}
 use Rattle.cx_vwrite.specs.Refused.{IsTooLong}
@@ -16,9 +16,9 @@ use Rattle.cx_vwrite.specs.declared.refusals.WriteRefusal.TheVariants.{TooLong}
 use Rattle.cx_emit.specs.Emitted.{CanBeEmitted}
 use Rattle.cx_emit.specs.Shapes.{HasFewNets}
 use Rattle.cx_emit.proofs.Soundness.{emitted_sound}
-use Rattle.cx_bytes.specs.Laws.{HasGuards}
-use Rattle.cx_bytes.specs.Shallow.{IsShallow}
-use Rattle.cx_bytes.proofs.WrittenBytes.{written_bytes}
+use Rattle.cx_emitted.specs.ByteLaws.{HasGuards}
+use Rattle.cx_emitted.specs.Shallow.{IsShallow}
+use Rattle.cx_emitted.proofs.WrittenBytes.{written_bytes}
 use Rattle.cx_compiler.specs.Compiled.{KeepsRules, RunEmitsWithin, written_net, written_source}
 use Rattle.cx_compiler.specs.Laws.{AreShallow, NeverTooLong}
 use Rattle.cx_compiler.specs.Simulated.{IsVerilogOf}
@@ -27,7 +27,8 @@ use Rattle.cx_compiler.proofs.FlatGuards.{flat_has_guards}
 use Rattle.cx_compiler.proofs.FlatWords.{flat_has_words}
 use Rattle.cx_compiler.proofs.TextDepth.{text_shallow}
 use Rattle.cx_compiler.proofs.TextLayers.{text_flattens}
-use Rattle.cx_compiler.proofs.WrittenNets.{HasWords, design_parts, design_words, net_emitted, nets_weigh}
+use Rattle.cx_compiler.specs.Words.{HasWords}
+use Rattle.cx_compiler.proofs.WrittenNets.{design_parts, design_words, net_emitted, nets_weigh}
 use Rattle.cx_compiler.proofs.WrittenLength.{short}
 
 -- THE LAWS on what is run of a design that can be flattened

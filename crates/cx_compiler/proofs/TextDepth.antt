@@ -23,7 +23,7 @@ use Rattle.cx_names.proofs.Base.{some_at}
 use Rattle.cx_names.proofs.Giving.{Asks, asks_nothing, Anything, Gives, anything, gives_empty, gives_pair, gives_choice, gives_many, gives_second, gives_right, gives_behind, gives_before, gives_mapped}
 use Rattle.cx_names.proofs.There.{component_is}
 use Rattle.cx_commands.specs.Unread.{HasTree}
-use Rattle.cx_bytes.specs.Shallow.{FormShallow, Shallow, PartsShallow, IsShallow}
+use Rattle.cx_emitted.specs.Shallow.{FormShallow, Shallow, PartsShallow, IsShallow}
 use Rattle.cx_compiler.specs.Texts.{IsDesignOf}
 
 -- BLOCKS one in the other: no more than so many, the block itself among them

@@ -13,8 +13,8 @@ use Rattle.cx_numbering.specs.DesignOf.{design_of}
 use Rattle.cx_names.specs.Targets.{HasTargets}
 use Rattle.cx_names.proofs.Whole.{is_design}
 use Rattle.cx_check.specs.Acceptance.{IsAcceptedTree}
-use Rattle.cx_flat_texts.specs.Runnable.{CanBeFlattened}
-use Rattle.cx_flat_texts.proofs.RunDesigns.{text_can_be_flattened}
+use Rattle.cx_compiler.specs.Runnable.{CanBeFlattened}
+use Rattle.cx_compiler.proofs.RunDesigns.{text_can_be_flattened}
 use Rattle.cx_compiler.specs.Texts.{IsDesignOf}
 
 -- of a tree without static components

@@ -41,7 +41,7 @@ use Rattle.cx_text.proofs.OptionLaws.{map_some}
 use Rattle.cx_compiler.specs.Cells.{IsModule, IsNameOf, HasEachCell, HasCells}
 use Rattle.cx_compiler.specs.Compiled.{written_source}
 use Rattle.cx_compiler.proofs.TimerUses.{is_timer}
-use Rattle.cx_bytes.proofs.SignedBytes.{place_at}
+use Rattle.cx_emitted.proofs.SignedBytes.{place_at}
 
 -- THE NET that is written is fit
 pub net_is_fit : (d : PlainDesign) → IsDesign d → IsFlat d → IsAccepted d → IsFit (inlined (net_of (lowered_of d)))

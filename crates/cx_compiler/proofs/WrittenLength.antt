@@ -15,8 +15,8 @@ use Rattle.cx_rules.proofs.CountsLemmas.{counted_weight-flat}
 use Rattle.cx_vtree.specs.Sound.{is_sound}
 use Rattle.cx_vtree.specs.Spelling.{text_of}
 use Rattle.cx_wiring.proofs.ComponentCounts.{PartsHold}
-use Rattle.cx_bytes.specs.Shallow.{IsShallow}
-use Rattle.cx_bytes.proofs.WrittenBytes.{written_within}
+use Rattle.cx_emitted.specs.Shallow.{IsShallow}
+use Rattle.cx_emitted.proofs.WrittenBytes.{written_within}
 use Rattle.cx_compiler.specs.Compiled.{written_source}
 
 -- an accepted design without static components is not over the limit on weight

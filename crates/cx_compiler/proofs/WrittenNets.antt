@@ -48,6 +48,7 @@ use Rattle.cx_emit.specs.Shapes.{HasFewNets}
 use Rattle.cx_emit.proofs.Soundness.{emitted_sound}
 use Rattle.cx_emit.proofs.SourceNets.{source_nets}
 use Rattle.cx_commands.specs.Unread.{HasTree}
+use Rattle.cx_compiler.specs.Words.{HasWords}
 use Rattle.cx_compiler.specs.Texts.{IsDesignOf}
 use Rattle.cx_compiler.specs.Compiled.{EmitsWithin, written_net, written_source}
 use Rattle.cx_wiring.proofs.FitTargets.{targets_there}
@@ -55,7 +56,7 @@ use Rattle.cx_compiler.proofs.TextGuards.{guards_hold}
 use Rattle.cx_compiler.proofs.TextLayers.{tree_rules}
 use Rattle.cx_compiler.proofs.TextLemmas.{text_targets}
 use Rattle.cx_text.proofs.ListLaws.{there_at}
-use Rattle.cx_flat_texts.proofs.TextNames.{cells_named}
+use Rattle.cx_compiler.proofs.TextNames.{cells_named}
 
 -- FROM THE TEXT: no part of a guard is Always, and external memories have words for names
 pub design_parts : (tree : PlainTree) (d : PlainDesign) → d ≡ design_of tree → (k : ℕ) → k < length d.components → PartsHold (component_at d k)
@@ -71,10 +72,6 @@ cells_words text tree has k within cell i =
 
 pub design_words : (text : List ℕ) (d : PlainDesign) → IsDesignOf text d → (k : ℕ) → k < length d.components → (cell : PlainCell) → In (component_at d k).cells cell → is_word cell.name ≡ true
 design_words text d h = subst (λ (e : PlainDesign). (k : ℕ) → k < length e.components → (cell : PlainCell) → In (component_at e k).cells cell → is_word cell.name ≡ true) (sym h.3) (cells_words text h.0 h.1)
-
--- the names of the external memories of a design are words
-abbrev pub HasWords : PlainDesign → Type 0
-HasWords d = (cell : PlainCell) → In (component_at d d.main).cells cell → cell.external ≡ true → is_word cell.name ≡ true
 
 -- THE TREE of the net without holes: the components of the design as they are wired, with wires in place of holes
 abbrev no_numbers : Instance → NetState → ℕ → ℕ

@@ -28,7 +28,7 @@ use Rattle.cx_wiring.proofs.OrderHeights.{in_flat_map, cell_below, from_main, cl
 use Rattle.cx_wiring.proofs.TimerCells.{cells-lowered_component}
 use Rattle.cx_wiring.proofs.WayLemmas.{count_is, there, net_long, child_there}
 use Rattle.cx_holes.specs.Inlining.{inlined_component, inlined}
-use Rattle.cx_bytes.proofs.SignedBytes.{place_at}
+use Rattle.cx_emitted.proofs.SignedBytes.{place_at}
 use Rattle.cx_compiler.proofs.WrittenCells.{net_is_fit}
 use Rattle.cx_emit.specs.Shapes.{Use, ForCell, ForIsland, ForRepeat, IsTimerOf, IsUse, IsShaped, HasOwnNames}
 use Rattle.cx_emit.proofs.OwnNames.{source_own_names}

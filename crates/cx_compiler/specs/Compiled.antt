@@ -17,8 +17,8 @@ use Rattle.cx_net.specs.NetTree.{net_component_at, net_tree}
 use Rattle.cx_net.specs.Realises.{Realises}
 use Rattle.cx_vtree.specs.Plain.{PlainSource}
 use Rattle.cx_vtree.specs.Spelling.{text_of}
-use Rattle.cx_power.specs.Resets.{IsReset}
-use Rattle.cx_scripts.specs.Always.{RealisesAlways}
+use Rattle.cx_emitted.specs.Resets.{IsReset}
+use Rattle.cx_emitted.specs.Always.{RealisesAlways}
 use Rattle.cx_static.specs.Lowering.{lowered_of}
 use Rattle.cx_wiring.specs.InNet.{RealisesInNet}
 use Rattle.cx_wiring.specs.Wiring.{net_of}
@@ -26,8 +26,8 @@ use Rattle.cx_holes.specs.Inlining.{inlined}
 use Rattle.cx_emit.specs.Emitted.{CanBeEmitted}
 use Rattle.cx_emit.specs.Shapes.{IsShaped, HasOwnNames, HasFewNets}
 use Rattle.cx_emit.specs.Sources.{source_of}
-use Rattle.cx_bytes.specs.Shallow.{IsShallow}
-use Rattle.cx_flat_texts.specs.Runnable.{runnable, RunsAsMeant}
+use Rattle.cx_emitted.specs.Shallow.{IsShallow}
+use Rattle.cx_compiler.specs.Runnable.{runnable, RunsAsMeant}
 use Rattle.cx_commands.specs.Stopping.{TellsBreak}
 use Rattle.cx_commands.specs.declared.stops.Stop.{Stop}
 use Rattle.cx_commands.specs.declared.stops.Stop.TheVariants as stops

@@ -12,12 +12,12 @@ use Rattle.cx_rules.specs.Flat.{IsFlat}
 use Rattle.cx_rules.specs.Sizes.{design_size}
 use Rattle.cx_rules.specs.Wellformed.{IsDesign}
 use Rattle.cx_orders.specs.Woven.{Choices, Ends, woven}
-use Rattle.cx_flat_texts.specs.Runnable.{runnable}
+use Rattle.cx_compiler.specs.Runnable.{runnable}
 use Rattle.cx_vtree.specs.Plain.{PlainSource}
 use Rattle.cx_vtree.specs.Spelling.{text_of}
 use Rattle.cx_vwrite.specs.Refused.{IsTooLong}
 use Rattle.cx_vwrite.specs.declared.refusals.WriteRefusal.TheVariants.{TooLong}
-use Rattle.cx_bytes.specs.Shallow.{IsShallow}
+use Rattle.cx_emitted.specs.Shallow.{IsShallow}
 use Rattle.cx_compiler.specs.Compiled.{written_source}
 use Rattle.cx_compiler.specs.Simulated.{IsVerilogOf}
 use Rattle.cx_compiler.specs.Texts.{IsDesignOf}

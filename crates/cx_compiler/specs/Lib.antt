@@ -1,3 +1,5 @@
+pub mod Words
+pub mod Runnable
 pub mod Texts
 pub mod Interpreted
 pub mod Simulated

@@ -7,8 +7,8 @@ use Rattle.cx_data.specs.declared.faults.DataFault.{DataFault}
 use Rattle.cx_meaning.specs.declared.sights.FaultKind.{FaultKind}
 use Rattle.cx_meaning.specs.Designs.{PlainDesign}
 use Rattle.cx_vtree.specs.Plain.{PlainSource}
-use Rattle.cx_scripts.specs.Always.{RealisesAlways}
-use Rattle.cx_flat_texts.specs.Runnable.{runnable}
+use Rattle.cx_emitted.specs.Always.{RealisesAlways}
+use Rattle.cx_compiler.specs.Runnable.{runnable}
 use Rattle.cx_commands.specs.Reads.{OfFile}
 use Rattle.cx_compiler.specs.Interpreted.{Interprets}
 use Rattle.cx_commands.specs.declared.stops.Stop.{Stop}

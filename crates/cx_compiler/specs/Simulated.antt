@@ -12,7 +12,7 @@ use Rattle.cx_vtree.specs.Sound.{is_sound}
 use Rattle.cx_vtree.specs.Spelling.{text_of}
 use Rattle.cx_vtree.specs.Meaning.{State}
 use Rattle.cx_vtree.specs.SimRun.{Outcome, DoneAt, LoopAt, NotDone, SimRun}
-use Rattle.cx_power.specs.Power.{HasPower, PowerRun}
+use Rattle.cx_emitted.specs.Power.{HasPower, PowerRun}
 use Rattle.cx_velab.specs.Paths.{path_of}
 use Rattle.cx_vread.specs.ReadAnswers.{Answers, Tells}
 use Rattle.cx_vread.specs.declared.refusals.ReadRefusal.{ReadRefusal}

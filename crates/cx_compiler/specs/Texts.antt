@@ -9,7 +9,7 @@ use Rattle.cx_numbering.specs.DesignOf.{design_of}
 use Rattle.cx_check.specs.Acceptance.{IsAcceptedTree, TreeBreak}
 use Rattle.cx_design.specs.declared.refusals.Refusal.{Refusal}
 use Rattle.cx_design.specs.declared.refusals.Refusal.TheVariants as refusals
-use Rattle.cx_flat_texts.specs.Runnable.{runnable, RunsAsMeant}
+use Rattle.cx_compiler.specs.Runnable.{runnable, RunsAsMeant}
 use Rattle.cx_commands.specs.Unread.{StageOneFault, HasTree}
 use Rattle.cx_commands.specs.declared.stops.Stop.{Stop}
 use Rattle.cx_commands.specs.declared.stops.Stop.TheVariants as stops

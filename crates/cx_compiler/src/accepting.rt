@@ -10,12 +10,12 @@ ghost use Rattle.cx_check.specs.Acceptance.{IsAcceptedTree};
 ghost use Rattle.cx_compiler.specs.Texts.{IsAcceptedText, IsDesignOf, IsRunOf, IsTextRefusal, IsTreeStop, TextBreak, tree_stop};
 ghost use Rattle.cx_commands.specs.declared.stops.Stop.TheVariants as stops;
 
+use crate::flat_laws::{accepted_texts_run_as_meant, what_is_run_is_flat};
 use cx_ast::Tree;
 use cx_check::accept;
 use cx_commands::{Stop, tree_of};
 use cx_design::{Checked, Refusal};
 use cx_flat::flattened;
-use cx_flat_texts::laws::{accepted_texts_run_as_meant, what_is_run_is_flat};
 use std::alloc::Global;
 
 /// Reads a text and tries all rules on it.

@@ -4,7 +4,7 @@ ghost use Rattle.std.specs.Prelude.{◌≡◌, ◌≤◌, ◌⊎◌, IfOk, IfErr
 ghost use Rattle.cx_text.specs.declared.diagnostics.Diagnostic.{Diagnostic as DiagnosticValue};
 ghost use Rattle.cx_text.specs.declared.rules.Rule.TheVariants as rules;
 ghost use Rattle.cx_meaning.specs.Designs.{no_place};
-ghost use Rattle.cx_flat_texts.specs.Runnable.{CanBeFlattened, runnable};
+ghost use Rattle.cx_compiler.specs.Runnable.{CanBeFlattened, runnable};
 ghost use Rattle.cx_design.specs.PlainDesigns.{plain_design};
 ghost use Rattle.cx_net.specs.NetsAsData.{plain_net};
 ghost use Rattle.cx_vtree.specs.PlainSources.{plain_source};
@@ -16,19 +16,17 @@ ghost use Rattle.cx_compiler.specs.Promise.{KeepsPromise};
 ghost use Rattle.cx_commands.specs.declared.stops.Stop.TheVariants as stops;
 
 use crate::accepting::accepted_design;
+use crate::flat_laws::{accepted_texts_run_as_meant, what_is_run_is_accepted, what_is_run_is_flat};
 use cx_commands::Stop;
 use cx_design::Checked;
 use cx_design_sizes::design_size;
 use cx_emit::emit;
+use cx_emitted::script_laws::sources_realise_always;
 use cx_flat::flattened;
-use cx_flat_texts::laws::{
-    accepted_texts_run_as_meant, what_is_run_is_accepted, what_is_run_is_flat,
-};
 use cx_fsm::build;
 use cx_holes::inline;
 use cx_limits::counted_design_size;
 use cx_net::Net;
-use cx_scripts::laws::sources_realise_always;
 use cx_static::lower;
 use cx_text::{COMPILE_SIZE, Diagnostic, Memory, Name, Place, Rule};
 use cx_vtree::Source;

@@ -3,7 +3,7 @@
 ghost use Rattle.cx_compiler.specs.Laws.{AreShallow, NeverTooLong, NoneEnds, OneSource};
 ghost use Rattle.cx_compiler.specs.Promise.{PromiseIsKept};
 
-use cx_flat_texts::laws::{what_is_run_is_accepted, what_is_run_is_flat};
+use crate::flat_laws::{what_is_run_is_accepted, what_is_run_is_flat};
 use cx_orders::laws::run_ends_too;
 
 /// A Verilog text spells one sound source at most.

@@ -3,6 +3,8 @@
 
 mod accepting;
 mod compiling;
+pub mod flat_laws;
+pub mod instrumented_laws;
 pub mod laws;
 mod nets;
 

@@ -5,7 +5,7 @@ ghost use Rattle.cx_text.specs.declared.diagnostics.Diagnostic.{Diagnostic as Di
 ghost use Rattle.cx_text.specs.Loading.{plain_rows};
 ghost use Rattle.cx_data.specs.Widths.{HasWordWidth};
 ghost use Rattle.cx_rules.specs.Externals.{external_rows};
-ghost use Rattle.cx_flat_texts.specs.Runnable.{CanBeFlattened, runnable};
+ghost use Rattle.cx_compiler.specs.Runnable.{CanBeFlattened, runnable};
 ghost use Rattle.cx_design.specs.PlainDesigns.{plain_design};
 ghost use Rattle.cx_net.specs.NetsAsData.{plain_net};
 ghost use Rattle.cx_compiler.specs.Compiled.{CompileBreak, IsCompilable, IsCompileStop, IsNetOfText, IsRunTooLarge, IsSizedNet, KeepsRules, net_rows};
@@ -13,10 +13,10 @@ ghost use Rattle.cx_commands.specs.declared.stops.Stop.TheVariants as stops;
 
 use crate::accepting::accepted_design;
 use crate::compiling::{design_net, too_large};
+use crate::flat_laws::{what_is_run_is_accepted, what_is_run_is_flat};
 use cx_commands::Stop;
 use cx_design::Checked;
 use cx_flat::flattened;
-use cx_flat_texts::laws::{what_is_run_is_accepted, what_is_run_is_flat};
 use cx_limits::counted_design_size;
 use cx_net::Net;
 use cx_text::{COMPILE_SIZE, MemoryRow};

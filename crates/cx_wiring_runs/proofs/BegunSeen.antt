@@ -17,8 +17,8 @@ use Rattle.cx_control.specs.Leaves.{Coded, Cycle, sampled_now, leaf_machines}
 use Rattle.cx_control.specs.Controls.{coded_control, coded_below}
 use Rattle.cx_control.specs.ControlRules.{ControlRules}
 use Rattle.cx_net.specs.NetMeaning.{NetState, NetLook, NetAround}
-use Rattle.cx_wiring_values.proofs.NodeRules.{NodeRules}
-use Rattle.cx_wiring_values.proofs.SeamRules.{SeamRules}
+use Rattle.cx_wiring_runs.proofs.NodeRules.{NodeRules}
+use Rattle.cx_wiring_runs.proofs.SeamRules.{SeamRules}
 use Rattle.cx_wiring_runs.specs.BlockNumbers.{component_numbers}
 use Rattle.cx_wiring_runs.proofs.OutputFlows.{SeamAt, row_cell, fine_node}
 use Rattle.cx_wiring_runs.proofs.BlockTells.{port_now}

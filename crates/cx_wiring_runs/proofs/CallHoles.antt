@@ -37,7 +37,7 @@ use Rattle.cx_control.proofs.RegisterLemmas.{set, Captured, captured_is, done_of
 use Rattle.cx_control.proofs.HoleLemmas.{last_is_done, CaptureRules, wanted_are, Register, register, done_seen, all_done, hole_is_set}
 use Rattle.cx_net.specs.NetMeaning.{NetState, AHole, TheDone, NetLook, NetAround, is_true, truth_bit, zero_wide}
 use Rattle.cx_wiring.specs.PartNets.{wired_in, timers_of}
-use Rattle.cx_wiring_values.proofs.SeamRules.{SeamRules}
+use Rattle.cx_wiring_runs.proofs.SeamRules.{SeamRules}
 use Rattle.cx_wiring_runs.specs.Blocks.{block, Solves}
 use Rattle.cx_wiring_runs.specs.PortValues.{around_of, port_value, active_now}
 use Rattle.cx_wiring_runs.proofs.SeamFlows.{st_solves, hole_stands}

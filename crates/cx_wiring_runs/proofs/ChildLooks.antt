@@ -14,7 +14,7 @@ use Rattle.cx_wiring.specs.NetBits.{input_width, input_width_below}
 use Rattle.cx_wiring.specs.PartNets.{net_of_instance, net_of_cells}
 use Rattle.cx_wiring_runs.specs.Blocks.{block, block_below, Solves}
 use Rattle.cx_rules.proofs.PortsLemmas.{declared_less}
-use Rattle.cx_wiring_values.proofs.PortsKnown.{child_stands}
+use Rattle.cx_wiring_runs.proofs.PortsKnown.{child_stands}
 
 input_at : (cells : NetCells) (c : ℕ) (child : NetInstance) → net_cell_at cells c ≡ AChild child → (n : ℕ) → input_width_below cells c n ≡ input_width child n
 input_at no_net_cells c child is n = absurd cc

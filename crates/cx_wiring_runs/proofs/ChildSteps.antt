@@ -47,7 +47,7 @@ use Rattle.cx_wiring.specs.Assignments.{owner_drives}
 use Rattle.cx_wiring.specs.PartNets.{wired_in, timers_of}
 use Rattle.cx_wiring.proofs.TakingLemmas.{true_bit}
 use Rattle.cx_wiring_cycles.specs.Shown.{Going, told, going}
-use Rattle.cx_wiring_values.proofs.NodeRules.{NodeRules}
+use Rattle.cx_wiring_runs.proofs.NodeRules.{NodeRules}
 use Rattle.cx_wiring_runs.specs.Blocks.{block, block_below, Shows, Solves, HasGo}
 use Rattle.cx_wiring_runs.specs.PortValues.{own_offset, goes_now, offset_now, active_now}
 use Rattle.cx_wiring_runs.proofs.NodeCells.{CellRules, child_waits}

@@ -18,7 +18,7 @@ use Rattle.cx_control.specs.Leaves.{Coded}
 use Rattle.cx_control.specs.Spots.{Kept}
 use Rattle.cx_net.specs.NetMeaning.{NetState, NetLook, NetAround}
 use Rattle.cx_wiring.specs.PartNets.{wired_in, timers_of}
-use Rattle.cx_wiring_values.proofs.NodeRules.{NodeRules, node_rules}
+use Rattle.cx_wiring_runs.proofs.NodeRules.{NodeRules, node_rules}
 use Rattle.cx_wiring_runs.specs.BlockNumbers.{component_numbers}
 use Rattle.cx_wiring_runs.specs.Blocks.{block, block_below, NodeLaws, BlockLaws}
 use Rattle.cx_wiring_runs.proofs.TreeRules.{AllNodes, FineAt, all_nodes}

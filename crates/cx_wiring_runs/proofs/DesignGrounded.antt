@@ -17,8 +17,8 @@ use Rattle.cx_wiring.specs.NetBits.{is_bit, is_bit_below}
 use Rattle.cx_wiring.specs.Wiring.{groups, bits, plain_wires, first_of_control, net_of}
 use Rattle.cx_wiring.proofs.NetTrees.{net_tree-net_of}
 use Rattle.cx_wiring.proofs.NetTargets.{bit_wire}
-use Rattle.cx_wiring_values.proofs.GroundTree.{Down}
-use Rattle.cx_wiring_values.proofs.GroundedNets.{grounded_where}
+use Rattle.cx_wiring_runs.proofs.GroundTree.{Down}
+use Rattle.cx_wiring_runs.proofs.GroundedNets.{grounded_where}
 use Rattle.cx_wiring_runs.proofs.DesignHolds.{comes_bits}
 use Rattle.cx_text.proofs.ListLaws.{front}
 

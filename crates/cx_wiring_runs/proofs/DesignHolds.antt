@@ -31,7 +31,7 @@ use Rattle.cx_wiring.proofs.FitTargets.{targets_there}
 use Rattle.cx_wiring.proofs.WideNets.{rows_are_wide, net_wide}
 use Rattle.cx_wiring.proofs.FitTrees.{tree_names, bit_value, bits_are}
 use Rattle.cx_wiring_cycles.specs.IslandNumbers.{of_island}
-use Rattle.cx_wiring_values.proofs.WholeLooks.{whole_solves}
+use Rattle.cx_wiring_runs.proofs.WholeLooks.{whole_solves}
 use Rattle.cx_wiring_runs.specs.BlockNumbers.{component_numbers}
 use Rattle.cx_wiring_runs.specs.Blocks.{block, Solves}
 use Rattle.cx_wiring_runs.proofs.StartHolds.{holds_at_start, start_holds}

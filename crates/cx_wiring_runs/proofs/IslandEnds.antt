@@ -17,7 +17,7 @@ use Rattle.cx_static.specs.Lowering.{island_of, island_gathered, begin_at, with_
 use Rattle.cx_wiring.proofs.IslandCells.{IsBefore}
 use Rattle.cx_wiring_cycles.specs.IslandNumbers.{island_number, of_island}
 use Rattle.cx_wiring_cycles.proofs.EntryLaws.{form_points}
-use Rattle.cx_wiring_values.proofs.NodeRules.{NodeRules}
+use Rattle.cx_wiring_runs.proofs.NodeRules.{NodeRules}
 use Rattle.cx_wiring_runs.proofs.NodeCells.{CellRules}
 use Rattle.cx_wiring_runs.proofs.NodeTurns.{IslandsEnd}
 use Rattle.cx_text.proofs.ListLaws.{get_end}

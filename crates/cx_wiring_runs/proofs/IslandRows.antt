@@ -34,7 +34,7 @@ use Rattle.cx_control.specs.ControlRules.{ControlRules}
 use Rattle.cx_control.proofs.RegisterLemmas.{cycle_steps}
 use Rattle.cx_net.specs.NetMeaning.{NetState, NetLook, NetAround}
 use Rattle.cx_wiring.specs.PartNets.{wired_in, timers_of}
-use Rattle.cx_wiring_values.proofs.SeamRules.{SeamRules, row_lawful}
+use Rattle.cx_wiring_runs.proofs.SeamRules.{SeamRules, row_lawful}
 use Rattle.cx_wiring_runs.specs.Blocks.{block, Solves, FitsInputs}
 use Rattle.cx_wiring_runs.specs.PortValues.{port_value, active_now}
 use Rattle.cx_wiring_runs.proofs.SeamFlows.{Nearby, cell_steps}

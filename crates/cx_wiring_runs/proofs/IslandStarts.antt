@@ -20,8 +20,8 @@ use Rattle.cx_wiring.proofs.TimerRows.{EachTimer, timer_rows}
 use Rattle.cx_wiring.proofs.IslandCells.{listed}
 use Rattle.cx_wiring_cycles.specs.IslandNumbers.{island_number, of_island}
 use Rattle.cx_wiring_cycles.proofs.IslandIdles.{count_rests, done_rests}
-use Rattle.cx_wiring_values.proofs.TimerRules.{TimerRules}
-use Rattle.cx_wiring_values.proofs.NodeRules.{NodeRules, node_rules}
+use Rattle.cx_wiring_runs.proofs.TimerRules.{TimerRules}
+use Rattle.cx_wiring_runs.proofs.NodeRules.{NodeRules, node_rules}
 use Rattle.cx_wiring_runs.specs.BlockNumbers.{component_numbers}
 use Rattle.cx_wiring_runs.proofs.TreeRules.{AllNodes, CellsNodes, FineAt, all_nodes}
 use Rattle.cx_wiring_runs.proofs.ZeroNumbers.{IslandsRest, IslandsRestIn}

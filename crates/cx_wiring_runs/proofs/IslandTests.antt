@@ -40,7 +40,7 @@ use Rattle.cx_net.specs.NetMeaning.{NetState, NetLook, NetAround, is_true, zero_
 use Rattle.cx_wiring.specs.PartNets.{wired_in, timers_of, net_of_cells}
 use Rattle.cx_wiring.specs.Takings.{value}
 use Rattle.cx_wiring.proofs.TakingLemmas.{true_bit}
-use Rattle.cx_wiring_values.proofs.SeamRules.{SeamRules}
+use Rattle.cx_wiring_runs.proofs.SeamRules.{SeamRules}
 use Rattle.cx_wiring_runs.specs.Blocks.{block, Solves, FitsInputs}
 use Rattle.cx_wiring_runs.specs.PortValues.{port_value}
 use Rattle.cx_wiring_runs.proofs.NodePorts.{bit_says}

@@ -64,7 +64,7 @@ use Rattle.cx_wiring_cycles.proofs.StandsLaws.{at_true}
 use Rattle.cx_wiring_cycles.proofs.TimerStates.{IsTimer}
 use Rattle.cx_wiring_cycles.proofs.OffsetWires.{isles_of}
 use Rattle.cx_wiring_cycles.proofs.OffsetWalk.{offset_told, offset_both, timed_entries}
-use Rattle.cx_wiring_values.proofs.NodeRules.{NodeRules}
+use Rattle.cx_wiring_runs.proofs.NodeRules.{NodeRules}
 use Rattle.cx_wiring_runs.specs.BlockNumbers.{component_numbers}
 use Rattle.cx_wiring_runs.specs.Blocks.{block, after_edge}
 use Rattle.cx_wiring_runs.proofs.OutputFlows.{fine_node}

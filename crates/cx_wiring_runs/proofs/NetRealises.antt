@@ -16,7 +16,7 @@ use Rattle.cx_net.specs.NetMeaning.{NetState}
 use Rattle.cx_net.specs.NetEdges.{net_after}
 use Rattle.cx_net.specs.NetRuns.{NetRun, after_reset, at_reset, at_first, AreWords, IsGrounded, net_start}
 use Rattle.cx_wiring.specs.InNet.{RealisesInNet}
-use Rattle.cx_wiring_values.proofs.GroundedRuns.{HasLook, whole_look, net_comes}
+use Rattle.cx_wiring_runs.proofs.GroundedRuns.{HasLook, whole_look, net_comes}
 use Rattle.cx_wiring_runs.proofs.EdgeRuns.{Place, EdgeKeeps, reaches, cannot}
 
 pub net_realises : (d : PlainDesign) (tree : NetInstance) (Good : Place d tree → Kept → Type 0) (Shows : Place d tree → Kept → NetState → Type 0)

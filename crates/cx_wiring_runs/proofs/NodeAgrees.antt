@@ -54,7 +54,7 @@ use Rattle.cx_wiring.specs.PartNets.{wired_in, timers_of, net_of_cells}
 use Rattle.cx_wiring.specs.Takings.{value}
 use Rattle.cx_wiring.proofs.TakingLemmas.{true_bit}
 use Rattle.cx_wiring_cycles.specs.Shown.{wide, Going, told, leads, comb_going, enable_going, going, enable_agrees, StatementAgrees}
-use Rattle.cx_wiring_values.proofs.SeamRules.{SeamRules}
+use Rattle.cx_wiring_runs.proofs.SeamRules.{SeamRules}
 use Rattle.cx_wiring_runs.specs.BlockNumbers.{component_numbers}
 use Rattle.cx_wiring_runs.specs.Blocks.{block, Shows, Solves, FitsInputs}
 use Rattle.cx_wiring_runs.specs.PortValues.{own_offset, port_value, goes_now, offset_now, active_now}

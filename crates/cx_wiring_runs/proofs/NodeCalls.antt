@@ -36,7 +36,7 @@ use Rattle.cx_control.proofs.ShapeLemmas.{called_driving}
 use Rattle.cx_net.specs.NetMeaning.{NetState, APort, AHole, TheDone, NetLook, NetAround, is_true, truth_bit, zero_wide, around_child}
 use Rattle.cx_wiring.specs.PartNets.{wired_in, timers_of}
 use Rattle.cx_wiring.proofs.TakingLemmas.{true_bit}
-use Rattle.cx_wiring_values.proofs.SeamRules.{SeamRules}
+use Rattle.cx_wiring_runs.proofs.SeamRules.{SeamRules}
 use Rattle.cx_wiring_runs.specs.Blocks.{block, block_below, Solves, FitsInputs, HasGo}
 use Rattle.cx_wiring_runs.specs.PortValues.{has_port, value_beyond, around_of, port_value, active_now}
 use Rattle.cx_wiring_runs.proofs.NodePorts.{port_stands}

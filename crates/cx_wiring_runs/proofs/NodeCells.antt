@@ -36,7 +36,7 @@ use Rattle.cx_net.specs.NetMeaning.{NetState, NetLook, NetAround, APort, AHole, 
 use Rattle.cx_net.specs.NetEdges.{inputs_from}
 use Rattle.cx_control.specs.Numbers.{number_idle}
 use Rattle.cx_wiring.specs.PartNets.{wired_in, timers_of}
-use Rattle.cx_wiring_values.proofs.NodeRules.{NodeRules}
+use Rattle.cx_wiring_runs.proofs.NodeRules.{NodeRules}
 use Rattle.cx_wiring_runs.specs.Blocks.{block, block_below, Solves, HasGo, IsIdle, Idles, BlockLaws, after_edge}
 use Rattle.cx_wiring_runs.specs.PortValues.{active_now, WiresSolve}
 use Rattle.cx_wiring_runs.proofs.NodePorts.{port_stands}

@@ -14,7 +14,7 @@ use Rattle.cx_wiring.specs.PartNets.{wired_in, timers_of}
 use Rattle.cx_wiring_cycles.specs.IslandNumbers.{of_island}
 use Rattle.cx_wiring_cycles.specs.AtLeaves.{IslandsHold}
 use Rattle.cx_wiring_cycles.proofs.IslandOwns.{goes_at, goes_of_enable, timed_own, static_own}
-use Rattle.cx_wiring_values.proofs.NodeRules.{NodeRules}
+use Rattle.cx_wiring_runs.proofs.NodeRules.{NodeRules}
 use Rattle.cx_wiring_runs.specs.BlockNumbers.{component_numbers}
 use Rattle.cx_wiring_runs.specs.Blocks.{block, after_edge}
 use Rattle.cx_wiring_runs.proofs.NodeCells.{CellRules}

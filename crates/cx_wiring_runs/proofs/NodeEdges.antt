@@ -30,7 +30,7 @@ use Rattle.cx_net.specs.NetEdges.{inputs_from}
 use Rattle.cx_static.specs.Lowering.{lowered_component}
 use Rattle.cx_wiring.specs.PartNets.{wired_in, timers_of}
 use Rattle.cx_wiring_cycles.specs.Shown.{Going, told, going, StatementAgrees}
-use Rattle.cx_wiring_values.proofs.NodeRules.{NodeRules}
+use Rattle.cx_wiring_runs.proofs.NodeRules.{NodeRules}
 use Rattle.cx_wiring_runs.specs.BlockNumbers.{component_numbers}
 use Rattle.cx_wiring_runs.specs.Blocks.{block, block_below, Shows, Solves, HasGo, FitsInputs, BlockLaws, after_edge}
 use Rattle.cx_wiring_runs.proofs.OutputFlows.{fine_node}

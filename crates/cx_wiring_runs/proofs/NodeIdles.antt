@@ -14,7 +14,7 @@ use Rattle.cx_net.specs.NetEdges.{cell_after, cell_below, inputs_from}
 use Rattle.cx_wiring.specs.PartNets.{net_of_instance, net_of_cells}
 use Rattle.cx_wiring_runs.specs.Blocks.{block, block_below, numbers_at, numbers_below, child_cell_after, has_cell, has_cell_below, Solves, HasGo, IsIdle, Idles, BlockLaws, after_edge}
 use Rattle.cx_wiring_runs.proofs.ChildLooks.{child_solves}
-use Rattle.cx_wiring_values.proofs.PortsKnown.{child_stands}
+use Rattle.cx_wiring_runs.proofs.PortsKnown.{child_stands}
 
 module _ (wired : PlainComponent → PlainNetComponent) (timers : PlainComponent → List Row) (numbers : Instance → NetState → ℕ → ℕ) where
   pub cell_of_child : (cells : NetCells) (at c : ℕ) (child : NetInstance) → net_cell_at cells at ≡ AChild child → (look : NetLook) (path : Path) (d : CellState)

@@ -39,7 +39,7 @@ use Rattle.cx_wiring_cycles.proofs.ComponentLaws.{PlainCycle}
 use Rattle.cx_wiring_cycles.proofs.SizeLaws.{enable_one, island_one}
 use Rattle.cx_wiring_cycles.proofs.OffsetWires.{isles_of, statement_only}
 use Rattle.cx_wiring_cycles.proofs.OffsetWalk.{offset_told, entries_of, statement_says}
-use Rattle.cx_wiring_values.proofs.NodeRules.{NodeRules}
+use Rattle.cx_wiring_runs.proofs.NodeRules.{NodeRules}
 use Rattle.cx_wiring_runs.proofs.OutputFlows.{fine_node}
 use Rattle.cx_wiring_runs.proofs.BlockTells.{hole_now, port_now}
 use Rattle.cx_wiring_runs.proofs.BlockIdles.{next, now_R}

@@ -34,8 +34,8 @@ use Rattle.cx_wiring.proofs.NetTargets.{plain_wires_count}
 use Rattle.cx_wiring.proofs.DesignNames.{in_filter}
 use Rattle.cx_wiring_cycles.specs.GuardPorts.{GuardPorts, PartsPorts, GroupSays, OwnerSays, AssignHolds, AssignsHold}
 use Rattle.cx_wiring_cycles.proofs.HoleLaws.{HoleFits, HolesFit}
-use Rattle.cx_wiring_values.proofs.InstancePorts.{IsNamed, PortRules}
-use Rattle.cx_wiring_values.proofs.PortsKnown.{child_stands, row_stands, part_port_same}
+use Rattle.cx_wiring_runs.proofs.InstancePorts.{IsNamed, PortRules}
+use Rattle.cx_wiring_runs.proofs.PortsKnown.{child_stands, row_stands, part_port_same}
 use Rattle.cx_wiring_runs.specs.Blocks.{block, Solves}
 use Rattle.cx_wiring_runs.specs.PortValues.{has_port, value_beyond, port_value, goes_now, offset_now}
 use Rattle.cx_bits.proofs.BitVectorLemmas.{some_is}

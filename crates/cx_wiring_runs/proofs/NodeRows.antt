@@ -54,7 +54,7 @@ use Rattle.cx_control.proofs.RegisterLemmas.{cycle_steps}
 use Rattle.cx_net.specs.NetMeaning.{NetState, APort, AHole, TheDone, NetLook, NetAround, is_true, truth_bit, zero_wide}
 use Rattle.cx_net.specs.NetEdges.{inputs_from}
 use Rattle.cx_wiring.specs.PartNets.{wired_in, timers_of}
-use Rattle.cx_wiring_values.proofs.SeamRules.{SeamRules, row_lawful}
+use Rattle.cx_wiring_runs.proofs.SeamRules.{SeamRules, row_lawful}
 use Rattle.cx_wiring_runs.specs.Blocks.{block, Solves, FitsInputs}
 use Rattle.cx_wiring_runs.specs.PortValues.{around_of, port_value, active_now}
 use Rattle.cx_wiring_runs.proofs.NodePorts.{port_stands}

@@ -25,7 +25,7 @@ use Rattle.cx_wiring.specs.PartNets.{net_of_instance, net_of_cells}
 use Rattle.cx_wiring_runs.specs.Blocks.{block, block_below, numbers_at, numbers_below, child_cell_after, has_cell, has_cell_below, Shows, Solves, HasGo, FitsInputs, IsIdle, Runs, BlockLaws, after_edge, block_idle}
 use Rattle.cx_wiring_runs.proofs.ChildLooks.{child_solves}
 use Rattle.cx_wiring_runs.proofs.NodeIdles.{cell_of_child}
-use Rattle.cx_wiring_values.proofs.PortsKnown.{child_stands}
+use Rattle.cx_wiring_runs.proofs.PortsKnown.{child_stands}
 
 module _ (wired : PlainComponent → PlainNetComponent) (timers : PlainComponent → List Row) (numbers : Instance → NetState → ℕ → ℕ) where
   -- numbers below what is no component are 0, and stay

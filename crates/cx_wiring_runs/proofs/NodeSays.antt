@@ -30,8 +30,8 @@ use Rattle.cx_wiring_cycles.specs.Shown.{Going, told}
 use Rattle.cx_wiring_cycles.specs.AtLeaves.{IslandsHold}
 use Rattle.cx_static.specs.Lowering.{island_gathered}
 use Rattle.cx_wiring_cycles.proofs.OffsetWalk.{timed_entries}
-use Rattle.cx_wiring_values.proofs.NodeRules.{NodeRules}
-use Rattle.cx_wiring_values.proofs.SeamRules.{SeamRules}
+use Rattle.cx_wiring_runs.proofs.NodeRules.{NodeRules}
+use Rattle.cx_wiring_runs.proofs.SeamRules.{SeamRules}
 use Rattle.cx_wiring_runs.proofs.NodeCells.{CellRules}
 use Rattle.cx_wiring_runs.proofs.NodeEdges.{IsCycle}
 use Rattle.cx_wiring_runs.proofs.NodeSeam.{entries_at, SaysActive, KindSays, LeafSays}

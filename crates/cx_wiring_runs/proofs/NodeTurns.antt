@@ -46,7 +46,7 @@ use Rattle.cx_wiring_cycles.proofs.StandsLaws.{turns}
 use Rattle.cx_wiring_cycles.proofs.GoesLaws.{statement_goes}
 use Rattle.cx_wiring_cycles.proofs.LeafHolds.{saw_both}
 use Rattle.cx_wiring_cycles.proofs.BeyondNumbers.{island_short, enable_short, coding_short, number_ends}
-use Rattle.cx_wiring_values.proofs.NodeRules.{NodeRules}
+use Rattle.cx_wiring_runs.proofs.NodeRules.{NodeRules}
 use Rattle.cx_wiring_runs.specs.BlockNumbers.{component_numbers}
 use Rattle.cx_wiring_runs.specs.Blocks.{block, after_edge}
 use Rattle.cx_wiring_runs.proofs.OutputFlows.{fine_node}

@@ -13,7 +13,7 @@ use Rattle.cx_wiring.proofs.TakingLemmas.{idle_passes}
 use Rattle.cx_wiring_cycles.specs.IslandNumbers.{of_island}
 use Rattle.cx_wiring_cycles.specs.Standing.{Away}
 use Rattle.cx_wiring_cycles.proofs.ComponentLaws as laws
-use Rattle.cx_wiring_values.proofs.NodeRules.{NodeRules}
+use Rattle.cx_wiring_runs.proofs.NodeRules.{NodeRules}
 use Rattle.cx_wiring_runs.specs.BlockNumbers.{component_numbers}
 use Rattle.cx_wiring_runs.specs.Blocks.{block, Solves, IsIdle}
 use Rattle.cx_wiring_runs.proofs.OutputFlows.{fine_node}

@@ -32,7 +32,7 @@ use Rattle.cx_wiring_cycles.specs.IslandNumbers.{of_island}
 use Rattle.cx_wiring_cycles.specs.Shown.{wide}
 use Rattle.cx_wiring_cycles.specs.AtLeaves.{IslandsHold}
 use Rattle.cx_wiring_cycles.proofs.OffsetWalk.{timed_entries, entries_of}
-use Rattle.cx_wiring_values.proofs.NodeRules.{NodeRules}
+use Rattle.cx_wiring_runs.proofs.NodeRules.{NodeRules}
 use Rattle.cx_wiring_runs.proofs.IslandSets.{active_own}
 use Rattle.cx_wiring_runs.proofs.NodeCells.{CellRules}
 use Rattle.cx_wiring_runs.proofs.NodeEdges.{IsCycle}

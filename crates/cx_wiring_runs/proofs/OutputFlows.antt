@@ -23,8 +23,8 @@ use Rattle.cx_wiring.specs.PartNets.{wired_in, timers_of, net_of_cells}
 use Rattle.cx_wiring.specs.NetBits.{IsBitPort}
 use Rattle.cx_wiring.proofs.TakingLemmas.{true_bit}
 use Rattle.cx_wiring.proofs.CountLaws.{positions_of_some}
-use Rattle.cx_wiring_values.proofs.NodeRules.{NodeRules, control_tests}
-use Rattle.cx_wiring_values.proofs.SeamRules.{SeamRules, seam_rules}
+use Rattle.cx_wiring_runs.proofs.NodeRules.{NodeRules, control_tests}
+use Rattle.cx_wiring_runs.proofs.SeamRules.{SeamRules, seam_rules}
 use Rattle.cx_wiring_runs.specs.BlockNumbers.{component_numbers}
 use Rattle.cx_wiring_runs.specs.Blocks.{block, block_below, numbers_at, numbers_below, has_cell, has_cell_below, Solves}
 use Rattle.cx_wiring_runs.proofs.BlockTells.{IsFineNode, end_is, block_tells}

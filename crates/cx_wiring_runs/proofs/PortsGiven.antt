@@ -28,8 +28,8 @@ use Rattle.cx_net.specs.NetMeaning.{NetState, NetLook, NetAround, AHole, is_true
 use Rattle.cx_net.specs.NetEdges.{inputs_from}
 use Rattle.cx_static.specs.Lowering.{lowered_component}
 use Rattle.cx_wiring.specs.PartNets.{wired_in, timers_of}
-use Rattle.cx_wiring_values.proofs.NodeRules.{NodeRules}
-use Rattle.cx_wiring_values.proofs.SeamRules.{SeamRules}
+use Rattle.cx_wiring_runs.proofs.NodeRules.{NodeRules}
+use Rattle.cx_wiring_runs.proofs.SeamRules.{SeamRules}
 use Rattle.cx_wiring_runs.specs.BlockNumbers.{component_numbers}
 use Rattle.cx_wiring_runs.specs.Blocks.{block_below, HasGo}
 use Rattle.cx_wiring_runs.proofs.OutputFlows.{SeamAt, row_cell}

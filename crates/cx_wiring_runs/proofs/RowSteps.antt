@@ -17,7 +17,7 @@ use Rattle.cx_control.specs.Flows.{Values, zero_of, first_on, side_flow, cell_fl
 use Rattle.cx_control.specs.Spots.{Cell, Kept, cells_in}
 use Rattle.cx_net.specs.NetMeaning.{NetState, NetLook, NetAround}
 use Rattle.cx_wiring.specs.PartNets.{wired_in, timers_of}
-use Rattle.cx_wiring_values.proofs.SeamRules.{SeamRules}
+use Rattle.cx_wiring_runs.proofs.SeamRules.{SeamRules}
 use Rattle.cx_wiring_runs.specs.Blocks.{block, Solves}
 use Rattle.cx_wiring_runs.specs.PortValues.{around_of, port_value, active_now}
 use Rattle.cx_wiring_runs.proofs.SeamFlows.{st_solves}

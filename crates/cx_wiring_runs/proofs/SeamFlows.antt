@@ -34,8 +34,8 @@ use Rattle.cx_control.proofs.PortFlows.{seen_flows}
 use Rattle.cx_net.specs.NetMeaning.{NetState, APort, AHole, TheDone, NetLook, NetAround, is_true, truth_bit, zero_wide}
 use Rattle.cx_wiring.specs.PartNets.{wired_in, timers_of}
 use Rattle.cx_wiring.proofs.TakingLemmas.{true_bit}
-use Rattle.cx_wiring_values.proofs.RowPorts.{enable_width}
-use Rattle.cx_wiring_values.proofs.SeamRules.{SeamRules, row_lawful, row_has_ports}
+use Rattle.cx_wiring_runs.proofs.RowPorts.{enable_width}
+use Rattle.cx_wiring_runs.proofs.SeamRules.{SeamRules, row_lawful, row_has_ports}
 use Rattle.cx_wiring_runs.specs.Blocks.{block, Solves}
 use Rattle.cx_wiring_runs.specs.PortValues.{around_of, port_value, active_now}
 use Rattle.cx_wiring_runs.proofs.StillPorts.{Still, resting, depends_still, hole_moves, still_continuous}

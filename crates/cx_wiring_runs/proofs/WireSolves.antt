@@ -40,10 +40,10 @@ use Rattle.cx_wiring_cycles.specs.GuardPorts.{going_set}
 use Rattle.cx_wiring_cycles.proofs.AssignLaws.{same_cell, same_output}
 use Rattle.cx_wiring_cycles.proofs.ControlPorts.{OfTimers}
 use Rattle.cx_wiring_cycles.proofs.PortLaws.{driven_port, driven_hole}
-use Rattle.cx_wiring_values.proofs.TimerPlaces.{cell_no_timer, output_no_timer}
-use Rattle.cx_wiring_values.proofs.InstancePorts.{RowOf, ChildOf}
-use Rattle.cx_wiring_values.proofs.NodeRules.{NodeRules}
-use Rattle.cx_wiring_values.proofs.PortsKnown.{row_stands, part_port_same}
+use Rattle.cx_wiring_runs.proofs.TimerPlaces.{cell_no_timer, output_no_timer}
+use Rattle.cx_wiring_runs.proofs.InstancePorts.{RowOf, ChildOf}
+use Rattle.cx_wiring_runs.proofs.NodeRules.{NodeRules}
+use Rattle.cx_wiring_runs.proofs.PortsKnown.{row_stands, part_port_same}
 use Rattle.cx_wiring_runs.specs.Blocks.{block, Solves}
 use Rattle.cx_wiring_runs.specs.PortValues.{own_offset, around_of, has_port, value_beyond, port_value, goes_now, offset_now, active_now, WiresSolve}
 use Rattle.cx_wiring_runs.proofs.NodePorts.{known, any_offset, child_wide, child_here, port_stands, assigns_hold, holes_fit}

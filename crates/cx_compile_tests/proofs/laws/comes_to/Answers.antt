@@ -1,4 +1,4 @@
-use Rattle.cx_flat_texts.specs.Runnable.{runnable}
+use Rattle.cx_compiler.specs.Runnable.{runnable}
 use Rattle.cx_compiler.proofs.MeantLemmas.{run_of_text}
 use Rattle.cx_compiler.proofs.RunLayers.{RunLaws}
 use Rattle.cx_compile_tests.proofs.AlikeLemmas.{ends_alike, waits_alike, refused_alike}

@@ -1,5 +1,0 @@
-use Rattle.cx_flat_texts.proofs.StaticEnds.{names_no_done}
-use Rattle.cx_flat_texts.proofs.laws.no_text_names_a_static_done.Goals as goal
-
-pub returns : goal.returns
-returns c = names_no_done

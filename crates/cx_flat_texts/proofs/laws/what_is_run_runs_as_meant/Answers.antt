@@ -1,5 +1,0 @@
-use Rattle.cx_flat_texts.proofs.RunnableLemmas.{runs_as_meant}
-use Rattle.cx_flat_texts.proofs.laws.what_is_run_runs_as_meant.Goals as goal
-
-pub returns : goal.returns
-returns c = runs_as_meant c.accepted_designs_keep_their_runs.ensures c.means_the_same_without.ensures

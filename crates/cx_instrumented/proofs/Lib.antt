@@ -1,6 +1,0 @@
-pub mod DepthLemmas
-pub mod WordLemmas
-pub mod KeptParts
-pub mod KeptEnds
-pub mod KeptNames
-pub mod KeptTexts

@@ -1,5 +1,0 @@
-use Rattle.cx_instrumented.proofs.KeptNames.{plain_names_kept}
-use Rattle.cx_instrumented.proofs.laws.instrumented_has_plain_names.Goals as goal
-
-pub returns : goal.returns
-returns c = plain_names_kept

@@ -1,5 +1,0 @@
-use Rattle.cx_instrumented.proofs.KeptEnds.{none_names_done}
-use Rattle.cx_instrumented.proofs.laws.instrumented_names_no_static_done.Goals as goal
-
-pub returns : goal.returns
-returns c = none_names_done

@@ -1,2 +1,0 @@
-pub mod Resets
-pub mod Power

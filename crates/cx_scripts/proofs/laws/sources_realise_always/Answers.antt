@@ -1,6 +1,0 @@
-use Rattle.cx_scripts.proofs.AlwaysLemmas.{realised_always}
-use Rattle.cx_scripts.proofs.laws.sources_realise_always.Goals as goal
-
-pub returns : goal.returns
-returns c d design flat accepted sound =
-    realised_always d design flat accepted (λ path. c.instances_keep_rules.ensures.rules d path design flat accepted) (λ path. c.instances_keep_rules.ensures.islands d path flat accepted) sound

@@ -1,4 +1,0 @@
-pub mod Scripts
-pub mod Stays
-pub mod Always
-pub mod Laws
