@@ -1,9 +1,9 @@
 -- What marking a node leaves.
-use Rattle.std.proofs.Common.{◌≡◌, ℕ, zero, suc, ◌+◌, ◌<◌, Bool, true, false, List, [], ◌∷◌, ◌++◌, Some, length, slice_get, slice_set, get_or, take, add-one, ◌⊎◌, inl, inr, ⊎_elim, refl, ap, ◌∙◌, subst, arith}
-use Rattle.std.proofs.lemmas.List.{length-set, length-append}
+use Rattle.std.proofs.Common.{◌≡◌, ℕ, zero, suc, ◌+◌, ◌<◌, Bool, true, false, List, [], ◌∷◌, ◌++◌, Some, length, slice_get, slice_set, get_or, take, drop, add-one, ◌⊎◌, inl, inr, ⊎_elim, refl, sym, ap, ◌∙◌, subst, arith}
+use Rattle.std.proofs.lemmas.List.{length-set, length-append, drop-append-le}
 use Rattle.std.proofs.Math.Seq.{take-suc}
 use Rattle.cx_text.specs.Members.{In}
-use Rattle.cx_graphs.specs.Graphs.{Marked, Spread, unmarked}
+use Rattle.cx_graphs.specs.Graphs.{Appends, Marked, Spread}
 use Rattle.cx_graphs.proofs.Takes.{marked_here, marked_still, fewer, marked_from}
 
 pub in_left : (xs ys : List ℕ) (n : ℕ) → In xs n → In (xs ++ ys) n
@@ -81,3 +81,42 @@ in_at (n ∷ ns) (suc k) h = inr (in_at ns k (omega (arith, h)))
 
 pub take_more : (ns : List ℕ) (k : ℕ) → k < length ns → take (k + 1) ns ≡ take k ns ++ get_or ns k 0 ∷ []
 take_more ns k h = ap (λ n. take n ns) (add-one k) ∙ take-suc ns k 0 h
+
+-- the same at the end of what waits
+pub appends_before : (marks : List Bool) (waiting : List ℕ) (node : ℕ) → slice_get marks node ≡ Some true → Appends marks waiting (node ∷ []) marks waiting
+appends_before marks waiting node h = record {
+  longer = omega arith;
+  spread = λ next few. marked_before marks (drop next waiting) node h;
+}
+
+pub appends_now : (marks : List Bool) (waiting : List ℕ) (node : ℕ) → node < length marks → slice_get marks node ≡ Some false → Appends marks waiting (node ∷ []) (slice_set marks node true) (waiting ++ node ∷ [])
+appends_now marks waiting node within h = record {
+  longer = let more = length-append waiting (node ∷ []) in omega (arith, more);
+  spread = λ next few. subst (Spread marks (drop next waiting) (node ∷ []) (slice_set marks node true)) (sym (drop-append-le next waiting (node ∷ []) few)) (marked_now marks (drop next waiting) node within h);
+}
+
+pub appends_nothing : (marks : List Bool) (waiting nodes : List ℕ) → Appends marks waiting (take 0 nodes) marks waiting
+appends_nothing marks waiting nodes = record {
+  longer = omega arith;
+  spread = λ next few. subst (λ l. Spread marks (drop next waiting) l marks (drop next waiting)) (none nodes) (nothing_marked marks (drop next waiting));
+}
+  where
+    none : (ns : List ℕ) → [] ≡ take 0 ns
+    none [] = refl
+    none (n ∷ ns) = refl
+
+pub appends_more : (marks : List Bool) (waiting nodes : List ℕ) (between : List Bool) (mid more : List ℕ) (after : List Bool) (last : List ℕ)
+    → Appends marks waiting nodes between mid → Appends between mid more after last → Appends marks waiting (nodes ++ more) after last
+appends_more marks waiting nodes between mid more after last a b = record {
+  longer = omega (arith, a.longer, b.longer);
+  spread = λ next few. marked_more marks (drop next waiting) nodes between (drop next mid) more after (drop next last) (a.spread next few) (b.spread next (omega (arith, few, a.longer)));
+}
+
+pub drop_none : (ns : List ℕ) → drop 0 ns ≡ ns
+drop_none [] = refl
+drop_none (n ∷ ns) = refl
+
+-- all that waits
+pub spread_whole : (marks : List Bool) (waiting nodes : List ℕ) (after : List Bool) (now_waiting : List ℕ) → Appends marks waiting nodes after now_waiting → Spread marks waiting nodes after now_waiting
+spread_whole marks waiting nodes after now_waiting a =
+    subst (λ l. Spread marks l nodes after now_waiting) (drop_none waiting) (subst (λ l. Spread marks (drop 0 waiting) nodes after l) (drop_none now_waiting) (a.spread 0 (omega arith)))

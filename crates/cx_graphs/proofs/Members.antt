@@ -1,10 +1,8 @@
 -- What stands in lists of nodes.
-use Rattle.std.proofs.Common.{◌≡◌, ℕ, zero, suc, ◌+◌, ◌<◌, List, [], ◌∷◌, ◌++◌, length, get_or, take, add-one, sym, ap, ◌∙◌, arith}
-use Rattle.std.proofs.Math.Seq.{take-suc}
+use Rattle.std.proofs.Common.{◌≡◌, ℕ, zero, suc, ◌<◌, List, [], ◌∷◌, length, get_or, sym, ap, arith}
 use Rattle.std.specs.declared.vec.Vec.{Vec}
 use Rattle.cx_text.specs.Members.{In}
 use Rattle.cx_graphs.specs.Graphs.{Edges, edges_of, targets_of}
-use Rattle.cx_graphs.proofs.Marks.{in_left, in_right, in_either, in_at, take_more}
 
 pub targets_are : {A : Type 0} (lists : List (Vec ℕ A)) (node : ℕ) (list : Vec ℕ A) → node < length lists → list ≡ get_or lists node list → targets_of (edges_of lists) node ≡ list.items
 targets_are [] node list h e = absurd (omega (arith, h))

@@ -1,13 +1,10 @@
 -- A search begins, goes on, and ends with all that is reached.
-use Rattle.std.proofs.Common.{◌≡◌, ℕ, zero, suc, ◌<◌, Bool, true, false, List, [], ◌∷◌, ◌++◌, length, replicate, get_or, inl, inr, ⊎_elim, refl, sym, ap, ◌∙◌, subst, arith}
+use Rattle.std.proofs.Common.{◌≡◌, ℕ, ◌<◌, Bool, true, List, [], ◌∷◌, ◌++◌, length, inl, inr, ⊎_elim, refl, sym, ◌∙◌, subst}
 use Rattle.std.proofs.lemmas.Option.{slice_get_within}
-use Rattle.std.specs.declared.vec.Vec.{Vec}
 use Rattle.cx_text.specs.Members.{In}
-use Rattle.cx_graphs.specs.Graphs.{Edges, edges_of, targets_of, IsReached, at_start, by_edge, Marked, Spread}
+use Rattle.cx_graphs.specs.Graphs.{Edges, targets_of, IsReached, at_start, by_edge, Marked, Spread}
 use Rattle.cx_graphs.specs.Search.{IsUnderWay}
 use Rattle.cx_graphs.proofs.Marks.{in_left, in_right, in_either}
-use Rattle.cx_graphs.proofs.Members.{targets_are}
-use Rattle.cx_graphs.proofs.ReachWays.{no_mark}
 
 pub begins : (g : Edges) (starts : List ℕ) (marks : List Bool) (waiting : List ℕ) (none : List Bool) → length none ≡ length g → ((n : ℕ) → Marked none n → ⊥)
     → Spread none [] starts marks waiting → IsUnderWay g starts marks waiting

@@ -1,5 +1,5 @@
 -- Graphs whose nodes are the numbers below the length of a list, which has for each node the nodes to which its edges lead.
-use Rattle.std.specs.Prelude.{◌≡◌, ℕ, zero, suc, ◌+◌, ◌*◌, ◌<◌, ◌≤◌, ◌⊎◌, Bool, true, List, [], ◌∷◌, Some, length, slice_get, map, if◌then◌else◌}
+use Rattle.std.specs.Prelude.{◌≡◌, ℕ, zero, suc, ◌+◌, ◌*◌, ◌<◌, ◌≤◌, ◌⊎◌, Bool, true, List, [], ◌∷◌, Some, length, drop, slice_get, map, if◌then◌else◌}
 use Rattle.std.specs.declared.vec.Vec.{Vec}
 use Rattle.cx_text.specs.Members.{In}
 
@@ -43,6 +43,11 @@ pub record Spread (marks : List Bool) (waiting nodes : List ℕ) (after : List B
   pub still : (n : ℕ) → In waiting n → In now_waiting n
   pub known : (n : ℕ) → In now_waiting n → In waiting n ⊎ In nodes n
   pub less : length now_waiting + 2 * unmarked after ≤ length waiting + 2 * unmarked marks
+
+-- the same of a list that waits, and is perhaps gone through from its front: what stands there stays, and what is newly marked comes at its end
+pub record Appends (marks : List Bool) (waiting nodes : List ℕ) (after : List Bool) (now_waiting : List ℕ) : Type 0 where
+  pub longer : length waiting ≤ length now_waiting
+  pub spread : (next : ℕ) → next ≤ length waiting → Spread marks (drop next waiting) nodes after (drop next now_waiting)
 
 -- a graph as it lies in memory
 abbrev pub edges_of : {A : Type 0} → List (Vec ℕ A) → Edges

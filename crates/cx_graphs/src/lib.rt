@@ -17,7 +17,7 @@ pub use edges::{add_link, no_edges};
 pub use grounding::grounded;
 pub use owners::Owners;
 pub use reaching::reached;
-pub use searching::leads_between;
+pub use searching::Reach;
 pub use tally::Tally;
 pub use turning::turned;
 pub use walking::{Walk, has_circle, order};

@@ -1,7 +1,7 @@
 //! What is reached from some nodes.
 
 ghost use Rattle.std.specs.Prelude.{◌≡◌, ◌<◌, ℕ, false, IfNone, IfOk, IfSome, OnOk, [], ◌∷◌, ◌++◌, Some, length, replicate, slice_get};
-ghost use Rattle.cx_graphs.specs.Graphs.{Bounded, IsGraph, IsReached, Marked, Spread, edges_of, targets_of, unmarked};
+ghost use Rattle.cx_graphs.specs.Graphs.{Appends, Bounded, IsGraph, IsReached, Marked, edges_of, targets_of, unmarked};
 
 use cx_text::Memory;
 use std::alloc::Global;
@@ -24,10 +24,14 @@ pub fn reached(alloc: Global, graph: &[Vec<u32>], starts: &[u32]) -> Result<Vec<
     Ok(marks)
 }
 
-/// Marks the nodes of a list, and has those wait that were not marked before.
-fn mark_all(marks: &mut Vec<bool>, waiting: &mut Vec<u32>, nodes: &[u32]) -> Result<(), Memory>
+/// Marks the nodes of a list, and puts those at the end of what waits that were not marked before.
+pub(crate) fn mark_all(
+    marks: &mut Vec<bool>,
+    waiting: &mut Vec<u32>,
+    nodes: &[u32],
+) -> Result<(), Memory>
     requires within { Bounded (length marks.old.items) nodes.now }
-    ensures spread { OnOk result (Spread marks.old.items waiting.old.items nodes.now marks.new.items waiting.new.items) }
+    ensures appends { OnOk result (Appends marks.old.items waiting.old.items nodes.now marks.new.items waiting.new.items) }
 {
     for node in nodes {
         mark(marks, waiting, *node)?;
@@ -35,10 +39,10 @@ fn mark_all(marks: &mut Vec<bool>, waiting: &mut Vec<u32>, nodes: &[u32]) -> Res
     Ok(())
 }
 
-/// Marks a node, and has it wait if it was not marked before.
-fn mark(marks: &mut Vec<bool>, waiting: &mut Vec<u32>, node: u32) -> Result<(), Memory>
+/// Marks a node, and puts it at the end of what waits if it was not marked before.
+pub(crate) fn mark(marks: &mut Vec<bool>, waiting: &mut Vec<u32>, node: u32) -> Result<(), Memory>
     requires within { node < length marks.old.items }
-    ensures spread { OnOk result (Spread marks.old.items waiting.old.items (node ∷ []) marks.new.items waiting.new.items) }
+    ensures appends { OnOk result (Appends marks.old.items waiting.old.items (node ∷ []) marks.new.items waiting.new.items) }
 {
     if !is_marked(marks.as_slice(), node) {
         marks[node as usize] = true;
@@ -56,7 +60,7 @@ fn is_marked(marks: &[bool], node: u32) -> bool
 }
 
 /// A mark for each of so many nodes, none of them set.
-fn no_marks(alloc: Global, count: usize) -> Result<Vec<bool>, Memory>
+pub(crate) fn no_marks(alloc: Global, count: usize) -> Result<Vec<bool>, Memory>
     ensures len { IfOk result (λ marks. length marks.items ≡ count) }
     ensures value { IfOk result (λ marks. marks.items ≡ replicate count false) }
 {

@@ -2,6 +2,7 @@
 use Rattle.std.specs.Prelude.{◌≡◌, ℕ, ◌⊎◌, nat_eq, Bool, true, false, List, Some}
 use Rattle.cx_text.specs.Members.{In}
 use Rattle.cx_graphs.specs.Graphs.{edges_of}
+use Rattle.cx_graphs.specs.Reach.{IsUnmarked}
 use Rattle.cx_meaning.specs.declared.ports.PortRef.{PortRef}
 use Rattle.cx_meaning.specs.declared.ports.PortRef.TheVariants as ports
 use Rattle.cx_meaning.specs.Designs.{PlainAssign, PlainComponent}
@@ -49,17 +50,20 @@ abbrev pub AreDependent : Instance → ℕ → List PlainAssign → (ℕ → ℕ
 AreDependent i g assigns times =
     (a : PlainAssign) (c p : ℕ) → In assigns a → a.target ≡ ports.Cell c p → (nat_eq (times c p) 0 ≡ false → IsDependent i g a.target) × (IsDependent i g a.target → nat_eq (times c p) 0 ≡ false)
 
--- what is kept of a component: its nodes, what leads to what under its continuous assignments, and no edges of a group
+-- what is kept of a component: its nodes, what leads to what under its continuous assignments, no edges of a group, and the room of
+-- searches, in which no node is marked
 pub record ArePathsOf (i : Instance) (paths : Paths) : Type 0 where
   pub nodes : IsNodesOf i paths.nodes
   pub graph : HasEdges i (Leads i nothing) (edges_of paths.graph.items)
   pub clear : IsClear (node_count i) paths.leads
+  pub unmarked : IsUnmarked (node_count i) paths.reach
 
 -- with the edges of a group
 pub record HasPaths (i : Instance) (g : ℕ) (paths : Paths) : Type 0 where
   pub nodes : IsNodesOf i paths.nodes
   pub graph : HasEdges i (Leads i nothing) (edges_of paths.graph.items)
   pub leads : IsGroupOf i g paths.leads
+  pub unmarked : IsUnmarked (node_count i) paths.reach
 
 -- the targets of a list of assignments that are so, and no others
 pub record AreDependentPorts (i : Instance) (g : ℕ) (assigns : List PlainAssign) (found : List PortRef) : Type 0 where

@@ -15,7 +15,7 @@ use cx_callees::{Callee, callee_of};
 use cx_design::{Assign, Component, Design, Group, PortRef};
 use cx_design_leads::{GroupLeads, Nodes, continuous_leads};
 use cx_design_parts::{PartPort, part_port};
-use cx_graphs::leads_between;
+use cx_graphs::Reach;
 use cx_text::Memory;
 use std::alloc::Global;
 
@@ -26,6 +26,8 @@ pub struct Paths {
     graph: Vec<Vec<u32>>,
     /// The edges of the group that is looked at.
     leads: GroupLeads,
+    /// Serves for all searches: between two of them no node is marked.
+    reach: Reach,
 }
 
 impl Paths {
@@ -37,10 +39,12 @@ impl Paths {
         let nodes = Nodes::new(alloc, design, number)?;
         let graph = continuous_leads(alloc, design, number, &nodes)?;
         let leads = GroupLeads::new(alloc, nodes.count())?;
+        let reach = Reach::new(alloc, nodes.count())?;
         Ok(Paths {
             nodes,
             graph,
             leads,
+            reach,
         })
     }
 
@@ -71,19 +75,20 @@ impl Paths {
 
     /// The targets that depend on an output or the done of their cell.
     fn dependent_ports(
-        &self,
+        &mut self,
         alloc: Global,
         design: &Design,
         number: usize,
         assigns: &[Assign],
     ) -> Result<Vec<PortRef>, Memory>
         requires within { number < length design.now.components.items }
-        requires paths { (g : ℕ) × HasPaths (component_of (plain_design design.now) number) g self.now }
-        ensures value { IfOk result (λ ports. (g : ℕ) → HasPaths (component_of (plain_design design.now) number) g self.now → AreDependentPorts (component_of (plain_design design.now) number) g (plain_assigns assigns.now) ports.items) }
+        requires paths { (g : ℕ) × HasPaths (component_of (plain_design design.now) number) g self.old }
+        ensures paths { OnOk result ((g : ℕ) → HasPaths (component_of (plain_design design.now) number) g self.old → HasPaths (component_of (plain_design design.now) number) g self.new) }
+        ensures value { IfOk result (λ ports. (g : ℕ) → HasPaths (component_of (plain_design design.now) number) g self.old → AreDependentPorts (component_of (plain_design design.now) number) g (plain_assigns assigns.now) ports.items) }
     {
         let mut ports = Vec::new(alloc);
         for assign in assigns {
-            if self.is_dependent(alloc, design, number, assign.target)? {
+            if self.is_dependent(design, number, assign.target)? {
                 ports.push(assign.target)?;
             }
         }
@@ -92,15 +97,15 @@ impl Paths {
 
     /// Whether a port is an input of a component cell that depends on an output or the done of the cell.
     fn is_dependent(
-        &self,
-        alloc: Global,
+        &mut self,
         design: &Design,
         number: usize,
         port: PortRef,
     ) -> Result<bool, Memory>
         requires within { number < length design.now.components.items }
-        requires paths { (g : ℕ) × HasPaths (component_of (plain_design design.now) number) g self.now }
-        ensures value { IfOk result (λ found. (g : ℕ) → HasPaths (component_of (plain_design design.now) number) g self.now → (IsTrue found ↔ IsDependent (component_of (plain_design design.now) number) g port)) }
+        requires paths { (g : ℕ) × HasPaths (component_of (plain_design design.now) number) g self.old }
+        ensures paths { OnOk result ((g : ℕ) → HasPaths (component_of (plain_design design.now) number) g self.old → HasPaths (component_of (plain_design design.now) number) g self.new) }
+        ensures value { IfOk result (λ found. (g : ℕ) → HasPaths (component_of (plain_design design.now) number) g self.old → (IsTrue found ↔ IsDependent (component_of (plain_design design.now) number) g port)) }
     {
         let Some(callee) = input_of(design, number, port) else {
             return Ok(false);
@@ -118,7 +123,7 @@ impl Paths {
         };
         let graph = self.graph.as_slice();
         let more = self.leads.edges.as_slice();
-        let found = leads_between(alloc, graph, more, start, first, last)?;
+        let found = self.reach.leads_between(graph, more, start, first, last)?;
         Ok(found)
     }
 }

@@ -4,6 +4,7 @@ use Rattle.cx_text.specs.Members.{In}
 use Rattle.cx_graphs.specs.Graphs.{Marked, Spread, edges_of, targets_of}
 use Rattle.cx_graphs.specs.Search.{IsUnderWay}
 use Rattle.cx_graphs.proofs.Ways.{begins, goes_on, ends, waits_within}
+use Rattle.cx_graphs.proofs.Marks.{spread_whole}
 use Rattle.cx_graphs.proofs.ReachWays.{no_mark}
 use Rattle.cx_graphs.proofs.Members.{targets_are}
 use Rattle.cx_graphs.proofs.reaching.reached.Goals as goal
@@ -14,7 +15,8 @@ loop-node-init c =
     begins g c.args.starts.now c.mark_all.new.marks.items c.mark_all.new.waiting.items c.in_ok-marks.marks.items
     (c.in_ok-marks.ensures.len ∙ sym (length-map c.args.graph.now _))
     (λ n m. no_mark _ n (subst (λ l. Marked l n) c.in_ok-marks.ensures.value m))
-    (subst (λ l. Spread c.in_ok-marks.marks.items l c.args.starts.now c.mark_all.new.marks.items c.mark_all.new.waiting.items) c.new-waiting.ensures.items c.in_ok-mark_all.ensures.spread)
+    (subst (λ l. Spread c.in_ok-marks.marks.items l c.args.starts.now c.mark_all.new.marks.items c.mark_all.new.waiting.items) c.new-waiting.ensures.items
+    (spread_whole c.in_ok-marks.marks.items c.new-waiting.result.items c.args.starts.now c.mark_all.new.marks.items c.mark_all.new.waiting.items c.in_ok-mark_all.ensures.appends))
 
 pub bounds-graph-node : goal.bounds-graph-node
 bounds-graph-node c =
@@ -39,7 +41,8 @@ loop-node-preserved c =
     let same : targets_of g node ≡ c.as_slice.result.now = targets_are c.args.graph.now node c.index-graph-node.result within c.index-graph-node.is ∙ sym c.as_slice.ensures.value in
     goes_on g c.args.starts.now c.loop-node.marks.items c.loop-node.waiting.items c.last.new.waiting.items node c.mark_all-in-Some.new.marks.items c.mark_all-in-Some.new.waiting.items
     c.in-Some.ensures.some c.loop-node.invariant
-    (subst (λ l. Spread c.loop-node.marks.items c.last.new.waiting.items l c.mark_all-in-Some.new.marks.items c.mark_all-in-Some.new.waiting.items) (sym same) c.in_ok-mark_all-2.ensures.spread)
+    (subst (λ l. Spread c.loop-node.marks.items c.last.new.waiting.items l c.mark_all-in-Some.new.marks.items c.mark_all-in-Some.new.waiting.items) (sym same)
+    (spread_whole c.loop-node.marks.items c.last.new.waiting.items c.as_slice.result.now c.mark_all-in-Some.new.marks.items c.mark_all-in-Some.new.waiting.items c.in_ok-mark_all-2.ensures.appends))
 
 pub returns-clause-all : goal.returns-clause-all
 returns-clause-all c =

@@ -9,4 +9,7 @@ use Rattle.cx_shape_calls.proofs.inputs.Paths.dependent_ports.Given as goal
 abbrev pub invariant-loop-assign : goal.invariant-loop-assign
 invariant-loop-assign l =
     let i = component_of (plain_design l.design) l.number in
-    (g : ℕ) → HasPaths i g l.self → AreDependentPorts i g (map plain_assign (take l.assign-index l.assigns)) l.ports.items
+    record {
+      kept : (g : ℕ) → HasPaths i g l.initial.self → HasPaths i g l.self;
+      so_far : (g : ℕ) → HasPaths i g l.initial.self → AreDependentPorts i g (map plain_assign (take l.assign-index l.assigns)) l.ports.items;
+    }

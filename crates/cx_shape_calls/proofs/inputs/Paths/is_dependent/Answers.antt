@@ -2,7 +2,7 @@ use Rattle.std.proofs.Common.{◌∙◌, ◌<◌, ◌↔◌, IsTrue, length, tru
 use Rattle.std.proofs.lemmas.List.{length-map}
 use Rattle.cx_graphs.specs.Graphs.{IsGraph, edges_of}
 use Rattle.cx_graphs.specs.Ways.{LeadsWithin}
-use Rattle.cx_graphs.specs.Reach.{Reaches}
+use Rattle.cx_graphs.specs.Reach.{IsUnmarked, Reaches}
 use Rattle.cx_meaning.specs.Active.{nothing}
 use Rattle.cx_rules.specs.Footprints.{Leads}
 use Rattle.cx_rules.specs.Ports.{component_of}
@@ -17,8 +17,14 @@ pub returns-in_default : goal.returns-in_default
 returns-in_default c =
     let i = component_of (plain_design c.args.design.now) c.args.number in
     record {
+      paths = λ g h. h;
       value = λ g h. (λ e. absurd (true≢false (sym e)), λ r. let x = dependent_input i g c.args.port r in absurd (c.in_default.ensures.none x.0 x.1));
     }
+
+pub leads_between-requires-clause-unmarked : goal.leads_between-requires-clause-unmarked
+leads_between-requires-clause-unmarked c =
+    let paths = c.requires.paths.1 in
+    subst (λ n. IsUnmarked n c.args.self.now.reach) (sym (ap length c.as_slice-graph.ensures.value ∙ sym (length-map c.args.self.now.graph.items _) ∙ paths.graph.same_length)) paths.unmarked
 
 pub leads_between-requires-clause-graph : goal.leads_between-requires-clause-graph
 leads_between-requires-clause-graph c =
@@ -47,6 +53,12 @@ returns c =
     let i = component_of d k in
     let within : k < length d.components = omega (arith, c.requires.within, length-map c.args.design.now.components.items plain_component) in
     record {
+      paths = λ g h. record {
+        nodes = h.nodes;
+        graph = h.graph;
+        leads = h.leads;
+        unmarked = subst (λ n. IsUnmarked n c.leads_between.new.self) (ap length c.as_slice-graph.ensures.value ∙ sym (length-map c.args.self.now.graph.items _) ∙ h.graph.same_length) c.in_ok-found.ensures.unmarked;
+      };
       value = λ g h.
           let graph = edges_of c.args.self.now.graph.items in
           let more = edges_of c.args.self.now.leads.edges.items in
