@@ -27,6 +27,7 @@ use Rattle.cx_rules.specs.Wellformed.{IsBind, IsCapture, takes, enables, IsCaptu
 use Rattle.cx_rules.proofs.PortsLemmas.{part_is}
 use Rattle.cx_laws.proofs.TogetherLemmas.{in_flat}
 use Rattle.cx_rewrites.specs.Moving.{moved_guard, moved_assign, moved_form, moved_statement}
+use Rattle.cx_rewrites.proofs.MovedInvokes.{invoke_in-moved}
 use Rattle.cx_rewrites.proofs.MovedLists.{groups_of-moved, moved_visited, visit-moved}
 use Rattle.cx_profiling.specs.Counters.{has_name, is_counted, is_counted_kind, first_gained, Shown, shown_in}
 use Rattle.cx_profiling.specs.Instrumented.{counter_assigns, store_enables, moved_by, moved_number, moved_in, moved_assigns, moved_invoke, gained, group_with, counted_groups, main_component, with_counts}
@@ -111,20 +112,6 @@ module _ (d : PlainDesign) (k : ℕ) where
   abbrev HasOld : PlainStatement → Type 0
   HasOld control = (v : Visited) → In (visit Dynamic (moved_statement mv part.control)) v → In (visit Dynamic control) v
 
-  pub form_invokes : (form : PlainForm) → invoke_in (moved_form mv form) ≡ invoke_in form
-  form_invokes Empty = refl
-  form_invokes (Enable g) = refl
-  form_invokes (Seq parts) = refl
-  form_invokes (Par arms) = refl
-  form_invokes (If test comb a b) = refl
-  form_invokes (While test comb a) = refl
-  form_invokes (Repeat count a) = refl
-  form_invokes (StaticSeq length parts) = refl
-  form_invokes (StaticPar length arms) = refl
-  form_invokes (StaticIf length test a b) = refl
-  form_invokes (StaticRepeat length count a) = refl
-  form_invokes (Timed n) = refl
-
   still_invoked : (control : PlainStatement) → HasOld control → (n : ℕ) → In (invokes_of part.control) n → In (invokes_of control) n
   still_invoked control has n i = by (flat_in (λ (v : Visited). invoke_in v.form) (statements_in part) n i)
     where
@@ -132,7 +119,7 @@ module _ (d : PlainDesign) (k : ℕ) where
       by (v, j, h) =
           in_flat (λ (w : Visited). invoke_in w.form) (visit Dynamic control) (moved_visited mv v) n
           (has (moved_visited mv v) (subst (λ vs. In vs (moved_visited mv v)) (sym (visit-moved mv Dynamic part.control)) (in_image (moved_visited mv) (visit Dynamic part.control) v j)))
-          (subst (λ ks. In ks n) (sym (form_invokes v.form)) h)
+          (subst (λ ks. In ks n) (sym (invoke_in-moved mv v.form)) h)
 
   old_enabled : (g : ℕ) → In (groups_of (moved_statement mv part.control)) g → In (groups_of part.control) g
   old_enabled g i = subst (λ gs. In gs g) (groups_of-moved mv part.control) i

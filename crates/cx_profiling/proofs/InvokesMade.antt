@@ -20,9 +20,9 @@ use Rattle.cx_rules.specs.StaticControl.{is_written, is_timed}
 use Rattle.cx_rules.specs.Wellformed.{IsBind, IsCapturing, IsDesign, IsInvoke}
 use Rattle.cx_rules.proofs.PortsLemmas.{part_is}
 use Rattle.cx_rewrites.specs.Moving.{moved_assign, moved_form, moved_statement, moved_statements}
-use Rattle.cx_rewrites.proofs.MovedLists.{moved_visited, visit-moved}
+use Rattle.cx_rewrites.proofs.MovedInvokes as moved
 use Rattle.cx_profiling.specs.Instrumented.{moved_in, moved_invoke, with_counts}
-use Rattle.cx_profiling.proofs.InvokesKept.{get_mapped, form_invokes, keeps_at}
+use Rattle.cx_profiling.proofs.InvokesKept.{get_mapped, keeps_at}
 use Rattle.cx_profiling.proofs.PartTable.{length_kept}
 use Rattle.cx_profiling.proofs.ThereLemmas.{Names, from_there}
 
@@ -69,39 +69,15 @@ module _ (d : PlainDesign) (design : IsDesign d) (k : ℕ) (within : k < length 
       one None = refl
       one (Some v) = refl
 
-  mutual
-    pub form_lasts-moved : (form : PlainForm) → form_lasts other (moved_form mv form) ≡ form_lasts part form
-    form_lasts-moved Empty = refl
-    form_lasts-moved (Enable g) = ap or_zero (length_kept d design k within g)
-    form_lasts-moved (Seq parts) = refl
-    form_lasts-moved (Par arms) = refl
-    form_lasts-moved (If test comb a b) = refl
-    form_lasts-moved (While test comb a) = refl
-    form_lasts-moved (Repeat count a) = refl
-    form_lasts-moved (StaticSeq written parts) = sum_lasts-moved parts
-    form_lasts-moved (StaticPar written arms) = max_lasts-moved arms
-    form_lasts-moved (StaticIf written test a b) = ap₂ max (lasts-moved a) (lasts-moved b)
-    form_lasts-moved (StaticRepeat written count a) = ap (λ n. count * n) (lasts-moved a)
-    form_lasts-moved (Timed n) = invoke_lasts n
+  pub form_lasts-moved : (form : PlainForm) → form_lasts other (moved_form mv form) ≡ form_lasts part form
+  form_lasts-moved = moved.form_lasts-moved mv part other (length_kept d design k within) invoke_lasts
 
-    pub lasts-moved : (s : PlainStatement) → lasts other (moved_statement mv s) ≡ lasts part s
-    lasts-moved (Placed form place) = form_lasts-moved form
-
-    sum_lasts-moved : (ss : PlainStatements) → sum_lasts other (moved_statements mv ss) ≡ sum_lasts part ss
-    sum_lasts-moved no_statements = refl
-    sum_lasts-moved (a_statement s ss) = ap₂ (λ m n. m + n) (lasts-moved s) (sum_lasts-moved ss)
-
-    max_lasts-moved : (ss : PlainStatements) → max_lasts other (moved_statements mv ss) ≡ max_lasts part ss
-    max_lasts-moved no_statements = refl
-    max_lasts-moved (a_statement s ss) = ap₂ max (lasts-moved s) (max_lasts-moved ss)
+  pub lasts-moved : (s : PlainStatement) → lasts other (moved_statement mv s) ≡ lasts part s
+  lasts-moved = moved.lasts-moved mv part other (length_kept d design k within) invoke_lasts
 
   -- THE INVOKES OF A STATEMENT, their cells and the groups that capture
-  invokes_all : (vs : List Visited) → flat_map (λ (v : Visited). invoke_in v.form) (map (moved_visited mv) vs) ≡ flat_map (λ (v : Visited). invoke_in v.form) vs
-  invokes_all [] = refl
-  invokes_all (v ∷ vs) = ap₂ ◌++◌ (form_invokes d k v.form) (invokes_all vs)
-
   pub invokes_of-moved : (s : PlainStatement) → invokes_of (moved_statement mv s) ≡ invokes_of s
-  invokes_of-moved s = ap (flat_map (λ (v : Visited). invoke_in v.form)) (visit-moved mv Dynamic s) ∙ invokes_all (visit Dynamic s)
+  invokes_of-moved = moved.invokes_of-moved mv
 
   pub captures_kept : (ns : List ℕ) → captures_of other ns ≡ captures_of part ns
   captures_kept [] = refl

@@ -27,6 +27,7 @@ use Rattle.cx_rules.specs.StaticControl.{is_timed, may_stand, has_length}
 use Rattle.cx_rules.specs.Wellformed.{IsDesign, IsInvoke}
 use Rattle.cx_rules.proofs.PortsLemmas.{part_is}
 use Rattle.cx_rewrites.specs.Moving.{moved_assign, moved_form, moved_statement}
+use Rattle.cx_rewrites.proofs.MovedInvokes.{timed_back}
 use Rattle.cx_rewrites.proofs.MovedLists.{may_stand-moved, form_has_length-moved, some_moved, moved_visited}
 use Rattle.cx_rewrites.proofs.ReflectLemmas.{names_back}
 use Rattle.cx_profiling.specs.Counters.{counters, shown_in}
@@ -40,21 +41,6 @@ use Rattle.cx_profiling.proofs.PortLemmas.{IsInside}
 use Rattle.cx_profiling.proofs.PortsKept.{counter_target, StoreTarget, to_memory, to_hole, store_target, cell_back, input_back, counter_row_there, counts_row, memory_there, rests_moved}
 use Rattle.cx_profiling.proofs.RoleLemmas.{Role, as_main, as_child, as_kept, role}
 use Rattle.cx_profiling.proofs.ShapesKept as shapes
-
--- a static invoke is one of the statement that is moved
-timed_back : (move : PortRef → PortRef) (form : PlainForm) (n : ℕ) → moved_form move form ≡ Timed n → form ≡ Timed n
-timed_back move Empty n e = absurd (cc)
-timed_back move (Enable g) n e = absurd (cc)
-timed_back move (Seq parts) n e = absurd (cc)
-timed_back move (Par arms) n e = absurd (cc)
-timed_back move (If test comb a b) n e = absurd (cc)
-timed_back move (While test comb a) n e = absurd (cc)
-timed_back move (Repeat times a) n e = absurd (cc)
-timed_back move (StaticSeq written parts) n e = absurd (cc)
-timed_back move (StaticPar written arms) n e = absurd (cc)
-timed_back move (StaticIf written test a b) n e = absurd (cc)
-timed_back move (StaticRepeat written times a) n e = absurd (cc)
-timed_back move (Timed k) n e = e
 
 no_timed : (v : Visited) (n : ℕ) → invoke_in v.form ≡ [] → v.form ≡ Timed n → ⊥
 no_timed v n none is = absurd (let wrong : n ∷ [] ≡ [] = ap invoke_in (sym is) ∙ none in cc)

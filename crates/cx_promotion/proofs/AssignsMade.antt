@@ -6,6 +6,7 @@ use Rattle.cx_meaning.specs.declared.kinds.GroupKind.{GroupKind}
 use Rattle.cx_meaning.specs.declared.kinds.GroupKind.TheVariants as kinds
 use Rattle.cx_meaning.specs.declared.ports.PlacedPort.{PlacedPort}
 use Rattle.cx_meaning.specs.declared.ports.PortRef.{PortRef}
+use Rattle.cx_meaning.specs.declared.ports.PortRef.TheVariants as ports
 use Rattle.cx_meaning.specs.Designs.{PlainGroup, group_at}
 use Rattle.cx_meaning.specs.Instances.{Instance, part_of}
 use Rattle.cx_meaning.specs.Active.{nothing, Owned, source_order}
@@ -14,7 +15,8 @@ use Rattle.cx_meaning.specs.Islands.{kind_length}
 use Rattle.cx_rules.specs.Footprints.{AssignNames, Rests}
 use Rattle.cx_rules.specs.Items.{Pair, Range, comparisons_of, atoms_of, sources_of, is_comb}
 use Rattle.cx_rules.specs.Ports.{width_of, is_primitive_enable, is_part_port, path_of}
-use Rattle.cx_rules.specs.ShapeRules.{is_hole, BreaksDoneNotState, BreaksAlwaysEnable, BreaksCombEnable, owner_length, is_bad_range, BreaksStaticGuard, LeadsToInput, BreaksOutputNotState}
+use Rattle.cx_rules.specs.ShapeRules.{is_hole, BreaksDoneNotState, BreaksAlwaysEnable, BreaksCombEnable, owner_length, is_bad_range, BreaksStaticGuard, LeadsToInput, BreaksOutputNotState, BreaksKept}
+use Rattle.cx_rules.specs.InvokeShape.{BreaksStaticCell}
 use Rattle.cx_rules.specs.Spots.{AssignRule}
 use Rattle.cx_rules.specs.WidthRules.{differ, pairs_of, first_unequal, BreaksWidth, is_wide, first_wide, BreaksGuardWidth, BreaksLiteral, BreaksNotATarget, BreaksNotASource}
 use Rattle.cx_promotion.specs.Made.{without_guard, OrderMade, no_assigns, stands, bared, dropped, IsPromoted, PartMade}
@@ -22,7 +24,7 @@ use Rattle.cx_promotion.proofs.Impossible.{no_true, no_some}
 use Rattle.cx_promotion.proofs.Twins.{Twins}
 use Rattle.cx_promotion.proofs.Shapes.{shape_of}
 use Rattle.cx_promotion.proofs.Members.{plain_length, group_made}
-use Rattle.cx_promotion.proofs.PortsMade.{SameSignature, width_same, written_same, source_only_same, target_only_same, enable_same, part_port_same}
+use Rattle.cx_promotion.proofs.PortsMade.{SameSignature, width_same, written_same, source_only_same, target_only_same, enable_same, part_port_same, static_port_same}
 use Rattle.cx_promotion.proofs.LeadsMade.{depends_made, rests_made}
 
 -- AN ASSIGNMENT OF THE NEW DESIGN is one of the old one, or one without its guard
@@ -62,9 +64,16 @@ module _ (i j : Instance) (t : Twins SameSignature i j) (made : PartMade i (part
   abbrev pub From : Owned → Type 0
   From q = Origin i P os q
 
+  -- the same assignment breaks the rule in the old design
+  abbrev pub BreaksThere : AssignRule → Owned → Type 0
+  BreaksThere rule q = (at : Place) × (called : List ℕ) × rule i q at called
+
   -- an assignment of the old design breaks the rule
   abbrev pub OldBreak : AssignRule → Type 0
   OldBreak rule = (o : Owned) × In os o × (at : Place) × (called : List ℕ) × rule i o at called
+
+  broken_by : (rule : AssignRule) (o : Owned) → In os o → BreaksThere rule o → OldBreak rule
+  broken_by rule o inside (at, called, breaks) = (o, inside, at, called, breaks)
 
   -- WIDTHS
   unequal_same : (pairs : List Pair) → first_unequal j pairs ≡ first_unequal i pairs
@@ -74,8 +83,11 @@ module _ (i j : Instance) (t : Twins SameSignature i j) (made : PartMade i (part
       ∙ ap (λ w. if differ (width_of i pair.first) w then Some pair.first else first_unequal j pairs) (width_same i j t pair.second)
       ∙ ap (λ rest. if differ (width_of i pair.first) (width_of i pair.second) then Some pair.first else rest) (unequal_same pairs)
 
+  pub width_there : (q : Owned) (place : Place) (name : List ℕ) → BreaksWidth j q place name → BreaksThere BreaksWidth q
+  width_there q place name (port, is, tells) = (q.assign.place, path_of i port, (port, sym (unequal_same (pairs_of q.assign)) ∙ is, (refl, refl)))
+
   pub width_back : (q : Owned) (place : Place) (name : List ℕ) → From q → BreaksWidth j q place name → OldBreak BreaksWidth
-  width_back q place name (kept inside) (port, is, tells) = (q, inside, q.assign.place, path_of i port, (port, sym (unequal_same (pairs_of q.assign)) ∙ is, (refl, refl)))
+  width_back q place name (kept inside) b = broken_by BreaksWidth q inside (width_there q place name b)
   width_back q place name (freed o g inside mine promoted enable) (port, is, tells) = (
     o,
     inside,
@@ -95,8 +107,11 @@ module _ (i j : Instance) (t : Twins SameSignature i j) (made : PartMade i (part
       ap (λ w. if differ w (Some 1) then Some p.port else first_wide j list) (written_same i j t p.port)
       ∙ ap (λ rest. if is_wide i p.port then Some p.port else rest) (wide_same list)
 
+  pub guard_width_there : (q : Owned) (place : Place) (name : List ℕ) → BreaksGuardWidth j q place name → BreaksThere BreaksGuardWidth q
+  guard_width_there q place name (port, is, tells) = (q.assign.place, path_of i port, (port, sym (wide_same (atoms_of q.assign.guard)) ∙ is, (refl, refl)))
+
   pub guard_width_back : (q : Owned) (place : Place) (name : List ℕ) → From q → BreaksGuardWidth j q place name → OldBreak BreaksGuardWidth
-  guard_width_back q place name (kept inside) (port, is, tells) = (q, inside, q.assign.place, path_of i port, (port, sym (wide_same (atoms_of q.assign.guard)) ∙ is, (refl, refl)))
+  guard_width_back q place name (kept inside) b = broken_by BreaksGuardWidth q inside (guard_width_there q place name b)
   guard_width_back q place name (freed o g inside mine promoted enable) (port, is, tells) = no_some port is
 
   -- what an assignment looks at
@@ -108,17 +123,25 @@ module _ (i j : Instance) (t : Twins SameSignature i j) (made : PartMade i (part
   names_back o q (inl wrong) = absurd wrong
   names_back o q (inr e) = inr e
 
+  pub literal_there : (q : Owned) (place : Place) (name : List ℕ) → BreaksLiteral j q place name → BreaksThere BreaksLiteral q
+  literal_there q place name (p, source, bad, tells) = (p.place, [], (p, source, bad, (refl, refl)))
+
   pub literal_back : (q : Owned) (place : Place) (name : List ℕ) → From q → BreaksLiteral j q place name → OldBreak BreaksLiteral
-  literal_back q place name (kept inside) (p, source, bad, tells) = (q, inside, p.place, [], (p, source, bad, (refl, refl)))
+  literal_back q place name (kept inside) b = broken_by BreaksLiteral q inside (literal_there q place name b)
   literal_back q place name (freed o g inside mine promoted enable) (p, source, bad, tells) = (o, inside, p.place, [], (p, source_back o p source, bad, (refl, refl)))
 
+  pub target_there : (q : Owned) (place : Place) (name : List ℕ) → BreaksNotATarget j q place name → BreaksThere BreaksNotATarget q
+  target_there q place name (is, tells) = (q.assign.place, path_of i q.assign.target, (sym (source_only_same i j t q.assign.target) ∙ is, (refl, refl)))
+
   pub target_back : (q : Owned) (place : Place) (name : List ℕ) → From q → BreaksNotATarget j q place name → OldBreak BreaksNotATarget
-  target_back q place name (kept inside) (is, tells) = (q, inside, q.assign.place, path_of i q.assign.target, (sym (source_only_same i j t q.assign.target) ∙ is, (refl, refl)))
-  target_back q place name (freed o g inside mine promoted enable) (is, tells) =
-      (o, inside, o.assign.place, path_of i o.assign.target, (sym (source_only_same i j t o.assign.target) ∙ is, (refl, refl)))
+  target_back q place name (kept inside) b = broken_by BreaksNotATarget q inside (target_there q place name b)
+  target_back q place name (freed o g inside mine promoted enable) b = broken_by BreaksNotATarget o inside (target_there o place name b)
+
+  pub not_source_there : (q : Owned) (place : Place) (name : List ℕ) → BreaksNotASource j q place name → BreaksThere BreaksNotASource q
+  not_source_there q place name (p, source, is, tells) = (p.place, path_of i p.port, (p, source, sym (target_only_same i j t p.port) ∙ is, (refl, refl)))
 
   pub not_source_back : (q : Owned) (place : Place) (name : List ℕ) → From q → BreaksNotASource j q place name → OldBreak BreaksNotASource
-  not_source_back q place name (kept inside) (p, source, is, tells) = (q, inside, p.place, path_of i p.port, (p, source, sym (target_only_same i j t p.port) ∙ is, (refl, refl)))
+  not_source_back q place name (kept inside) b = broken_by BreaksNotASource q inside (not_source_there q place name b)
   not_source_back q place name (freed o g inside mine promoted enable) (p, source, is, tells) =
       (o, inside, p.place, path_of i p.port, (p, source_back o p source, sym (target_only_same i j t p.port) ∙ is, (refl, refl)))
 
@@ -137,6 +160,11 @@ module _ (i j : Instance) (t : Twins SameSignature i j) (made : PartMade i (part
       (q, inside, q.assign.place, path_of i q.assign.target, (owner, sym (enable_same i j t q.assign.target) ∙ is, (refl, refl)))
   always_back q place name (freed o g inside mine promoted enable) (owner, is, tells) =
       (o, inside, o.assign.place, path_of i o.assign.target, (owner, sym (enable_same i j t o.assign.target) ∙ is, (refl, refl)))
+
+  pub static_cell_back : (q : Owned) (place : Place) (name : List ℕ) → From q → BreaksStaticCell j q place name → OldBreak BreaksStaticCell
+  static_cell_back q place name (kept inside) (is, tells) = (q, inside, q.assign.place, path_of i q.assign.target, (sym (static_port_same i j t q.assign.target) ∙ is, (refl, refl)))
+  static_cell_back q place name (freed o g inside mine promoted enable) (is, tells) =
+      (o, inside, o.assign.place, path_of i o.assign.target, (sym (static_port_same i j t o.assign.target) ∙ is, (refl, refl)))
 
   pub comb_stays : (g : ℕ) → is_comb (group_at (part_of j) g).kind ≡ true → is_comb (group_at (part_of i) g).kind ≡ true
   comb_stays g comb = by (group_made i made.groups g)
@@ -178,3 +206,9 @@ module _ (i j : Instance) (t : Twins SameSignature i j) (made : PartMade i (part
       (q, inside, q.assign.place, path_of i q.assign.target, (n, target, (port, names, output_why port why), (refl, refl)))
   output_back q place name (freed o g inside mine promoted enable) (n, target, (port, names, why), tells) =
       (o, inside, o.assign.place, path_of i o.assign.target, (n, target, (port, names_back o port names, output_why port why), (refl, refl)))
+
+  pub kept_back : (q : Owned) (place : Place) (name : List ℕ) → From q → BreaksKept j q place name → OldBreak BreaksKept
+  kept_back q place name (kept inside) (n, latency, owner, input, tells) =
+      (q, inside, q.assign.place, path_of i q.assign.target, (n, made.latency ∙ latency, owner, input, (refl, refl)))
+  kept_back q place name (freed o g inside mine promoted enable) (n, latency, owner, (m, names), tells) =
+      (o, inside, o.assign.place, path_of i o.assign.target, (n, made.latency ∙ latency, owner, (m, names_back o (ports.Input m) names), (refl, refl)))

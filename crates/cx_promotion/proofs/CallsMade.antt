@@ -13,7 +13,7 @@ use Rattle.cx_meaning.specs.declared.kinds.PortDecl.{PortDecl}
 use Rattle.cx_meaning.specs.declared.ports.PortRef.{PortRef}
 use Rattle.cx_meaning.specs.declared.ports.PortRef.TheVariants as ports
 use Rattle.cx_meaning.specs.Designs.{Always, PlainAssign, PlainGroup, PlainCell, group_at}
-use Rattle.cx_meaning.specs.Instances.{Instance, At, OfRow, OfInstance, part_of, cells_of, cell_at}
+use Rattle.cx_meaning.specs.Instances.{Instance, OfRow, part_of, cells_of, cell_at}
 use Rattle.cx_meaning.specs.Active.{group, Owned, same_port, source_order}
 use Rattle.cx_text.specs.Members.{In}
 use Rattle.cx_meaning.specs.Islands.{kind_length}
@@ -25,10 +25,10 @@ use Rattle.cx_promotion.specs.Promotable.{bare_enable, promoted_assigns}
 use Rattle.cx_promotion.specs.Made.{without_guard, IsPromoted, PartMade}
 use Rattle.cx_promotion.proofs.Impossible.{no_true, no_some}
 use Rattle.cx_promotion.proofs.RowCounts.{RowCounts, row_counts}
-use Rattle.cx_promotion.proofs.Twins.{Twins, beside_each, TwinAt, none_there, a_row_there, a_child_there}
+use Rattle.cx_promotion.proofs.Twins.{Twins}
 use Rattle.cx_promotion.proofs.Shapes.{no_target, shape_of}
 use Rattle.cx_promotion.proofs.Members.{group_made}
-use Rattle.cx_promotion.proofs.PortsMade.{SameSignature, port_same, kind_is, enable_same, part_port_same}
+use Rattle.cx_promotion.proofs.PortsMade.{SameSignature, port_same, OldChild, old_child, enable_same, part_port_same}
 use Rattle.cx_promotion.proofs.LeadsMade.{depends_made}
 use Rattle.cx_promotion.proofs.AssignsMade.{kept, freed, From, OldBreak}
 use Rattle.cx_rules.proofs.ForeignLemmas.{OwnerOf, continuous, of_group, owner_of}
@@ -107,21 +107,7 @@ module _ (i j : Instance) (t : Twins SameSignature i j) (made : PartMade i (part
           let holes : some_target is_hole (group_at (part_of j) g).assigns ≡ false = ap (λ (x : PlainGroup). some_target is_hole x.assigns) promoted.2 ∙ no_holes i (group_at (part_of i) g).assigns in
           no_true (sym (ap (λ b. b || nat_eq n 0) holes ∙ some_not_zero n some) ∙ bad)
 
-  -- CALLS. A component cell is one in both
-  record OldChild (c : ℕ) (kid : Instance) : Type 0 where
-    child : Instance
-    at : cell_at (cells_of i) c ≡ OfInstance child
-    same : SameSignature child kid
-
-  child_back : (at twin : At) (kid : Instance) → TwinAt SameSignature at twin → twin ≡ OfInstance kid → (child : Instance) × (at ≡ OfInstance child) × SameSignature child kid
-  child_back at twin kid none_there e = absurd (cc)
-  child_back at twin kid a_row_there e = absurd (cc)
-  child_back at twin kid (a_child_there {child = child} {twin = own} below) e =
-      let same : own ≡ kid = cc in (child, refl, subst (SameSignature child) same (beside_each SameSignature child own below))
-
-  old_child : (c : ℕ) (kid : Instance) → cell_at (cells_of j) c ≡ OfInstance kid → OldChild c kid
-  old_child c kid e = let r = child_back (cell_at (cells_of i) c) (cell_at (cells_of j) c) kid (kind_is i j t c) e in record { child = r.0; at = r.1; same = r.2 }
-
+  -- CALLS
   done_port_same : (c : ℕ) (child kid : Instance) → SameSignature child kid → done_port c kid ≡ done_port c child
   done_port_same c child kid same =
       ap (λ (list : List PortDecl). ports.Cell c (suc (length list + length (part_of kid).outputs))) (sym same.inputs)
@@ -131,10 +117,12 @@ module _ (i j : Instance) (t : Twins SameSignature i j) (made : PartMade i (part
     assigns_same : assigns_of j g ≡ assigns_of i g
     assigns_same = ap (λ (x : PlainGroup). x.assigns) stays
 
-    calls_back : (c : ℕ) → Calls j (assigns_of j g) c → Calls i (assigns_of i g) c
-    calls_back c calls =
-        let r = old_child c calls.child calls.is_component in
+    calls_by : (c : ℕ) (calls : Calls j (assigns_of j g) c) → OldChild i c calls.child → Calls i (assigns_of i g) c
+    calls_by c calls r =
         record { child = r.child; is_component = r.at; dynamic = r.same.latency ∙ calls.dynamic; driven = subst (λ list. some_target (is_port_of c) list ≡ true) assigns_same calls.driven }
+
+    calls_back : (c : ℕ) → Calls j (assigns_of j g) c → Calls i (assigns_of i g) c
+    calls_back c calls = calls_by c calls (old_child i j t c calls.child calls.is_component)
 
     another_back : (c : ℕ) (target : PortRef) → CallsAnother j g c target → CallsAnother i g c target
     another_back c target ((e, calls, other), is) = ((e, calls_back e calls, other), sym (part_port_same i j t target) ∙ is)
@@ -195,16 +183,16 @@ module _ (i j : Instance) (t : Twins SameSignature i j) (made : PartMade i (part
           absurd (not_both (is_part_port i o.assign.target) part (no_target (is_part_port i) (group_at (part_of i) g).assigns o.assign shape.no_part (mine (owner_of (part_of i) o inside))))
 
   misshapen_back : (o : Owned) → IsMisshapen j o → IsMisshapen i o
-  unfolding calls_back old_child
+  unfolding calls_by
   misshapen_back o m =
       let stays = plain_stays m.group m.plain in
-      let r = old_child m.cell m.calls.child m.calls.is_component in
+      let r = old_child i j t m.cell m.calls.child m.calls.is_component in
       record {
         group = m.group;
         owner = m.owner;
         plain = subst (λ (x : PlainGroup). is_plain x.kind ≡ true) stays m.plain;
         cell = m.cell;
-        calls = calls_back m.group stays m.cell m.calls;
+        calls = calls_by m.group stays m.cell m.calls r;
         breaks = break_back m.group stays m.cell r.child m.calls.child r.same m.breaks;
       }
 

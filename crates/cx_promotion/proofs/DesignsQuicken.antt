@@ -27,7 +27,7 @@ externals-twin : (i j : Instance) → Twins MadeBeside i j → externals_of (par
 externals-twin i j t = ap (externals_from 0) (beside_each MadeBeside i j t).made.cells
 
 -- the start is the same
-start-twin : (i j : Instance) → Twins MadeBeside i j → (words : List (List ℕ)) → start i words ≡ start j words
+pub start-twin : (i j : Instance) → Twins MadeBeside i j → (words : List (List ℕ)) → start i words ≡ start j words
 start-twin i j t words = fun_ext each
   where
     each : (path : Path) → start i words path ≡ start j words path
@@ -41,13 +41,13 @@ module _ (old new : PlainDesign) (design : IsDesign old) (accepted : IsAccepted 
   abbrev j : Instance
   j = tree_within new (length old.components) old.main
 
-  tree_is : j ≡ tree_of new
+  pub tree_is : j ≡ tree_of new
   tree_is = ap (λ n. tree_within new n old.main) made.count ∙ ap (tree_within new (length new.components)) made.main
 
   abbrev Ends : Instance → List (List ℕ) → ℕ → State → ℕ → Type 0
   Ends tree words n s t = (k : ℕ) × (run_control tree unheld (start tree words) n ≡ End s k) × (k ≤ t)
 
-  same_end : (o x : Answer State Fault) (s : State) (t : ℕ) → o ≡ End s t → Carried NoLater (SameSettled (tree_of old)) same_fault none none o x → (k : ℕ) × (x ≡ End s k) × (k ≤ t)
+  pub same_end : (o x : Answer State Fault) (s : State) (t : ℕ) → o ≡ End s t → Carried NoLater (SameSettled (tree_of old)) same_fault none none o x → (k : ℕ) × (x ≡ End s k) × (k ≤ t)
   same_end o x s t e carried =
       let r = subst (λ a. Carried NoLater (SameSettled (tree_of old)) same_fault none none a x) e carried in
       (r.1, r.2 ∙ ap (λ z. End z r.1) (sym r.4.0), r.3)
@@ -61,7 +61,7 @@ module _ (old new : PlainDesign) (design : IsDesign old) (accepted : IsAccepted 
       within : (n : ℕ) → n ≤ n
       within n = omega arith
 
-  rows_same : external_rows old ≡ external_rows new
+  pub rows_same : external_rows old ≡ external_rows new
   rows_same =
       let parts = made.parts old.main design.main_there in
       ap rows_of parts.cells ∙ ap (λ k. rows_of (component_at new k).cells) made.main

@@ -48,7 +48,7 @@ SameSettled i counted s z = (s ≡ z) × IsSettled i s
 abbrev pub Quicker : Instance → Counted State → Meaning State Fault → Meaning State Fault → Type 0
 Quicker i counts go on = (before : Tally) (s z : State) (n m : ℕ) → n ≤ m → s ≡ z → IsSettled i s → Carried NoLater Same same_fault before (counts s n) (go s n) (on z m)
 
-same_le : (t : ℕ) → t ≤ t
+pub same_le : (t : ℕ) → t ≤ t
 same_le t = omega arith
 
 -- an answer that stays under a greater budget
@@ -80,7 +80,7 @@ recounted R before k l More x carried = tt
 
 -- CHILDREN of a settled instance are settled
 
-child_settled : (i : Instance) (s : State) (c : ℕ) (child : Instance) → cell_at (cells_of i) c ≡ OfInstance child → IsSettled i s → IsSettled child (under c s)
+pub child_settled : (i : Instance) (s : State) (c : ℕ) (child : Instance) → cell_at (cells_of i) c ≡ OfInstance child → IsSettled i s → IsSettled child (under c s)
 child_settled (Node part cells) s c child is settled path = sym (idle_below-child cells c child path (s (c ∷ path)) is) ∙ settled (c ∷ path)
 
 -- THE CALLED CELL is a component's
@@ -133,7 +133,7 @@ module _ (i j : Instance) (t : Twins MadeBeside i j) where
 
     -- A GROUP THAT STAYS
     module _ (g : ℕ) (stays : group_at (part_of j) g ≡ group_at (part_of i) g) (there : g < length (part_of i).groups) where
-      group_idle : IsIdle i j h (group g)
+      pub group_idle : IsIdle i j h (group g)
       group_idle k is = by (nat_eq g k) refl
         where
           by : (b : Bool) → nat_eq g k ≡ b → ◌≡◌ {A = Option ℕ} (if b then Some 0 else None) None
@@ -152,13 +152,13 @@ module _ (i j : Instance) (t : Twins MadeBeside i j) where
       turns_stay : (s : State) (n : ℕ) → turns_of (idle j) (group_turn j held g) s n ≡ turns_of (idle i) (group_turn i held g) s n
       turns_stay s n = ap (λ rest. turns_of rest (group_turn j held g) s n) (idle-twin MadeBeside i j t) ∙ ap (λ turn. turns_of (idle i) turn s n) group_turn_stays
 
-      called_stays : called j g ≡ called i g
+      pub called_stays : called j g ≡ called i g
       called_stays = called_in_twin (group_at (part_of j) g).assigns ∙ ap (λ (x : PlainGroup). called_in (cells_of i) x.assigns) stays
 
-      captures_stays : captures j g ≡ captures i g
+      pub captures_stays : captures j g ≡ captures i g
       captures_stays = captures_in_twin (group_at (part_of j) g).assigns ∙ ap (λ (x : PlainGroup). captures_in (cells_of i) x.assigns) stays
 
-      length_stays : group_length (part_of j) g ≡ group_length (part_of i) g
+      pub length_stays : group_length (part_of j) g ≡ group_length (part_of i) g
       length_stays = ap (λ (x : PlainGroup). kind_length x.kind) stays
 
       -- A CALL, whose child is quicker
@@ -185,16 +185,16 @@ module _ (i j : Instance) (t : Twins MadeBeside i j) where
           by (answers.Fault f k) is = tt
           by More is = tt
 
-      lift_carried : (child : Instance) (c : ℕ) (before k : Tally) (s z : State) (o x : Answer State Fault) → s ≡ z → Carried NoLater (SameSettled child) same_fault before k o x
+      pub lift_carried : (child : Instance) (c : ℕ) (before k : Tally) (s z : State) (o x : Answer State Fault) → s ≡ z → Carried NoLater (SameSettled child) same_fault before k o x
           → Carried NoLater Same same_fault before k (lift_answer c s o) (lift_answer c z x)
       lift_carried child c before k s z (End own n) x e (twin, u, is, keeps, same) = (put c twin z, u, ap (lift_answer c z) is, keeps, ap (λ y. put c y s) same.0 ∙ ap (put c twin) e)
       lift_carried child c before k s z (answers.Fault f n) x e carried = tt
       lift_carried child c before k s z More x e carried = tt
 
-      module _ (kids others : Children) (children : (c : ℕ) (child : Instance) → cell_at (cells_of i) c ≡ OfInstance child → (own : Held) → Carries NoLater (SameSettled child) same_fault (λ s n. none) (kids c own) (others c own)) where
-        inputs_stay : (c : ℕ) (s : State) → inputs_of_call j held g c s ≡ inputs_of_call i held g c s
-        inputs_stay c s = fun_ext (λ input. seen_stays i j t held (group g) s group_idle (h.groups g there) (ports.Cell c (suc input)))
+      pub inputs_stay : (c : ℕ) (s : State) → inputs_of_call j held g c s ≡ inputs_of_call i held g c s
+      inputs_stay c s = fun_ext (λ input. seen_stays i j t held (group g) s group_idle (h.groups g there) (ports.Cell c (suc input)))
 
+      module _ (kids others : Children) (children : (c : ℕ) (child : Instance) → cell_at (cells_of i) c ≡ OfInstance child → (own : Held) → Carries NoLater (SameSettled child) same_fault (λ s n. none) (kids c own) (others c own)) where
         call_quicker : (counts : Counted State) (c : ℕ) (child : Instance) → cell_at (cells_of i) c ≡ OfInstance child → Quicker i counts (call i kids held g c) (call j others held g c)
         call_quicker counts c child is before s z n m room e settled =
             recounted (λ a b. a ≡ b) before (plus none (then_count (lift_answer c s (kids c (inputs_of_call i held g c s) (under c s) n)) n (λ s1 k. none))) (counts s n) (call i kids held g c s n) (call j others held g c z m)

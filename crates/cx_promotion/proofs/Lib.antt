@@ -30,9 +30,22 @@ pub mod PortsMade
 mod LeadsMade
 mod AssignsMade
 mod CallsMade
+mod InvokesMade
 mod VisitsMade
 mod StatementsMade
 pub mod RulesMade
 mod Together
 mod Runs
 mod Pieces
+mod WholeStays
+mod WholeLists
+mod WholeSteady
+mod WholeIslands
+mod WholeRests
+mod WholePieces
+mod WholeLeaves
+mod ControlStays
+mod WholeRuns
+pub mod WholeDesigns
+mod PlacedParts
+pub mod WholePlaces

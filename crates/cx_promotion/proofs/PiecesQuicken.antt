@@ -49,7 +49,7 @@ module _ (i whole : Instance) (kinds_at : (c : ℕ) → KindAt (cell_at (cells_o
   no_call (ports.Done g) later apart = refl
   no_call (ports.Literal w v) later apart = refl
 
-  called_none : (list : List PlainAssign) → some_target (is_part_port whole) list ≡ false → called_in (cells_of i) list ≡ None
+  pub called_none : (list : List PlainAssign) → some_target (is_part_port whole) list ≡ false → called_in (cells_of i) list ≡ None
   called_none [] apart = refl
   called_none (a ∷ rest) apart =
       let both = or_none (is_part_port whole a.target) (some_target (is_part_port whole) rest) apart in
@@ -91,7 +91,7 @@ module _ (part other : PlainComponent) (cells more : Cells) (t : Twins MadeBesid
   abbrev old_turn : ℕ → State → Turn State Fault
   old_turn = group_turn i held
 
-  promoted_length : (g : ℕ) (is : P g) → group_length other g ≡ Some is.0
+  pub promoted_length : (g : ℕ) (is : P g) → group_length other g ≡ Some is.0
   promoted_length g is = ap (λ (x : PlainGroup). kind_length x.kind) is.2
 
   run_is : {ss : PlainStatements} → IsRun P ss → RunOf other len (groups_in_all ss) ss
@@ -102,7 +102,7 @@ module _ (part other : PlainComponent) (cells more : Cells) (t : Twins MadeBesid
   all_in_step no_more = tt
   all_in_step (one_more {g = g} is later) = (group_in_step i j t held g is len (ap or_zero (promoted_length g is)), all_in_step later)
 
-  enable_turns : (g : ℕ) → P g → (s : State) (n : ℕ) → enable i (control_below cells) held g s n ≡ turns_of (idle i) (old_turn g) s n
+  pub enable_turns : (g : ℕ) → P g → (s : State) (n : ℕ) → enable i (control_below cells) held g s n ≡ turns_of (idle i) (old_turn g) s n
   enable_turns g is s n =
       let shape = shape_of h.whole (group_at part g) is.0 is.1 in
       enable-turns i (control_below cells) held g (plain_length (group_at part g).kind shape.plain) (called_none i h.whole h.cells (group_at part g).assigns shape.no_part) s n

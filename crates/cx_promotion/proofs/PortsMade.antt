@@ -1,11 +1,13 @@
 -- PORTS OF THE NEW DESIGN have the widths and the sides of those of the old one.
-use Rattle.std.proofs.Common.{◌≡◌, ℕ, zero, suc, not, length, List, refl, sym, ap, ◌∙◌}
+use Rattle.std.proofs.Common.{◌≡◌, ℕ, zero, suc, not, length, List, refl, sym, ap, ◌∙◌, subst}
+use Rattle.std.specs.Prelude.{is_some}
 use Rattle.cx_meaning.specs.declared.kinds.PortDecl.{PortDecl}
 use Rattle.cx_meaning.specs.declared.ports.PortRef.{PortRef}
 use Rattle.cx_meaning.specs.declared.ports.PortRef.TheVariants as ports
-use Rattle.cx_meaning.specs.Instances.{Instance, At, part_of, cells_of, cell_at}
+use Rattle.cx_meaning.specs.Instances.{Instance, At, OfInstance, part_of, cells_of, cell_at}
 use Rattle.cx_meaning.specs.Sights.{PartPort, Go, AnInput, AnOutput, ItsDone, later_port, part_port}
 use Rattle.cx_rules.specs.Ports.{declared_width, part_width, cell_width, width_of, written_width, is_part_output, is_cell_output, is_source_only, is_target_only, enables_cell, is_primitive_enable, is_instance, is_part_port}
+use Rattle.cx_rules.specs.InvokeShape.{latency_at, is_static_port}
 use Rattle.cx_promotion.proofs.SeenAlike.{SameCell}
 use Rattle.cx_promotion.proofs.Twins.{Twins, beside_each, twin_cells, TwinAt, none_there, a_row_there, a_child_there, twins_at}
 
@@ -53,14 +55,34 @@ instance_same at twin none_there = refl
 instance_same at twin a_row_there = refl
 instance_same at twin (a_child_there t) = refl
 
+latency_same : (at twin : At) → Kind at twin → latency_at twin ≡ latency_at at
+latency_same at twin none_there = refl
+latency_same at twin a_row_there = refl
+latency_same at twin (a_child_there {child = child} {twin = other} t) = sym (signature child other t).latency
+
 same_kind : (at twin : At) → Kind at twin → SameCell at twin
 same_kind at twin none_there = tt
 same_kind at twin a_row_there = refl
 same_kind at twin (a_child_there {child = child} {twin = other} t) = port_same child other (signature child other t)
 
+-- a component cell is one in both
+pub record OldChild (i : Instance) (c : ℕ) (kid : Instance) : Type 0 where
+  pub child : Instance
+  pub at : cell_at (cells_of i) c ≡ OfInstance child
+  pub same : SameSignature child kid
+
+child_back : (at twin : At) (kid : Instance) → Kind at twin → twin ≡ OfInstance kid → (child : Instance) × (at ≡ OfInstance child) × SameSignature child kid
+child_back at twin kid none_there e = absurd (cc)
+child_back at twin kid a_row_there e = absurd (cc)
+child_back at twin kid (a_child_there {child = child} {twin = own} below) e =
+    let same : own ≡ kid = cc in (child, refl, subst (SameSignature child) same (signature child own below))
+
 module _ (i j : Instance) (t : Twins SameSignature i j) where
   pub kind_is : (c : ℕ) → Kind (cell_at (cells_of i) c) (cell_at (cells_of j) c)
   kind_is c = twins_at SameSignature (cells_of i) (cells_of j) (twin_cells SameSignature i j t) c
+
+  pub old_child : (c : ℕ) (kid : Instance) → cell_at (cells_of j) c ≡ OfInstance kid → OldChild i c kid
+  old_child c kid e = let r = child_back (cell_at (cells_of i) c) (cell_at (cells_of j) c) kid (kind_is c) e in record { child = r.0; at = r.1; same = r.2 }
 
   pub cells_alike : (c : ℕ) → SameCell (cell_at (cells_of i) c) (cell_at (cells_of j) c)
   cells_alike c = same_kind (cell_at (cells_of i) c) (cell_at (cells_of j) c) (kind_is c)
@@ -106,3 +128,10 @@ module _ (i j : Instance) (t : Twins SameSignature i j) where
   part_port_same (ports.Output n) = refl
   part_port_same (ports.Done g) = refl
   part_port_same (ports.Literal w v) = refl
+
+  pub static_port_same : (p : PortRef) → is_static_port j p ≡ is_static_port i p
+  static_port_same (ports.Cell c p) = ap is_some (latency_same (cell_at (cells_of i) c) (cell_at (cells_of j) c) (kind_is c))
+  static_port_same (ports.Input n) = refl
+  static_port_same (ports.Output n) = refl
+  static_port_same (ports.Done g) = refl
+  static_port_same (ports.Literal w v) = refl

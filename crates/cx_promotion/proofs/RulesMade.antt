@@ -1,6 +1,6 @@
--- A PROMOTED DESIGN KEEPS THE RULES of stages 3 to 6, where the old one does and has no static components.
+-- A PROMOTED DESIGN KEEPS THE RULES of stages 3 to 6, where the old one does.
 use Rattle.std.proofs.Common.{◌≡◌, ℕ, zero, suc, ◌<◌, ◌≤◌, inl, inr, ◌⊎◌, List, length, refl, sym, ap, ◌∙◌, subst, arith}
-use Rattle.std.specs.Prelude.{true}
+use Rattle.std.specs.Prelude.{true, None, flat_map, slice_get}
 use Rattle.std.proofs.lemmas.Bool.{cases_lt}
 use Rattle.std.proofs.lemmas.List.{get_or_past}
 use Rattle.cx_text.proofs.MemberLaws.{in_at, number_in}
@@ -8,33 +8,30 @@ use Rattle.cx_text.specs.declared.places.Place.{Place}
 use Rattle.cx_text.proofs.BoolLaws.{not_both}
 use Rattle.cx_text.specs.declared.rules.Rule.{Rule}
 use Rattle.cx_text.specs.declared.rules.Rule.TheVariants as rules
-use Rattle.cx_meaning.specs.Designs.{PlainGroup, PlainComponent, PlainDesign, component_at, group_at, no_component}
+use Rattle.cx_meaning.specs.Designs.{PlainGroup, PlainInvoke, PlainComponent, PlainDesign, component_at, group_at, no_component}
 use Rattle.cx_meaning.specs.Instances.{Instance, part_of, tree_within}
 use Rattle.cx_meaning.specs.Active.{Owned, nothing, group, source_order}
 use Rattle.cx_text.specs.Members.{In}
 use Rattle.cx_meaning.proofs.DesignsLemmas.{same_part}
-use Rattle.cx_rules.specs.Accepted as whole
-use Rattle.cx_rules.specs.Accepted.{stage_of}
+use Rattle.cx_rules.specs.Accepted.{Breaks, stage_of, KeepsStage, IsAccepted}
 use Rattle.cx_rules.specs.CallShape.{BreaksCallShape, GroupBreaksCallShape}
 use Rattle.cx_rules.specs.Items.{Visited, statements_in}
 use Rattle.cx_rules.specs.Ports.{component_of}
-use Rattle.cx_rules.specs.RaceRule.{HasCycle, arms_of, BreaksCombCycle, GroupBreaksCombCycle}
-use Rattle.cx_rules.specs.ShapeRules.{BreaksNoDone, BreaksDoneNotState, BreaksAlwaysEnable, BreaksCombEnable, BreaksStaticGuard, GroupBreaksStaticShape, BreaksStaticControl, BreaksStaticTest, BreaksOutputNotState}
-use Rattle.cx_rules.specs.Spots.{AnAssign, AStatement, Spot, AssignRule, StatementRule, GroupRule, OnAssign, OnStatement, OnGroup}
+use Rattle.cx_rules.specs.InvokeShape.{BreaksStaticCell, BreaksInvoke}
+use Rattle.cx_rules.specs.RaceRule.{HasCycle, arms_of, IsShared, BreaksCombCycle, GroupBreaksCombCycle, BreaksRace}
+use Rattle.cx_rules.specs.ShapeRules.{BreaksNoDone, BreaksDoneNotState, BreaksAlwaysEnable, BreaksCombEnable, BreaksStaticGuard, GroupBreaksStaticShape, BreaksStaticControl, BreaksLength, BreaksInvokeLength, IsWrongControl, BreaksPartLength, BreaksStaticTest, BreaksOutputNotState, BreaksKept}
+use Rattle.cx_rules.specs.Spots.{AnAssign, AStatement, Spot, AssignRule, StatementRule, GroupRule, OnAssign, OnBind, OnStatement, OnGroup}
 use Rattle.cx_rules.specs.StaticControl.{is_in_static, may_stand}
 use Rattle.cx_rules.specs.WidthRules.{BreaksWidth, BreaksGuardWidth, TestBreaksGuardWidth, BreaksLiteral, TestBreaksLiteral, BreaksNotATarget, BreaksNotASource, TestBreaksNotASource}
 use Rattle.cx_rules.specs.Wellformed.{IsDesign}
-use Rattle.cx_rules.proofs.InvokesLemmas.{drives_more, reads_more}
 use Rattle.cx_laws.proofs.RaceLemmas.{unshared, not_twice}
-use Rattle.cx_rewrites.specs.FlatRules.{BreaksLength, IsShared, BreaksRace, Breaks, IsAccepted}
-use Rattle.cx_rewrites.proofs.FlatRulesLemmas.{stage_flat, accepted_whole}
 use Rattle.cx_promotion.specs.Made.{IsPromoted, GroupsMade, no_groups, a_group, PartMade, DesignMade}
 use Rattle.cx_promotion.proofs.Twins.{Twins}
-use Rattle.cx_promotion.proofs.Trees.{past_new, made_is_flat, twins_within, rows_within, part_made, keeps_statics}
+use Rattle.cx_promotion.proofs.Trees.{past_new, twins_within, rows_within, part_made, keeps_statics}
 use Rattle.cx_promotion.proofs.PortsMade.{SameSignature}
 use Rattle.cx_promotion.proofs.LeadsMade.{cycle_made}
 use Rattle.cx_promotion.proofs.AssignsMade as assigns
-use Rattle.cx_promotion.proofs.AssignsMade.{From, OldBreak, origin_of}
+use Rattle.cx_promotion.proofs.AssignsMade.{From, BreaksThere, OldBreak, origin_of}
 use Rattle.cx_promotion.proofs.CallsMade as calls
 use Rattle.cx_promotion.proofs.StatementsMade as statements
 use Rattle.cx_promotion.proofs.StatementsMade.{OldStatementBreak, Comes, comes}
@@ -86,7 +83,7 @@ module _ (old new : PlainDesign) (design : IsDesign old) (accepted : IsAccepted 
 
   module _ (k : ℕ) (within : k < n) where
     made_at : PartMade (i k) (part_of (i k)) (part_of (j k))
-    made_at = part_made old new design accepted.accepted made n k within
+    made_at = part_made old new design accepted made n k within
 
     part_old : part_of (i k) ≡ component_at old k
     part_old = same_part old n k
@@ -107,7 +104,7 @@ module _ (old new : PlainDesign) (design : IsDesign old) (accepted : IsAccepted 
     -- A STATEMENT
     stands_static : (v : Visited) → In (statements_in (part_of (i k))) v → is_in_static v.context ≡ true → may_stand (part_of (i k)) v.context v.form ≡ true
     stands_static v inside stat =
-        ap (λ part. may_stand part v.context v.form) part_old ∙ keeps_statics old design accepted.accepted k within v (subst (λ part. In (statements_in part) v) part_old inside) stat
+        ap (λ part. may_stand part v.context v.form) part_old ∙ keeps_statics old design accepted k within v (subst (λ part. In (statements_in part) v) part_old inside) stat
 
     abbrev OldStatement : StatementRule → Type 0
     OldStatement rule = (v : Visited) × In (statements_in (part_of (i k))) v × (at : Place) × (called : List ℕ) × rule (i k) v at called
@@ -127,12 +124,10 @@ module _ (old new : PlainDesign) (design : IsDesign old) (accepted : IsAccepted 
     no_race : (w : Visited) → In (statements_in (component_at new k)) w → (place : Place) (name : List ℕ) → BreaksRace (j k) w place name → ⊥
     no_race w inside place name (inl (c, shared, least, tells)) =
         let r = statements.shared_back (i k) (j k) (t k) made_at lengths stands_static w c (come w inside) shared in
-        let shared_old = subst (λ part. IsShared part (arms_of r.0.form) c) part_old r.2 in
-        unshared old accepted.accepted k within r.0 (subst (λ part. In (statements_in part) r.0) part_old r.1) c
-        (shared_old.0, drives_more (component_at old k) shared_old.0.first c shared_old.1, reads_more (component_at old k) shared_old.0.second c shared_old.2)
+        unshared old accepted k within r.0 (subst (λ part. In (statements_in part) r.0) part_old r.1) c (subst (λ part. IsShared part (arms_of r.0.form) c) part_old r.2)
     no_race w inside place name (inr (none, (g, twice, least, tells))) =
         let r = statements.twice_back (i k) (j k) (t k) made_at lengths stands_static w g (come w inside) twice in
-        not_twice old accepted.accepted k within r.0 (subst (λ part. In (statements_in part) r.0) part_old r.1) g r.2
+        not_twice old accepted k within r.0 (subst (λ part. In (statements_in part) r.0) part_old r.1) g r.2
 
   within_old : (k : ℕ) → k < length new.components → k < n
   within_old k lt = subst (λ m. k < m) (sym made.count) lt
@@ -173,6 +168,41 @@ module _ (old new : PlainDesign) (design : IsDesign old) (accepted : IsAccepted 
         breaks = r.2;
       })
 
+  no_bind : (rule : AssignRule) → ((spot : Spot) (place : Place) (name : List ℕ) → OnBind rule old spot place name → ⊥)
+      → ((k : ℕ) (within : k < n) (q : Owned) (place : Place) (name : List ℕ) → rule (j k) q place name → BreaksThere (i k) (j k) (t k) (made_at k within) rule q)
+      → (spot : Spot) (place : Place) (name : List ℕ) → OnBind rule new spot place name → ⊥
+  no_bind rule keeps there spot place name on =
+      let k : ℕ = spot.component in
+      let within : k < n = within_old k on.within in
+      let q : Owned = record { owner = None; assign = on.assign } in
+      let r = there k within q place name (subst (λ x. rule x q place name) (j_is k) on.breaks) in
+      keeps spot r.0 r.1
+      (record {
+        within = within;
+        number = on.number;
+        is = on.is;
+        assign = on.assign;
+        stands = ap (λ vs. slice_get (flat_map (λ (v : PlainInvoke). v.inputs) vs) on.number) (made.parts k within).invokes ∙ on.stands;
+        breaks = r.2;
+      })
+
+  -- the control of a static component
+  part_length_never : (spot : Spot) (place : Place) (name : List ℕ) → BreaksPartLength new spot place name → ⊥
+  part_length_never spot place name on =
+      let k : ℕ = spot.component in
+      let within : k < n = within_old k on.within in
+      let wrong = subst (λ part. IsWrongControl part on.latency) (sym (part_new k within)) on.control in
+      accepted.shapes rules.StaticShape spot (component_at old k).place (component_at old k).name refl
+      (inr (inr (inr (inr (inr (record {
+        within = within;
+        is = on.is;
+        latency = on.latency;
+        static = (made.parts k within).latency ∙ on.static;
+        control = subst (λ part. IsWrongControl part on.latency) (part_old k within)
+            (statements.part_length_back (i k) (j k) (t k) (made_at k within) (lengths k within) (stands_static k within) on.latency wrong);
+        tells = (refl, refl);
+      }))))))
+
   control_never : (spot : Spot) (place : Place) (name : List ℕ) → OnStatement BreaksStaticControl new spot place name → ⊥
   control_never spot place name on =
       let k : ℕ = spot.component in
@@ -203,29 +233,45 @@ module _ (old new : PlainDesign) (design : IsDesign old) (accepted : IsAccepted 
 
   -- EVERY RULE but that on limits
   keeps_rule : (rule : Rule) (spot : Spot) (place : Place) (name : List ℕ) → (stage_of rule ≡ 7 → ⊥) → Breaks new rule spot place name → ⊥
-  keeps_rule rules.Width spot place name other b =
-      no_assign BreaksWidth (λ s p m on. accepted.widths rules.Width s p m refl on) (λ k within q p m came is. assigns.width_back (i k) (j k) (t k) (made_at k within) q p m came is) spot place name b
+  keeps_rule rules.Width spot place name other (inl b) =
+      no_assign BreaksWidth (λ s p m on. accepted.widths rules.Width s p m refl (inl on))
+      (λ k within q p m came is. assigns.width_back (i k) (j k) (t k) (made_at k within) q p m came is) spot place name b
+  keeps_rule rules.Width spot place name other (inr b) =
+      no_bind BreaksWidth (λ s p m on. accepted.widths rules.Width s p m refl (inr on))
+      (λ k within q p m is. assigns.width_there (i k) (j k) (t k) (made_at k within) q p m is) spot place name b
   keeps_rule rules.GuardWidth spot place name other (inl b) =
       no_assign BreaksGuardWidth (λ s p m on. accepted.widths rules.GuardWidth s p m refl (inl on))
       (λ k within q p m came is. assigns.guard_width_back (i k) (j k) (t k) (made_at k within) q p m came is) spot place name b
-  keeps_rule rules.GuardWidth spot place name other (inr b) =
-      no_statement TestBreaksGuardWidth (λ s p m on. accepted.widths rules.GuardWidth s p m refl (inr on))
+  keeps_rule rules.GuardWidth spot place name other (inr (inl b)) =
+      no_statement TestBreaksGuardWidth (λ s p m on. accepted.widths rules.GuardWidth s p m refl (inr (inl on)))
       (λ k within w p m came is. statements.test_width_back (i k) (j k) (t k) (made_at k within) (lengths k within) (stands_static k within) w p m came is) spot place name b
+  keeps_rule rules.GuardWidth spot place name other (inr (inr b)) =
+      no_bind BreaksGuardWidth (λ s p m on. accepted.widths rules.GuardWidth s p m refl (inr (inr on)))
+      (λ k within q p m is. assigns.guard_width_there (i k) (j k) (t k) (made_at k within) q p m is) spot place name b
   keeps_rule rules.Literal spot place name other (inl b) =
       no_assign BreaksLiteral (λ s p m on. accepted.widths rules.Literal s p m refl (inl on))
       (λ k within q p m came is. assigns.literal_back (i k) (j k) (t k) (made_at k within) q p m came is) spot place name b
-  keeps_rule rules.Literal spot place name other (inr b) =
-      no_statement TestBreaksLiteral (λ s p m on. accepted.widths rules.Literal s p m refl (inr on))
+  keeps_rule rules.Literal spot place name other (inr (inl b)) =
+      no_statement TestBreaksLiteral (λ s p m on. accepted.widths rules.Literal s p m refl (inr (inl on)))
       (λ k within w p m came is. statements.test_literal_back (i k) (j k) (t k) (made_at k within) (lengths k within) (stands_static k within) w p m came is) spot place name b
-  keeps_rule rules.NotATarget spot place name other b =
-      no_assign BreaksNotATarget (λ s p m on. accepted.widths rules.NotATarget s p m refl on)
+  keeps_rule rules.Literal spot place name other (inr (inr b)) =
+      no_bind BreaksLiteral (λ s p m on. accepted.widths rules.Literal s p m refl (inr (inr on)))
+      (λ k within q p m is. assigns.literal_there (i k) (j k) (t k) (made_at k within) q p m is) spot place name b
+  keeps_rule rules.NotATarget spot place name other (inl b) =
+      no_assign BreaksNotATarget (λ s p m on. accepted.widths rules.NotATarget s p m refl (inl on))
       (λ k within q p m came is. assigns.target_back (i k) (j k) (t k) (made_at k within) q p m came is) spot place name b
+  keeps_rule rules.NotATarget spot place name other (inr b) =
+      no_bind BreaksNotATarget (λ s p m on. accepted.widths rules.NotATarget s p m refl (inr on))
+      (λ k within q p m is. assigns.target_there (i k) (j k) (t k) (made_at k within) q p m is) spot place name b
   keeps_rule rules.NotASource spot place name other (inl b) =
       no_assign BreaksNotASource (λ s p m on. accepted.widths rules.NotASource s p m refl (inl on))
       (λ k within q p m came is. assigns.not_source_back (i k) (j k) (t k) (made_at k within) q p m came is) spot place name b
-  keeps_rule rules.NotASource spot place name other (inr b) =
-      no_statement TestBreaksNotASource (λ s p m on. accepted.widths rules.NotASource s p m refl (inr on))
+  keeps_rule rules.NotASource spot place name other (inr (inl b)) =
+      no_statement TestBreaksNotASource (λ s p m on. accepted.widths rules.NotASource s p m refl (inr (inl on)))
       (λ k within w p m came is. statements.test_source_back (i k) (j k) (t k) (made_at k within) (lengths k within) (stands_static k within) w p m came is) spot place name b
+  keeps_rule rules.NotASource spot place name other (inr (inr b)) =
+      no_bind BreaksNotASource (λ s p m on. accepted.widths rules.NotASource s p m refl (inr (inr on)))
+      (λ k within q p m is. assigns.not_source_there (i k) (j k) (t k) (made_at k within) q p m is) spot place name b
   keeps_rule rules.NoDone spot place name other b =
       no_group BreaksNoDone (λ s p m on. accepted.shapes rules.NoDone s p m refl on)
       (λ k within g p m is. calls.no_done_back (i k) (j k) (t k) (made_at k within) (rows_within old n k) g p m is) spot place name b
@@ -248,18 +294,31 @@ module _ (old new : PlainDesign) (design : IsDesign old) (accepted : IsAccepted 
   keeps_rule rules.StaticShape spot place name other (inr (inr (inl b))) =
       no_statement BreaksLength (λ s p m on. accepted.shapes rules.StaticShape s p m refl (inr (inr (inl on))))
       (λ k within w p m came is. statements.length_back (i k) (j k) (t k) (made_at k within) (lengths k within) (stands_static k within) w p m came is) spot place name b
-  keeps_rule rules.StaticShape spot place name other (inr (inr (inr b))) =
-      no_statement BreaksStaticTest (λ s p m on. accepted.shapes rules.StaticShape s p m refl (inr (inr (inr on))))
+  keeps_rule rules.StaticShape spot place name other (inr (inr (inr (inl b)))) =
+      no_statement BreaksStaticTest (λ s p m on. accepted.shapes rules.StaticShape s p m refl (inr (inr (inr (inl on)))))
       (λ k within w p m came is. statements.static_test_back (i k) (j k) (t k) (made_at k within) (lengths k within) (stands_static k within) w p m came is) spot place name b
+  keeps_rule rules.StaticShape spot place name other (inr (inr (inr (inr (inl b))))) =
+      no_statement BreaksInvokeLength (λ s p m on. accepted.shapes rules.StaticShape s p m refl (inr (inr (inr (inr (inl on))))))
+      (λ k within w p m came is. statements.invoke_length_back (i k) (j k) (t k) (made_at k within) (lengths k within) (stands_static k within) w p m came is) spot place name b
+  keeps_rule rules.StaticShape spot place name other (inr (inr (inr (inr (inr b))))) = part_length_never spot place name b
   keeps_rule rules.CallShape spot place name other (inl b) =
       no_assign BreaksCallShape (λ s p m on. accepted.shapes rules.CallShape s p m refl (inl on))
       (λ k within q p m came is. calls.call_back (i k) (j k) (t k) (made_at k within) (rows_within old n k) q p m came is) spot place name b
-  keeps_rule rules.CallShape spot place name other (inr b) =
-      no_group GroupBreaksCallShape (λ s p m on. accepted.shapes rules.CallShape s p m refl (inr on))
+  keeps_rule rules.CallShape spot place name other (inr (inl b)) =
+      no_group GroupBreaksCallShape (λ s p m on. accepted.shapes rules.CallShape s p m refl (inr (inl on)))
       (λ k within g p m is. calls.group_call_back (i k) (j k) (t k) (made_at k within) (rows_within old n k) g p m is) spot place name b
-  keeps_rule rules.OutputNotState spot place name other b =
-      no_assign BreaksOutputNotState (λ s p m on. accepted.shapes rules.OutputNotState s p m refl on)
+  keeps_rule rules.CallShape spot place name other (inr (inr (inl b))) =
+      no_assign BreaksStaticCell (λ s p m on. accepted.shapes rules.CallShape s p m refl (inr (inr (inl on))))
+      (λ k within q p m came is. assigns.static_cell_back (i k) (j k) (t k) (made_at k within) q p m came is) spot place name b
+  keeps_rule rules.CallShape spot place name other (inr (inr (inr b))) =
+      no_statement BreaksInvoke (λ s p m on. accepted.shapes rules.CallShape s p m refl (inr (inr (inr on))))
+      (λ k within w p m came is. statements.invoke_back (i k) (j k) (t k) (made_at k within) (lengths k within) (stands_static k within) w p m came is) spot place name b
+  keeps_rule rules.OutputNotState spot place name other (inl b) =
+      no_assign BreaksOutputNotState (λ s p m on. accepted.shapes rules.OutputNotState s p m refl (inl on))
       (λ k within q p m came is. assigns.output_back (i k) (j k) (t k) (made_at k within) q p m came is) spot place name b
+  keeps_rule rules.OutputNotState spot place name other (inr b) =
+      no_assign BreaksKept (λ s p m on. accepted.shapes rules.OutputNotState s p m refl (inr on))
+      (λ k within q p m came is. assigns.kept_back (i k) (j k) (t k) (made_at k within) q p m came is) spot place name b
   keeps_rule rules.CombCycle spot place name other (inl b) = cycle_never spot place name b
   keeps_rule rules.CombCycle spot place name other (inr b) =
       no_group GroupBreaksCombCycle (λ s p m on. accepted.no_cycles rules.CombCycle s p m refl (inr on))
@@ -269,12 +328,11 @@ module _ (old new : PlainDesign) (design : IsDesign old) (accepted : IsAccepted 
   keeps_rule _ spot place name other b = b
 
   -- ACCEPTED, where it keeps the limits
-  pub design_is_accepted : whole.KeepsStage 7 new → whole.IsAccepted new
-  design_is_accepted limits =
-      let flat = made_is_flat old new made accepted.flat in
-      accepted_whole new flat
-      (λ rule spot place name e b. keeps_rule rule spot place name (λ f. below_seven 3 (omega arith) (sym e ∙ f)) b)
-      (λ rule spot place name e b. keeps_rule rule spot place name (λ f. below_seven 4 (omega arith) (sym e ∙ f)) b)
-      (λ rule spot place name e b. keeps_rule rule spot place name (λ f. below_seven 5 (omega arith) (sym e ∙ f)) b)
-      (λ rule spot place name e b. keeps_rule rule spot place name (λ f. below_seven 6 (omega arith) (sym e ∙ f)) b)
-      (stage_flat new flat 7 limits)
+  pub design_is_accepted : KeepsStage 7 new → IsAccepted new
+  design_is_accepted limits = record {
+    widths = λ rule spot place name e b. keeps_rule rule spot place name (λ f. below_seven 3 (omega arith) (sym e ∙ f)) b;
+    shapes = λ rule spot place name e b. keeps_rule rule spot place name (λ f. below_seven 4 (omega arith) (sym e ∙ f)) b;
+    no_cycles = λ rule spot place name e b. keeps_rule rule spot place name (λ f. below_seven 5 (omega arith) (sym e ∙ f)) b;
+    no_races = λ rule spot place name e b. keeps_rule rule spot place name (λ f. below_seven 6 (omega arith) (sym e ∙ f)) b;
+    limits = limits;
+  }

@@ -1,63 +1,35 @@
 -- RUNS QUICKEN: where the run of an instance's control ends from a settled state, that of the new control ends no later in the same state.
-use Rattle.std.proofs.Common.{◌≡◌, ℕ, zero, suc, ◌⊎◌, inl, inr, Bool, true, false, Option, Some, None, refl, sym, ap, ◌∙◌, subst}
-use Rattle.std.specs.Prelude.{nat_eq, if◌then◌else◌}
+use Rattle.std.proofs.Common.{◌≡◌, ℕ, zero, suc, ◌⊎◌, inl, inr, true, None, refl, sym, ap, ◌∙◌, subst}
 use Rattle.std.proofs.Math.Path.{fun_ext}
-use Rattle.std.proofs.lemmas.Bool.{eqb-true}
 use Rattle.cx_text.proofs.MemberLaws.{in_left, in_right}
 use Rattle.cx_text.specs.Members.{In}
 use Rattle.cx_text.specs.declared.places.Place.{Place}
-use Rattle.cx_meaning.specs.declared.kinds.GroupKind.{GroupKind}
-use Rattle.cx_meaning.specs.declared.kinds.GroupKind.TheVariants as kinds
-use Rattle.cx_meaning.specs.declared.ports.PortRef.{PortRef}
-use Rattle.cx_meaning.specs.Designs.{PlainGroup, PlainComponent, group_at, no_place, PlainForm, Empty, Enable, Seq, Par, If, While, Repeat, StaticSeq, StaticPar, StaticIf, StaticRepeat, Timed, PlainStatement, Placed, PlainStatements, no_statements, a_statement}
+use Rattle.cx_meaning.specs.Designs.{PlainComponent, group_at, no_place, PlainForm, Empty, Enable, Seq, Par, If, While, Repeat, StaticSeq, StaticPar, StaticIf, StaticRepeat, Timed, PlainStatement, Placed, PlainStatements, a_statement}
 use Rattle.cx_meaning.specs.Instances.{Instance, Node, Cells, no_cells, a_primitive, an_instance, OfInstance, cell_at, State, Set, merge, idle, IsSettled}
-use Rattle.cx_meaning.specs.Active.{comb}
 use Rattle.cx_meaning.specs.Sights.{Held}
 use Rattle.cx_meaning.specs.Cycles.{Fault}
-use Rattle.cx_meaning.specs.Answers.{Test, Holds, Fails, Unclear}
-use Rattle.cx_meaning.specs.Control.{Leaves, groups_in, groups_of, groups_drive, run_form, run, run_parts}
-use Rattle.cx_meaning.specs.Islands.{kind_length, group_length, island}
-use Rattle.cx_meaning.specs.Calls.{test}
+use Rattle.cx_meaning.specs.Control.{Leaves, groups_of, groups_drive, run_form, run, run_parts}
+use Rattle.cx_meaning.specs.Islands.{island}
 use Rattle.cx_meaning.specs.Running.{leaves, run_control, control_below}
 use Rattle.cx_meaning.proofs.InstancesLemmas.{instance_is}
 use Rattle.cx_meaning.proofs.RunningLemmas.{steady_island, idle_settles, settles_statement, merge_settles}
-use Rattle.cx_rules.specs.Circles.{IsAcyclic}
-use Rattle.cx_rules.specs.Items.{Context, Dynamic, Visited, visit, visit_all, statements_in, is_plain, is_comb}
+use Rattle.cx_rules.specs.Items.{Dynamic, Visited, visit, visit_all, statements_in}
 use Rattle.cx_rules.specs.StaticControl.{is_static}
-use Rattle.cx_rules.specs.Wellformed.{IsWith}
-use Rattle.cx_rules.proofs.CirclesLemmas.{own_acyclic}
 use Rattle.cx_rewrites.specs.Tallies.{Tally, none, uncounted, count_form, count, count_parts}
-use Rattle.cx_rewrites.specs.Carrying.{NoLater, Rests, TestCarried, Carries}
-use Rattle.cx_rewrites.specs.Beside.{joined, FormBeside, outright, empties, seqs, collapsed, pars, ifs, whiles, repeats, Beside, placed, PartsBeside, no_parts, a_part, as_one, ArmsBeside, no_arms, an_arm}
+use Rattle.cx_rewrites.specs.Carrying.{NoLater, Rests, Carries}
+use Rattle.cx_rewrites.specs.Beside.{FormBeside, outright, empties, seqs, collapsed, pars, ifs, whiles, repeats, Beside, placed, PartsBeside, no_parts, a_part, as_one, ArmsBeside, no_arms, an_arm}
 use Rattle.cx_rewrites.proofs.BesideLemmas.{run_carries}
 use Rattle.cx_promotion.specs.Made as made
 use Rattle.cx_promotion.specs.Made.{IsPromoted, IsRun, FormMade, StatementMade, PartsMade, ArmsMade}
 use Rattle.cx_promotion.proofs.Twins.{Twins, TwinCells, beside_each, idle-twin}
 use Rattle.cx_promotion.proofs.MadeBeside.{MadeBeside}
-use Rattle.cx_promotion.proofs.Shapes.{shape_of}
-use Rattle.cx_promotion.proofs.Members.{group_made, not_promoted, not_promoted_kind}
-use Rattle.cx_promotion.proofs.Stays.{IsIdle}
-use Rattle.cx_promotion.proofs.StaticStays.{parts_static, island_stays}
+use Rattle.cx_promotion.proofs.Members.{group_made}
+use Rattle.cx_promotion.proofs.StaticStays.{island_stays}
+use Rattle.cx_promotion.proofs.ControlStays.{visit_joined, tests_carry, static_still}
 use Rattle.cx_promotion.proofs.MadeControl.{made_groups, groups_drive-made}
-use Rattle.cx_promotion.proofs.LeavesQuicken.{same_fault, recounted, SameSettled, Quicker, steady_quicker, with_settled, test_stays, enable_quicker}
+use Rattle.cx_promotion.proofs.LeavesQuicken.{same_fault, recounted, SameSettled, Quicker, steady_quicker, with_settled, enable_quicker}
 use Rattle.cx_promotion.proofs.PiecesQuicken.{piece_quicker, promoted_quicker}
 use Rattle.cx_promotion.proofs.Impossible.{no_true}
-use Rattle.cx_rules.proofs.ItemsLemmas.{plain_untimed}
-
-comb_no_plain : (kind : GroupKind) → is_comb kind ≡ true → is_plain kind ≡ false
-comb_no_plain kinds.Plain e = no_true e
-comb_no_plain kinds.Comb e = refl
-comb_no_plain (kinds.Timed n) e = no_true e
-
--- statements behind others are visited with them
-visit_joined : (context : Context) (first later : PlainStatements) (v : Visited) → In (visit_all context later) v → In (visit_all context (joined first later)) v
-visit_joined context no_statements later v k = k
-visit_joined context (a_statement s ss) later v k = in_right (visit context s) (visit_all context (joined ss later)) v (visit_joined context ss later v k)
-
-test_itself : (x : Test Fault) → TestCarried NoLater same_fault x x
-test_itself Holds = refl
-test_itself Fails = refl
-test_itself (Unclear f) = tt
 
 module _ (part other : PlainComponent) (cells more : Cells) (t : Twins MadeBeside (Node part cells) (Node other more)) (held : Held)
     (children : (c : ℕ) (child : Instance) → cell_at cells c ≡ OfInstance child → (own : Held)
@@ -93,25 +65,6 @@ module _ (part other : PlainComponent) (cells more : Cells) (t : Twins MadeBesid
       with_settled i before (count_form L uncounted form s n) (run_form L form s n) (run_form M twin z m)
       (quicker before s z n m room r.0 r.1) (settles_statement i h.keeps_idle held (Placed form no_place) s n r.1))
 
-  -- TESTS
-  comb_idle : (with_group : Option ℕ) → IsWith part with_group → IsIdle i j h (comb with_group)
-  comb_idle None is g promoted = refl
-  comb_idle (Some k) is g promoted = by (nat_eq k g) refl
-    where
-      by : (b : Bool) → nat_eq k g ≡ b → ◌≡◌ {A = Option ℕ} (if b then Some 0 else None) None
-      by true e = absurd (not_promoted_kind h.whole part other k (comb_no_plain (group_at part k).kind is.1) (subst P (sym (eqb-true k g e)) promoted))
-      by false e = refl
-
-  comb_acyclic : (with_group : Option ℕ) → IsWith part with_group → IsAcyclic i (comb with_group)
-  comb_acyclic None is = own_acyclic i h.acyclic
-  comb_acyclic (Some k) is = h.groups k is.0
-
-  tests_carry : (p : PortRef) (with_group : Option ℕ) → IsWith part with_group → (before : Tally) (s z : State) → R before s z → TestCarried NoLater same_fault (L.test p with_group s) (M.test p with_group z)
-  tests_carry p with_group is before s z r =
-      subst (λ x. TestCarried NoLater same_fault (test i held p with_group s) x)
-      (ap (test i held p with_group) r.0 ∙ sym (test_stays i j t held p with_group z (comb_idle with_group is) (comb_acyclic with_group is)))
-      (test_itself (test i held p with_group s))
-
   -- ARMS
   merges_carry : (arm twin : PlainStatement) → StatementMade P arm twin → (a b x y : State) → (a ≡ x) × IsSettled i a → (b ≡ y) × IsSettled i b
       → (merge (groups_drive part (groups_of arm)) a b ≡ merge (groups_drive other (groups_of twin)) x y) × IsSettled i (merge (groups_drive part (groups_of arm)) a b)
@@ -124,16 +77,6 @@ module _ (part other : PlainComponent) (cells more : Cells) (t : Twins MadeBesid
   )
 
   -- STATIC CONTROL of the source
-  static_still : (form : PlainForm) (place : Place) → is_static form ≡ true → ((v : Visited) → In (visit Dynamic (Placed form place)) v → In (statements_in part) v)
-      → (g : ℕ) → In (groups_in form) g → (P g → ⊥) × (group_length other g ≡ group_length part g)
-  static_still form place is sub g k = by (group_made h.whole h.made.groups g)
-    where
-      by : (group_at other g ≡ group_at part g) ⊎ P g → (P g → ⊥) × (group_length other g ≡ group_length part g)
-      by (inl stays) = (not_promoted h.whole part other g stays, ap (λ (x : PlainGroup). kind_length x.kind) stays)
-      by (inr promoted) =
-          absurd (plain_untimed (group_at part g).kind (shape_of h.whole (group_at part g) promoted.0 promoted.1).plain
-          (parts_static part Dynamic form is (λ v inside stat. h.statics v (sub v (inr inside)) stat) g k))
-
   equal_beside : (form : PlainForm) → is_static form ≡ true → ((s : State) (n : ℕ) → island j held form s n ≡ island i held form s n) → FormBeside NoLater R same_fault L uncounted M form form
   equal_beside Empty e same = no_true e
   equal_beside (Enable g) e same = no_true e
@@ -159,7 +102,7 @@ module _ (part other : PlainComponent) (cells more : Cells) (t : Twins MadeBesid
   static_beside : (form : PlainForm) (place : Place) → is_static form ≡ true → ((v : Visited) → In (visit Dynamic (Placed form place)) v → In (statements_in part) v)
       → FormBeside NoLater R same_fault L uncounted M form form
   static_beside form place is sub =
-      equal_beside form is (λ s n. island_stays i j t held (record { context = Dynamic; form = form; place = place }) (sub (record { context = Dynamic; form = form; place = place }) (inl refl)) (static_still form place is sub) s n)
+      equal_beside form is (λ s n. island_stays i j t held (record { context = Dynamic; form = form; place = place }) (sub (record { context = Dynamic; form = form; place = place }) (inl refl)) (static_still part other cells more t held form place is sub) s n)
 
   -- AN ENABLE, of a group that stays or is promoted
   enable_beside : (g : ℕ) (place : Place) → In (statements_in part) (record { context = Dynamic; form = Enable g; place = place }) → FormBeside NoLater R same_fault L uncounted M (Enable g) (Enable g)
@@ -189,11 +132,11 @@ module _ (part other : PlainComponent) (cells more : Cells) (t : Twins MadeBesid
     form_beside (made.collapsed {p = p} parts) place sub = collapsed {there = p} (parts_beside parts (λ v k. sub v (inr k)))
     form_beside (made.par arms) place sub = pars (arms_beside arms (λ v k. sub v (inr k)))
     form_beside (made.if_made {test = p} {comb = with_group} {a = a} {b = b} one two) place sub =
-        ifs {p = p} {q = p} (tests_carry p.port with_group (h.statements (record { context = Dynamic; form = If p with_group a b; place = place }) (sub _ (inl refl))))
+        ifs {p = p} {q = p} (λ before s z r. tests_carry part other cells more t held p.port with_group (h.statements (record { context = Dynamic; form = If p with_group a b; place = place }) (sub _ (inl refl))) s z r.0)
         (beside one (λ v k. sub v (inr (in_left (visit Dynamic a) (visit Dynamic b) v k))))
         (beside two (λ v k. sub v (inr (in_right (visit Dynamic a) (visit Dynamic b) v k))))
     form_beside (made.while_made {test = p} {comb = with_group} {a = a} one) place sub =
-        whiles {p = p} {q = p} (tests_carry p.port with_group (h.statements (record { context = Dynamic; form = While p with_group a; place = place }) (sub _ (inl refl)))) (beside one (λ v k. sub v (inr k)))
+        whiles {p = p} {q = p} (λ before s z r. tests_carry part other cells more t held p.port with_group (h.statements (record { context = Dynamic; form = While p with_group a; place = place }) (sub _ (inl refl))) s z r.0) (beside one (λ v k. sub v (inr k)))
     form_beside (made.repeat_made one) place sub = repeats (beside one (λ v k. sub v (inr k)))
     form_beside (made.static {form = form} is) place sub = static_beside form place is sub
     form_beside made.timed place sub = outright (λ before s z n m room r. tt)

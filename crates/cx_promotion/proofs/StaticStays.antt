@@ -27,13 +27,13 @@ use Rattle.cx_promotion.proofs.Impossible.{no_true}
 
 -- THE FLAT LIST and the length hang on the lengths of the groups that are enabled
 module _ (part other : PlainComponent) where
-  abbrev Same : List ℕ → Type 0
+  abbrev pub Same : List ℕ → Type 0
   Same gs = (g : ℕ) → In gs g → group_length other g ≡ group_length part g
 
-  same_left : (gs hs : List ℕ) → Same (gs ++ hs) → Same gs
+  pub same_left : (gs hs : List ℕ) → Same (gs ++ hs) → Same gs
   same_left gs hs same g k = same g (in_left gs hs g k)
 
-  same_right : (gs hs : List ℕ) → Same (gs ++ hs) → Same hs
+  pub same_right : (gs hs : List ℕ) → Same (gs ++ hs) → Same hs
   same_right gs hs same g k = same g (in_right gs hs g k)
 
   mutual

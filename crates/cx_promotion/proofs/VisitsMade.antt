@@ -6,6 +6,7 @@ use Rattle.cx_text.specs.declared.places.Place.{Place}
 use Rattle.cx_meaning.specs.Designs.{PlainForm, Empty, Enable, Seq, Par, If, While, Repeat, StaticSeq, Timed, PlainStatement, Placed, PlainStatements, no_statements, a_statement, list_of}
 use Rattle.cx_text.specs.Members.{In}
 use Rattle.cx_rules.specs.Items.{Context, Dynamic, InStatic, Visited, visit, visit_parts, visit_all, test_in}
+use Rattle.cx_rules.specs.Invokes.{invoke_in}
 use Rattle.cx_rules.specs.RaceRule.{arms_of, enabled_group}
 use Rattle.cx_rules.specs.StaticControl.{is_static}
 use Rattle.cx_rewrites.specs.Beside.{joined}
@@ -19,13 +20,13 @@ module _ (promoted : ℕ → Type 0) where
 
   -- where a statement in dynamic control comes from, and one in static control
   pub data Came (vs : List Visited) : Context → PlainForm → Type 0 where
-    of_dynamic : {form : PlainForm} (v : Visited) → In vs v → test_in form ≡ test_in v.form → is_static form ≡ false → enabled_group form ≡ enabled_group v.form → ArmsFrom v.form form → Came vs Dynamic form
+    of_dynamic : {form : PlainForm} (v : Visited) → In vs v → test_in form ≡ test_in v.form → is_static form ≡ false → enabled_group form ≡ enabled_group v.form → invoke_in form ≡ [] → ArmsFrom v.form form → Came vs Dynamic form
     of_piece : {s : PlainStatement} {run : PlainStatements} → IsRun promoted (a_statement s run) → Came vs Dynamic (StaticSeq None (a_statement s run))
     of_enable : (v : Visited) (g : ℕ) → In vs v → v.form ≡ Enable g → promoted g → Came vs InStatic (Enable g)
     the_same : (v : Visited) → In vs v → Came vs v.context v.form
 
   wider : {vs ws : List Visited} {context : Context} {form : PlainForm} → ((v : Visited) → In vs v → In ws v) → Came vs context form → Came ws context form
-  wider h (of_dynamic v inside tests dynamic enables arms) = of_dynamic v (h v inside) tests dynamic enables arms
+  wider h (of_dynamic v inside tests dynamic enables bare arms) = of_dynamic v (h v inside) tests dynamic enables bare arms
   wider h (of_piece run) = of_piece run
   wider h (of_enable v g inside is long) = of_enable v g (h v inside) is long
   wider h (the_same v inside) = the_same v (h v inside)
@@ -76,30 +77,30 @@ module _ (promoted : ℕ → Type 0) where
   visit_back (a_statement s ss) later v k = in_right (visit Dynamic s) (visit_all Dynamic (joined ss later)) v (visit_back ss later v k)
 
   -- of a dynamic form and the same kind of form
-  dynamic_comes : (old new : PlainForm) (p : Place) → test_in new ≡ test_in old → is_static new ≡ false → enabled_group new ≡ enabled_group old → ArmsFrom old new → Came (visit Dynamic (Placed old p)) Dynamic new
-  dynamic_comes old new p tests dynamic enables arms = of_dynamic (at Dynamic old p) (inl refl) tests dynamic enables arms
+  dynamic_comes : (old new : PlainForm) (p : Place) → test_in new ≡ test_in old → is_static new ≡ false → enabled_group new ≡ enabled_group old → invoke_in new ≡ [] → ArmsFrom old new → Came (visit Dynamic (Placed old p)) Dynamic new
+  dynamic_comes old new p tests dynamic enables bare arms = of_dynamic (at Dynamic old p) (inl refl) tests dynamic enables bare arms
 
   mutual
     form_comes : {form twin : PlainForm} → FormMade promoted form twin → (p : Place) → Came (visit Dynamic (Placed form p)) Dynamic twin × CameAll (visit Dynamic (Placed form p)) (visit_parts Dynamic twin)
-    form_comes made.empty p = (dynamic_comes Empty Empty p refl refl refl (no_arms Empty Empty refl), λ w k. absurd k)
-    form_comes (made.enable {g = g}) p = (dynamic_comes (Enable g) (Enable g) p refl refl refl (no_arms (Enable g) (Enable g) refl), λ w k. absurd k)
+    form_comes made.empty p = (dynamic_comes Empty Empty p refl refl refl refl (no_arms Empty Empty refl), λ w k. absurd k)
+    form_comes (made.enable {g = g}) p = (dynamic_comes (Enable g) (Enable g) p refl refl refl refl (no_arms (Enable g) (Enable g) refl), λ w k. absurd k)
     form_comes (made.seq {parts = parts} {others = others} h) p =
-        (dynamic_comes (Seq parts) (Seq others) p refl refl refl (no_arms (Seq parts) (Seq others) refl), λ w k. wider (λ v j. inr j) (parts_come h w k))
+        (dynamic_comes (Seq parts) (Seq others) p refl refl refl refl (no_arms (Seq parts) (Seq others) refl), λ w k. wider (λ v j. inr j) (parts_come h w k))
     form_comes (made.collapsed {parts = parts} {form = twin} {p = q} h) p = (
       wider (λ v j. inr j) (parts_come h (at Dynamic twin q) (inl refl)),
       λ w k. wider (λ v j. inr j) (parts_come h w (inr (in_left (visit_parts Dynamic twin) [] w k))),
     )
-    form_comes (made.par {arms = arms} {others = others} h) p = (dynamic_comes (Par arms) (Par others) p refl refl refl (arms_from h), λ w k. wider (λ v j. inr j) (arms_come h w k))
+    form_comes (made.par {arms = arms} {others = others} h) p = (dynamic_comes (Par arms) (Par others) p refl refl refl refl (arms_from h), λ w k. wider (λ v j. inr j) (arms_come h w k))
     form_comes (made.if_made {test = test} {comb = comb} {a = a} {b = b} {x = x} {y = y} one two) p = (
-      dynamic_comes (If test comb a b) (If test comb x y) p refl refl refl (no_arms (If test comb a b) (If test comb x y) refl),
+      dynamic_comes (If test comb a b) (If test comb x y) p refl refl refl refl (no_arms (If test comb a b) (If test comb x y) refl),
       both_come (visit Dynamic (Placed (If test comb a b) p)) (visit Dynamic x) (visit Dynamic y)
           (λ w k. wider (λ v j. inr (in_left (visit Dynamic a) (visit Dynamic b) v j)) (statement_comes one w k))
           (λ w k. wider (λ v j. inr (in_right (visit Dynamic a) (visit Dynamic b) v j)) (statement_comes two w k)),
     )
     form_comes (made.while_made {test = test} {comb = comb} {a = a} {x = x} one) p =
-        (dynamic_comes (While test comb a) (While test comb x) p refl refl refl (no_arms (While test comb a) (While test comb x) refl), λ w k. wider (λ v j. inr j) (statement_comes one w k))
+        (dynamic_comes (While test comb a) (While test comb x) p refl refl refl refl (no_arms (While test comb a) (While test comb x) refl), λ w k. wider (λ v j. inr j) (statement_comes one w k))
     form_comes (made.repeat_made {count = count} {a = a} {x = x} one) p =
-        (dynamic_comes (Repeat count a) (Repeat count x) p refl refl refl (no_arms (Repeat count a) (Repeat count x) refl), λ w k. wider (λ v j. inr j) (statement_comes one w k))
+        (dynamic_comes (Repeat count a) (Repeat count x) p refl refl refl refl (no_arms (Repeat count a) (Repeat count x) refl), λ w k. wider (λ v j. inr j) (statement_comes one w k))
     form_comes (made.static {form = form} is) p = (the_same (at Dynamic form p) (inl refl), same_parts Dynamic form p)
     form_comes (made.timed {k = n}) p = (the_same (at Dynamic (Timed n) p) (inl refl), λ w k. absurd k)
 

@@ -13,6 +13,7 @@ use Rattle.cx_rules.specs.Ports.{component_of, is_primitive_enable}
 use Rattle.cx_rules.specs.ShapeRules.{is_hole}
 use Rattle.cx_rules.specs.StaticControl.{is_static}
 use Rattle.cx_rewrites.specs.Beside.{joined}
+use Rattle.cx_flattening.specs.Whole.{whole_main}
 use Rattle.cx_promotion.specs.Promotable.{promotable, promoted_group}
 
 -- GROUPS: a group stays, or is promoted
@@ -97,3 +98,8 @@ pub record DesignMade (old new : PlainDesign) : Type 0 where
 pub record Quickens (old new : PlainDesign) : Type 0 where
   pub rows : external_rows old ≡ external_rows new
   pub runs : (words : List (List ℕ)) (n t : ℕ) (s : State) → run_main old words n ≡ End s t → (k : ℕ) × (run_main new words n ≡ End s k) × (k ≤ t)
+
+-- and with static components
+pub record WholeQuickens (old new : PlainDesign) : Type 0 where
+  pub rows : external_rows old ≡ external_rows new
+  pub runs : (words : List (List ℕ)) (n t : ℕ) (s : State) → whole_main old words n ≡ End s t → (k : ℕ) × (whole_main new words n ≡ End s k) × (k ≤ t)

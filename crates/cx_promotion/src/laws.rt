@@ -4,7 +4,6 @@ ghost use Rattle.std.specs.Prelude.{◌≡◌};
 ghost use Rattle.cx_meaning.specs.Designs.{PlainDesign};
 ghost use Rattle.cx_meaning.specs.Instances.{State, tree_of, words_of};
 ghost use Rattle.cx_rules.specs.Accepted.{IsAccepted, KeepsStage};
-ghost use Rattle.cx_rules.specs.Flat.{IsFlat};
 ghost use Rattle.cx_rules.specs.Wellformed.{IsDesign};
 ghost use Rattle.cx_rewrites.specs.Places.{SameDesign};
 ghost use Rattle.cx_promotion.specs.Made.{DesignMade, Quickens};
@@ -21,8 +20,8 @@ pub fn promoted_runs_quicker()
         → IsDesign old → IsAccepted old → DesignMade old new → words_of (tree_of new) s ≡ words_of (tree_of old) s }
 {}
 
-/// A design that promotion makes of an accepted one without static components breaks no rule but that on limits; so it is accepted
-/// where it keeps the limits, which may be passed, since a static seq counts anew.
+/// A design that promotion makes of an accepted one breaks no rule but that on limits; so it is accepted where it keeps the limits,
+/// which may be passed, since a static seq counts anew.
 pub fn promoted_keeps_rules()
-    ensures { (old new : PlainDesign) → IsDesign old → IsFlat old → IsAccepted old → DesignMade old new → KeepsStage 7 new → IsAccepted new }
+    ensures { (old new : PlainDesign) → IsDesign old → IsAccepted old → DesignMade old new → KeepsStage 7 new → IsAccepted new }
 {}

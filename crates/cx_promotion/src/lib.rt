@@ -5,5 +5,6 @@
 pub mod laws;
 mod rows;
 pub mod tree_laws;
+pub mod whole_laws;
 
 pub use rows::PromotedRow;

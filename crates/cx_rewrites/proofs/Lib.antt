@@ -5,6 +5,7 @@ mod PartLemmas
 pub mod BesideLemmas
 pub mod MovedLemmas
 pub mod MovedLists
+pub mod MovedInvokes
 pub mod MovedCalls
 pub mod FollowLemmas
 pub mod SolvedLemmas
@@ -26,6 +27,7 @@ pub mod PlaceDesigns
 mod PlacePorts
 mod PlaceLeads
 mod PlaceShapes
+mod PlaceInvokes
 pub mod PlaceRules
 mod PlaceCalls
 mod PlaceLimits

@@ -311,7 +311,7 @@ module _ (move : PortRef → PortRef) where
       form_has_length-moved context (StaticRepeat written count a) = has_length-moved InStatic a
       form_has_length-moved context (Timed k) = (words k).1
 
-      has_length-moved : (context : Context) (s : PlainStatement) → has_length other context (moved_statement move s) ≡ has_length part context s
+      pub has_length-moved : (context : Context) (s : PlainStatement) → has_length other context (moved_statement move s) ≡ has_length part context s
       has_length-moved context (Placed form place) = form_has_length-moved context form
 
       all_have_length-moved : (ss : PlainStatements) → all_have_length other (moved_statements move ss) ≡ all_have_length part ss

@@ -1,22 +1,20 @@
--- WHAT DEPENDS ON WHAT, what rests on state and what a statement reads are the same apart from places.
+-- WHAT DEPENDS ON WHAT, what rests on state, and the groups and conditions of a statement are the same apart from places.
 use Rattle.std.proofs.Common.{◌≡◌, ℕ, List, [], ◌∷◌, ◌++◌, map, refl, sym, ap, ◌∙◌, subst}
 use Rattle.std.proofs.lemmas.List.{map-append}
 use Rattle.std.specs.Prelude.{flat_map}
-use Rattle.cx_text.specs.Members.{In}
 use Rattle.cx_prim.specs.declared.ports.Side.{Side}
 use Rattle.cx_prim.specs.declared.ports.Side.TheVariants as sides
 use Rattle.cx_prim.specs.Rows.{Row}
 use Rattle.cx_meaning.specs.Rows.{side_of}
 use Rattle.cx_meaning.specs.declared.ports.PortRef.{PortRef}
 use Rattle.cx_meaning.specs.declared.ports.PortRef.TheVariants as ports
-use Rattle.cx_meaning.specs.declared.ports.PlacedPort.{PlacedPort}
 use Rattle.cx_meaning.specs.Designs.{PlainComponent, group_at, PlainForm, Empty, Enable, Seq, Par, If, While, Repeat, StaticSeq, StaticPar, StaticIf, StaticRepeat, Timed, PlainStatement, Placed, PlainStatements, no_statements, a_statement, no_place}
 use Rattle.cx_meaning.specs.Instances.{Instance, At, OfRow, OfInstance, part_of, cells_of, cell_at}
 use Rattle.cx_meaning.specs.Active.{Active, Acting, source_order, acting, drivers}
 use Rattle.cx_meaning.specs.Sights.{PartPort, Go, AnInput, AnOutput, ItsDone, part_port}
 use Rattle.cx_meaning.specs.Control.{groups_of, groups_drive, drives}
 use Rattle.cx_rules.specs.Items.{Context, below_dynamic, Dynamic, InStatic, Branch, Visited, visit, visit_parts, visit_all, test_in, option_list, tests_of}
-use Rattle.cx_rules.specs.Footprints.{Mentions, SideLeads, PartLeads, CellLeads, Leads, Depends, at_once, by_way_of, Rests, literal_rests, input_rests, registered_rests, output_rests, done_rests, combinational_rests, Reads, driven, named, tested, through}
+use Rattle.cx_rules.specs.Footprints.{Mentions, SideLeads, PartLeads, CellLeads, Leads, Depends, at_once, by_way_of, Rests, literal_rests, input_rests, registered_rests, output_rests, done_rests, combinational_rests}
 use Rattle.cx_rules.specs.RaceRule.{HasCycle}
 use Rattle.cx_rewrites.specs.Places.{unplaced_port, unplaced_assign, unplaced_acting, unplaced_form, unplaced, unplaced_statements, unplaced_visited, SamePart}
 use Rattle.cx_rewrites.proofs.PlaceLemmas.{SameTree, SameAt, none_there, a_row_there, a_child_there, same_at, same_parts, same_cells, part_port-same, acting-unplaced}
@@ -150,28 +148,16 @@ tests_in-unplaced (v ∷ vs) =
     one (StaticRepeat length count a) = refl
     one (Timed k) = refl
 
--- WHAT A STATEMENT READS
+-- WHAT A STATEMENT ENABLES, DRIVES AND TESTS
 module _ (part other : PlainComponent) (same : SamePart part other) (s z : PlainStatement) (e : unplaced s ≡ unplaced z) where
-  groups_is : groups_of s ≡ groups_of z
+  pub groups_is : groups_of s ≡ groups_of z
   groups_is = sym (groups_of-unplaced s) ∙ ap groups_of e ∙ groups_of-unplaced z
 
   pub drives-same : (c : ℕ) → drives part s c ≡ drives other z c
   drives-same c = groups_drive-same part other same (groups_of s) c ∙ ap (λ gs. groups_drive other gs c) groups_is
 
-  tests_is : map unplaced_port (tests_of s) ≡ map unplaced_port (tests_of z)
+  pub tests_is : map unplaced_port (tests_of s) ≡ map unplaced_port (tests_of z)
   tests_is =
       sym (tests_in-unplaced (visit Dynamic s))
       ∙ ap (flat_map (λ v. option_list (test_in v.form))) (sym (visit-unplaced Dynamic s) ∙ ap (visit Dynamic) e ∙ visit-unplaced Dynamic z)
       ∙ tests_in-unplaced (visit Dynamic z)
-
-  pub reads-same : {c : ℕ} → Reads part s c → Reads other z c
-  reads-same (driven {c} d) = driven (sym (drives-same c) ∙ d)
-  reads-same (named {c} p g a stands among names) =
-      let r = twin_in unplaced_assign (group_at part g).assigns (group_at other g).assigns a (assigns-same part other same g) among in
-      named p g r.0 (subst (λ gs. In gs g) groups_is stands) r.1 (names_same a r.0 r.2 (ports.Cell c p) names)
-  reads-same (tested {c} p test among is) =
-      let r = twin_in unplaced_port (tests_of s) (tests_of z) test tests_is among in
-      tested p r.0 r.1 (sym (ap (λ (x : PlacedPort). x.port) r.2) ∙ is)
-  reads-same (through {e = d} c p q a reads among target names) =
-      let r = twin_in unplaced_assign part.always other.always a same.always among in
-      through c p q r.0 (reads-same reads) r.1 (sym (target_is a r.0 r.2) ∙ target) (names_same a r.0 r.2 (ports.Cell d q) names)

@@ -1,5 +1,6 @@
 -- TESTS OF PORTS and what assignments name are the same apart from places.
 use Rattle.std.proofs.Common.{◌≡◌, ℕ, ◌+◌, inl, inr, not, List, ◌∷◌, ◌++◌, map, refl, sym, ap, ◌∙◌, subst}
+use Rattle.std.specs.Prelude.{is_some}
 use Rattle.std.proofs.lemmas.List.{map-append}
 use Rattle.cx_text.proofs.MemberLaws.{image_in, in_image}
 use Rattle.cx_text.specs.Members.{In}
@@ -13,6 +14,7 @@ use Rattle.cx_meaning.specs.Sights.{GuardNames, AnyNames, PartPort, Go, AnInput,
 use Rattle.cx_rules.specs.Ports.{declared_width, part_width, cell_width, width_of, written_width, is_part_output, is_cell_output, is_source_only, is_target_only, enables_cell, is_primitive_enable, is_instance, is_part_port}
 use Rattle.cx_rules.specs.Items.{atoms_of, atoms_in, comparisons_of, comparisons_in, operands_of, operands_in, ranges_of, ranges_in, guard_nodes, nodes_in, sources_of}
 use Rattle.cx_rules.specs.Footprints.{AssignNames}
+use Rattle.cx_rules.specs.InvokeShape.{latency_at, is_static_port}
 use Rattle.cx_rewrites.specs.Places.{unplaced_port, unplaced_guard, unplaced_guards, unplaced_assign, SamePart}
 use Rattle.cx_rewrites.proofs.PlaceLemmas.{SameTree, SameAt, none_there, a_row_there, a_child_there, same_at, same_parts, same_cells, part_port-same}
 
@@ -43,6 +45,11 @@ is_instance-same : (at to : At) → SameAt at to → is_instance at ≡ is_insta
 is_instance-same at to none_there = refl
 is_instance-same at to (a_row_there e) = refl
 is_instance-same at to (a_child_there t) = refl
+
+latency_at-same : (at to : At) → SameAt at to → latency_at at ≡ latency_at to
+latency_at-same at to none_there = refl
+latency_at-same at to (a_row_there e) = refl
+latency_at-same at to (a_child_there {child = child} {twin = twin} t) = (same_parts child twin t).latency
 
 module _ (i j : Instance) (t : SameTree i j) where
   at_is : (c : ℕ) → SameAt (cell_at (cells_of i) c) (cell_at (cells_of j) c)
@@ -89,6 +96,13 @@ module _ (i j : Instance) (t : SameTree i j) where
   is_part_port-same (ports.Output n) = refl
   is_part_port-same (ports.Done g) = refl
   is_part_port-same (ports.Literal w v) = refl
+
+  pub is_static_port-same : (p : PortRef) → is_static_port i p ≡ is_static_port j p
+  is_static_port-same (ports.Cell c p) = ap is_some (latency_at-same (cell_at (cells_of i) c) (cell_at (cells_of j) c) (at_is c))
+  is_static_port-same (ports.Input n) = refl
+  is_static_port-same (ports.Output n) = refl
+  is_static_port-same (ports.Done g) = refl
+  is_static_port-same (ports.Literal w v) = refl
 
 -- WHAT STANDS IN A GUARD
 mutual

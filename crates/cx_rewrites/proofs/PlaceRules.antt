@@ -1,31 +1,33 @@
 -- RULES OF WIDTHS, SHAPES AND RACES: what breaks one breaks it at other places too.
-use Rattle.std.proofs.Common.{◌≡◌, ◌≢◌, ℕ, zero, suc, ◌⊎◌, inl, inr, Bool, ◌||◌, List, [], ◌∷◌, map, Option, Some, slice_get, refl, sym, ap, ◌∙◌, subst}
+use Rattle.std.proofs.Common.{◌≡◌, ◌≢◌, ℕ, ◌<◌, ◌⊎◌, inl, inr, Bool, ◌||◌, List, [], ◌∷◌, length, map, Some, refl, sym, ap, ap₂, ◌∙◌, subst}
 use Rattle.std.specs.Prelude.{if◌then◌else◌, nat_eq, flat_map}
 use Rattle.cx_text.specs.declared.places.Place.{Place}
 use Rattle.cx_meaning.specs.declared.ports.PortRef.{PortRef}
 use Rattle.cx_meaning.specs.declared.ports.PortRef.TheVariants as ports
 use Rattle.cx_meaning.specs.declared.ports.PlacedPort.{PlacedPort}
-use Rattle.cx_meaning.specs.Designs.{PlainInvoke, PlainComponent, group_at, PlainForm, PlainStatement}
-use Rattle.cx_meaning.specs.Instances.{Instance, part_of}
-use Rattle.cx_meaning.specs.Active.{Owned, nothing, group}
+use Rattle.cx_meaning.specs.Designs.{PlainInvoke, PlainComponent, group_at, PlainForm, Timed, PlainStatement}
+use Rattle.cx_meaning.specs.Instances.{Instance, part_of, cells_of, cell_at, OfInstance}
+use Rattle.cx_meaning.specs.Active.{Owned, nothing, group, same_port}
 use Rattle.cx_text.specs.Members.{In}
-use Rattle.cx_meaning.specs.Islands.{kind_length, group_length, form_length}
 use Rattle.cx_rules.specs.Ports.{width_of, is_source_only, is_target_only, is_primitive_enable, is_part_port}
 use Rattle.cx_rules.specs.Items.{Pair, atoms_of, comparisons_of, ranges_of, sources_of, Dynamic, Visited, visit, test_in, is_plain, is_comb}
 use Rattle.cx_rules.specs.Footprints.{Rests}
 use Rattle.cx_rules.specs.WidthRules.{differ, pairs_of, first_unequal, BreaksWidth, is_wide, first_wide, BreaksGuardWidth, TestBreaksGuardWidth, IsBadLiteral, BreaksLiteral, TestBreaksLiteral, BreaksNotATarget, BreaksNotASource, TestBreaksNotASource}
-use Rattle.cx_rules.specs.ShapeRules.{is_hole, is_hole_of, some_target, BreaksNoDone, BreaksDoneNotState, BreaksAlwaysEnable, BreaksCombEnable, owner_length, is_bad_range, BreaksStaticGuard, GroupBreaksStaticShape, BreaksStaticControl, BreaksStaticTest, LeadsToInput, BreaksOutputNotState}
-use Rattle.cx_rules.specs.StaticControl.{is_static, is_in_static, is_written, is_timed, may_stand, form_has_length, written_length}
-use Rattle.cx_rules.specs.RaceRule.{GroupBreaksCombCycle, arms_of, enabled_group, enabled_in, Arms, IsEnabledTwice}
+use Rattle.cx_rules.specs.ShapeRules.{is_hole, is_hole_of, some_target, BreaksNoDone, BreaksDoneNotState, BreaksAlwaysEnable, BreaksCombEnable, owner_length, is_bad_range, BreaksStaticGuard, GroupBreaksStaticShape, BreaksStaticControl, BreaksLength, BreaksInvokeLength, BreaksStaticTest, LeadsToInput, BreaksOutputNotState, BreaksKept}
+use Rattle.cx_rules.specs.InvokeShape.{BreaksStaticCell, LeadsToCell, itself, through, is_static_port, input_port, InvokeBreak, another_kind, unbound, restless, fed_back, BreaksInvoke}
+use Rattle.cx_rules.specs.Invokes.{invoke_length, form_lasts}
+use Rattle.cx_rules.specs.StaticControl.{is_static, is_in_static, is_timed, may_stand, form_has_length, written_length}
+use Rattle.cx_rules.specs.RaceRule.{GroupBreaksCombCycle, arms_of, enabled_group, enabled_in, Arms, IsShared, IsEnabledTwice, BreaksRace}
 use Rattle.cx_rules.specs.Spots.{AssignRule, StatementRule, GroupRule}
 use Rattle.cx_rules.proofs.ShapeRulesLemmas.{owner_length-same}
-use Rattle.cx_rewrites.specs.FlatRules.{BreaksLength, IsShared, BreaksRace}
 use Rattle.cx_rewrites.specs.Places.{unplaced_port, unplaced_assign, unplaced_invoke, unplaced_owned, unplaced_form, unplaced, unplaced_visited, SamePart}
 use Rattle.cx_rewrites.proofs.PlaceLemmas.{SameTree, same_parts}
-use Rattle.cx_rewrites.proofs.PlaceStatements.{kind-same, assigns-same, form_length-unplaced}
-use Rattle.cx_rewrites.proofs.PlacePorts.{width_of-same, written_width-same, is_source_only-same, is_target_only-same, is_primitive_enable-same, is_part_port-same, comparisons_of-unplaced, ranges_of-unplaced, atoms_of-unplaced, target_is, source_is, guard_is, names_same, sources_of-same, twin_in}
-use Rattle.cx_rewrites.proofs.PlaceLeads.{depends-same, has_cycle-same, rests-same, visit-unplaced, drives-same, reads-same}
+use Rattle.cx_rewrites.proofs.PlaceStatements.{kind-same, assigns-same}
+use Rattle.cx_rewrites.proofs.PlaceRuns.{same_part_itself}
+use Rattle.cx_rewrites.proofs.PlacePorts.{width_of-same, written_width-same, is_source_only-same, is_target_only-same, is_primitive_enable-same, is_part_port-same, is_static_port-same, comparisons_of-unplaced, ranges_of-unplaced, atoms_of-unplaced, target_is, source_is, guard_is, names_same, sources_of-same, twin_in}
+use Rattle.cx_rewrites.proofs.PlaceLeads.{depends-same, has_cycle-same, rests-same, visit-unplaced, child_there}
 use Rattle.cx_rewrites.proofs.PlaceShapes.{twin_at, some_target-unplaced, TestAlike, test_alike, StaticIfAlike, static_if_alike, arms_are, enabled-unplaced, is_static-unplaced, written_length-unplaced, may_stand-unplaced, form_has_length-unplaced}
+use Rattle.cx_rewrites.proofs.PlaceInvokes.{timed_there, lengths-same, form_lasts-unplaced, words-same, invoke_twin, drives_all-same, reads_all-same}
 
 -- a rule is broken by a part, whatever is told
 abbrev pub ByAssign : AssignRule → Instance → Owned → Type 0
@@ -36,24 +38,6 @@ ByStatement rule i v = (place : Place) × (name : List ℕ) × rule i v place na
 
 abbrev pub ByGroup : GroupRule → Instance → ℕ → Type 0
 ByGroup rule i g = (place : Place) × (name : List ℕ) × rule i g place name
-
-pub lengths-same : (part other : PlainComponent) → SamePart part other → (g : ℕ) → group_length other g ≡ group_length part g
-lengths-same part other same g = ap kind_length (sym (kind-same part other same g))
-
--- where the word static stands at static invokes
-abbrev Words : PlainComponent → PlainComponent → Type 0
-Words part other = (k : ℕ) → (is_written (slice_get other.invokes k) ≡ is_written (slice_get part.invokes k)) × (is_timed (slice_get other.invokes k) ≡ is_timed (slice_get part.invokes k))
-
-invoke-unplaced : {A : Type 0} (f : Option PlainInvoke → A) → ((v : PlainInvoke) → f (Some (unplaced_invoke v)) ≡ f (Some v)) → (vs : List PlainInvoke) (k : ℕ) → f (slice_get (map unplaced_invoke vs) k) ≡ f (slice_get vs k)
-invoke-unplaced f each [] k = refl
-invoke-unplaced f each (v ∷ vs) zero = each v
-invoke-unplaced f each (v ∷ vs) (suc k) = invoke-unplaced f each vs k
-
-words-same : (part other : PlainComponent) → SamePart part other → Words part other
-words-same part other same k = (both is_written (λ v. refl), both is_timed (λ v. refl))
-  where
-    both : {A : Type 0} (f : Option PlainInvoke → A) → ((v : PlainInvoke) → f (Some (unplaced_invoke v)) ≡ f (Some v)) → f (slice_get other.invokes k) ≡ f (slice_get part.invokes k)
-    both f each = sym (invoke-unplaced f each other.invokes k) ∙ ap (λ vs. f (slice_get vs k)) (sym same.invokes) ∙ invoke-unplaced f each part.invokes k
 
 pub targets-same : (part other : PlainComponent) → SamePart part other → (test : PortRef → Bool) (g : ℕ) → some_target test (group_at part g).assigns ≡ some_target test (group_at other g).assigns
 targets-same part other same test g =
@@ -139,8 +123,8 @@ module _ (i j : Instance) (t : SameTree i j) (u : SameTree j i) where
         (_, _, (r.0, r.1, sym (is_target_only-same i j t r.0.port) ∙ ap (is_target_only i) (sym (port_of p r.0 r.2)) ∙ is, (refl, refl)))
 
     pub done_not_state_kept : (place : Place) (name : List ℕ) → BreaksDoneNotState i o place name → ByAssign BreaksDoneNotState j w
-    done_not_state_kept place name (g, aim, (q, names, restless), told) =
-        (_, _, (g, sym aim_is ∙ aim, (q, names_same o.assign w.assign assign_is q names, λ rests. restless (rests-same j i u same rests)), (refl, refl)))
+    done_not_state_kept place name (g, aim, (q, names, wrong), told) =
+        (_, _, (g, sym aim_is ∙ aim, (q, names_same o.assign w.assign assign_is q names, λ rests. wrong (rests-same j i u same rests)), (refl, refl)))
 
     pub always_enable_kept : (place : Place) (name : List ℕ) → BreaksAlwaysEnable i o place name → ByAssign BreaksAlwaysEnable j w
     always_enable_kept place name (owner, is, told) =
@@ -178,8 +162,15 @@ module _ (i j : Instance) (t : SameTree i j) (u : SameTree j i) where
     output_not_state_kept place name (n, aim, (q, names, bad), told) = (_, _, (n, sym aim_is ∙ aim, (q, names_same o.assign w.assign assign_is q names, one bad), (refl, refl)))
       where
         one : (Rests i q → ⊥) ⊎ LeadsToInput i q → (Rests j q → ⊥) ⊎ LeadsToInput j q
-        one (inl restless) = inl (λ rests. restless (rests-same j i u same rests))
+        one (inl wrong) = inl (λ rests. wrong (rests-same j i u same rests))
         one (inr leads) = inr (leads_to_input q leads)
+
+    pub kept_kept : (place : Place) (name : List ℕ) → BreaksKept i o place name → ByAssign BreaksKept j w
+    kept_kept place name (latency, static, owner, (n, names), told) =
+        (_, _, (latency, sym same.latency ∙ static, sym owner_is ∙ owner, (n, names_same o.assign w.assign assign_is (ports.Input n) names), (refl, refl)))
+
+    pub static_cell_kept : (place : Place) (name : List ℕ) → BreaksStaticCell i o place name → ByAssign BreaksStaticCell j w
+    static_cell_kept place name (is, told) = (_, _, (sym (is_static_port-same i j t w.assign.target) ∙ ap (is_static_port i) (sym aim_is) ∙ is, (refl, refl)))
 
   -- GROUPS
   pub no_done_kept : (g : ℕ) (place : Place) (name : List ℕ) → BreaksNoDone i g place name → ByGroup BreaksNoDone j g
@@ -192,6 +183,30 @@ module _ (i j : Instance) (t : SameTree i j) (u : SameTree j i) where
 
   pub group_cycle_kept : (g : ℕ) (place : Place) (name : List ℕ) → GroupBreaksCombCycle i g place name → ByGroup GroupBreaksCombCycle j g
   group_cycle_kept g place name (cycle, told) = (_, _, (has_cycle-same i j t (group g) cycle, (refl, refl)))
+
+  -- STATIC INVOKES
+  leads_to_cell : {e c : ℕ} → LeadsToCell (part_of i) e c → LeadsToCell (part_of j) e c
+  leads_to_cell itself = itself
+  leads_to_cell (through {c = c} m p q a leads among target names) =
+      let r = twin_in unplaced_assign (part_of i).always (part_of j).always a same.always among in
+      through m p q r.0 (leads_to_cell leads) r.1 (sym (target_is a r.0 r.2) ∙ target) (names_same a r.0 r.2 (ports.Cell c q) names)
+
+  invoke_break : (w y : PlainInvoke) → unplaced_invoke w ≡ unplaced_invoke y → InvokeBreak i w → InvokeBreak j y
+  invoke_break w y e (another_kind none) = another_kind (sym (ap (λ (z : PlainInvoke). z.latency) e) ∙ none)
+  invoke_break w y e (unbound child n at less none) =
+      let cell : w.cell ≡ y.cell = ap (λ (z : PlainInvoke). z.cell) e in
+      let r = child_there i j t w.cell child at in
+      let inputs : map unplaced_assign w.inputs ≡ map unplaced_assign y.inputs = ap (λ (z : PlainInvoke). z.inputs) e in
+      unbound r.0 n (subst (λ c. cell_at (cells_of j) c ≡ OfInstance r.0) cell r.1) (subst (λ list. n < length list) (same_parts child r.0 r.2).inputs less)
+      (sym (some_target-unplaced (same_port (input_port y.cell n)) y.inputs)
+      ∙ ap₂ (λ c list. some_target (same_port (input_port c n)) list) (sym cell) (sym inputs)
+      ∙ some_target-unplaced (same_port (input_port w.cell n)) w.inputs ∙ none)
+  invoke_break w y e (restless a q among names wrong) =
+      let r = twin_in unplaced_assign w.inputs y.inputs a (ap (λ (z : PlainInvoke). z.inputs) e) among in
+      restless r.0 q r.1 (names_same a r.0 r.2 q names) (λ rests. wrong (rests-same j i u same rests))
+  invoke_break w y e (fed_back a c p among names leads) =
+      let r = twin_in unplaced_assign w.inputs y.inputs a (ap (λ (z : PlainInvoke). z.inputs) e) among in
+      fed_back r.0 c p r.1 (names_same a r.0 r.2 (ports.Cell c p) names) (subst (LeadsToCell (part_of j) c) (ap (λ (z : PlainInvoke). z.cell) e) (leads_to_cell leads))
 
   -- STATEMENTS
   module _ (v x : Visited) (e : unplaced_visited v ≡ unplaced_visited x) where
@@ -215,12 +230,11 @@ module _ (i j : Instance) (t : SameTree i j) (u : SameTree j i) where
     test_source_kept place name (p, stands, is, told) =
         let r = test_twin p stands in (_, _, (r.test, r.stands, sym (is_target_only-same i j t r.test.port) ∙ ap (is_target_only i) (sym r.port) ∙ is, (refl, refl)))
 
-    -- what is of a form by the lengths of groups is the same
+    -- what is of a form and its component is the same
     of_form : {A : Type 0} (f : PlainComponent → PlainForm → A)
-        → ((part other : PlainComponent) → ((g : ℕ) → group_length other g ≡ group_length part g) → Words part other → (form : PlainForm) → f other (unplaced_form form) ≡ f part form)
+        → ((part other : PlainComponent) → SamePart part other → (form : PlainForm) → f other (unplaced_form form) ≡ f part form)
         → f (part_of i) v.form ≡ f (part_of j) x.form
-    of_form f kept =
-        sym (kept (part_of i) (part_of j) (lengths-same (part_of i) (part_of j) same) (words-same (part_of i) (part_of j) same) v.form) ∙ ap (f (part_of j)) form_is ∙ kept (part_of j) (part_of j) (λ g. refl) (λ k. (refl, refl)) x.form
+    of_form f kept = sym (kept (part_of i) (part_of j) same v.form) ∙ ap (f (part_of j)) form_is ∙ kept (part_of j) (part_of j) (same_part_itself (part_of j)) x.form
 
     pub static_control_kept : (place : Place) (name : List ℕ) → BreaksStaticControl i v place name → ByStatement BreaksStaticControl j x
     static_control_kept place name (inside, bad, told) = (
@@ -229,7 +243,7 @@ module _ (i j : Instance) (t : SameTree i j) (u : SameTree j i) where
       (
         ap is_in_static (sym context_is) ∙ inside,
         ap (λ c. may_stand (part_of j) c x.form) (sym context_is)
-            ∙ sym (of_form (λ part form. may_stand part v.context form) (λ part other lengths words form. may_stand-unplaced part other lengths words v.context form)) ∙ bad,
+            ∙ sym (of_form (λ part form. may_stand part v.context form) (λ part other h form. may_stand-unplaced part other (lengths-same part other h) (words-same part other h) v.context form)) ∙ bad,
         (refl, refl),
       ),
     )
@@ -241,25 +255,44 @@ module _ (i j : Instance) (t : SameTree i j) (u : SameTree j i) where
       (
         sym (is_static-unplaced x.form) ∙ ap is_static (sym form_is) ∙ is_static-unplaced v.form ∙ static,
         ap (λ c. form_has_length (part_of j) c x.form) (sym context_is)
-            ∙ sym (of_form (λ part form. form_has_length part v.context form) (λ part other lengths words form. form_has_length-unplaced part other lengths words v.context form)) ∙ has,
+            ∙ sym (of_form (λ part form. form_has_length part v.context form) (λ part other h form. form_has_length-unplaced part other (lengths-same part other h) (words-same part other h) v.context form)) ∙ has,
         one bad,
         (refl, refl),
       ),
     )
       where
-        same_length : form_length (part_of i) v.form ≡ form_length (part_of j) x.form
-        same_length = of_form form_length (λ part other lengths words form. form_length-unplaced part other lengths form)
+        same_length : form_lasts (part_of i) v.form ≡ form_lasts (part_of j) x.form
+        same_length = of_form form_lasts form_lasts-unplaced
 
-        one : ((n : ℕ) × (written_length v.form ≡ Some n) × (n ≢ form_length (part_of i) v.form)) ⊎ (form_length (part_of i) v.form ≡ 0)
-            → ((n : ℕ) × (written_length x.form ≡ Some n) × (n ≢ form_length (part_of j) x.form)) ⊎ (form_length (part_of j) x.form ≡ 0)
+        one : ((n : ℕ) × (written_length v.form ≡ Some n) × (n ≢ form_lasts (part_of i) v.form)) ⊎ (form_lasts (part_of i) v.form ≡ 0)
+            → ((n : ℕ) × (written_length x.form ≡ Some n) × (n ≢ form_lasts (part_of j) x.form)) ⊎ (form_lasts (part_of j) x.form ≡ 0)
         one (inl (n, written, differs)) =
             inl (n, sym (written_length-unplaced x.form) ∙ ap written_length (sym form_is) ∙ written_length-unplaced v.form ∙ written, λ is. differs (is ∙ sym same_length))
         one (inr none) = inr (sym same_length ∙ none)
 
+    -- a static invoke
+    timed_is : (k : ℕ) → v.form ≡ Timed k → x.form ≡ Timed k
+    timed_is k is = timed_there x.form k (sym form_is ∙ ap unplaced_form is)
+
+    pub invoke_length_kept : (place : Place) (name : List ℕ) → BreaksInvokeLength i v place name → ByStatement BreaksInvokeLength j x
+    invoke_length_kept place name (k, w, is, at, timed, bad, told) =
+        let y = invoke_twin (part_of i) (part_of j) same k w at in
+        (_, _, (k, y.0, timed_is k is, y.1, ap (λ z. is_timed (Some z)) (sym y.2) ∙ timed, one y.0 y.2 bad, (refl, refl)))
+      where
+        one : (y : PlainInvoke) → unplaced_invoke w ≡ unplaced_invoke y → ((n : ℕ) × (w.length ≡ Some n) × (n ≢ invoke_length (Some w))) ⊎ (invoke_length (Some w) ≡ 0)
+            → ((n : ℕ) × (y.length ≡ Some n) × (n ≢ invoke_length (Some y))) ⊎ (invoke_length (Some y) ≡ 0)
+        one y e (inl (n, written, differs)) =
+            inl (n, sym (ap (λ (z : PlainInvoke). z.length) e) ∙ written, λ is. differs (is ∙ ap (λ z. invoke_length (Some z)) (sym e)))
+        one y e (inr none) = inr (ap (λ z. invoke_length (Some z)) (sym e) ∙ none)
+
+    pub invoke_kept : (place : Place) (name : List ℕ) → BreaksInvoke i v place name → ByStatement BreaksInvoke j x
+    invoke_kept place name (k, w, is, at, broken, told) =
+        let y = invoke_twin (part_of i) (part_of j) same k w at in (_, _, (k, y.0, timed_is k is, y.1, invoke_break w y.0 y.2 broken, (refl, refl)))
+
     pub static_test_kept : (place : Place) (name : List ℕ) → BreaksStaticTest i v place name → ByStatement BreaksStaticTest j x
-    static_test_kept place name (n, p, a, b, is, restless, told) =
+    static_test_kept place name (n, p, a, b, is, wrong, told) =
         let r : StaticIfAlike n p x.form = static_if_alike x.form n p (unplaced a) (unplaced b) (sym form_is ∙ ap unplaced_form is) in
-        (_, _, (n, r.test, r.first, r.second, r.is, (λ rests. restless (subst (Rests i) (sym r.port) (rests-same j i u same rests))), (refl, refl)))
+        (_, _, (n, r.test, r.first, r.second, r.is, (λ rests. wrong (subst (Rests i) (sym r.port) (rests-same j i u same rests))), (refl, refl)))
 
 -- RACES
 module _ (i j : Instance) (t : SameTree i j) (form other : PlainForm) (e : unplaced_form form ≡ unplaced_form other) where
@@ -272,7 +305,7 @@ module _ (i j : Instance) (t : SameTree i j) (form other : PlainForm) (e : unpla
   pub shared-same : (c : ℕ) → IsShared (part_of i) (arms_of form) c → IsShared (part_of j) (arms_of other) c
   shared-same c (two, drives_it, reads) =
       let r = arms_twin two in
-      (r.0, sym (drives-same (part_of i) (part_of j) (same_parts i j t) two.first r.0.first r.1 c) ∙ drives_it, reads-same (part_of i) (part_of j) (same_parts i j t) two.second r.0.second r.2 reads)
+      (r.0, sym (drives_all-same (part_of i) (part_of j) (same_parts i j t) two.first r.0.first r.1 c) ∙ drives_it, reads_all-same (part_of i) (part_of j) (same_parts i j t) two.second r.0.second r.2 reads)
 
   enabled_is : (s z : PlainStatement) → unplaced s ≡ unplaced z → enabled_in s ≡ enabled_in z
   enabled_is s z h =

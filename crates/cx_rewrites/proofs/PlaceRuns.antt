@@ -5,7 +5,7 @@ use Rattle.cx_meaning.specs.declared.ports.PortRef.{PortRef}
 use Rattle.cx_meaning.specs.declared.ports.PortRef.TheVariants as ports
 use Rattle.cx_meaning.specs.declared.kinds.GroupKind.{GroupKind}
 use Rattle.cx_meaning.specs.declared.kinds.GroupKind.TheVariants as kinds
-use Rattle.cx_meaning.specs.Designs.{group_at, PlainForm, Empty, Enable, Seq, Par, If, While, Repeat, StaticSeq, StaticPar, StaticIf, StaticRepeat, Timed, PlainStatement, Placed, PlainStatements, no_statements, a_statement}
+use Rattle.cx_meaning.specs.Designs.{PlainComponent, group_at, PlainForm, Empty, Enable, Seq, Par, If, While, Repeat, StaticSeq, StaticPar, StaticIf, StaticRepeat, Timed, PlainStatement, Placed, PlainStatements, no_statements, a_statement}
 use Rattle.cx_meaning.specs.Instances.{Instance, Node, Cells, no_cells, a_primitive, an_instance, part_of, State, Set, under, merge, idle}
 use Rattle.cx_meaning.specs.Active.{Active, nothing, group, comb, capture, Entry, entries}
 use Rattle.cx_meaning.specs.Truths.{truth_of}
@@ -19,7 +19,7 @@ use Rattle.cx_meaning.specs.Running.{Children, leaves, run_control, control_belo
 use Rattle.cx_rewrites.specs.Tallies.{none, uncounted}
 use Rattle.cx_rewrites.specs.Carrying.{Exact, Same, TestCarried, Carried, Carries}
 use Rattle.cx_rewrites.specs.Beside.{FormBeside, outright, empties, seqs, pars, ifs, whiles, repeats, Beside, placed, PartsBeside, no_parts, a_part, ArmsBeside, no_arms, an_arm}
-use Rattle.cx_rewrites.specs.Places.{unplaced_port, unplaced_form, unplaced, unplaced_statements}
+use Rattle.cx_rewrites.specs.Places.{unplaced_port, unplaced_form, unplaced, unplaced_statements, SamePart}
 use Rattle.cx_rewrites.proofs.FollowLemmas.{same_carries, carried_is_same}
 use Rattle.cx_rewrites.proofs.BesideLemmas.{run_carries}
 use Rattle.cx_rewrites.proofs.PlaceLemmas.{SameTree, SameCells, same_parts, seen-same, cycle-same, idle-same}
@@ -160,10 +160,13 @@ module _ (i j : Instance) (t : SameTree i j) (kids others : Children) (children 
       carried_is_same none none (run L statement s n) (run M (unplaced statement) s n)
       (run_carries Exact Same id L uncounted M (λ before a b same. ap (idle i) same ∙ idle-same i j t b) (beside statement) none s s n n refl refl)
 
--- a tree is the same as itself
+-- a component and a tree are the same as themselves
+pub same_part_itself : (part : PlainComponent) → SamePart part part
+same_part_itself part = record { name = refl; latency = refl; inputs = refl; outputs = refl; cells = refl; groups = refl; always = refl; order = refl; invokes = refl; control = refl }
+
 mutual
   pub same_tree_itself : (i : Instance) → SameTree i i
-  same_tree_itself (Node part cells) = (record { name = refl; latency = refl; inputs = refl; outputs = refl; cells = refl; groups = refl; always = refl; order = refl; invokes = refl; control = refl }, same_cells_themselves cells)
+  same_tree_itself (Node part cells) = (same_part_itself part, same_cells_themselves cells)
 
   same_cells_themselves : (cells : Cells) → SameCells cells cells
   same_cells_themselves no_cells = tt

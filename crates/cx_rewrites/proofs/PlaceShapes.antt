@@ -1,12 +1,12 @@
 -- SHAPES OF STATEMENTS AND LISTS apart from places: tests, arms, what may stand in static control, counts.
-use Rattle.std.proofs.Common.{◌≡◌, ℕ, zero, suc, ◌+◌, Bool, true, false, ◌||◌, ◌&&◌, List, [], ◌∷◌, ◌++◌, map, length, Option, Some, slice_get, refl, sym, ap, ◌∙◌}
+use Rattle.std.proofs.Common.{◌≡◌, ℕ, zero, suc, Bool, ◌||◌, ◌&&◌, List, [], ◌∷◌, ◌++◌, map, length, Option, Some, slice_get, refl, sym, ap, ◌∙◌}
 use Rattle.std.specs.Prelude.{is_some, flat_map}
 use Rattle.cx_meaning.specs.declared.ports.PortRef.{PortRef}
 use Rattle.cx_meaning.specs.declared.ports.PlacedPort.{PlacedPort}
 use Rattle.cx_meaning.specs.Designs.{PlainAssign, PlainComponent, PlainForm, Empty, Enable, Seq, Par, If, While, Repeat, StaticSeq, StaticPar, StaticIf, StaticRepeat, Timed, PlainStatement, Placed, PlainStatements, no_statements, a_statement, list_of}
 use Rattle.cx_meaning.specs.Islands.{group_length}
 use Rattle.cx_rules.specs.Items.{Context, InStatic, Branch, Visited, test_in}
-use Rattle.cx_rules.specs.StaticControl.{is_static, is_written, is_timed, may_stand, form_has_length, has_length, all_have_length, written_length, is_island_form, is_island, one_if, form_occurrences, occurrences, occurrences_in, island_occurrences, occurrences_of, is_dynamic}
+use Rattle.cx_rules.specs.StaticControl.{is_static, is_written, is_timed, may_stand, form_has_length, has_length, all_have_length, written_length, is_island_form, is_island, is_dynamic}
 use Rattle.cx_rules.specs.ShapeRules.{some_target}
 use Rattle.cx_rules.specs.LimitRule.{count_in}
 use Rattle.cx_rules.specs.RaceRule.{arms_of, enabled_group}
@@ -174,7 +174,7 @@ count_in-unplaced (Timed k) = refl
 
 -- AND BY THE LENGTHS OF GROUPS
 module _ (part other : PlainComponent) (lengths : (g : ℕ) → group_length other g ≡ group_length part g) where
-  pub is_island_form-unplaced : (form : PlainForm) → is_island_form other (unplaced_form form) ≡ is_island_form part form
+  is_island_form-unplaced : (form : PlainForm) → is_island_form other (unplaced_form form) ≡ is_island_form part form
   is_island_form-unplaced Empty = refl
   is_island_form-unplaced (Enable g) = ap is_some (lengths g)
   is_island_form-unplaced (Seq parts) = refl
@@ -188,41 +188,8 @@ module _ (part other : PlainComponent) (lengths : (g : ℕ) → group_length oth
   is_island_form-unplaced (StaticRepeat length count a) = refl
   is_island_form-unplaced (Timed k) = refl
 
-  mutual
-    pub form_occurrences-unplaced : (form : PlainForm) → form_occurrences other (unplaced_form form) ≡ form_occurrences part form
-    form_occurrences-unplaced Empty = refl
-    form_occurrences-unplaced (Enable g) = ap (λ k. one_if (is_some k)) (lengths g)
-    form_occurrences-unplaced (Seq parts) = refl
-    form_occurrences-unplaced (Par arms) = refl
-    form_occurrences-unplaced (If test comb a b) = refl
-    form_occurrences-unplaced (While test comb a) = refl
-    form_occurrences-unplaced (Repeat count a) = refl
-    form_occurrences-unplaced (StaticSeq length parts) = occurrences_in-unplaced parts
-    form_occurrences-unplaced (StaticPar length arms) = occurrences_in-unplaced arms
-    form_occurrences-unplaced (StaticIf length test a b) = ap (λ x. x + occurrences other (unplaced b)) (occurrences-unplaced a) ∙ ap (λ x. occurrences part a + x) (occurrences-unplaced b)
-    form_occurrences-unplaced (StaticRepeat length count a) = occurrences-unplaced a
-    form_occurrences-unplaced (Timed k) = refl
-
-    occurrences-unplaced : (s : PlainStatement) → occurrences other (unplaced s) ≡ occurrences part s
-    occurrences-unplaced (Placed form place) = form_occurrences-unplaced form
-
-    occurrences_in-unplaced : (ss : PlainStatements) → occurrences_in other (unplaced_statements ss) ≡ occurrences_in part ss
-    occurrences_in-unplaced no_statements = refl
-    occurrences_in-unplaced (a_statement s ss) = ap (λ x. x + occurrences_in other (unplaced_statements ss)) (occurrences-unplaced s) ∙ ap (λ x. occurrences part s + x) (occurrences_in-unplaced ss)
-
   pub is_island-unplaced : (v : Visited) → is_island other (unplaced_visited v) ≡ is_island part v
   is_island-unplaced v = ap (λ b. is_dynamic v.context && b) (is_island_form-unplaced v.form)
-
-  pub occurrences_of-unplaced : (vs : List Visited) → occurrences_of other (map unplaced_visited vs) ≡ occurrences_of part vs
-  occurrences_of-unplaced [] = refl
-  occurrences_of-unplaced (v ∷ vs) =
-      ap (λ b. island_occurrences other b (unplaced_form v.form) + occurrences_of other (map unplaced_visited vs)) (is_island-unplaced v)
-      ∙ ap (λ n. n + occurrences_of other (map unplaced_visited vs)) (one (is_island part v))
-      ∙ ap (λ n. island_occurrences part (is_island part v) v.form + n) (occurrences_of-unplaced vs)
-    where
-      one : (b : Bool) → island_occurrences other b (unplaced_form v.form) ≡ island_occurrences part b v.form
-      one true = form_occurrences-unplaced v.form
-      one false = refl
 
 -- WHAT MAY STAND IN STATIC CONTROL, also by where the word static stands at static invokes
 module _ (part other : PlainComponent) (lengths : (g : ℕ) → group_length other g ≡ group_length part g) (words : (k : ℕ) → (is_written (slice_get other.invokes k) ≡ is_written (slice_get part.invokes k)) × (is_timed (slice_get other.invokes k) ≡ is_timed (slice_get part.invokes k))) where
@@ -255,7 +222,7 @@ module _ (part other : PlainComponent) (lengths : (g : ℕ) → group_length oth
     form_has_length-unplaced context (StaticRepeat length count a) = has_length-unplaced InStatic a
     form_has_length-unplaced context (Timed k) = (words k).1
 
-    has_length-unplaced : (context : Context) (s : PlainStatement) → has_length other context (unplaced s) ≡ has_length part context s
+    pub has_length-unplaced : (context : Context) (s : PlainStatement) → has_length other context (unplaced s) ≡ has_length part context s
     has_length-unplaced context (Placed form place) = form_has_length-unplaced context form
 
     all_have_length-unplaced : (ss : PlainStatements) → all_have_length other (unplaced_statements ss) ≡ all_have_length part ss

@@ -47,7 +47,7 @@ use Rattle.cx_sharing.proofs.CirclesShared.{group_depends_back}
 
 -- A PORT THAT IS APART: no other port becomes the renamed one
 module _ (cell : ℕ → ℕ) where
-  cell_apart : (c p : ℕ) → ((d : ℕ) → cell d ≡ cell c → d ≡ c) → IsApart (renamed cell) (ports.Cell c p)
+  pub cell_apart : (c p : ℕ) → ((d : ℕ) → cell d ≡ cell c → d ≡ c) → IsApart (renamed cell) (ports.Cell c p)
   cell_apart c p sole (ports.Cell d m) e =
       let cells : cell d ≡ cell c = cc in
       let same : m ≡ p = cc in
@@ -90,6 +90,9 @@ register_kind : (cells : List PlainCell) (r : ℕ) → is_register_cell (slice_g
 register_kind [] r = refl
 register_kind (cell ∷ cells) zero = refl
 register_kind (cell ∷ cells) (suc r) = register_kind cells r
+
+pub register_is_other : (part : PlainComponent) (r : ℕ) → is_register part r ≡ true → is_candidate part r ≡ false
+register_is_other part r is = register_other part r (sym (register_kind part.cells r) ∙ is)
 
 module _ (part : PlainComponent) where
   abbrev number : ℕ → ℕ
@@ -203,7 +206,7 @@ module _ (i j : Instance) (shares : Shares i j) where
   abbrev move : PortRef → PortRef
   move = renamed new
 
-  part_at : (c : ℕ) (twin : Instance) → cell_at (cells_of j) (new c) ≡ OfInstance twin → PartAt i j c twin
+  pub part_at : (c : ℕ) (twin : Instance) → cell_at (cells_of j) (new c) ≡ OfInstance twin → PartAt i j c twin
   part_at c twin e = by (cell_at (cells_of i) c) refl (cell_at (cells_of j) (new c)) e (shares.cells c)
     where
       by : (at : At) → cell_at (cells_of i) c ≡ at → (to : At) → to ≡ OfInstance twin → AtShared (part_of i) c at to → PartAt i j c twin

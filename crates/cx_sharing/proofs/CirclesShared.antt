@@ -156,7 +156,7 @@ module _ (i j : Instance) (shares : Shares i j) where
   NoneUsed c = ⊥
 
   pub cycle_back : HasCycle j nothing → HasCycle i nothing
-  cycle_back h = cycle_comes_back nothing nothing (λ g. refl) NoneUsed (nothing_covers NoneUsed) (λ x y a b. absurd a) h
+  cycle_back h = cycle_comes_back nothing nothing (λ g. refl) NoneUsed (nothing_covers NoneUsed) (λ x y first second a b. absurd a) h
 
   pub group_cycle_back : (g : ℕ) → HasCycle j (group g) → HasCycle i (group g)
   group_cycle_back g h = cycle_comes_back (group g) (group g) (λ n. refl) (λ c. group_uses part g c ≡ true) (group_covers part g) (group_used_meet part g) h

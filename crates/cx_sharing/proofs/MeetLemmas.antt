@@ -38,7 +38,7 @@ module _ (part : PlainComponent) where
   port_covers p g k c acts uses = absurd (none_some k acts)
 
   pub port_meets : (p : PortRef) → UsedMeet part (λ c. targets_cell p c ≡ true)
-  port_meets p x y a b = inl (one_target p x y a b)
+  port_meets p x y first second a b = inl (one_target p x y a b)
 
   -- ONE GROUP, a call in its capture cycle too
   pub group_covers : (g : ℕ) → Covers part (λ c. group_uses part g c ≡ true) (group g)
@@ -48,7 +48,7 @@ module _ (part : PlainComponent) where
   capture_covers g d h k c acts uses = ap (λ n. group_uses part n c) (only_is g h k acts) ∙ uses
 
   pub group_used_meet : (g : ℕ) → UsedMeet part (λ c. group_uses part g c ≡ true)
-  group_used_meet g x y a b = inr (group_meets part g x y a b)
+  group_used_meet g x y first second a b = inr (group_meets part g x y a b)
 
   -- A CONDITION and its comb group
   pub test_covers : (test : PlacedPort) (o : Option ℕ) → Covers part (λ c. test_uses part test o c ≡ true) (comb o)
@@ -57,7 +57,7 @@ module _ (part : PlainComponent) where
 
   pub test_meets : (v : Visited) (test : PlacedPort) (o : Option ℕ) → In (statements_in part) v → ((x y : ℕ) → form_meets part v.form x y ≡ has_both (test_uses part test o) x y)
       → UsedMeet part (λ c. test_uses part test o c ≡ true)
-  test_meets v test o stands is x y a b =
+  test_meets v test o stands is x y first second a b =
       inr (statement_meets part x y (any_of (λ w. form_meets part w.form x y) (statements_in part) v stands (is x y ∙ and_true (test_uses part test o x) (test_uses part test o y) a b)))
 
   -- TWO ARMS of a par
@@ -133,7 +133,7 @@ module _ (part : PlainComponent) where
     now_covers g k c acts uses = let r = entry_of active_now g k acts in (r.0, r.1, ap (λ n. group_uses part n c) r.2 ∙ uses)
 
     pub now_meet : StandsHere context form place → UsedMeet part NowUses
-    now_meet here x y (e, i, a) (f, j, b) = inr (by (now_together e f i j))
+    now_meet here x y first second (e, i, a) (f, j, b) = inr (by (now_together e f i j))
       where
         by : Together (visit context (Placed form place)) e f → meet part x y ≡ true
         by (inl same) = group_meets part e.group x y a (ap (λ (z : Entry). group_uses part z.group y) same ∙ b)

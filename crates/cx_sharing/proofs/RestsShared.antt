@@ -97,7 +97,7 @@ module _ (i j : Instance) (shares : Shares i j) where
 
   module _ (inputs : HasInputs i) where
     -- an input of a candidate that some group drives, and that each of its outputs reads
-    read_input : (c p : ℕ) (row : Row) → cell_at (cells_of i) c ≡ OfRow row → is_candidate (part_of i) c ≡ true
+    pub read_input : (c p : ℕ) (row : Row) → cell_at (cells_of i) c ≡ OfRow row → is_candidate (part_of i) c ≡ true
         → (n h : ℕ) × (b : PlainAssign) × (row.reads p n ≡ true) × In (group_at (part_of i) h).assigns b × (b.target ≡ ports.Cell c n)
     read_input c p row at is =
         let r = row_there row (shares.cells c) at in

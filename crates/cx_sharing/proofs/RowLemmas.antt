@@ -1,9 +1,9 @@
--- Primitives that hold nothing: they have no enabling port, their outputs hang on inputs alone, and what an output reads is an input.
-use Rattle.std.proofs.Common.{◌≡◌, ℕ, zero, suc, true, refl, arith}
+-- Primitives that hold nothing: they have no enabling port and no registered one, their outputs hang on inputs alone, and what an output reads is an input.
+use Rattle.std.proofs.Common.{◌≡◌, ℕ, zero, suc, ◌<◌, true, length, refl, arith}
 use Rattle.std.specs.Prelude.{nat_lt}
 use Rattle.std.proofs.lemmas.Bool.{ltb-true}
 use Rattle.cx_bits.specs.BitVector.{BitVector}
-use Rattle.cx_prim.specs.declared.ports.Side.TheVariants.{Enable, Plain}
+use Rattle.cx_prim.specs.declared.ports.Side.TheVariants.{Enable, Plain, Registered}
 use Rattle.cx_prim.specs.CellStates.{CellState}
 use Rattle.cx_prim.specs.Rows.{Inputs, Row}
 use Rattle.cx_prim.specs.CombinationalRows.{constant_row, unary_row, binary_row, mux_row}
@@ -20,24 +20,30 @@ pub record HoldsNothing (row : Row) : Type 0 where
   pub quiet : (p : ℕ) → side_of row p ≡ Enable → ⊥
   pub output : (s t : CellState) (inputs : Inputs) (n : ℕ) → row.output s inputs n ≡ row.output t inputs n
   pub reads : (n m : ℕ) → row.reads n m ≡ true → side_of row m ≡ Plain
+  pub unregistered : (p : ℕ) → p < length row.ports → side_of row p ≡ Registered → ⊥
 
 abbrev IsSo : Row → Type 0
 IsSo row = is_stateless row.shape ≡ true → HoldsNothing row
 
 unary : (w v : ℕ) (operator : BitVector → BitVector) → IsSo (unary_row w v operator)
-unary w v operator e = record { quiet = quiet; output = λ s t inputs n. refl; reads = reads }
+unary w v operator e = record { quiet = quiet; output = λ s t inputs n. refl; reads = reads; unregistered = unregistered }
   where
     quiet : (p : ℕ) → side_of (unary_row w v operator) p ≡ Enable → ⊥
     quiet zero e = absurd (cc)
     quiet (suc zero) e = absurd (cc)
     quiet (suc (suc p)) e = absurd (cc)
 
+    unregistered : (p : ℕ) → p < 2 → side_of (unary_row w v operator) p ≡ Registered → ⊥
+    unregistered zero lt e = absurd (cc)
+    unregistered (suc zero) lt e = absurd (cc)
+    unregistered (suc (suc p)) lt e = absurd (omega (arith, lt))
+
     reads : (n m : ℕ) → nat_lt m 1 ≡ true → side_of (unary_row w v operator) m ≡ Plain
     reads n zero e = refl
     reads n (suc m) e = let lt = ltb-true (suc m) 1 e in absurd (omega (arith, lt))
 
 binary : (w v : ℕ) (operator : BitVector → BitVector → BitVector) → IsSo (binary_row w v operator)
-binary w v operator e = record { quiet = quiet; output = λ s t inputs n. refl; reads = reads }
+binary w v operator e = record { quiet = quiet; output = λ s t inputs n. refl; reads = reads; unregistered = unregistered }
   where
     quiet : (p : ℕ) → side_of (binary_row w v operator) p ≡ Enable → ⊥
     quiet zero e = absurd (cc)
@@ -45,13 +51,19 @@ binary w v operator e = record { quiet = quiet; output = λ s t inputs n. refl; 
     quiet (suc (suc zero)) e = absurd (cc)
     quiet (suc (suc (suc p))) e = absurd (cc)
 
+    unregistered : (p : ℕ) → p < 3 → side_of (binary_row w v operator) p ≡ Registered → ⊥
+    unregistered zero lt e = absurd (cc)
+    unregistered (suc zero) lt e = absurd (cc)
+    unregistered (suc (suc zero)) lt e = absurd (cc)
+    unregistered (suc (suc (suc p))) lt e = absurd (omega (arith, lt))
+
     reads : (n m : ℕ) → nat_lt m 2 ≡ true → side_of (binary_row w v operator) m ≡ Plain
     reads n zero e = refl
     reads n (suc zero) e = refl
     reads n (suc (suc m)) e = let lt = ltb-true (suc (suc m)) 2 e in absurd (omega (arith, lt))
 
 mux : (w : ℕ) → IsSo (mux_row w)
-mux w e = record { quiet = quiet; output = λ s t inputs n. refl; reads = reads }
+mux w e = record { quiet = quiet; output = λ s t inputs n. refl; reads = reads; unregistered = unregistered }
   where
     quiet : (p : ℕ) → side_of (mux_row w) p ≡ Enable → ⊥
     quiet zero e = absurd (cc)
@@ -60,6 +72,13 @@ mux w e = record { quiet = quiet; output = λ s t inputs n. refl; reads = reads 
     quiet (suc (suc (suc zero))) e = absurd (cc)
     quiet (suc (suc (suc (suc p)))) e = absurd (cc)
 
+    unregistered : (p : ℕ) → p < 4 → side_of (mux_row w) p ≡ Registered → ⊥
+    unregistered zero lt e = absurd (cc)
+    unregistered (suc zero) lt e = absurd (cc)
+    unregistered (suc (suc zero)) lt e = absurd (cc)
+    unregistered (suc (suc (suc zero))) lt e = absurd (cc)
+    unregistered (suc (suc (suc (suc p)))) lt e = absurd (omega (arith, lt))
+
     reads : (n m : ℕ) → nat_lt m 3 ≡ true → side_of (mux_row w) m ≡ Plain
     reads n zero e = refl
     reads n (suc zero) e = refl
@@ -67,15 +86,19 @@ mux w e = record { quiet = quiet; output = λ s t inputs n. refl; reads = reads 
     reads n (suc (suc (suc m))) e = let lt = ltb-true (suc (suc (suc m))) 3 e in absurd (omega (arith, lt))
 
 constant : (w v : ℕ) → IsSo (constant_row w v)
-constant w v e = record { quiet = quiet; output = λ s t inputs n. refl; reads = λ n m e. let lt = ltb-true m 0 e in absurd (omega (arith, lt)) }
+constant w v e = record { quiet = quiet; output = λ s t inputs n. refl; reads = λ n m e. let lt = ltb-true m 0 e in absurd (omega (arith, lt)); unregistered = unregistered }
   where
     quiet : (p : ℕ) → side_of (constant_row w v) p ≡ Enable → ⊥
     quiet zero e = absurd (cc)
     quiet (suc p) e = absurd (cc)
 
+    unregistered : (p : ℕ) → p < 1 → side_of (constant_row w v) p ≡ Registered → ⊥
+    unregistered zero lt e = absurd (cc)
+    unregistered (suc p) lt e = absurd (omega (arith, lt))
+
 each : OfEachKind IsSo
 each = record {
-  none = λ e. record { quiet = λ p e. absurd (cc); output = λ s t inputs n. refl; reads = λ n m e. let lt = ltb-true m 0 e in absurd (omega (arith, lt)) };
+  none = λ e. record { quiet = λ p e. absurd (cc); output = λ s t inputs n. refl; reads = λ n m e. let lt = ltb-true m 0 e in absurd (omega (arith, lt)); unregistered = λ p lt e. absurd (omega (arith, lt)) };
   constant = λ w v fits. constant w v;
   unary = λ operator w v ok. unary w v _;
   binary = λ operator w ok. binary w _ _;

@@ -1,32 +1,34 @@
 -- EACH RULE on widths, shapes and static control that an instance of the shared design breaks, the instance of the design breaks at the same part.
 use Rattle.std.proofs.Common.{◌≡◌, ◌≢◌, ℕ, inl, inr, ◌⊎◌, Bool, true, false, ◌||◌, List, [], ◌∷◌, map, Option, Some, option_map, refl, sym, ap, ap₂, ◌∙◌, subst}
-use Rattle.std.specs.Prelude.{nat_eq, if◌then◌else◌}
+use Rattle.std.specs.Prelude.{nat_eq, if◌then◌else◌, is_some}
 use Rattle.cx_text.proofs.MemberLaws.{image_in}
 use Rattle.cx_text.specs.declared.places.Place.{Place}
 use Rattle.cx_meaning.specs.declared.ports.PortRef.{PortRef}
 use Rattle.cx_meaning.specs.declared.ports.PortRef.TheVariants as ports
 use Rattle.cx_meaning.specs.declared.ports.PlacedPort.{PlacedPort}
-use Rattle.cx_meaning.specs.Designs.{PlainGroup, group_at}
+use Rattle.cx_meaning.specs.Designs.{PlainGroup, PlainInvoke, PlainForm, group_at}
 use Rattle.cx_meaning.specs.Instances.{Instance, part_of}
 use Rattle.cx_meaning.specs.Active.{Owned}
 use Rattle.cx_text.specs.Members.{In}
-use Rattle.cx_meaning.specs.Islands.{form_length}
 use Rattle.cx_rules.specs.Ports.{width_of, is_target_only, is_primitive_enable, is_part_port}
 use Rattle.cx_rules.specs.Items.{Pair, atoms_of, sources_of, Visited, test_in, is_plain, is_comb}
 use Rattle.cx_rules.specs.WidthRules.{differ, pairs_of, first_unequal, BreaksWidth, is_wide, first_wide, BreaksGuardWidth, TestBreaksGuardWidth, IsBadLiteral, BreaksLiteral, TestBreaksLiteral, BreaksNotATarget, BreaksNotASource, TestBreaksNotASource}
-use Rattle.cx_rules.specs.ShapeRules.{is_hole, is_hole_of, some_target, BreaksNoDone, BreaksAlwaysEnable, BreaksCombEnable, is_bad_range, BreaksStaticGuard, GroupBreaksStaticShape, BreaksStaticControl}
-use Rattle.cx_rules.specs.StaticControl.{written_length, is_island, form_occurrences}
-use Rattle.cx_rules.specs.LimitRule.{is_too_many, count_in, first_limit, flat_limit}
+use Rattle.cx_rules.specs.ShapeRules.{is_hole, is_hole_of, some_target, BreaksNoDone, BreaksAlwaysEnable, BreaksCombEnable, is_bad_range, BreaksStaticGuard, GroupBreaksStaticShape, BreaksStaticControl, BreaksLength, BreaksInvokeLength}
+use Rattle.cx_rules.specs.InvokeShape.{BreaksStaticCell}
+use Rattle.cx_rules.specs.Invokes.{invoke_length, form_lasts}
+use Rattle.cx_rules.specs.Counts.{is_any_island, occurrences_at}
+use Rattle.cx_rules.specs.StaticControl.{is_timed, written_length}
+use Rattle.cx_rules.specs.LimitRule.{is_too_many, count_in, first_limit, statement_limit, BreaksStatement}
 use Rattle.cx_rules.proofs.ShapeRulesLemmas.{owner_length-same}
 use Rattle.cx_rewrites.specs.Moving.{moved_port, moved_assign, moved_owned, moved_form}
 use Rattle.cx_rewrites.specs.Renaming.{renamed}
-use Rattle.cx_rewrites.proofs.IslandLemmas.{form_length-moved}
+use Rattle.cx_rewrites.proofs.MovedInvokes.{timed_back, form_lasts-moved, is_any_island-moved}
 use Rattle.cx_sharing.specs.Giving.{new_cell}
+use Rattle.cx_sharing.specs.SharedDesign.{shared_invoke}
 use Rattle.cx_rewrites.proofs.MovedLists as lists
 use Rattle.cx_rewrites.proofs.MovedLists.{moved_pair, moved_visited}
 use Rattle.cx_rewrites.proofs.PlaceRules.{ByAssign, ByStatement, ByGroup}
-use Rattle.cx_sharing.proofs.SharedParts.{Shares, new_port, width_of-shared, written_width-shared, is_source_only-shared, is_target_only-shared, is_primitive_enable-shared, is_part_port-shared, group_at-shared, group_length-shared, words-shared}
-use Rattle.cx_rewrites.specs.FlatRules.{BreaksLength, BreaksStatement}
+use Rattle.cx_sharing.proofs.SharedParts.{Shares, new_port, width_of-shared, written_width-shared, is_source_only-shared, is_target_only-shared, is_primitive_enable-shared, is_part_port-shared, is_static_port-shared, group_at-shared, group_length-shared, of_invokes, words-shared, invoke_back}
 use Rattle.cx_text.proofs.OptionLaws.{map_some}
 
 bad_literal : (cell : ℕ → ℕ) (p : PortRef) → IsBadLiteral (renamed cell p) → IsBadLiteral p
@@ -128,6 +130,9 @@ module _ (i j : Instance) (shares : Shares i j) where
     static_guard_back place name (r, stands, bad, told) =
         (_, _, (r, subst (λ list. In list r) (lists.ranges_of-moved move o.assign.guard) stands, ap (λ x. is_bad_range x r) (sym (owner_length-same (part_of i) (part_of j) (group_length-shared shares) o.owner)) ∙ bad, (refl, refl)))
 
+    pub static_cell_back : (place : Place) (name : List ℕ) → BreaksStaticCell j (moved_owned move o) place name → ByAssign BreaksStaticCell i o
+    static_cell_back place name (is, told) = (_, _, (sym (is_static_port-shared shares o.assign.target) ∙ is, (refl, refl)))
+
   -- GROUPS
   some_target-shared : (test : PortRef → Bool) → ((p : PortRef) → test (move p) ≡ test p) → (g : ℕ) → some_target test (group_at (part_of j) g).assigns ≡ some_target test (group_at (part_of i) g).assigns
   some_target-shared test same g = ap (λ (x : PlainGroup). some_target test x.assigns) (group_at-shared shares g) ∙ lists.some_target-moved move test test same (group_at (part_of i) g).assigns
@@ -164,8 +169,8 @@ module _ (i j : Instance) (shares : Shares i j) where
     static_control_back place name (inside, bad, told) =
         (_, _, (inside, sym (lists.may_stand-moved move (part_of i) (part_of j) (group_length-shared shares) (words-shared shares) v.context v.form) ∙ bad, (refl, refl)))
 
-    length_is : form_length (part_of j) (moved_form move v.form) ≡ form_length (part_of i) v.form
-    length_is = form_length-moved move (part_of i) (part_of j) (group_length-shared shares) v.form
+    length_is : form_lasts (part_of j) (moved_form move v.form) ≡ form_lasts (part_of i) v.form
+    length_is = form_lasts-moved move (part_of i) (part_of j) (group_length-shared shares) (of_invokes shares invoke_length (λ w. refl)) v.form
 
     pub length_back : (place : Place) (name : List ℕ) → BreaksLength j (moved_visited move v) place name → ByStatement BreaksLength i v
     length_back place name (static, has, bad, told) = (
@@ -174,17 +179,28 @@ module _ (i j : Instance) (shares : Shares i j) where
       (sym (lists.is_static-moved move v.form) ∙ static, sym (lists.form_has_length-moved move (part_of i) (part_of j) (group_length-shared shares) (words-shared shares) v.context v.form) ∙ has, one bad, (refl, refl)),
     )
       where
-        one : ((n : ℕ) × (written_length (moved_form move v.form) ≡ Some n) × (n ≢ form_length (part_of j) (moved_form move v.form))) ⊎ (form_length (part_of j) (moved_form move v.form) ≡ 0)
-            → ((n : ℕ) × (written_length v.form ≡ Some n) × (n ≢ form_length (part_of i) v.form)) ⊎ (form_length (part_of i) v.form ≡ 0)
+        one : ((n : ℕ) × (written_length (moved_form move v.form) ≡ Some n) × (n ≢ form_lasts (part_of j) (moved_form move v.form))) ⊎ (form_lasts (part_of j) (moved_form move v.form) ≡ 0)
+            → ((n : ℕ) × (written_length v.form ≡ Some n) × (n ≢ form_lasts (part_of i) v.form)) ⊎ (form_lasts (part_of i) v.form ≡ 0)
         one (inl (n, written, differs)) = inl (n, sym (lists.written_length-moved move v.form) ∙ written, λ is. differs (is ∙ sym length_is))
         one (inr none) = inr (sym length_is ∙ none)
 
-    limit_is : flat_limit (part_of j) (moved_visited move v) ≡ flat_limit (part_of i) v
-    limit_is =
-        ap (λ o. first_limit (is_too_many o) (is_island (part_of j) (moved_visited move v)) (form_occurrences (part_of j) (moved_form move v.form)) (form_length (part_of j) (moved_form move v.form))) (lists.count_in-moved move v.form)
-        ∙ ap (λ b. first_limit (is_too_many (count_in v.form)) b (form_occurrences (part_of j) (moved_form move v.form)) (form_length (part_of j) (moved_form move v.form)))
-        (lists.is_island-moved move (part_of i) (part_of j) (group_length-shared shares) v)
-        ∙ ap₂ (first_limit (is_too_many (count_in v.form)) (is_island (part_of i) v)) (lists.form_occurrences-moved move (part_of i) (part_of j) (group_length-shared shares) v.form) length_is
+    pub invoke_length_back : (place : Place) (name : List ℕ) → BreaksInvokeLength j (moved_visited move v) place name → ByStatement BreaksInvokeLength i v
+    invoke_length_back place name (k, w, is, at, timed, bad, told) =
+        let x = invoke_back shares k w at in
+        (_, _, (k, x.0, timed_back move v.form k is, x.1, ap (λ z. is_timed (Some z)) x.2 ∙ timed, one x.0 x.2 bad, (refl, refl)))
+      where
+        one : (x : PlainInvoke) → shared_invoke (new_cell (part_of i)) x ≡ w → ((n : ℕ) × (w.length ≡ Some n) × (n ≢ invoke_length (Some w))) ⊎ (invoke_length (Some w) ≡ 0)
+            → ((n : ℕ) × (x.length ≡ Some n) × (n ≢ invoke_length (Some x))) ⊎ (invoke_length (Some x) ≡ 0)
+        one x e (inl (n, written, differs)) = inl (n, ap (λ (z : PlainInvoke). z.length) e ∙ written, λ same. differs (same ∙ ap (λ z. invoke_length (Some z)) e))
+        one x e (inr none) = inr (ap (λ z. invoke_length (Some z)) e ∙ none)
 
-    pub statement_limit_back : (place : Place) (name : List ℕ) → BreaksStatement j (moved_visited move v) place name → ByStatement BreaksStatement i v
-    statement_limit_back place name (limited, is, told) = (_, _, (limited, sym limit_is ∙ is, (refl, refl)))
+    -- a limit, where as much occurs
+    module _ (occurs : (form : PlainForm) → occurrences_at j (moved_form move form) ≡ occurrences_at i form) where
+      limit_is : statement_limit j (moved_visited move v) ≡ statement_limit i v
+      limit_is =
+          ap₂ (λ o b. first_limit (is_too_many o) b (occurrences_at j (moved_form move v.form)) (form_lasts (part_of j) (moved_form move v.form))) (lists.count_in-moved move v.form)
+          (is_any_island-moved move (part_of i) (part_of j) (group_length-shared shares) (of_invokes shares is_some (λ w. refl)) v)
+          ∙ ap₂ (first_limit (is_too_many (count_in v.form)) (is_any_island (part_of i) v)) (occurs v.form) length_is
+
+      pub statement_limit_back : (place : Place) (name : List ℕ) → BreaksStatement j (moved_visited move v) place name → ByStatement BreaksStatement i v
+      statement_limit_back place name (limited, is, told) = (_, _, (limited, sym limit_is ∙ is, (refl, refl)))

@@ -139,7 +139,7 @@ beside_of i j twin fit = record {
     none_covered g k c acts uses = none_some k acts
 
     none_meet : UsedMeet (part_of i) (λ c. ⊥)
-    none_meet x y a b = absurd a
+    none_meet x y first second a b = absurd a
 
 -- IN THE TREE OF AN ACCEPTED DESIGN nothing leads in a circle
 abbrev IslandsApart : PlainComponent → Type 0
@@ -176,7 +176,7 @@ module _ (d : PlainDesign) (design : IsDesign d) (accepted : IsAccepted d) where
             differ (sym x.2 ∙ one_group g h t (group_length (component_at d k) g) x.0 x.1 ∙ sym (one_group g h t (group_length (component_at d k) g) y.0 y.1) ∙ y.2);
       }
 
-  fit_tree : (m k : ℕ) → IsFit (tree_within d m k)
+  pub fit_tree : (m k : ℕ) → IsFit (tree_within d m k)
   fit_tree m k =
       let i : Instance = tree_within d m k in
       let circles : AreAcyclic i = within_acyclic d accepted m k in

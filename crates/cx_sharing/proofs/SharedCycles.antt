@@ -29,7 +29,7 @@ use Rattle.cx_sharing.proofs.TwinLemmas.{IsTwin, row_twin, child_twin, nothing_t
 use Rattle.cx_sharing.proofs.TwinStates.{HoldsAt, itself, in_child, holds_at, of_path, path_of, root_of, row_path, row_state, child_renumbered, told_here}
 use Rattle.cx_sharing.proofs.SharedSights.{seen_there}
 
-abbrev faulted : (Fault → Fault) → Option Fault → Option Fault
+abbrev pub faulted : (Fault → Fault) → Option Fault → Option Fault
 faulted told None = None
 faulted told (Some f) = Some (told f)
 

@@ -42,7 +42,7 @@ module _ (i j : Instance) (twin : IsTwin i j) where
       ap (λ b. b || assigns_drive (map (moved_assign (renamed new)) rest) (new c)) (target_drives a.target c none)
       ∙ ap (λ b. targets_cell a.target c || b) (assigns_drive-moved rest c none)
 
-  groups_drive-shared : (gs : List ℕ) (c : ℕ) → is_candidate (part_of i) c ≡ false → groups_drive (part_of j) gs (new c) ≡ groups_drive (part_of i) gs c
+  pub groups_drive-shared : (gs : List ℕ) (c : ℕ) → is_candidate (part_of i) c ≡ false → groups_drive (part_of j) gs (new c) ≡ groups_drive (part_of i) gs c
   groups_drive-shared [] c none = refl
   groups_drive-shared (g ∷ gs) c none =
       ap (λ b. b || groups_drive (part_of j) gs (new c)) (ap (λ list. assigns_drive list (new c)) (assigns_shared g) ∙ assigns_drive-moved (group_at (part_of i) g).assigns c none)

@@ -79,7 +79,7 @@ module _ (i j : Instance) (twin : IsTwin i j) (fit : IsFit i) (held : Held) wher
   port_inside (ports.Done g) = tt
   port_inside (ports.Literal w v) = tt
 
-  bare_seen : (p : PortRef) → IsSeenAlike R i j held held nothing nothing p (renamed new p)
+  pub bare_seen : (p : PortRef) → IsSeenAlike R i j held held nothing nothing p (renamed new p)
   bare_seen p before s z stands =
       seen_there i j twin nothing nothing (λ g. refl) (λ c. targets_cell p c ≡ true) (port_covers (part_of i) p) (port_meets (part_of i) p) held s z stands (λ c. refl) fit.bare p (port_inside p)
 
@@ -121,7 +121,7 @@ module _ (i j : Instance) (twin : IsTwin i j) (fit : IsFit i) (held : Held) wher
       (λ kind. told_here i kind p.port) before s z r
 
   -- A CALL
-  own_same : (c e : ℕ) → is_candidate (part_of i) c ≡ false → nat_eq c e ≡ nat_eq (new c) (new e)
+  pub own_same : (c e : ℕ) → is_candidate (part_of i) c ≡ false → nat_eq c e ≡ nat_eq (new c) (new e)
   own_same c e other = by (nat_eq c e) refl (nat_eq (new c) (new e)) refl
     where
       by : (x : Bool) → nat_eq c e ≡ x → (y : Bool) → nat_eq (new c) (new e) ≡ y → x ≡ y

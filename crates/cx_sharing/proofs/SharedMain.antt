@@ -202,16 +202,16 @@ module _ (d : PlainDesign) (design : IsDesign d) (accepted : IsAccepted d) where
   abbrev twin_tree : Instance
   twin_tree = tree_within (shared_design d) (length d.components) d.main
 
-  tree_shared : tree_of (shared_design d) ≡ twin_tree
+  pub tree_shared : tree_of (shared_design d) ≡ twin_tree
   tree_shared = ap (λ n. tree_within (shared_design d) n d.main) (length-map shared_part d.components)
 
-  twins : IsTwin (tree_of d) twin_tree
+  pub twins : IsTwin (tree_of d) twin_tree
   twins = tree_is_twin d design accepted (length d.components) d.main
 
-  kept : KeepsExternals (stays (part_of (tree_of d))) 0 (part_of (tree_of d)).cells
+  pub kept : KeepsExternals (stays (part_of (tree_of d))) 0 (part_of (tree_of d)).cells
   kept = subst (λ (x : PlainComponent). KeepsExternals (stays x) 0 x.cells) (sym (same_part d (length d.components) d.main)) (keeps_main d design)
 
-  memories : (c : ℕ) → In (externals_of (part_of (tree_of d))) c → (row : Row) × (cell_at (cells_of (tree_of d)) c ≡ OfRow row) × (has_state row ≡ true)
+  pub memories : (c : ℕ) → In (externals_of (part_of (tree_of d))) c → (row : Row) × (cell_at (cells_of (tree_of d)) c ≡ OfRow row) × (has_state row ≡ true)
   memories c i =
       let main : PlainComponent = component_at d d.main in
       let r = external_at 0 main.cells c (subst (λ x. In (externals_of x) c) (same_part d (length d.components) d.main) i) in

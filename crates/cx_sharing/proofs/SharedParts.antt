@@ -1,8 +1,10 @@
 -- Instances of a design beside those of the shared design: the parts are shared, and at each cell's new number stands what stands at the cell.
-use Rattle.std.proofs.Common.{◌≡◌, ℕ, zero, suc, ◌<◌, ◌≤◌, ⊎_elim, Bool, true, false, List, [], ◌∷◌, length, map, Option, Some, slice_get, refl, sym, ap, ◌∙◌, subst, arith}
-use Rattle.std.specs.Prelude.{not, if◌then◌else◌}
+use Rattle.std.proofs.Common.{◌≡◌, ℕ, zero, suc, ◌≤◌, ⊎_elim, Bool, true, false, List, [], ◌∷◌, ◌++◌, length, map, Option, Some, None, option_map, slice_get, refl, sym, ap, ap₂, ◌∙◌, subst, arith}
+use Rattle.std.specs.Prelude.{not, if◌then◌else◌, flat_map, is_some}
 use Rattle.std.proofs.lemmas.Bool.{cases_lt}
-use Rattle.std.proofs.lemmas.List.{length-map}
+use Rattle.std.proofs.lemmas.List.{length-map, map-append}
+use Rattle.std.proofs.lemmas.Option.{slice_get-map}
+use Rattle.cx_text.proofs.OptionLaws.{map_some}
 use Rattle.cx_prim.specs.Table.{PrimitiveRow, row_of}
 use Rattle.cx_meaning.specs.declared.ports.PortRef.{PortRef}
 use Rattle.cx_meaning.specs.declared.ports.PortRef.TheVariants as ports
@@ -24,10 +26,13 @@ use Rattle.cx_sharing.specs.Uses.{kind_in}
 use Rattle.cx_sharing.specs.Giving.{keeper, stays, staying, new_cell}
 use Rattle.cx_sharing.specs.SharedDesign.{remaining, shared_invoke, shared_part, shared_design}
 use Rattle.cx_rules.specs.StaticControl.{is_written, is_timed}
+use Rattle.cx_rules.specs.Invokes.{invoke_at, capture_of, captures_of}
+use Rattle.cx_rules.specs.InvokeShape.{latency_at, is_static_port}
+use Rattle.cx_rules.specs.Spots.{binds_in}
 use Rattle.cx_sharing.proofs.KeptLemmas.{keeper_stays}
 use Rattle.cx_sharing.proofs.KeeperLemmas.{keeper_kind, keeper_within, keeper_past}
-use Rattle.cx_sharing.proofs.RemainingLemmas.{kind_left, length_left, staying_within, staying_past, cell_is, none_past}
-use Rattle.cx_sharing.proofs.TwinLemmas.{shared_component}
+use Rattle.cx_sharing.proofs.RemainingLemmas.{kind_left, length_left, staying_past, none_past}
+use Rattle.cx_sharing.proofs.TwinLemmas.{at_new_number, shared_component}
 use Rattle.cx_rewrites.proofs.MovedLists.{moved_visited, moved_group_at, visit-moved}
 
 -- what stands at a cell, and at its new number
@@ -64,23 +69,7 @@ module _ (part : PlainComponent) (f g : ℕ → Instance) (beside : (k : ℕ) �
   of_kind c (OfComponent k) e = a_part k (f k) (g k) e (beside k)
 
   cells-shared : (c : ℕ) → AtShared part c (cell_at (cells_for f part.cells) c) (cell_at (cells_for g (remaining (stays part) 0 part.cells)) (new_cell part c))
-  cells-shared c = ⊎_elim within past (cases_lt c (length part.cells))
-    where
-      within : c < length part.cells → AtShared part c (cell_at (cells_for f part.cells) c) (cell_at (cells_for g (remaining (stays part) 0 part.cells)) (new_cell part c))
-      within lt =
-          let kept : keeper part c < length part.cells = keeper_within part c lt in
-          let there : cell_at (cells_for g (remaining (stays part) 0 part.cells)) (new_cell part c) ≡ at_kind g (kind_in part.cells c) =
-          cell_is g (remaining (stays part) 0 part.cells) (new_cell part c) (staying_within (stays part) part.cells (keeper part c) (keeper_stays part c) kept)
-          ∙ ap (at_kind g) (kind_left (stays part) part.cells (keeper part c) (keeper_stays part c) kept ∙ keeper_kind part c) in
-          subst (λ to. AtShared part c (cell_at (cells_for f part.cells) c) to) (sym there)
-          (subst (λ at. AtShared part c at (at_kind g (kind_in part.cells c))) (sym (cell_is f part.cells c lt)) (of_kind c (kind_in part.cells c) refl))
-
-      past : length part.cells ≤ c → AtShared part c (cell_at (cells_for f part.cells) c) (cell_at (cells_for g (remaining (stays part) 0 part.cells)) (new_cell part c))
-      past le =
-          let kept : length part.cells ≤ keeper part c = subst (λ n. length part.cells ≤ n) (sym (keeper_past part c le)) le in
-          subst (λ to. AtShared part c (cell_at (cells_for f part.cells) c) to)
-          (sym (none_past g (remaining (stays part) 0 part.cells) (new_cell part c) (staying_past (stays part) part.cells (keeper part c) kept)))
-          (subst (λ at. AtShared part c at Nothing) (sym (none_past f part.cells c le)) no_cell)
+  cells-shared c = at_new_number part f g (AtShared part c) no_cell c (of_kind c)
 
 module _ (d : PlainDesign) where
   child-shared : (n k : ℕ) → part_of (tree_within (shared_design d) n k) ≡ shared_part (part_of (tree_within d n k))
@@ -103,6 +92,32 @@ module _ (d : PlainDesign) where
 
   pub component-shares : (k : ℕ) → Shares (component_of d k) (component_of (shared_design d) k)
   component-shares k = subst (λ n. Shares (component_of d k) (tree_within (shared_design d) n k)) (sym (as_many_parts d)) (tree-shared (length d.components) k)
+
+-- STATIC INVOKES of a shared component
+module _ (part : PlainComponent) where
+  pub invoke_at-shared : (k : ℕ) → invoke_at (shared_part part) k ≡ option_map (shared_invoke (new_cell part)) (invoke_at part k)
+  invoke_at-shared k = slice_get-map (shared_invoke (new_cell part)) part.invokes k
+
+  -- what is read of an invoke but its cell and its inputs is the same
+  pub of_invoke : {A : Type 0} (read : Option PlainInvoke → A) → ((v : PlainInvoke) → read (Some (shared_invoke (new_cell part) v)) ≡ read (Some v)) → (k : ℕ) → read (invoke_at (shared_part part) k) ≡ read (invoke_at part k)
+  of_invoke read each k = ap read (invoke_at-shared k) ∙ by (invoke_at part k)
+    where
+      by : (o : Option PlainInvoke) → read (option_map (shared_invoke (new_cell part)) o) ≡ read o
+      by None = refl
+      by (Some v) = each v
+
+  pub captures_of-shared : (ks : List ℕ) → captures_of (shared_part part) ks ≡ captures_of part ks
+  captures_of-shared [] = refl
+  captures_of-shared (k ∷ ks) = ap₂ ◌++◌ (of_invoke capture_of (λ v. refl) k) (captures_of-shared ks)
+
+  binds_moved : (vs : List PlainInvoke) → flat_map (λ (v : PlainInvoke). v.inputs) (map (shared_invoke (new_cell part)) vs) ≡ map (moved_assign (renamed (new_cell part))) (flat_map (λ (v : PlainInvoke). v.inputs) vs)
+  binds_moved [] = refl
+  binds_moved (v ∷ vs) =
+      ap (λ list. map (moved_assign (renamed (new_cell part))) v.inputs ++ list) (binds_moved vs)
+      ∙ sym (map-append (moved_assign (renamed (new_cell part))) v.inputs (flat_map (λ (w : PlainInvoke). w.inputs) vs))
+
+  pub binds_in-shared : binds_in (shared_part part) ≡ map (moved_assign (renamed (new_cell part))) (binds_in part)
+  binds_in-shared = binds_moved part.invokes
 
 -- SOURCE ORDER: the places stay
 module _ (move : PortRef → PortRef) where
@@ -141,6 +156,11 @@ module _ {part : PlainComponent} {c : ℕ} where
   instance_at no_cell = refl
   instance_at (a_row q kind) = refl
   instance_at (a_part k child twin kind e) = refl
+
+  latency_there : {at to : At} → AtShared part c at to → latency_at to ≡ latency_at at
+  latency_there no_cell = refl
+  latency_there (a_row q kind) = refl
+  latency_there (a_part k child twin kind e) = ap (λ (x : PlainComponent). x.latency) e
 
   pub like_at : {at to : At} → AtShared part c at to → AtLike at to
   like_at no_cell = both_nothing
@@ -193,6 +213,13 @@ module _ {i j : Instance} (shares : Shares i j) where
   is_part_port-shared (ports.Done g) = refl
   is_part_port-shared (ports.Literal w v) = refl
 
+  pub is_static_port-shared : (p : PortRef) → is_static_port j (new_port p) ≡ is_static_port i p
+  is_static_port-shared (ports.Cell c p) = ap is_some (latency_there (shares.cells c))
+  is_static_port-shared (ports.Input n) = refl
+  is_static_port-shared (ports.Output n) = refl
+  is_static_port-shared (ports.Done g) = refl
+  is_static_port-shared (ports.Literal w v) = refl
+
   pub cells_alike : (c : ℕ) → AtLike (cell_at (cells_of i) c) (cell_at (cells_of j) (new_cell (part_of i) c))
   cells_alike c = like_at (shares.cells c)
 
@@ -200,17 +227,17 @@ module _ {i j : Instance} (shares : Shares i j) where
   pub group_at-shared : (g : ℕ) → group_at (part_of j) g ≡ moved_group new_port (group_at (part_of i) g)
   group_at-shared g = ap (λ (x : PlainComponent). group_at x g) shares.part ∙ moved_group_at new_port (part_of i).groups g
 
-  -- where the word static stands at static invokes
-  pub words-shared : (k : ℕ) → (is_written (slice_get (part_of j).invokes k) ≡ is_written (slice_get (part_of i).invokes k)) × (is_timed (slice_get (part_of j).invokes k) ≡ is_timed (slice_get (part_of i).invokes k))
-  words-shared k = (both is_written (λ v. refl), both is_timed (λ v. refl))
-    where
-      alike : {A : Type 0} (f : Option PlainInvoke → A) → ((v : PlainInvoke) → f (Some (shared_invoke (new_cell (part_of i)) v)) ≡ f (Some v)) → (vs : List PlainInvoke) (n : ℕ) → f (slice_get (map (shared_invoke (new_cell (part_of i))) vs) n) ≡ f (slice_get vs n)
-      alike f each [] n = refl
-      alike f each (v ∷ vs) zero = each v
-      alike f each (v ∷ vs) (suc n) = alike f each vs n
+  -- STATIC INVOKES
+  pub of_invokes : {A : Type 0} (read : Option PlainInvoke → A) → ((v : PlainInvoke) → read (Some (shared_invoke (new_cell (part_of i)) v)) ≡ read (Some v)) → (k : ℕ) → read (invoke_at (part_of j) k) ≡ read (invoke_at (part_of i) k)
+  of_invokes read each k = ap (λ (x : PlainComponent). read (invoke_at x k)) shares.part ∙ of_invoke (part_of i) read each k
 
-      both : {A : Type 0} (f : Option PlainInvoke → A) → ((v : PlainInvoke) → f (Some (shared_invoke (new_cell (part_of i)) v)) ≡ f (Some v)) → f (slice_get (part_of j).invokes k) ≡ f (slice_get (part_of i).invokes k)
-      both f each = ap (λ (x : PlainComponent). f (slice_get x.invokes k)) shares.part ∙ alike f each (part_of i).invokes k
+  -- where the word static stands at them
+  pub words-shared : (k : ℕ) → (is_written (slice_get (part_of j).invokes k) ≡ is_written (slice_get (part_of i).invokes k)) × (is_timed (slice_get (part_of j).invokes k) ≡ is_timed (slice_get (part_of i).invokes k))
+  words-shared k = (of_invokes is_written (λ v. refl) k, of_invokes is_timed (λ v. refl) k)
+
+  -- one of the shared instance is one of the instance
+  pub invoke_back : (k : ℕ) (w : PlainInvoke) → invoke_at (part_of j) k ≡ Some w → (v : PlainInvoke) × (invoke_at (part_of i) k ≡ Some v) × (shared_invoke (new_cell (part_of i)) v ≡ w)
+  invoke_back k w at = map_some (shared_invoke (new_cell (part_of i))) (invoke_at (part_of i) k) w (sym (invoke_at-shared (part_of i) k) ∙ ap (λ x. invoke_at x k) (sym shares.part) ∙ at)
 
   pub group_length-shared : (g : ℕ) → group_length (part_of j) g ≡ group_length (part_of i) g
   group_length-shared g = ap (λ (x : PlainGroup). kind_length x.kind) (group_at-shared g)

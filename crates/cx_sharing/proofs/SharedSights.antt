@@ -31,7 +31,7 @@ at_shared no_twins = no_cell
 at_shared (twin_rows p kind) = a_row p kind
 at_shared (twin_parts k child twin kind beside) = a_part k child twin kind beside.part
 
-shares_of : {i j : Instance} → IsTwin i j → Shares i j
+pub shares_of : {i j : Instance} → IsTwin i j → Shares i j
 shares_of {j = j} twin = record { part = twin.part; cells = λ c. at_shared (twin.cells c); past = λ e le. let count = twin.count in cell_beyond (cells_of j) e (omega (arith, count, le)) }
 
 module _ (i j : Instance) (twin : IsTwin i j) (act more : Active) (offsets : (g : ℕ) → more.offset g ≡ act.offset g)

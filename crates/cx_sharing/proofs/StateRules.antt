@@ -4,12 +4,12 @@ use Rattle.cx_text.specs.declared.places.Place.{Place}
 use Rattle.cx_meaning.specs.declared.ports.PortRef.{PortRef}
 use Rattle.cx_meaning.specs.declared.ports.PortRef.TheVariants as ports
 use Rattle.cx_meaning.specs.declared.ports.PlacedPort.{PlacedPort}
-use Rattle.cx_meaning.specs.Designs.{PlainForm, Empty, Enable, Seq, Par, If, While, Repeat, StaticSeq, StaticPar, StaticIf, StaticRepeat, Timed, PlainStatement}
+use Rattle.cx_meaning.specs.Designs.{PlainComponent, PlainForm, Empty, Enable, Seq, Par, If, While, Repeat, StaticSeq, StaticPar, StaticIf, StaticRepeat, Timed, PlainStatement}
 use Rattle.cx_meaning.specs.Instances.{Instance, part_of}
 use Rattle.cx_meaning.specs.Active.{Owned, nothing}
 use Rattle.cx_rules.specs.Items.{Visited}
-use Rattle.cx_rules.specs.Footprints.{Rests, Depends}
-use Rattle.cx_rules.specs.ShapeRules.{BreaksDoneNotState, BreaksStaticTest, LeadsToInput, BreaksOutputNotState}
+use Rattle.cx_rules.specs.Footprints.{AssignNames, Rests, Depends}
+use Rattle.cx_rules.specs.ShapeRules.{BreaksDoneNotState, BreaksStaticTest, LeadsToInput, BreaksOutputNotState, BreaksKept}
 use Rattle.cx_rewrites.specs.Moving.{moved_port, moved_owned, moved_form}
 use Rattle.cx_rewrites.specs.Renaming.{renamed}
 use Rattle.cx_rewrites.proofs.ReflectLemmas.{names_back}
@@ -75,7 +75,7 @@ module _ (i j : Instance) (shares : Shares i j) (inputs : HasInputs i) where
   abbrev move : PortRef → PortRef
   move = new_port shares
 
-  restless_back : (q r : PortRef) → move r ≡ q → (Rests j q → ⊥) → Rests i r → ⊥
+  pub restless_back : (q r : PortRef) → move r ≡ q → (Rests j q → ⊥) → Rests i r → ⊥
   restless_back q r e restless rests = restless (subst (Rests j) e (rests_shared i j shares inputs r rests))
 
   pub done_not_state_back : (o : Owned) (place : Place) (name : List ℕ) → BreaksDoneNotState j (moved_owned move o) place name → ByAssign BreaksDoneNotState i o
@@ -106,7 +106,7 @@ module _ (i j : Instance) (shares : Shares i j) (inputs : HasInputs i) where
   leads_back q r e (n, inl is) = (n, inl (input_is (new_cell (part_of i)) r n (e ∙ is)))
   leads_back q r e (n, inr depends) =
       let d : Depends j nothing (move r) (ports.Input n) = subst (λ p. Depends j nothing p (ports.Input n)) (sym e) depends in
-      let b = depends_comes_back i j shares nothing nothing (λ g. refl) (CellOf r) (nothing_covers i j shares (CellOf r)) (λ x y a c. inl (one_cell r x y a c)) r (ports.Input n) (inside_itself r) d in
+      let b = depends_comes_back i j shares nothing nothing (λ g. refl) (CellOf r) (nothing_covers i j shares (CellOf r)) (λ x y first second a c. inl (one_cell r x y a c)) r (ports.Input n) (inside_itself r) d in
       (n, inr (subst (Depends i nothing r) (input_is (new_cell (part_of i)) b.0 n b.1) b.2))
 
   pub output_not_state_back : (o : Owned) (place : Place) (name : List ℕ) → BreaksOutputNotState j (moved_owned move o) place name → ByAssign BreaksOutputNotState i o
@@ -117,3 +117,9 @@ module _ (i j : Instance) (shares : Shares i j) (inputs : HasInputs i) where
       one : (r : PortRef) → move r ≡ q → (Rests j q → ⊥) ⊎ LeadsToInput j q → (Rests i r → ⊥) ⊎ LeadsToInput i r
       one r e (inl restless) = inl (restless_back q r e restless)
       one r e (inr leads) = inr (leads_back q r e leads)
+
+  -- what a static component keeps
+  pub kept_back : (o : Owned) (place : Place) (name : List ℕ) → BreaksKept j (moved_owned move o) place name → ByAssign BreaksKept i o
+  kept_back o place name (latency, static, owner, (n, names), told) =
+      let r = names_back move o.assign (ports.Input n) names in
+      (_, _, (latency, sym (ap (λ (x : PlainComponent). x.latency) shares.part) ∙ static, owner, (n, subst (AssignNames o.assign) (input_is (new_cell (part_of i)) r.0 n r.1) r.2), (refl, refl)))

@@ -70,6 +70,28 @@ stays_is part c on = ap (staying (stays part)) (eqb-true (keeper part c) c on)
 pub other_stays : (part : PlainComponent) (c : ℕ) → is_candidate part c ≡ false → stays part c ≡ true
 other_stays part c none = eq-eqb (keeper part c) c (other_kept part c none)
 
+-- WHAT STANDS AT A CELL of a component and at its new number is the same of the kind of the cell
+module _ (part : PlainComponent) (f g : ℕ → Instance) (R : At → At → Type 0) (nothing_there : R Nothing Nothing) (c : ℕ)
+    (of_kind : (kind : PlainKind) → kind_in part.cells c ≡ kind → R (at_kind f kind) (at_kind g kind)) where
+  pub at_new_number : R (cell_at (cells_for f part.cells) c) (cell_at (cells_for g (remaining (stays part) 0 part.cells)) (new_cell part c))
+  at_new_number = ⊎_elim within past (cases_lt c (length part.cells))
+    where
+      within : c < length part.cells → R (cell_at (cells_for f part.cells) c) (cell_at (cells_for g (remaining (stays part) 0 part.cells)) (new_cell part c))
+      within lt =
+          let kept : keeper part c < length part.cells = keeper_within part c lt in
+          let there : cell_at (cells_for g (remaining (stays part) 0 part.cells)) (new_cell part c) ≡ at_kind g (kind_in part.cells c) =
+          cell_is g (remaining (stays part) 0 part.cells) (new_cell part c) (staying_within (stays part) part.cells (keeper part c) (keeper_stays part c) kept)
+          ∙ ap (at_kind g) (kind_left (stays part) part.cells (keeper part c) (keeper_stays part c) kept ∙ keeper_kind part c) in
+          subst (λ to. R (cell_at (cells_for f part.cells) c) to) (sym there)
+          (subst (λ at. R at (at_kind g (kind_in part.cells c))) (sym (cell_is f part.cells c lt)) (of_kind (kind_in part.cells c) refl))
+
+      past : length part.cells ≤ c → R (cell_at (cells_for f part.cells) c) (cell_at (cells_for g (remaining (stays part) 0 part.cells)) (new_cell part c))
+      past le =
+          let kept : length part.cells ≤ keeper part c = subst (λ n. length part.cells ≤ n) (sym (keeper_past part c le)) le in
+          subst (λ to. R (cell_at (cells_for f part.cells) c) to)
+          (sym (none_past g (remaining (stays part) 0 part.cells) (new_cell part c) (staying_past (stays part) part.cells (keeper part c) kept)))
+          (subst (λ at. R at Nothing) (sym (none_past f part.cells c le)) nothing_there)
+
 -- the cells of a component, and of the shared one
 module _ (part : PlainComponent) (f g : ℕ → Instance) (beside : (k : ℕ) → IsBeside (f k) (g k)) where
   kind_twin : (c : ℕ) (kind : PlainKind) → kind_in part.cells c ≡ kind → AtTwin part c (at_kind f kind) (at_kind g kind)
@@ -77,23 +99,7 @@ module _ (part : PlainComponent) (f g : ℕ → Instance) (beside : (k : ℕ) �
   kind_twin c (OfComponent k) e = twin_parts k (f k) (g k) e (beside k)
 
   pub cells_twin : (c : ℕ) → AtTwin part c (cell_at (cells_for f part.cells) c) (cell_at (cells_for g (remaining (stays part) 0 part.cells)) (new_cell part c))
-  cells_twin c = ⊎_elim within past (cases_lt c (length part.cells))
-    where
-      within : c < length part.cells → AtTwin part c (cell_at (cells_for f part.cells) c) (cell_at (cells_for g (remaining (stays part) 0 part.cells)) (new_cell part c))
-      within lt =
-          let kept : keeper part c < length part.cells = keeper_within part c lt in
-          let there : cell_at (cells_for g (remaining (stays part) 0 part.cells)) (new_cell part c) ≡ at_kind g (kind_in part.cells c) =
-          cell_is g (remaining (stays part) 0 part.cells) (new_cell part c) (staying_within (stays part) part.cells (keeper part c) (keeper_stays part c) kept)
-          ∙ ap (at_kind g) (kind_left (stays part) part.cells (keeper part c) (keeper_stays part c) kept ∙ keeper_kind part c) in
-          subst (λ to. AtTwin part c (cell_at (cells_for f part.cells) c) to) (sym there)
-          (subst (λ at. AtTwin part c at (at_kind g (kind_in part.cells c))) (sym (cell_is f part.cells c lt)) (kind_twin c (kind_in part.cells c) refl))
-
-      past : length part.cells ≤ c → AtTwin part c (cell_at (cells_for f part.cells) c) (cell_at (cells_for g (remaining (stays part) 0 part.cells)) (new_cell part c))
-      past le =
-          let kept : length part.cells ≤ keeper part c = subst (λ n. length part.cells ≤ n) (sym (keeper_past part c le)) le in
-          subst (λ to. AtTwin part c (cell_at (cells_for f part.cells) c) to)
-          (sym (none_past g (remaining (stays part) 0 part.cells) (new_cell part c) (staying_past (stays part) part.cells (keeper part c) kept)))
-          (subst (λ at. AtTwin part c at Nothing) (sym (none_past f part.cells c le)) no_twins)
+  cells_twin c = at_new_number part f g (AtTwin part c) no_twins c (kind_twin c)
 
   pub count_twin : cell_count (cells_for g (remaining (stays part) 0 part.cells)) ≡ staying (stays part) (cell_count (cells_for f part.cells))
   count_twin = count_for g (remaining (stays part) 0 part.cells) ∙ length_left (stays part) part.cells ∙ ap (staying (stays part)) (sym (count_for f part.cells))

@@ -40,7 +40,7 @@ child_renumbered (a_primitive row rest) (suc c) child path e = child_renumbered 
 child_renumbered (an_instance own rest) zero child path e = let same : own ≡ child = cc in ap (λ x. renumbered new_cell x path) same
 child_renumbered (an_instance own rest) (suc c) child path e = child_renumbered rest c child path e
 
-child_is : (cells : Cells) (c : ℕ) (child : Instance) (path : Path) → cell_at cells c ≡ OfInstance child → child_at cells c path ≡ instance_at child path
+pub child_is : (cells : Cells) (c : ℕ) (child : Instance) (path : Path) → cell_at cells c ≡ OfInstance child → child_at cells c path ≡ instance_at child path
 child_is no_cells c child path e = absurd (cc)
 child_is (a_primitive row rest) zero child path e = absurd (cc)
 child_is (a_primitive row rest) (suc c) child path e = child_is rest c child path e

@@ -103,9 +103,9 @@ module _ (part : PlainComponent) where
             inside_by r (λ c n e. active_uses act covers o k c (subst (λ x. In (assigns_of x) o) same (sorted_among (assigns_of (part_of i)) o stands)) acts
             (named_used o.assign c n (subst (AssignNames o.assign) e names)))
 
-    -- two cells that are used at once meet, or are one
+    -- two candidates that are used at once meet, or are one
     abbrev pub UsedMeet : Type 0
-    UsedMeet = (x y : ℕ) → used x → used y → (x ≡ y) ⊎ (meet part x y ≡ true)
+    UsedMeet = (x y : ℕ) → is_candidate part x ≡ true → is_candidate part y ≡ true → used x → used y → (x ≡ y) ⊎ (meet part x y ≡ true)
 
     module _ (cell : ℕ → ℕ) (apart : AreApart part cell) (meets : UsedMeet) where
       pub one_number : (x y : ℕ) → IsIn x → IsIn y → cell x ≡ cell y → x ≡ y
@@ -114,8 +114,8 @@ module _ (part : PlainComponent) where
           by : IsIn x → IsIn y → is_candidate part x ≡ true → is_candidate part y ≡ true → (meet part x y ≡ false) ⊎ (meet part y x ≡ false) → x ≡ y
           by (inl none) b cx cy off = absurd (both_ways (is_candidate part x) none cx)
           by (inr u) (inl none) cx cy off = absurd (both_ways (is_candidate part y) none cy)
-          by (inr u) (inr v) cx cy (inl off) = ⊎_elim (λ same. same) (λ on. absurd (both_ways (meet part x y) off on)) (meets x y u v)
-          by (inr u) (inr v) cx cy (inr off) = ⊎_elim (λ same. sym same) (λ on. absurd (both_ways (meet part y x) off on)) (meets y x v u)
+          by (inr u) (inr v) cx cy (inl off) = ⊎_elim (λ same. same) (λ on. absurd (both_ways (meet part x y) off on)) (meets x y cx cy u v)
+          by (inr u) (inr v) cx cy (inr off) = ⊎_elim (λ same. sym same) (λ on. absurd (both_ways (meet part y x) off on)) (meets y x cy cx v u)
 
       same_numbers : (d c : ℕ) → IsIn d → IsIn c → nat_eq (cell d) (cell c) ≡ nat_eq d c
       same_numbers d c a b = by (nat_eq (cell d) (cell c)) refl (nat_eq d c) refl

@@ -4,5 +4,6 @@
 pub mod accepted_laws;
 mod rows;
 pub mod run_laws;
+pub mod whole_laws;
 
 pub use rows::SharedRow;
