@@ -10,19 +10,18 @@ use Rattle.cx_meaning.specs.Answers.{Answer}
 use Rattle.cx_meaning.specs.Cycles as cycles
 use Rattle.cx_meaning.specs.Designs.{PlainDesign}
 use Rattle.cx_meaning.specs.Instances.{State, tree_of}
-use Rattle.cx_meaning.specs.Running.{run_main}
 use Rattle.cx_rules.specs.Externals.{external_rows}
-use Rattle.cx_rules.specs.Flat.{IsFlat}
 use Rattle.cx_numbering.specs.DesignOf.{design_of}
 use Rattle.cx_rules.specs.FullPaths.{full_path}
+use Rattle.cx_flattening.specs.Told.{told}
+use Rattle.cx_flattening.specs.Whole.{whole_main}
 use Rattle.cx_commands.specs.Commands.{Asked, share}
 use Rattle.cx_commands.specs.Unread.{HasTree}
 use Rattle.cx_commands.specs.declared.stops.Stop.TheVariants as stops
-use Rattle.cx_compiler.specs.Interpreted.{told_of, loaded_result, design_result}
+use Rattle.cx_compiler.specs.Interpreted.{dumped, left_told, loaded_meant, meant_result}
 use Rattle.cx_compiler.specs.Texts.{IsDesignOf}
-use Rattle.cx_compiler.proofs.MeantLemmas.{text_meant}
-use Rattle.cx_compiler.proofs.PromiseLemmas.{of_design}
-use Rattle.cx_compiler.proofs.TextLemmas.{one_design}
+use Rattle.cx_compiler.proofs.PromiseLemmas.{of_meant}
+use Rattle.cx_compiler.proofs.StaticEnds.{names_no_done}
 use Rattle.cx_rewritten.specs.Alike.{AreAlike, both_end, both_fault, both_go_on, RunAlike, RunsAs}
 use Rattle.cx_driver.specs.Alike.{ToldAlike, InterpretsAlike, AlikeOfFile}
 use Rattle.cx_driver.specs.Outcomes.{IsAnswer}
@@ -31,33 +30,35 @@ use Rattle.cx_driver.specs.Sharing.{IsSharedTree}
 use Rattle.cx_driver.proofs.RewritingLemmas.{answer_rewritten}
 
 module _ (d e : PlainDesign) where
-  answers_alike : (memories : List PlainMemory) (budget : ℕ) (a b : Answer State cycles.Fault) → AreAlike d e a b → ToldAlike (told_of d memories budget a) (told_of e memories budget b)
+  answers_alike : (memories : List PlainMemory) (budget : ℕ) (a b : Answer State cycles.Fault) → AreAlike d e a b
+      → ToldAlike (dumped (left_told memories budget (told d a))) (dumped (left_told memories budget (told e b)))
   answers_alike memories budget a b (both_end s z t same) = ap (λ words. Ok (dump_text t (with_words memories words))) same
   answers_alike memories budget a b (both_fault f g t same) =
       let path : List ℕ = full_path (tree_of e) g.path g.port in
       (stops.Fault g.kind path t, (path, ap (λ kind. stops.Fault kind path t) same), refl)
   answers_alike memories budget a b both_go_on = (stops.More budget, refl, refl)
 
-  loaded_alike : RunAlike d e → (budget : ℕ) (loaded : Result (List PlainMemory) DataFault) → ToldAlike (loaded_result d budget loaded) (loaded_result e budget loaded)
+  loaded_alike : RunAlike d e → (budget : ℕ) (loaded : Result (List PlainMemory) DataFault) → ToldAlike (dumped (loaded_meant d budget loaded)) (dumped (loaded_meant e budget loaded))
   loaded_alike alike budget (Ok memories) =
-      answers_alike memories budget (run_main d (words_loaded memories) budget) (run_main e (words_loaded memories) budget) (alike.runs (words_loaded memories) budget)
+      answers_alike memories budget (whole_main d (words_loaded memories) budget) (whole_main e (words_loaded memories) budget) (alike.runs (words_loaded memories) budget)
   loaded_alike alike budget (Err fault) = (stops.Json fault, refl, refl)
 
-  designs_alike : RunAlike d e → (json : List ℕ) (budget : ℕ) → ToldAlike (design_result d json budget) (design_result e json budget)
+  designs_alike : RunAlike d e → (json : List ℕ) (budget : ℕ) → ToldAlike (meant_result d json budget) (meant_result e json budget)
   designs_alike alike json budget =
-      subst (λ rows. ToldAlike (design_result d json budget) (loaded_result e budget (load_of json rows))) (sym alike.rows) (loaded_alike alike budget (load_of json (external_rows d)))
+      subst (λ rows. ToldAlike (meant_result d json budget) (dumped (loaded_meant e budget (load_of json rows)))) (sym alike.rows) (loaded_alike alike budget (load_of json (external_rows d)))
 
 -- the text that is written of an accepted text
-pub interprets_alike : (text other : List ℕ) (tree : PlainTree) → HasTree text tree → IsAcceptedTree tree → IsFlat (design_of tree) → RunsAs tree other → InterpretsAlike text other
-interprets_alike text other tree has accepted flat runs =
+pub interprets_alike : (text other : List ℕ) (tree : PlainTree) → HasTree text tree → IsAcceptedTree tree → RunsAs tree other → InterpretsAlike text other
+interprets_alike text other tree has accepted runs =
     let own : IsDesignOf other (design_of runs.again) = (runs.again, (runs.tokens, runs.lexed, runs.parsed), runs.accepted, refl) in
     record {
       accepted = (runs.again, (runs.tokens, runs.lexed, runs.parsed), runs.accepted);
       told = λ json budget result is.
-          let same = of_design text (design_of tree) (tree, has, accepted, refl) flat json budget result is in (
-            design_result (design_of runs.again) json budget,
-            inl (design_of runs.again, own, sym (text_meant other (design_of runs.again) own runs.flat json budget)),
-            subst (λ r. ToldAlike r (design_result (design_of runs.again) json budget)) (sym same) (designs_alike (design_of tree) (design_of runs.again) runs.alike json budget),
+          let same = of_meant text (design_of tree) (tree, has, accepted, refl) json budget result is in (
+            meant_result (design_of runs.again) json budget,
+            inl (design_of runs.again, own, refl),
+            subst (λ r. ToldAlike r (meant_result (design_of runs.again) json budget)) (sym same)
+                (designs_alike (design_of tree) (design_of runs.again) (runs.alike (names_no_done tree accepted.named)) json budget),
           );
     }
 
@@ -69,7 +70,5 @@ shared_of_file held file answer command same h =
     record {
       bytes = written.bytes;
       reads = written.reads;
-      is = λ d stands flat.
-          let own = subst IsFlat (one_design written.bytes d (design_of shared.tree) stands (shared.tree, shared.has, shared.accepted, refl)) flat in
-          interprets_alike written.bytes answer shared.tree shared.has shared.accepted own (shared.written.runs own);
+      is = interprets_alike written.bytes answer shared.tree shared.has shared.accepted shared.written.runs;
     }

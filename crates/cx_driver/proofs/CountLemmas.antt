@@ -10,8 +10,8 @@ use Rattle.cx_rules.specs.Sizes.{design_size}
 use Rattle.cx_rules.specs.Wellformed.{IsDesign}
 use Rattle.cx_rules.proofs.OneBreak.{one_rule, one_place, one_name}
 use Rattle.cx_profiling.specs.Instrumented.{instrumented}
-use Rattle.cx_flat_texts.specs.Runnable.{CanBeFlattened}
-use Rattle.cx_instrumented.proofs.KeptTexts.{flattens}
+use Rattle.cx_compiler.specs.Runnable.{CanBeFlattened}
+use Rattle.cx_compiler.proofs.KeptTexts.{flattens}
 use Rattle.cx_compiler.specs.Texts.{IsDesignOf}
 use Rattle.cx_compiler.proofs.TextLayers.{few_parts, text_flattens}
 use Rattle.cx_compiler.proofs.TextLemmas.{accepted_once, break_once, one_design, same_diagnostic, text_of_design}

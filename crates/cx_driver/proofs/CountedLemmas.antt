@@ -20,7 +20,7 @@ use Rattle.cx_profile.specs.declared.entries.ProfiledGroup.{ProfiledGroup}
 use Rattle.cx_state.specs.declared.tables.InstanceRow.{InstanceRow}
 use Rattle.cx_state.specs.Tables.{IsTable}
 use Rattle.cx_flat.specs.Places.{Standing, places_at, places_in}
-use Rattle.cx_flat_texts.specs.Runnable.{RunsAsMeant, runnable}
+use Rattle.cx_compiler.specs.Runnable.{RunsAsMeant, runnable}
 use Rattle.cx_commands.specs.declared.stops.Stop.{Stop}
 use Rattle.cx_compiler.specs.Interpreted.{IsRunLeft, PlainLeft, StopsRun, meant_left, run_left}
 use Rattle.cx_compiler.proofs.MeantLemmas.{left_meant}

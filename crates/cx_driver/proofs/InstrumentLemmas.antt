@@ -8,9 +8,9 @@ use Rattle.cx_rules.specs.Counts.{counted_design_size}
 use Rattle.cx_rules.specs.Sizes.{design_size}
 use Rattle.cx_rules.specs.Wellformed.{IsDesign}
 use Rattle.cx_profiling.specs.Instrumented.{instrumented}
-use Rattle.cx_scripts.specs.Laws.{SourcesRealiseAlways}
-use Rattle.cx_flat_texts.specs.Runnable.{runnable}
-use Rattle.cx_instrumented.proofs.KeptTexts.{run_emits, run_rules, run_text}
+use Rattle.cx_emitted.specs.ScriptLaws.{SourcesRealiseAlways}
+use Rattle.cx_compiler.specs.Runnable.{runnable}
+use Rattle.cx_compiler.proofs.KeptTexts.{run_emits, run_rules, run_text}
 use Rattle.cx_commands.specs.Statuses.{status_of}
 use Rattle.cx_commands.specs.declared.refusals.Refusal.TheVariants as refusals
 use Rattle.cx_commands.specs.declared.stops.Stop.{Stop}

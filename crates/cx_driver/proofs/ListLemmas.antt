@@ -15,7 +15,7 @@ use Rattle.cx_rules.specs.Sizes.{design_size}
 use Rattle.cx_rules.specs.Wellformed.{IsDesign}
 use Rattle.cx_orders.specs.Enough.{AllEnd}
 use Rattle.cx_orders.specs.Woven.{by_list}
-use Rattle.cx_flat_texts.specs.Runnable.{runnable}
+use Rattle.cx_compiler.specs.Runnable.{runnable}
 use Rattle.cx_commands.specs.declared.stops.Stop.{Stop}
 use Rattle.cx_compiler.specs.Interpreted.{told_of, loaded_result}
 use Rattle.cx_compiler.specs.Texts.{IsDesignOf}

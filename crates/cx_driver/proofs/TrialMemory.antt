@@ -12,7 +12,7 @@ use Rattle.cx_numbering.specs.Names.{is_external}
 use Rattle.cx_trial.specs.TrialParts.{up_to}
 use Rattle.cx_trial.specs.TrialTree.{arm_cells, trial_part, trial_tree}
 use Rattle.cx_vtree.specs.Layout.{is_word}
-use Rattle.cx_compiler.proofs.WrittenNets.{HasWords}
+use Rattle.cx_compiler.specs.Words.{HasWords}
 use Rattle.cx_driver.specs.Tried.{HasTrialMemory, trial_row, words_sum}
 
 -- THE MEMORY

@@ -22,7 +22,7 @@ use Rattle.cx_commands.specs.declared.stops.Stop.TheVariants as stops
 use Rattle.cx_compiler.specs.Interpreted.{fault_stop}
 use Rattle.cx_compiler.specs.Texts.{IsRunOf, IsTextRefusal}
 use Rattle.cx_compiler.proofs.TextLemmas.{one_design, text_of_design, accepted_once, break_once}
-use Rattle.cx_flat_texts.specs.Runnable.{runnable}
+use Rattle.cx_compiler.specs.Runnable.{runnable}
 use Rattle.cx_driver.specs.Loads.{IsUnloaded}
 use Rattle.cx_driver.specs.Weaving.{woven_text, told_woven, loaded_woven, design_woven, Weaves, IsWovenAnswer, IsWeaveStop, IsDesignWoven, StopsDesignWoven, IsRunWoven, StopsRunWoven}
 

@@ -1,13 +1,11 @@
 -- Texts that are interpreted alike.
 use Rattle.std.specs.Prelude.{◌≡◌, ℕ, List, Option, Result, Ok, Err}
 use Rattle.cx_text.specs.declared.limits.TheConstants.{DESIGN_BYTES}
-use Rattle.cx_meaning.specs.Designs.{PlainDesign}
-use Rattle.cx_rules.specs.Flat.{IsFlat}
 use Rattle.cx_commands.specs.Reads.{OfFile}
 use Rattle.cx_commands.specs.declared.stops.Stop.{Stop}
 use Rattle.cx_commands.specs.declared.stops.Stop.TheVariants as stops
 use Rattle.cx_compiler.specs.Interpreted.{Interprets}
-use Rattle.cx_compiler.specs.Texts.{IsAcceptedText, IsDesignOf}
+use Rattle.cx_compiler.specs.Texts.{IsAcceptedText}
 
 -- the same stop; of a fault the path may be another
 abbrev pub StopsAlike : Stop → Stop → Type 0
@@ -24,14 +22,14 @@ abbrev pub ToldAlike : Result (List ℕ) Stop → Result (List ℕ) Stop → Typ
 ToldAlike (Ok dump) other = other ≡ Ok dump
 ToldAlike (Err stop) other = (why : Stop) × StopsAlike stop why × (other ≡ Err why)
 
--- INTERPRETED ALIKE: the second text is accepted, and on every data file and within every budget of turns `interp` dumps of it what it dumps
--- of the first, byte for byte; or it refuses the data file for the same fault, needs more turns as well, or has a fault of the same
--- kind in the same turn
+-- INTERPRETED ALIKE: the second text is accepted; and on every data file and within every budget of turns `interp` dumps of it what it dumps of
+-- the first, byte for byte; or it refuses the data file for the same fault, needs more turns as well, or has a fault of the same kind in the
+-- same turn
 pub record InterpretsAlike (text other : List ℕ) : Type 0 where
   pub accepted : IsAcceptedText other
   pub told : (json : List ℕ) (budget : ℕ) (result : Result (List ℕ) Stop) → Interprets text json budget result
       → (answer : Result (List ℕ) Stop) × Interprets other json budget answer × ToldAlike result answer
 
--- this is written of a file: where it is told what files hold, of the text that the file holds, if no component of its design is static
+-- this is written of a file: where it is told what files hold, of the text that the file holds
 abbrev pub AlikeOfFile : Option (List ℕ → Option (List ℕ)) → List ℕ → List ℕ → Type 0
-AlikeOfFile held file answer = OfFile held DESIGN_BYTES file (λ text. (d : PlainDesign) → IsDesignOf text d → IsFlat d → InterpretsAlike text answer)
+AlikeOfFile held file answer = OfFile held DESIGN_BYTES file (λ text. InterpretsAlike text answer)

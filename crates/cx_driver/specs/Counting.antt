@@ -3,13 +3,13 @@ use Rattle.std.specs.Prelude.{◌⊎◌, ℕ, List}
 use Rattle.cx_text.specs.declared.diagnostics.Diagnostic.{Diagnostic}
 use Rattle.cx_meaning.specs.Designs.{PlainDesign}
 use Rattle.cx_rules.specs.Accepted.{IsFirstOf}
-use Rattle.cx_bytes.specs.Laws.{HasGuards}
+use Rattle.cx_emitted.specs.ByteLaws.{HasGuards}
 use Rattle.cx_profiling.specs.Instrumented.{instrumented}
-use Rattle.cx_flat_texts.specs.Runnable.{CanBeFlattened}
+use Rattle.cx_compiler.specs.Runnable.{CanBeFlattened}
 use Rattle.cx_commands.specs.Stopping.{TellsBreak}
 use Rattle.cx_commands.specs.declared.stops.Stop.{Stop}
 use Rattle.cx_compiler.specs.Texts.{IsDesignOf, TextBreak}
-use Rattle.cx_compiler.proofs.WrittenNets.{HasWords}
+use Rattle.cx_compiler.specs.Words.{HasWords}
 
 -- the text is accepted, and this is the first limit that its instrumented design exceeds
 abbrev pub ExceedsLimit : List ℕ → Diagnostic → Type 0

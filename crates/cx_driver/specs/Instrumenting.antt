@@ -7,7 +7,7 @@ use Rattle.cx_rules.specs.Accepted.{IsAccepted, KeepsStage}
 use Rattle.cx_rules.specs.Counts.{counted_design_size}
 use Rattle.cx_vtree.specs.Spelling.{text_of}
 use Rattle.cx_profiling.specs.Instrumented.{instrumented}
-use Rattle.cx_flat_texts.specs.Runnable.{runnable}
+use Rattle.cx_compiler.specs.Runnable.{runnable}
 use Rattle.cx_commands.specs.Stopping.{TellsBreak}
 use Rattle.cx_commands.specs.declared.stops.Stop.{Stop}
 use Rattle.cx_commands.specs.declared.stops.Stop.TheVariants as stops

@@ -12,7 +12,7 @@ use Rattle.cx_rules.specs.Sizes.{design_size}
 use Rattle.cx_orders.specs.Woven as woven
 use Rattle.cx_orders.specs.Woven.{Woven, by_list, woven}
 use Rattle.cx_meaning.specs.declared.sights.FaultKind.{FaultKind}
-use Rattle.cx_flat_texts.specs.Runnable.{runnable}
+use Rattle.cx_compiler.specs.Runnable.{runnable}
 use Rattle.cx_compiler.specs.Interpreted.{fault_stop, Interprets, IsInterpAnswer}
 use Rattle.cx_compiler.specs.Texts.{IsDesignOf, TextBreak}
 use Rattle.cx_commands.specs.declared.stops.Stop.{Stop}

@@ -9,10 +9,10 @@ ghost use Rattle.cx_driver.specs.Instrumenting.{InstrumentBreak, IsInstrumentabl
 
 use crate::counting::counting;
 use cx_commands::Stop;
+use cx_compiler::flat_laws::{what_is_run_is_accepted, what_is_run_is_flat};
 use cx_compiler::{accepted_design, compile_accepted};
 use cx_design::Checked;
-use cx_flat_texts::laws::{what_is_run_is_accepted, what_is_run_is_flat};
-use cx_scripts::laws::sources_realise_always;
+use cx_emitted::script_laws::sources_realise_always;
 use std::alloc::Global;
 
 /// Writes the Verilog text of the design of a text with a counter for each group, where it keeps the limits and is within the size that is compiled.

@@ -15,11 +15,11 @@ use crate::faults::faulted;
 use crate::memories::{dump_of, load};
 use cx_commands::{Stop, numbers};
 use cx_compiler::design_to_run;
-use cx_compiler::laws::none_ends;
-use cx_design::Checked;
-use cx_flat_texts::laws::{
+use cx_compiler::flat_laws::{
     accepted_texts_run_as_meant, what_is_run_is_accepted, what_is_run_is_flat,
 };
+use cx_compiler::laws::none_ends;
+use cx_design::Checked;
 use cx_orders::laws::orders_end;
 use cx_text::{Loaded, Memory};
 use cx_weave::Wove;

@@ -1,3 +1,11 @@
+pub mod PartsPromoted
+mod OrderPromoted
+pub mod ControlPromoted
+pub mod DesignPromoted
+pub mod NamesPromoted
+pub mod AcceptedPromoted
+mod OncePromoted
+pub mod TargetsPromoted
 mod CycleLemmas
 mod PortLemmas
 mod StartLemmas

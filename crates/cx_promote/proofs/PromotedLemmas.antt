@@ -6,7 +6,6 @@ use Rattle.cx_text.specs.declared.diagnostics.Diagnostic.{Diagnostic}
 use Rattle.cx_ast.specs.PlainTree.{PlainTree}
 use Rattle.cx_meaning.specs.Designs.{PlainDesign}
 use Rattle.cx_rules.specs.Accepted.{KeepsStage, IsFirstOf}
-use Rattle.cx_rules.specs.Flat.{IsFlat}
 use Rattle.cx_rules.specs.Sizes.{design_size}
 use Rattle.cx_rules.specs.Wellformed.{IsDesign}
 use Rattle.cx_numbering.specs.DesignOf.{design_of}
@@ -16,9 +15,9 @@ use Rattle.cx_names.proofs.Whole.{is_design}
 use Rattle.cx_check.specs.Acceptance.{IsAcceptedTree}
 use Rattle.cx_promotion.specs.declared.rows.PromotedRow.{PromotedRow}
 use Rattle.cx_promotion.specs.Rewriting.{IsPromotedTree, made_rows, made_tree}
-use Rattle.cx_promoted_trees.proofs.AcceptedPromoted.{promoted_tree_accepted}
-use Rattle.cx_promoted_trees.proofs.NamesPromoted.{names_made}
-use Rattle.cx_promoted_trees.proofs.TargetsPromoted.{made_tree_has_targets}
+use Rattle.cx_promote.proofs.AcceptedPromoted.{promoted_tree_accepted}
+use Rattle.cx_promote.proofs.NamesPromoted.{names_made}
+use Rattle.cx_promote.proofs.TargetsPromoted.{made_tree_has_targets}
 
 -- the design of an accepted tree keeps what each design keeps
 pub tree_design : (tree : PlainTree) (d : PlainDesign) → HasTargets tree → IsAcceptedTree tree → d ≡ design_of tree → ∥ IsDesign d ∥₁ → IsDesign (design_of tree)
@@ -40,9 +39,9 @@ module _ (tree made : PlainTree) (is : made ≡ made_tree tree) where
   made_is_named none = ap names_break is ∙ names_made tree none
 
   -- by the rows of the tree that is made, since acceptance hangs on no row
-  pub made_is_accepted : (d : PlainDesign) → HasTargets tree → IsAcceptedTree tree → d ≡ design_of tree → ∥ IsDesign d ∥₁ → KeepsStage 7 (design_of made) → IsFlat (design_of tree) → IsAcceptedTree made
-  made_is_accepted d targets accepted same design keeps flat =
-      promoted_tree_accepted tree made (made_rows tree) (tree_design tree d targets accepted same design) flat accepted (promoted_made (made_rows tree) refl keeps)
+  pub made_is_accepted : (d : PlainDesign) → HasTargets tree → IsAcceptedTree tree → d ≡ design_of tree → ∥ IsDesign d ∥₁ → KeepsStage 7 (design_of made) → IsAcceptedTree made
+  made_is_accepted d targets accepted same design keeps =
+      promoted_tree_accepted tree made (made_rows tree) (tree_design tree d targets accepted same design) accepted (promoted_made (made_rows tree) refl keeps)
 
 pub breaks_limit : (d : PlainDesign) (told : Diagnostic) → IsFirstOf 7 d told → KeepsStage 7 d → ⊥
 breaks_limit d told first keeps = keeps told.rule first.spot told.place told.name first.in_stage first.breaks

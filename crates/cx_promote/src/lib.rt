@@ -6,6 +6,7 @@ mod components;
 mod control;
 mod dones;
 mod groups;
+pub mod laws;
 mod lengths;
 mod pieces;
 mod primitives;

@@ -7,7 +7,6 @@ ghost use Rattle.cx_names.specs.Targets.{HasTargets};
 ghost use Rattle.cx_numbering.specs.DesignOf.{design_of};
 ghost use Rattle.cx_numbering.specs.NameRules.{names_break};
 ghost use Rattle.cx_rules.specs.Accepted.{KeepsStage};
-ghost use Rattle.cx_rules.specs.Flat.{IsFlat};
 ghost use Rattle.cx_check.specs.Acceptance.{IsAcceptedTree};
 ghost use Rattle.cx_promotion.specs.Rewriting.{IsPromotedTree, made_rows, made_tree};
 
@@ -31,15 +30,14 @@ pub struct Promotion {
 }
 
 /// Makes the groups of known length static, and runs of their enables static seqs, in the tree of an accepted design. Where the
-/// tree so made exceeds a limit, the tree stays as it is, and there are no rows. The promoted tree of a design without static components
-/// is accepted.
+/// tree so made exceeds a limit, the tree stays as it is, and there are no rows. The promoted tree is accepted.
 #[tactic(auto, using(crate::proofs::PromotedLemmas::promoted_made, crate::proofs::PromotedLemmas::promoted_not))]
 pub fn promote(alloc: Global, tree: &Tree, design: &Checked) -> Result<Promotion, Memory>
     requires accepted { IsAcceptedTree (plain_tree tree.now) }
     requires targets { HasTargets (plain_tree tree.now) }
     requires its { plain_design design.now ≡ design_of (plain_tree tree.now) }
     ensures promoted { IfOk result (λ p. IsPromotedTree (plain_tree tree.now) (plain_tree p.tree) p.rows.items) }
-    ensures accepted { IsFlat (design_of (plain_tree tree.now)) → IfOk result (λ p. IsAcceptedTree (plain_tree p.tree)) }
+    ensures accepted { IfOk result (λ p. IsAcceptedTree (plain_tree p.tree)) }
     ensures targets { IfOk result (λ p. HasTargets (plain_tree p.tree)) }
 {
     let made = made(alloc, tree, design.design())?;

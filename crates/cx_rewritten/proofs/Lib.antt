@@ -1,3 +1,20 @@
+mod SourceOrder
+mod BareNames
+mod BareParts
+mod BareControl
+mod BareItems
+mod BareRules
+mod BareTrees
+mod WrittenOrder
+pub mod SameTrees
+mod CommentLemmas
+pub mod RisingLemmas
+pub mod ReadLemmas
+pub mod NumberLemmas
+pub mod TreeDesign
+pub mod NamesShared
+pub mod PrintableShared
+pub mod DesignShared
 mod LineLemmas
 mod OrderLemmas
 mod NamedOrder

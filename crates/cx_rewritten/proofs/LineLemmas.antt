@@ -10,7 +10,7 @@ use Rattle.std.proofs.lemmas.Str.Parse.{digit_from_value}
 use Rattle.cx_text.proofs.BoolLaws.{and_true, and_left, and_right, or_left}
 use Rattle.cx_lex.specs.Bytes.{is_name_start, is_digit, is_name_byte, is_in_line}
 use Rattle.cx_print.specs.Layout.{IsWritableWord}
-use Rattle.cx_written.specs.Comments.{AreComments, no_line, a_line}
+use Rattle.cx_rewritten.specs.Comments.{AreComments, no_line, a_line}
 
 in_line : (b : ℕ) → is_name_byte b ≡ true → is_in_line b ≡ true
 in_line b h = grind (arith, nat_tests)

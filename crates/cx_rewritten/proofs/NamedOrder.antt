@@ -6,7 +6,7 @@ use Rattle.cx_ast.specs.PlainTree as ast
 use Rattle.cx_ast.specs.PlainStatements as statements
 use Rattle.cx_copies.specs.Naming.{named_assign, named_wire, named_form, named_else, named_block, named_statements}
 use Rattle.cx_numbering.specs.DesignOf.{Invoke, invokes_in, invokes_else, invokes_of, invokes_all}
-use Rattle.cx_written.specs.Ordered.{wire_places, invoke_places}
+use Rattle.cx_rewritten.specs.Ordered.{wire_places, invoke_places}
 
 module _ (name : List ℕ → List ℕ) where
   -- WIRES

@@ -2,7 +2,7 @@
 use Rattle.std.proofs.Common.{List, [], ◌∷◌, ◌++◌}
 use Rattle.cx_text.specs.declared.places.Place.{Place}
 use Rattle.cx_ast.specs.PlainTree.{PlainComponent}
-use Rattle.cx_written.specs.Ordered.{places_in, AreOf, none_left, left_out, one_kept, StandAs}
+use Rattle.cx_rewritten.specs.Ordered.{places_in, AreOf, none_left, left_out, one_kept, StandAs}
 
 -- all of a list are some of it
 pub all_of : (ps : List Place) → AreOf ps ps

@@ -5,7 +5,6 @@ use Rattle.std.specs.List.{AllByRecursion, list_all}
 use Rattle.cx_ast.specs.PlainTree as ast
 use Rattle.cx_lex.specs.Bytes.{is_in_line}
 use Rattle.cx_meaning.specs.Instances.{Instance, State, tree_of, words_of}
-use Rattle.cx_rules.specs.Flat.{IsFlat}
 use Rattle.cx_rules.specs.Ports.{component_of}
 use Rattle.cx_numbering.specs.Names.{groups_in}
 use Rattle.cx_numbering.specs.DesignOf.{group_of, design_of}
@@ -13,12 +12,13 @@ use Rattle.cx_check.specs.Acceptance.{IsAcceptedTree}
 use Rattle.cx_print.specs.Printable.{IsGroup, IsWire, IsName, IsComponent, IsPrintable}
 use Rattle.cx_print.proofs.FileGiven.{tree_of_text}
 use Rattle.cx_promotion.specs.declared.rows.PromotedRow.{PromotedRow}
-use Rattle.cx_promotion.specs.Made.{Quickens}
+use Rattle.cx_flattening.specs.Ends.{NoneNamesDone}
+use Rattle.cx_promotion.specs.Made.{WholeQuickens}
 use Rattle.cx_promotion.specs.Rewriting.{length_of, row_if, rows_in, rows_from, IsPromotedTree}
-use Rattle.cx_written.specs.Comments.{AreComments, no_line}
-use Rattle.cx_written.specs.Ordered.{KeepsOrder}
-use Rattle.cx_written.specs.Written.{IsReadAs}
-use Rattle.cx_written.proofs.ReadLemmas.{written_read}
+use Rattle.cx_rewritten.specs.Comments.{AreComments, no_line}
+use Rattle.cx_rewritten.specs.Ordered.{KeepsOrder}
+use Rattle.cx_rewritten.specs.Written.{IsReadAs}
+use Rattle.cx_rewritten.proofs.ReadLemmas.{written_read}
 use Rattle.cx_rewritten.specs.Sources.{IsTreeOfText}
 use Rattle.cx_rewritten.specs.PromotedTexts.{row_line, lines, IsPromotedText}
 use Rattle.cx_rewritten.specs.NoLater.{EndsNoLater}
@@ -87,17 +87,16 @@ promoted_read tree written s p =
 
 -- what quickens a design still does at other places
 module _ (tree new : ast.PlainTree) (written : List ℕ) (r : IsReadAs new written) where
-  quickens_there : Quickens (design_of tree) (design_of new) → Quickens (design_of tree) (design_of r.again)
+  quickens_there : WholeQuickens (design_of tree) (design_of new) → WholeQuickens (design_of tree) (design_of r.again)
   quickens_there q = record { rows = q.rows ∙ r.rows; runs = λ words n t s e. let k = q.runs words n t s e in (k.0, sym (r.run words n) ∙ k.1, k.2) }
 
-  pub ends_no_later : IsFlat (design_of new) → IsAcceptedTree new → Quickens (design_of tree) (design_of new) → ((s : State) → words_of (tree_of (design_of new)) s ≡ words_of (tree_of (design_of tree)) s) → EndsNoLater tree written
-  ends_no_later flat accepted quickens words = record {
+  pub ends_no_later : IsAcceptedTree new → (NoneNamesDone (design_of tree) → WholeQuickens (design_of tree) (design_of new)) → ((s : State) → words_of (tree_of (design_of new)) s ≡ words_of (tree_of (design_of tree)) s) → EndsNoLater tree written
+  ends_no_later accepted quickens words = record {
     again = r.again;
     tokens = r.tokens;
     lexed = r.lexed;
     parsed = r.parsed;
-    accepted = r.accepted flat accepted;
-    flat = r.flat flat;
-    quickens = quickens_there quickens;
+    accepted = r.accepted accepted;
+    quickens = λ undone. quickens_there (quickens undone);
     words = λ s. sym (r.words s) ∙ words s;
   }

@@ -8,8 +8,8 @@ use Rattle.cx_meaning.specs.Instances.{Instance}
 use Rattle.cx_rules.specs.Ports.{component_of}
 use Rattle.cx_numbering.specs.DesignOf.{design_of}
 use Rattle.cx_promotion.specs.Rewriting.{BELOW_CONTROL, is_hole_item, bare_enable, promote_assigns, promote_group, promote_block, length_of, is_long, enables, promote_wire, promote_component, components_from}
-use Rattle.cx_promoted_trees.proofs.ControlPromoted.{block_invokes}
-use Rattle.cx_written.specs.Ordered.{wire_places, invoke_places, places_in, AreOf, none_left, left_out, one_kept, StandAs}
+use Rattle.cx_promote.proofs.ControlPromoted.{block_invokes}
+use Rattle.cx_rewritten.specs.Ordered.{wire_places, invoke_places, places_in, AreOf, none_left, left_out, one_kept, StandAs}
 use Rattle.cx_rewritten.proofs.OrderLemmas.{all_of, both_of}
 
 -- ASSIGNMENTS

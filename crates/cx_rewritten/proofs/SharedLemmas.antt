@@ -12,12 +12,12 @@ use Rattle.cx_sharing.specs.declared.rows.SharedRow.{SharedRow}
 use Rattle.cx_sharing.specs.Giving.{keeper, stays}
 use Rattle.cx_sharing.specs.SharedTree.{kept_name, shared_component, shared_components, shared_tree}
 use Rattle.cx_sharing.specs.SharedRows.{row_of, rows_from, rows_of, shared_rows}
-use Rattle.cx_shared_trees.proofs.PrintableShared.{printable-shared}
+use Rattle.cx_rewritten.proofs.PrintableShared.{printable-shared}
 use Rattle.cx_copies.specs.Naming.{named_block}
-use Rattle.cx_written.specs.Ordered.{wire_places, invoke_places, places_in, AreOf, StandAs, KeepsOrder}
-use Rattle.cx_written.specs.Comments.{AreComments}
-use Rattle.cx_written.specs.Written.{IsReadAs}
-use Rattle.cx_written.proofs.ReadLemmas.{written_read}
+use Rattle.cx_rewritten.specs.Ordered.{wire_places, invoke_places, places_in, AreOf, StandAs, KeepsOrder}
+use Rattle.cx_rewritten.specs.Comments.{AreComments}
+use Rattle.cx_rewritten.specs.Written.{IsReadAs}
+use Rattle.cx_rewritten.proofs.ReadLemmas.{written_read}
 use Rattle.cx_rewritten.specs.Sources.{IsTreeOfText}
 use Rattle.cx_rewritten.specs.SharedTexts.{row_line, lines, IsSharedText}
 use Rattle.cx_rewritten.proofs.LineLemmas.{word_in_line, joined_in_line, IsComment, comments_of, all_joined}

@@ -1,3 +1,6 @@
+pub mod Ordered
+pub mod Comments
+pub mod Written
 pub mod Sources
 pub mod SharedTexts
 pub mod Alike

@@ -2,7 +2,6 @@
 
 ghost use Rattle.std.specs.Prelude.{◌≡◌, ◌++◌, IfOk};
 ghost use Rattle.cx_ast.specs.PlainTree.{plain_tree};
-ghost use Rattle.cx_rules.specs.Flat.{IsFlat};
 ghost use Rattle.cx_design.specs.PlainDesigns.{plain_design};
 ghost use Rattle.cx_numbering.specs.DesignOf.{design_of};
 ghost use Rattle.cx_names.specs.Targets.{HasTargets};
@@ -29,8 +28,8 @@ pub fn promote_text(alloc: Global, tree: &Tree, design: &Checked) -> Result<Vec<
     requires source { IsTreeOfText (plain_tree tree.now) }
     requires accepted { IsAcceptedTree (plain_tree tree.now) }
     ensures written { IfOk result (λ text. IsPromotedText (plain_tree tree.now) text.items) }
-    // Without static components what is written is accepted, and its design ends no later than the design of the tree, in the same state.
-    ensures runs { IsFlat (design_of (plain_tree tree.now)) → IfOk result (λ text. EndsNoLater (plain_tree tree.now) text.items) }
+    // What is written is accepted, and its design ends no later than the design of the tree, in the same state.
+    ensures runs { IfOk result (λ text. EndsNoLater (plain_tree tree.now) text.items) }
 {
     promoted_texts_end_no_later();
     let text = written(alloc, tree, design)?;

@@ -2,7 +2,6 @@
 
 ghost use Rattle.std.specs.Prelude.{◌≡◌, ◌++◌, IfOk};
 ghost use Rattle.cx_ast.specs.PlainTree.{plain_tree};
-ghost use Rattle.cx_rules.specs.Flat.{IsFlat};
 ghost use Rattle.cx_design.specs.PlainDesigns.{plain_design};
 ghost use Rattle.cx_numbering.specs.DesignOf.{design_of};
 ghost use Rattle.cx_check.specs.Acceptance.{IsAcceptedTree};
@@ -27,8 +26,8 @@ pub fn share_text(alloc: Global, tree: &Tree, design: &Checked) -> Result<Vec<u8
     requires source { IsTreeOfText (plain_tree tree.now) }
     requires accepted { IsAcceptedTree (plain_tree tree.now) }
     ensures written { IfOk result (λ text. IsSharedText (plain_tree tree.now) text.items) }
-    // Without static components what is written is accepted, and its design runs as the design of the tree.
-    ensures runs { IsFlat (design_of (plain_tree tree.now)) → IfOk result (λ text. RunsAs (plain_tree tree.now) text.items) }
+    // What is written is accepted, and its design runs as the design of the tree, with static components too.
+    ensures runs { IfOk result (λ text. RunsAs (plain_tree tree.now) text.items) }
 {
     let text = written(alloc, tree, design)?;
     Ok(text)

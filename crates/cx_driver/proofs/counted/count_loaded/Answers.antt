@@ -6,7 +6,7 @@ use Rattle.cx_profile.specs.declared.entries.ProfiledGroup.{ProfiledGroup}
 use Rattle.cx_state.specs.Tables.{IsTable}
 use Rattle.cx_interp.specs.Counts.{plain_counts}
 use Rattle.cx_flat.specs.Places.{plain_instances}
-use Rattle.cx_flat_texts.specs.Runnable.{RunsAsMeant, runnable}
+use Rattle.cx_compiler.specs.Runnable.{RunsAsMeant, runnable}
 use Rattle.cx_driver.specs.Counted.{AreTallied}
 use Rattle.cx_driver.specs.Leaving.{plain_left}
 use Rattle.cx_driver.specs.Placing.{standing_at, total_in}

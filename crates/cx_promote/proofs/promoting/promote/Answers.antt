@@ -13,6 +13,6 @@ pub returns-then-branch-clause-targets : goal.returns-then-branch-clause-targets
 returns-then-branch-clause-targets c = made_has_targets (plain_tree c.args.tree.now) (plain_tree c.in_ok-made.made.tree) c.in_ok-made.ensures.tree c.requires.targets
 
 pub returns-then-branch-clause-accepted : goal.returns-then-branch-clause-accepted
-returns-then-branch-clause-accepted c flat =
+returns-then-branch-clause-accepted c =
     made_is_accepted (plain_tree c.args.tree.now) (plain_tree c.in_ok-made.made.tree) c.in_ok-made.ensures.tree (plain_design c.args.design.now)
-    c.requires.targets c.requires.accepted c.requires.its c.args.design.now.keeps (c.in_ok-keeps_limits.ensures.keeps c.if-branch.true) flat
+    c.requires.targets c.requires.accepted c.requires.its c.args.design.now.keeps (c.in_ok-keeps_limits.ensures.keeps c.if-branch.true)

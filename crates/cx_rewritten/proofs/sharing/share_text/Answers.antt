@@ -8,5 +8,5 @@ pub written-requires : goal.written-requires
 written-requires c = record { design = c.requires.design; printable = tree_of_text c.requires.source.0 c.requires.source.1 (plain_tree c.args.tree.now) c.requires.source.2 c.requires.source.3 }
 
 pub returns-clause-runs : goal.returns-clause-runs
-returns-clause-runs c flat =
-    held_runs (plain_tree c.args.tree.now) (plain_design c.args.design.now) c.in_ok-text.text.items c.requires.source c.requires.accepted c.requires.design c.args.design.now.keeps c.in_ok-text.ensures flat
+returns-clause-runs c =
+    held_runs (plain_tree c.args.tree.now) (plain_design c.args.design.now) c.in_ok-text.text.items c.requires.source c.requires.accepted c.requires.design c.args.design.now.keeps c.in_ok-text.ensures

@@ -1,8 +1,0 @@
-pub mod PartsPromoted
-mod OrderPromoted
-pub mod ControlPromoted
-pub mod DesignPromoted
-pub mod NamesPromoted
-pub mod AcceptedPromoted
-mod OncePromoted
-pub mod TargetsPromoted

@@ -1,5 +1,0 @@
-use Rattle.cx_promoted_trees.proofs.DesignPromoted.{promoted_design}
-use Rattle.cx_promoted_trees.proofs.laws.promoted_trees_have_promoted_designs.Goals as goal
-
-pub returns : goal.returns
-returns c = record { made = λ tree new rows is. promoted_design tree new rows is }

@@ -1,5 +1,0 @@
-use Rattle.cx_shared_trees.proofs.DesignShared.{nothing_more}
-use Rattle.cx_shared_trees.proofs.laws.shared_trees_share_nothing_more.Goals as goal
-
-pub returns : goal.returns
-returns c = λ tree named. nothing_more tree named
