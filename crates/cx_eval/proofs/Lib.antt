@@ -1,6 +1,8 @@
 mod OwnLemmas
 mod FaultLemmas
 mod SteppingLemmas
+mod WalkLemmas
+mod NodePlaces
 pub mod DesignProp
 mod PartLemmas
 mod TableLemmas

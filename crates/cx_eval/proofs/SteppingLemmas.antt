@@ -1,5 +1,5 @@
 -- A cell of the asked instance that can step, and its room.
-use Rattle.std.proofs.Common.{◌≡◌, ◌≢◌, ℕ, ◌<◌, ◌^◌, List, get_or, length, set, Option, Some, sym, ap, ◌∙◌, subst, arith}
+use Rattle.std.proofs.Common.{◌≡◌, ◌≢◌, ℕ, ◌<◌, ◌^◌, List, get_or, length, set, Option, Some, sym, subst, arith}
 use Rattle.std.proofs.lemmas.Option.{slice_get-get_or}
 use Rattle.cx_prim.specs.CellStates.{CellState}
 use Rattle.cx_prim.specs.Table.{row_of}
@@ -33,11 +33,11 @@ module _ (a : Asking) (can : IsAsking a) (kept : List (Option SteppingCell)) (ar
     pub room_below : c < length rooms
     room_below = let lt = below in let count = have.count in omega (arith, lt, count)
 
-    pub has_room : (room : CellRoom) → HasRoom (length stepping.enabling.items) (get_or rooms c room)
+    pub has_room : (room : CellRoom) → HasRoom (row_of stepping.primitive.now).ports (get_or rooms c room)
     has_room room = subst (λ k. HasRoom (ports_of k) (get_or rooms c room)) is (have.each c (get_or rooms c room) (slice_get-get_or rooms c room room_below))
 
     module _ (new : CellRoom) where
-      pub rooms_after : HasRoom (length stepping.enabling.items) new → HaveRooms kept (set rooms c new)
+      pub rooms_after : HasRoom (row_of stepping.primitive.now).ports new → HaveRooms kept (set rooms c new)
       rooms_after has = still_rooms rooms c new kept have room_below (subst (λ k. HasRoom (ports_of k) new) (sym is) has)
 
       pub others_after : (m : ℕ) → m ≢ c → inputs_at (set rooms c new) m ≡ inputs_at rooms m

@@ -53,8 +53,8 @@ module _ (t : Tables) (are : AreTables t) (n : ℕ) (lt : n < length (paths_of (
   pub own_active : (state : List PlainInstance) (active : Active) → CanAct (design_of t) n active → CanBeActive (instance_of (asked_in t state n active) n) active
   own_active state active can = can (path_at (design_of t) n) (get_there (paths_of (tree_of (design_of t))) n lt)
 
-  pub can_ask : (state : List PlainInstance) (active : Active) → IsStateOf (design_of t) state → IsNetwork (asked_in t state n active) t.nodes → CanAsk (asked_in t state n active) t.nodes t.drivers
-  can_ask state active fits network = record { network = network; within = in_rows; accepted = are.accepted; driven = are.driven; fits = fits }
+  pub can_ask : (state : List PlainInstance) (active : Active) → IsStateOf (design_of t) state → IsNetwork (asked_in t state n active) t.nodes → CanAsk (asked_in t state n active) t.nodes
+  can_ask state active fits network = record { network = network; within = in_rows; accepted = are.accepted; fits = fits }
 
   -- the cells of an instance
   module _ (row : InstanceRow) (is : row ≡ get_or rows_here n row) where

@@ -14,7 +14,6 @@ use Rattle.cx_state.specs.States.{PlainInstance}
 use Rattle.cx_eval_network.specs.Demands.{Ready}
 use Rattle.cx_eval_network.specs.declared.marks.NodeMark.{NodeMark}
 use Rattle.cx_eval_network.specs.Nodes.{IsNodesOf, node_count}
-use Rattle.cx_eval_drives.specs.Drivers.{AreDrivers}
 use Rattle.cx_eval_network.specs.Networks.{Asked, value_at}
 use Rattle.cx_eval_network.specs.Asked.{asked}
 use Rattle.cx_eval_cycle.specs.declared.rooms.CellRoom.{CellRoom}
@@ -39,7 +38,6 @@ pub record AreTables (t : Tables) : Type 0 where
   pub accepted : IsAccepted (design_of t)
   pub table : IsTable (design_of t) t.table.rows.items t.table.children.items
   pub numbered : IsNodesOf (design_of t) t.table.rows.items t.nodes
-  pub driven : AreDrivers (design_of t) t.drivers
   pub stepping : AreSteppingParts (design_of t) t.parts.items
   pub nothing : t.nothing ≡ actives.Nothing
 

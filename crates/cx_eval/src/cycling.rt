@@ -12,11 +12,12 @@ ghost use Rattle.cx_eval.specs.Evaluated.{CanAct, Cycled};
 ghost use Rattle.cx_eval.specs.Tables.{AreMarksOf, AreReady, AreRooms, AreTables, asked_in, cells_at, design_of, kept_of};
 
 use crate::faults::first_fault;
+use crate::sights::{fill_in, own_ports};
 use crate::stepping::step_in;
 use crate::tables::{Tables, ask, stepping_of};
-use cx_design::{Active, PortFault, PortRef};
+use cx_design::{Active, GroupKind, PortFault, PortRef};
 use cx_eval_cycle::{CellFault, CellRoom};
-use cx_eval_network::Marks;
+use cx_eval_network::{GroupList, Marks};
 use cx_state::State;
 
 /// The first fault among the listed cells of an instance; where there is none, the rooms have what stands at their ports.
@@ -40,8 +41,9 @@ fn fault_in(
     ensures count { AreMarksOf tables.now marks.new }
 {
     let asking = ask(tables, state, active, instance);
+    let ports = own_ports(&asking);
     let stepping = stepping_of(tables, instance);
-    first_fault(&asking, marks, &stepping.cells, rooms, listed)
+    first_fault(&asking, ports, marks, &stepping.cells, rooms, listed)
 }
 
 /// The fault of a cell of an instance, as it is told.
@@ -112,6 +114,63 @@ pub(crate) fn cycle_listed(
     cycle_in(tables, marks, own, state, active, instance, listed)
 }
 
+/// How many cycles a static group has at most for its ports to be found before its cells are looked at. In a cycle of a longer one
+/// most cells are not enabled, and what their other ports rest on is not needed.
+const SHORT: u64 = 2;
+
+/// Whether a group of an instance is such a static one.
+fn is_short(tables: &Tables<'_>, instance: usize, group: u32) -> bool {
+    let Some(row) = tables.table.rows.get(instance) else {
+        return false;
+    };
+    let Some(part) = tables.design.components.get(row.component as usize) else {
+        return false;
+    };
+    match part.groups.get(group as usize) {
+        Some(group) => matches!(group.kind, GroupKind::Timed(length) if length <= SHORT),
+        None => false,
+    }
+}
+
+/// Whether what is active is one short static group of an island.
+fn is_short_island(tables: &Tables<'_>, active: &Active, instance: usize) -> bool {
+    match active {
+        Active::Entries(entries) => {
+            entries.len() == 1 && is_short(tables, instance, entries[0].group)
+        }
+        Active::Nothing | Active::Group(_) | Active::CallEnd(_) => false,
+    }
+}
+
+/// A cycle of the listed cells of an instance that no turn has begun. The ports that one short static group of an island drives
+/// are found first, one behind the other, so that looks at cells wait for none. It takes no memory.
+pub(crate) fn cycle_anew(
+    tables: &Tables<'_>,
+    marks: &mut Marks,
+    rooms: &mut [Vec<CellRoom>],
+    state: &mut State,
+    active: &Active,
+    instance: usize,
+    listed: &[u32],
+) -> Result<(), PortFault>
+    requires tables { AreTables tables.now }
+    requires state { IsStateOf (design_of tables.now) (plain_state state.old) }
+    requires instance { instance < length (paths_of (tree_of (design_of tables.now))) }
+    requires active { CanAct (design_of tables.now) instance active.now }
+    requires ready { AreReady tables.now (plain_state state.old) instance active.now marks.old }
+    requires rooms { AreRooms tables.now rooms.old }
+    requires ascending { IsAscending listed.now }
+    ensures value { Cycled (design_of tables.now) (plain_state state.old) (plain_state state.new) instance active.now (listed_in listed.now) result }
+    ensures fits { IsStateOf (design_of tables.now) (plain_state state.new) }
+    ensures rooms { AreRooms tables.now rooms.new }
+    ensures count { AreMarksOf tables.now marks.new }
+{
+    if is_short_island(tables, active, instance) {
+        fill_in(tables, marks, state, active, instance, GroupList::Others);
+    }
+    cycle_listed(tables, marks, rooms, state, active, instance, listed)
+}
+
 /// A cycle of all cells of an instance: of those that can step, since the others stay. It takes no memory.
 pub(crate) fn cycle_all(
     tables: &Tables<'_>,
@@ -133,7 +192,7 @@ pub(crate) fn cycle_all(
     ensures count { AreMarksOf tables.now marks.new }
 {
     let stepping = stepping_of(tables, instance);
-    cycle_listed(
+    cycle_anew(
         tables,
         marks,
         rooms,

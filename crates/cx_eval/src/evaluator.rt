@@ -11,7 +11,7 @@ ghost use Rattle.cx_eval.specs.Evaluated.{CanAct, Cycled, IsPort, IsSeen, Turned
 ghost use Rattle.cx_eval_cycle.specs.Passes.{IsAscending, listed_in};
 ghost use Rattle.cx_rules.specs.Flat.{IsFlat};
 
-use crate::cycling::{cycle_all, cycle_listed};
+use crate::cycling::{cycle_all, cycle_anew};
 use crate::sights::seen_in;
 use crate::tables::{Tables, rooms_of};
 use crate::turns::{GroupTurn, turn_in};
@@ -120,7 +120,7 @@ impl<'a> Evaluator<'a> {
         ensures same { self.new ≡ self.old }
     {
         self.marks.forget();
-        cycle_listed(
+        cycle_anew(
             &self.tables,
             &mut self.marks,
             &mut self.rooms,

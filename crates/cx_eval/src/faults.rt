@@ -1,7 +1,9 @@
 //! The first fault among the cells of the asked instance.
 
 ghost use Rattle.std.specs.Prelude.{◌≡◌, ◌≢◌, ℕ, IfNone, IfSome, None, Some};
+ghost use Rattle.cx_design.specs.PlainDesigns.{plain_design};
 ghost use Rattle.cx_eval_network.specs.Askings.{IsAsking};
+ghost use Rattle.cx_eval_network.specs.Nodes.{ArePortsOf};
 ghost use Rattle.cx_eval_cycle.specs.Passes as passes;
 ghost use Rattle.cx_eval_cycle.specs.Passes.{cell_held, first_among, listed_in};
 ghost use Rattle.cx_eval_cycle.specs.Rooms.{HaveRooms, inputs_at};
@@ -13,7 +15,7 @@ ghost use Rattle.cx_eval.specs.Looked.{CanDemand, own_cells, seen_look};
 use crate::looking::look_in;
 use cx_cells::PrimState;
 use cx_eval_cycle::{CellFault, CellRoom, SteppingCell, stepping_at};
-use cx_eval_network::{Asking, Marks};
+use cx_eval_network::{Asking, InstancePorts, Marks};
 
 /// What the cells of the asked instance hold.
 fn own_held<'b>(asking: &Asking<'b>) -> &'b [Option<PrimState>]
@@ -37,6 +39,7 @@ fn held_at(held: &[Option<PrimState>], cell: usize) -> Option<&PrimState>
 /// The fault of a cell. One that cannot step has none, and none has a number that names no cell.
 fn fault_of(
     asking: &Asking<'_>,
+    ports: InstancePorts<'_>,
     marks: &mut Marks,
     cells: &[Option<SteppingCell<'_>>],
     rooms: &mut [CellRoom],
@@ -44,6 +47,7 @@ fn fault_of(
     cell: usize,
 ) -> Option<CellFault>
     requires can { IsAsking asking.now }
+    requires own { ArePortsOf (plain_design asking.now.design.now) asking.now.table.now.rows.items asking.now.instance ports }
     requires ready { CanDemand asking.now marks.old }
     requires cells { AreStepping (own_cells asking.now) cells.now }
     requires rooms { HaveRooms cells.now rooms.old }
@@ -61,7 +65,15 @@ fn fault_of(
         return None;
     };
     let number = cell as u32;
-    match look_in(asking, marks, number, stepping, state, &mut rooms[cell]) {
+    match look_in(
+        asking,
+        ports,
+        marks,
+        number,
+        stepping,
+        state,
+        &mut rooms[cell],
+    ) {
         Ok(()) => None,
         Err(stop) => Some(CellFault { cell: number, stop }),
     }
@@ -71,12 +83,14 @@ fn fault_of(
 /// demanded. Where there is no fault, the rooms have what stands at the ports of the listed cells. It takes no memory.
 pub fn first_fault(
     asking: &Asking<'_>,
+    ports: InstancePorts<'_>,
     marks: &mut Marks,
     cells: &[Option<SteppingCell<'_>>],
     rooms: &mut [CellRoom],
     listed: &[u32],
 ) -> Option<CellFault>
     requires can { IsAsking asking.now }
+    requires own { ArePortsOf (plain_design asking.now.design.now) asking.now.table.now.rows.items asking.now.instance ports }
     requires ready { CanDemand asking.now marks.old }
     requires cells { AreStepping (own_cells asking.now) cells.now }
     requires rooms { HaveRooms cells.now rooms.old }
@@ -88,7 +102,7 @@ pub fn first_fault(
     let held = own_held(asking);
     for number in 0..listed.len() {
         let cell = listed[number] as usize;
-        if let Some(fault) = fault_of(asking, marks, cells, rooms, held, cell) {
+        if let Some(fault) = fault_of(asking, ports, marks, cells, rooms, held, cell) {
             return Some(fault);
         }
     }

@@ -1,68 +1,191 @@
 //! A look at a cell of the asked instance.
 
-ghost use Rattle.std.specs.Prelude.{◌≡◌, ◌^◌, ◌<◌, OnOk, Some, length};
+ghost use Rattle.std.specs.Prelude.{◌≡◌, ◌+◌, ◌^◌, ◌<◌, true, IfErr, IfOk, List, OnOk, Some, length};
 ghost use Rattle.cx_prim.specs.CellStates.{IsState};
-ghost use Rattle.cx_prim.specs.Rows.{FitsPorts, IsLookedAt};
-ghost use Rattle.cx_prim.specs.Table.{row_of};
+ghost use Rattle.cx_prim.specs.declared.ports.PortRow.{PortRow};
+ghost use Rattle.cx_prim.specs.Rows.{FitsPorts, IsLookedAt, IsQuiet};
+ghost use Rattle.cx_prim.specs.Table.{PrimitiveRow, row_of};
 ghost use Rattle.cx_meaning.specs.Designs.{OfPrimitive};
-ghost use Rattle.cx_meaning.specs.Cycles.{cell_outcome, enables};
+ghost use Rattle.cx_meaning.specs.Cycles.{cell_outcome, enables, looks_at};
+ghost use Rattle.cx_design.specs.PlainDesigns.{plain_design};
+ghost use Rattle.cx_eval_drives.specs.Gathers.{AreWide};
 ghost use Rattle.cx_eval_network.specs.Askings.{IsAsking};
+ghost use Rattle.cx_eval_network.specs.Nodes.{ArePortsOf};
 ghost use Rattle.cx_eval_cycle.specs.Passes.{kind_at};
+ghost use Rattle.cx_eval_cycle.specs.Ports.{AllStand, IsLack, KeepStanding, Stands, StopsAt};
 ghost use Rattle.cx_eval_cycle.specs.Rooms.{HasRoom};
 ghost use Rattle.cx_eval_cycle.specs.Stepping.{IsStepping};
-ghost use Rattle.cx_eval_cycle.specs.Stops.{AreMarked, told};
-ghost use Rattle.cx_eval.specs.Looked.{CanDemand, own_cells, seen_look};
+ghost use Rattle.cx_eval_cycle.specs.Stops.{told};
+ghost use Rattle.cx_eval.specs.Looked.{CanDemand, HaveNodes, StandFrom, StandsAs, count_in, own_cells, seen_from, seen_look};
 
-use crate::demanding::gather_demanded;
+use crate::demanding::demand_node;
 use crate::laws::seen_ports_are_wide;
 use cx_bits::Bits;
-use cx_cells::{PrimState, Primitive};
-use cx_design::FaultKind;
-use cx_eval_cycle::{
-    CellRoom, CellStop, SteppingCell, all_zero, mark_looked, out_of_range, stop_at,
-};
-use cx_eval_network::{Asking, Marks};
+use cx_cells::PrimState;
+use cx_design::{FaultKind, PortRef, Seen};
+use cx_eval_cycle::{CellRoom, CellStop, SteppingCell, out_of_range, stop_at};
+use cx_eval_network::{Asking, InstancePorts, Marks};
+use cx_prim::Cycle;
 
-/// Looks at a cell: at its enabling ports in port order, then at the ports that it demands at their values, then at its
-/// addresses. Each port is demanded as it is looked at. Where nothing stops the cell, `inputs` has what stands at its ports.
-fn look_at(
+/// The node of the first port of a cell, from which on those of its ports stand; 0 for a cell that has no port.
+fn first_node(asking: &Asking<'_>, ports: InstancePorts<'_>, cell: u32) -> usize
+    requires can { IsAsking asking.now }
+    requires own { ArePortsOf (plain_design asking.now.design.now) asking.now.table.now.rows.items asking.now.instance ports }
+    ensures value { (p : PrimitiveRow) → kind_at (own_cells asking.now) cell ≡ Some (OfPrimitive p) → StandFrom asking.now cell (row_of p).ports result }
+{
+    seen_ports_are_wide();
+    match ports.node(PortRef::Cell(cell, 0)) {
+        Some(node) => node,
+        None => 0,
+    }
+}
+
+/// Demands a port of a cell whose ports stand from a node on, keeps what stands there, and tells whether it is 0. A port that
+/// is seen as no value stops the cell.
+fn demand_at(
     asking: &Asking<'_>,
     marks: &mut Marks,
-    cell: u32,
-    primitive: &Primitive,
+    first: usize,
+    port: usize,
+    inputs: &mut [Option<Bits>],
+) -> Result<bool, CellStop>
+    requires can { IsAsking asking.now }
+    requires ready { CanDemand asking.now marks.old }
+    requires node { first + port < count_in asking.now }
+    requires few { port < 2 ^ 32 }
+    requires within { port < length inputs.old }
+    ensures stands { IfOk result (StandsAs (seen_from asking.now first) inputs.new port) }
+    ensures lacks { IfErr result (IsLack (seen_from asking.now first) port) }
+    ensures kept { KeepStanding (seen_from asking.now first) inputs.old inputs.new }
+    ensures fits { (ports : List PortRow) → AreWide (seen_from asking.now first) ports → FitsPorts ports inputs.old → FitsPorts ports inputs.new }
+    ensures ready { CanDemand asking.now marks.new }
+{
+    let number = port as u32;
+    match demand_node(asking, marks, first + port) {
+        Seen::Value(bits) => {
+            inputs[port] = Some(bits);
+            Ok(bits.value() == 0)
+        }
+        Seen::Conflict => Err(stop_at(number, Seen::Conflict)),
+        Seen::Undefined => Err(stop_at(number, Seen::Undefined)),
+    }
+}
+
+/// Demands the enabling ports of a cell in port order, and tells whether all of them are 0.
+fn demand_enabling(
+    asking: &Asking<'_>,
+    marks: &mut Marks,
+    first: usize,
+    stepping: &SteppingCell<'_>,
+    inputs: &mut [Option<Bits>],
+) -> Result<bool, CellStop>
+    requires can { IsAsking asking.now }
+    requires ready { CanDemand asking.now marks.old }
+    requires nodes { HaveNodes asking.now (row_of stepping.now.primitive.now).ports first }
+    requires stepping { IsStepping stepping.now.primitive.now stepping.now }
+    requires fits { FitsPorts (row_of stepping.now.primitive.now).ports inputs.old }
+    ensures stand { OnOk result (AllStand (seen_from asking.now first) (enables (row_of stepping.now.primitive.now)) (length (row_of stepping.now.primitive.now).ports) inputs.new) }
+    ensures quiet { IfOk result (λ quiet. quiet ≡ true → IsQuiet (row_of stepping.now.primitive.now) inputs.new) }
+    ensures stops { IfErr result (StopsAt (seen_from asking.now first) (enables (row_of stepping.now.primitive.now)) (length (row_of stepping.now.primitive.now).ports)) }
+    ensures fits { FitsPorts (row_of stepping.now.primitive.now).ports inputs.new }
+    ensures ready { CanDemand asking.now marks.new }
+{
+    let mut quiet = true;
+    for number in 0..stepping.enabling.len() {
+        let port = stepping.enabling[number];
+        let zero = demand_at(asking, marks, first, port, inputs)?;
+        quiet = quiet & zero;
+    }
+    Ok(quiet)
+}
+
+/// Demands a plain input of a cell, where its primitive asks for it at what stands at its enabling ports.
+fn demand_asked(
+    asking: &Asking<'_>,
+    marks: &mut Marks,
+    first: usize,
+    stepping: &SteppingCell<'_>,
     state: &PrimState,
-    enabling: &[bool],
-    wanted: &mut [bool],
+    port: usize,
     inputs: &mut [Option<Bits>],
 ) -> Result<(), CellStop>
     requires can { IsAsking asking.now }
     requires ready { CanDemand asking.now marks.old }
-    requires own { kind_at (own_cells asking.now) cell ≡ Some (OfPrimitive primitive.now) }
-    requires state { IsState (row_of primitive.now).shape state.now }
-    requires marked { AreMarked (enables (row_of primitive.now)) enabling.now }
-    requires ports { length enabling.now ≡ length (row_of primitive.now).ports }
-    requires wanted { length wanted.old ≡ length (row_of primitive.now).ports }
-    requires sized { length inputs.old ≡ length (row_of primitive.now).ports }
-    requires few { length inputs.old < 2 ^ 32 }
-    ensures value { told (row_of primitive.now) state.now result inputs.new ≡ cell_outcome (seen_look asking.now) cell (row_of primitive.now) state.now }
-    ensures fits { OnOk result (FitsPorts (row_of primitive.now).ports inputs.new) }
-    ensures looked_at { OnOk result (IsLookedAt (row_of primitive.now) state.now inputs.new) }
+    requires nodes { HaveNodes asking.now (row_of stepping.now.primitive.now).ports first }
+    requires state { IsState (row_of stepping.now.primitive.now).shape state.now }
+    requires within { port < length (row_of stepping.now.primitive.now).ports }
+    requires fits { FitsPorts (row_of stepping.now.primitive.now).ports inputs.old }
+    ensures stands { OnOk result ((row_of stepping.now.primitive.now).demands state.now inputs.old port ≡ true → Stands (seen_from asking.now first) inputs.new port) }
+    ensures lacks { IfErr result (IsLack (seen_from asking.now first) port) }
+    ensures asked { IfErr result (λ stop. (row_of stepping.now.primitive.now).demands state.now inputs.old port ≡ true) }
+    ensures kept { KeepStanding (seen_from asking.now first) inputs.old inputs.new }
+    ensures fits { FitsPorts (row_of stepping.now.primitive.now).ports inputs.new }
     ensures ready { CanDemand asking.now marks.new }
-    ensures wanted { length wanted.new ≡ length wanted.old }
-    ensures sized { length inputs.new ≡ length inputs.old }
 {
-    seen_ports_are_wide();
-    if let Some(lack) = gather_demanded(asking, marks, cell, enabling, inputs) {
-        return Err(stop_at(lack));
+    if stepping.primitive.demands(state, inputs, port) {
+        demand_at(asking, marks, first, port, inputs)?;
     }
-    if all_zero(inputs) {
+    Ok(())
+}
+
+/// Demands the plain inputs of a cell that its primitive asks for at what stands at its enabling ports, in port order.
+fn demand_plain(
+    asking: &Asking<'_>,
+    marks: &mut Marks,
+    first: usize,
+    stepping: &SteppingCell<'_>,
+    state: &PrimState,
+    inputs: &mut [Option<Bits>],
+) -> Result<(), CellStop>
+    requires can { IsAsking asking.now }
+    requires ready { CanDemand asking.now marks.old }
+    requires nodes { HaveNodes asking.now (row_of stepping.now.primitive.now).ports first }
+    requires stepping { IsStepping stepping.now.primitive.now stepping.now }
+    requires state { IsState (row_of stepping.now.primitive.now).shape state.now }
+    requires fits { FitsPorts (row_of stepping.now.primitive.now).ports inputs.old }
+    requires enabling { AllStand (seen_from asking.now first) (enables (row_of stepping.now.primitive.now)) (length (row_of stepping.now.primitive.now).ports) inputs.old }
+    ensures stand { OnOk result (AllStand (seen_from asking.now first) (looks_at (row_of stepping.now.primitive.now) state.now inputs.old) (length (row_of stepping.now.primitive.now).ports) inputs.new) }
+    ensures stops { IfErr result (StopsAt (seen_from asking.now first) (looks_at (row_of stepping.now.primitive.now) state.now inputs.old) (length (row_of stepping.now.primitive.now).ports)) }
+    ensures fits { FitsPorts (row_of stepping.now.primitive.now).ports inputs.new }
+    ensures ready { CanDemand asking.now marks.new }
+{
+    for number in 0..stepping.plain.len() {
+        let port = stepping.plain[number];
+        demand_asked(asking, marks, first, stepping, state, port, inputs)?;
+    }
+    Ok(())
+}
+
+/// Looks at a cell that can step: at its enabling ports in port order, then at the ports that it demands at their values, then
+/// at its addresses. Each port is demanded as it is looked at. Where nothing stops the cell, `inputs` has what stands at these.
+fn look_at(
+    asking: &Asking<'_>,
+    ports: InstancePorts<'_>,
+    marks: &mut Marks,
+    cell: u32,
+    stepping: &SteppingCell<'_>,
+    state: &PrimState,
+    inputs: &mut [Option<Bits>],
+) -> Result<(), CellStop>
+    requires can { IsAsking asking.now }
+    requires own { ArePortsOf (plain_design asking.now.design.now) asking.now.table.now.rows.items asking.now.instance ports }
+    requires ready { CanDemand asking.now marks.old }
+    requires cell { kind_at (own_cells asking.now) cell ≡ Some (OfPrimitive stepping.now.primitive.now) }
+    requires stepping { IsStepping stepping.now.primitive.now stepping.now }
+    requires state { IsState (row_of stepping.now.primitive.now).shape state.now }
+    requires fits { FitsPorts (row_of stepping.now.primitive.now).ports inputs.old }
+    ensures value { told (row_of stepping.now.primitive.now) state.now result inputs.new ≡ cell_outcome (seen_look asking.now) cell (row_of stepping.now.primitive.now) state.now }
+    ensures looked_at { OnOk result (IsLookedAt (row_of stepping.now.primitive.now) state.now inputs.new) }
+    ensures fits { FitsPorts (row_of stepping.now.primitive.now).ports inputs.new }
+    ensures ready { CanDemand asking.now marks.new }
+{
+    let first = first_node(asking, ports, cell);
+    let quiet = demand_enabling(asking, marks, first, stepping, inputs)?;
+    if quiet {
         return Ok(());
     }
-    mark_looked(primitive, state, inputs, enabling, wanted);
-    if let Some(lack) = gather_demanded(asking, marks, cell, wanted, inputs) {
-        return Err(stop_at(lack));
-    }
-    match out_of_range(primitive, inputs) {
+    demand_plain(asking, marks, first, stepping, state, inputs)?;
+    match out_of_range(&stepping.addresses, inputs) {
         Some(port) => Err(CellStop {
             kind: FaultKind::Range,
             port: port as u32,
@@ -74,6 +197,7 @@ fn look_at(
 /// Looks at a cell that can step, and leaves in its room what stands at its ports. It takes no memory.
 pub fn look_in(
     asking: &Asking<'_>,
+    ports: InstancePorts<'_>,
     marks: &mut Marks,
     cell: u32,
     stepping: &SteppingCell<'_>,
@@ -81,25 +205,24 @@ pub fn look_in(
     room: &mut CellRoom,
 ) -> Result<(), CellStop>
     requires can { IsAsking asking.now }
+    requires own { ArePortsOf (plain_design asking.now.design.now) asking.now.table.now.rows.items asking.now.instance ports }
     requires ready { CanDemand asking.now marks.old }
-    requires own { kind_at (own_cells asking.now) cell ≡ Some (OfPrimitive stepping.now.primitive.now) }
+    requires cell { kind_at (own_cells asking.now) cell ≡ Some (OfPrimitive stepping.now.primitive.now) }
     requires stepping { IsStepping stepping.now.primitive.now stepping.now }
     requires state { IsState (row_of stepping.now.primitive.now).shape state.now }
-    requires room { HasRoom (length stepping.now.enabling.items) room.old }
+    requires room { HasRoom (row_of stepping.now.primitive.now).ports room.old }
     ensures value { told (row_of stepping.now.primitive.now) state.now result room.new.inputs.items ≡ cell_outcome (seen_look asking.now) cell (row_of stepping.now.primitive.now) state.now }
-    ensures fits { OnOk result (FitsPorts (row_of stepping.now.primitive.now).ports room.new.inputs.items) }
     ensures looked_at { OnOk result (IsLookedAt (row_of stepping.now.primitive.now) state.now room.new.inputs.items) }
     ensures ready { CanDemand asking.now marks.new }
-    ensures room { HasRoom (length stepping.now.enabling.items) room.new }
+    ensures room { HasRoom (row_of stepping.now.primitive.now).ports room.new }
 {
     look_at(
         asking,
+        ports,
         marks,
         cell,
-        stepping.primitive,
+        stepping,
         state,
-        &stepping.enabling,
-        &mut room.wanted,
         &mut room.inputs,
     )
 }

@@ -1,32 +1,28 @@
 //! What a port is seen as.
 
-ghost use Rattle.std.specs.Prelude.{◌≡◌, ◌<◌, length};
+ghost use Rattle.std.specs.Prelude.{◌<◌, length};
 ghost use Rattle.cx_meaning.specs.Instances.{paths_of, tree_of};
 ghost use Rattle.cx_design.specs.PlainDesigns.{plain_design};
 ghost use Rattle.cx_state.specs.States.{IsStateOf, plain_state};
 ghost use Rattle.cx_eval_network.specs.Askings.{IsAsking};
-ghost use Rattle.cx_eval.specs.Looked.{CanDemand, seen_look};
+ghost use Rattle.cx_eval_network.specs.Nodes.{ArePortsOf};
 ghost use Rattle.cx_eval.specs.Evaluated.{CanAct, IsPort, IsSeen};
 ghost use Rattle.cx_eval.specs.Tables.{AreReady, AreTables, design_of};
 
 use crate::demanding::demand_port;
 use crate::tables::{Tables, ask};
 use cx_design::{Active, PortRef, Seen};
-use cx_eval_network::{Asking, Marks};
+use cx_eval_network::{Asking, GroupList, InstancePorts, Marks};
 use cx_state::State;
 
-/// What a port of the asked instance is seen as. It takes no memory.
-fn port_seen(asking: &Asking<'_>, marks: &mut Marks, port: PortRef) -> Seen
+/// The ports of the asked instance.
+pub(crate) fn own_ports<'b>(asking: &Asking<'b>) -> InstancePorts<'b>
     requires can { IsAsking asking.now }
-    requires ready { CanDemand asking.now marks.old }
-    requires port { IsPort (plain_design asking.now.design.now) asking.now.instance port }
-    ensures value { result ≡ seen_look asking.now port }
-    ensures ready { CanDemand asking.now marks.new }
+    ensures own { ArePortsOf (plain_design asking.now.design.now) asking.now.table.now.rows.items asking.now.instance result }
 {
-    let ports = asking
+    asking
         .nodes
-        .ports_of(asking.design, asking.table, asking.instance);
-    demand_port(asking, ports, marks, port)
+        .ports_of(asking.design, asking.table, asking.instance)
 }
 
 /// What a port of an instance is seen as under an active set, where what is marked is right. It takes no memory.
@@ -48,17 +44,18 @@ pub(crate) fn seen_in(
     ensures ready { AreReady tables.now (plain_state state.now) instance active.now marks.new }
 {
     let asking = ask(tables, state, active, instance);
-    port_seen(&asking, marks, port)
+    let ports = own_ports(&asking);
+    demand_port(&asking, ports, marks, port)
 }
 
-/// Finds ports of an instance in the order that is listed for what is active there, where what is marked is right. It takes no
-/// memory.
+/// Finds the ports of a list of what is active in an instance, where what is marked is right. It takes no memory.
 pub(crate) fn fill_in(
     tables: &Tables<'_>,
     marks: &mut Marks,
     state: &State,
     active: &Active,
     instance: usize,
+    list: GroupList,
 )
     requires tables { AreTables tables.now }
     requires state { IsStateOf (design_of tables.now) (plain_state state.now) }
@@ -67,5 +64,5 @@ pub(crate) fn fill_in(
     requires ready { AreReady tables.now (plain_state state.now) instance active.now marks.old }
     ensures ready { AreReady tables.now (plain_state state.now) instance active.now marks.new }
 {
-    marks.fill(&ask(tables, state, active, instance));
+    marks.fill(&ask(tables, state, active, instance), list);
 }

@@ -14,19 +14,17 @@ ghost use Rattle.cx_eval.specs.Tables.{AreRooms, AreSteppingParts, AreTables, as
 use cx_design::{Active, Checked, Design};
 use cx_design_parts::component;
 use cx_eval_cycle::{CellRoom, SteppingCells, rooms_for};
-use cx_eval_drives::Drivers;
 use cx_eval_network::{Asking, Nodes, accepted_designs_are_networks};
 use cx_state::{InstanceTable, State, instances};
 use cx_text::Memory;
 use std::alloc::Global;
 
-/// A design, and the tables of its instances, of their ports and of what drives these, and of the cells that can step.
+/// A design, and the tables of its instances, of their ports, and of the cells that can step.
 #[derive(Drop)]
 pub(crate) struct Tables<'a> {
     pub(crate) design: &'a Design,
     pub(crate) table: InstanceTable,
     pub(crate) nodes: Nodes,
-    pub(crate) drivers: Drivers<'a>,
     /// The cells of each component that can step.
     pub(crate) parts: Vec<SteppingCells<'a>>,
     /// The empty active set, for the instances below the asked one.
@@ -43,13 +41,11 @@ impl<'a> Tables<'a> {
         let table = instances(alloc, design)?;
         let design = design.design();
         let nodes = Nodes::new(alloc, design, &table)?;
-        let drivers = Drivers::new(alloc, design)?;
         let parts = stepping_parts(alloc, design)?;
         Ok(Tables {
             design,
             table,
             nodes,
-            drivers,
             parts,
             nothing: Active::Nothing,
         })
@@ -76,7 +72,6 @@ pub(crate) fn ask<'b, 'a>(
         design: tables.design,
         table: &tables.table,
         nodes: &tables.nodes,
-        drivers: &tables.drivers,
         state,
         active,
         nothing: &tables.nothing,

@@ -17,7 +17,7 @@ use crate::tables::Tables;
 use cx_design::{Active, PortFault, PortRef, Seen};
 use cx_eval_cycle::CellRoom;
 use cx_eval_drives::{Truth, truth_of};
-use cx_eval_network::Marks;
+use cx_eval_network::{GroupList, Marks};
 use cx_state::State;
 
 /// What a turn of a group comes to.
@@ -61,6 +61,7 @@ pub(crate) fn turn_in(
     ensures sized { AreMarksOf tables.now marks.new }
 {
     let active = Active::Group(group);
+    fill_in(tables, marks, state, &active, instance, GroupList::Hole);
     let hole = seen_in(
         tables,
         marks,
@@ -70,7 +71,7 @@ pub(crate) fn turn_in(
         PortRef::Done(group),
     );
     if is_zero(&hole) {
-        fill_in(tables, marks, state, &active, instance);
+        fill_in(tables, marks, state, &active, instance, GroupList::Others);
         GroupTurn::Cycled(cycle_listed(tables, marks, rooms, state, &active, instance, cells))
     } else {
         GroupTurn::Seen(hole)

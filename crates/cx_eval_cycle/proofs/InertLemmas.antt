@@ -1,7 +1,8 @@
 -- A primitive without an enabling port: a cycle looks at none of its ports, and leaves it as it is.
-use Rattle.std.proofs.Common.{◌≡◌, ℕ, zero, suc, ◌<◌, ◌||◌, Bool, true, false, List, [], ◌∷◌, ◌++◌, Option, None, length, refl, sym, ap, ◌∙◌, arith}
+use Rattle.std.proofs.Common.{◌≡◌, ℕ, zero, suc, ◌+◌, ◌<◌, ◌||◌, Bool, true, false, List, [], ◌∷◌, ◌++◌, Option, None, length, refl, sym, ap, ◌∙◌, arith}
 use Rattle.cx_bits.specs.BitVector.{BitVector}
 use Rattle.cx_prim.specs.declared.ports.PortRow.{PortRow}
+use Rattle.cx_prim.specs.declared.ports.Side.TheVariants.{Enable}
 use Rattle.cx_prim.specs.CellStates.{CellState}
 use Rattle.cx_prim.specs.Rows.{Inputs, Row, is_enable_side}
 use Rattle.cx_prim.specs.CombinationalRows.{combinational_row}
@@ -13,19 +14,23 @@ use Rattle.cx_meaning.specs.declared.sights.Seen.{Seen}
 use Rattle.cx_meaning.specs.Rows.{side_from}
 use Rattle.cx_meaning.specs.Sights.{Given, Look, gather, gather_port}
 use Rattle.cx_meaning.specs.Cycles.{Next, cell_outcome, enables, looks_at, stepped}
-use Rattle.cx_eval_cycle.specs.Stepping.{any_enables}
+use Rattle.cx_eval_cycle.specs.Ports.{AreNumbered}
+use Rattle.cx_eval_cycle.specs.Stepping.{any_enables, on_side}
+use Rattle.cx_eval_cycle.proofs.PortLemmas.{enable_side, none_pass}
 use Rattle.cx_eval_cycle.proofs.LookLemmas.{in_range_goes}
 use Rattle.std.proofs.lemmas.Bool.{or_right, or_parts}
 use Rattle.cx_text.proofs.BoolLaws.{not_both}
 
-pub some_enables : (list : List PortRow) (p : ℕ) → p < length list → is_enable_side (side_from list p) ≡ true → any_enables list ≡ true
-some_enables [] p lt e = absurd (omega (arith, lt))
-some_enables (port ∷ list) zero lt e = ap (λ t. t || any_enables list) e
-some_enables (port ∷ list) (suc p) lt e = or_right (is_enable_side port.side) (any_enables list) (some_enables list p (omega (arith, lt)) e)
-
 pub none_enables : (list : List PortRow) → ((p : ℕ) → p < length list → is_enable_side (side_from list p) ≡ false) → any_enables list ≡ false
 none_enables [] h = refl
 none_enables (port ∷ list) h = ap (λ t. t || any_enables list) (h 0 (omega arith)) ∙ none_enables list (λ p lt. h (suc p) (omega (arith, lt)))
+
+-- no enabling port is numbered
+pub none_numbered : (row : Row) (numbers : List ℕ) → AreNumbered (on_side Enable row) (length row.ports) numbers → length numbers ≡ 0 → any_enables row.ports ≡ false
+none_numbered row (x ∷ numbers) are none = absurd (omega (arith, none))
+none_numbered row [] are none =
+    none_enables row.ports
+    (λ p lt. let z : p ≡ 0 + p = omega arith in sym (enable_side (side_from row.ports p)) ∙ ap (on_side Enable row) z ∙ none_pass (on_side Enable row) 0 (length row.ports) (sym are) p lt)
 
 port_idle : (list : List PortRow) (p : ℕ) → any_enables list ≡ false → is_enable_side (side_from list p) ≡ false
 port_idle [] p e = refl

@@ -1,10 +1,11 @@
 pub mod RangeLemmas
+pub mod PortLemmas
+pub mod DemandLemmas
 pub mod LookLemmas
 pub mod PassLemmas
 pub mod FaultLemmas
 pub mod EndLemmas
 pub mod InertLemmas
-pub mod QuietLemmas
 pub mod SteppingLemmas
 pub mod RoomLemmas
 pub mod StepLemmas

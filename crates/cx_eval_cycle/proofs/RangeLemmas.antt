@@ -151,6 +151,11 @@ unnamed_range p inputs unnamed = by p.name refl
     by Timer e = timer e
     by _ e = absurd (unnamed p.name (record { spelled = refl; nameable = λ f. let g = sym e ∙ f in cc }))
 
+-- no sizes, no address
+pub none_beyond : (sizes : List ℕ) (on : Bool) (inputs : Inputs) → sizes ≡ [] → (if on then first_beyond sizes 0 inputs else None) ≡ None
+none_beyond sizes true inputs e = ap (λ xs. first_beyond xs 0 inputs) e
+none_beyond sizes false inputs e = refl
+
 -- addresses one by one
 pub beyond_next : (sizes : List ℕ) (inputs : Inputs) (port : ℕ) → port < length sizes → first_beyond (drop port sizes) port inputs ≡ (first_beyond (get_or sizes port 0 ∷ drop (port + 1) sizes) port inputs)
 beyond_next sizes inputs port lt =

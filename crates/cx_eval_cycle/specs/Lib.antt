@@ -1,3 +1,4 @@
+pub mod Ports
 pub mod Ranges
 pub mod Stops
 pub mod Passes

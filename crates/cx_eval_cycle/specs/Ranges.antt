@@ -1,9 +1,11 @@
 -- Addresses out of range, by the name and the numbers of a primitive.
-use Rattle.std.specs.Prelude.{ℕ, List, [], ◌∷◌, take, Option, None, if◌then◌else◌}
+use Rattle.std.specs.Prelude.{◌≡◌, ℕ, List, [], ◌∷◌, take, Option, None, if◌then◌else◌}
 use Rattle.cx_prim.specs.declared.names.PrimitiveName.{PrimitiveName}
 use Rattle.cx_prim.specs.declared.names.PrimitiveName.TheVariants.{StdMemD1, StdMemD2, StdMemD3, StdMemD4, CombMemD1, CombMemD2, CombMemD3, CombMemD4, SeqMemD1, SeqMemD2, SeqMemD3, SeqMemD4}
 use Rattle.cx_prim.specs.Rows.{Inputs, is_on}
 use Rattle.cx_prim.specs.MemoryRows.{first_beyond}
+use Rattle.cx_prim.specs.Table.{PrimitiveRow, row_of}
+use Rattle.cx_eval_cycle.specs.declared.ranges.Addresses.{Addresses}
 
 -- the port that makes an edge look at the addresses
 abbrev pub enable_of : PrimitiveName → ℕ
@@ -25,3 +27,11 @@ enable_of _ = 0
 abbrev pub out_by : ℕ → ℕ → List ℕ → Inputs → Option ℕ
 out_by dimensions enable [] inputs = None
 out_by dimensions enable (width ∷ rest) inputs = if is_on inputs enable then first_beyond (take dimensions rest) 0 inputs else None
+
+-- the first of some addresses that is out of range, where they are compared
+abbrev pub beyond_of : Addresses → Inputs → Option ℕ
+beyond_of addresses inputs = if is_on inputs addresses.enable then first_beyond addresses.sizes.now 0 inputs else None
+
+-- they are those of a primitive
+abbrev pub AreAddressesOf : PrimitiveRow → Addresses → Type 0
+AreAddressesOf p addresses = (inputs : Inputs) → beyond_of addresses inputs ≡ (row_of p).out_of_range inputs

@@ -1,18 +1,19 @@
 -- Room for what is found at the ports of cells.
 use Rattle.std.specs.Prelude.{◌≡◌, ℕ, List, [], Option, Some, None, length, slice_get}
-use Rattle.cx_prim.specs.Rows.{Inputs}
+use Rattle.cx_prim.specs.declared.ports.PortRow.{PortRow}
+use Rattle.cx_prim.specs.Rows.{FitsPorts, Inputs}
+use Rattle.cx_prim.specs.Table.{row_of}
 use Rattle.cx_eval_cycle.specs.declared.rooms.CellRoom.{CellRoom}
 use Rattle.cx_eval_cycle.specs.declared.stepping.SteppingCell.{SteppingCell}
 use Rattle.cx_eval_cycle.specs.Stepping.{kept_at}
 
-abbrev pub ports_of : Option SteppingCell → ℕ
-ports_of None = 0
-ports_of (Some stepping) = length stepping.enabling.items
+abbrev pub ports_of : Option SteppingCell → List PortRow
+ports_of None = []
+ports_of (Some stepping) = (row_of stepping.primitive.now).ports
 
--- for so many ports
-pub record HasRoom (count : ℕ) (room : CellRoom) : Type 0 where
-  pub wanted : length room.wanted.items ≡ count
-  pub inputs : length room.inputs.items ≡ count
+-- for these ports: what stands in it is as wide as they are, whatever was looked at
+abbrev pub HasRoom : List PortRow → CellRoom → Type 0
+HasRoom ports room = FitsPorts ports room.inputs.items
 
 -- for the ports of each cell that can step
 pub record HaveRooms (kept : List (Option SteppingCell)) (rooms : List CellRoom) : Type 0 where

@@ -1,17 +1,9 @@
 -- How a cell is looked at in a cycle.
-use Rattle.std.specs.Prelude.{◌≡◌, ◌<◌, ℕ, Bool, false, List, get_or, length, Option, Some, None, Result, Ok, Err}
+use Rattle.std.specs.Prelude.{Option, Some, None, Result, Ok, Err}
 use Rattle.cx_prim.specs.CellStates.{CellState}
-use Rattle.cx_prim.specs.Rows.{Inputs, Row, value_at}
+use Rattle.cx_prim.specs.Rows.{Inputs, Row}
 use Rattle.cx_meaning.specs.Cycles.{Outcome, Next, Stops}
 use Rattle.cx_eval_cycle.specs.declared.looking.CellStop.{CellStop}
-
--- the ports that pass a test are marked, and no others
-abbrev pub AreMarked : (ℕ → Bool) → List Bool → Type 0
-AreMarked test wanted = (p : ℕ) → p < length wanted → get_or wanted p false ≡ test p
-
--- no port holds more than 0
-abbrev pub AreZero : Inputs → Type 0
-AreZero inputs = (m : ℕ) → value_at inputs m ≡ 0
 
 -- what a look at a cell tells, where so much stands at its ports
 abbrev pub told : Row → CellState → Result (Unit {0}) CellStop → Inputs → Outcome

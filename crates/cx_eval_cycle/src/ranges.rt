@@ -1,15 +1,24 @@
-//! The first address out of range.
+//! The addresses of a memory, and the first that is out of range.
 
-ghost use Rattle.std.specs.Prelude.{◌≡◌, take};
+ghost use Rattle.std.specs.Prelude.{◌≡◌, ℕ, take};
+ghost use Rattle.cx_prim.specs.Rows.{Inputs};
 ghost use Rattle.cx_prim.specs.MemoryRows as rows;
 ghost use Rattle.cx_prim.specs.Table.{row_of};
 ghost use Rattle.cx_design_sizes.specs.Dimensions.{dimensions_of};
 ghost use Rattle.cx_eval_cycle.specs.Ranges as ranges;
-ghost use Rattle.cx_eval_cycle.specs.Ranges.{enable_of};
+ghost use Rattle.cx_eval_cycle.specs.Ranges.{AreAddressesOf, enable_of};
 
 use cx_bits::Bits;
 use cx_cells::Primitive;
 use cx_prim::{PrimitiveName, is_on, number_at};
+
+/// The addresses that an edge of a primitive compares with their sizes. They stand at its first ports; only a memory has some.
+#[derive(Clone, Copy)]
+pub struct Addresses<'a> {
+    /// The port at whose 1 they are compared.
+    pub enable: usize,
+    pub sizes: &'a [u64],
+}
 
 /// The dimensions of a memory; 0 for another primitive.
 fn dimensions(name: PrimitiveName) -> usize
@@ -61,40 +70,35 @@ fn first_beyond(sizes: &[u64], inputs: &[Option<Bits>]) -> Option<usize>
     None
 }
 
-/// The same for a memory of so many dimensions, by its numbers, where its enabling port is 1.
-fn out_by(
-    dimensions: usize,
-    enable: usize,
-    numbers: &[u64],
-    inputs: &[Option<Bits>],
-) -> Option<usize>
-    ensures { result ≡ ranges.out_by dimensions enable numbers.now inputs.now }
+/// The addresses of a memory of so many dimensions, by its numbers.
+fn addresses_by(dimensions: usize, enable: usize, numbers: &[u64]) -> Addresses<'_>
+    ensures value { (inputs : Inputs) → ranges.beyond_of result inputs ≡ ranges.out_by dimensions enable numbers.now inputs }
 {
-    let (_, rest) = numbers.split_first()?;
-    if is_on(inputs, enable) {
-        first_beyond(front(rest, dimensions), inputs)
-    } else {
-        None
-    }
+    let sizes = match numbers.split_first() {
+        Some((_, rest)) => front(rest, dimensions),
+        None => numbers,
+    };
+    Addresses { enable, sizes }
 }
 
-/// The same by the name of a primitive.
-fn out_by_name(primitive: &Primitive, inputs: &[Option<Bits>]) -> Option<usize>
-    ensures value { result ≡ (row_of primitive.now).out_of_range inputs.now }
+/// The addresses of a primitive.
+pub fn addresses_of(primitive: &Primitive) -> Addresses<'_>
+    ensures value { AreAddressesOf primitive.now result }
 {
     match PrimitiveName::from_text(primitive.name().as_bytes()) {
-        Some(name) => out_by(dimensions(name), enable(name), primitive.numbers(), inputs),
-        None => None,
+        Some(name) => addresses_by(dimensions(name), enable(name), primitive.numbers()),
+        None => addresses_by(0, 0, primitive.numbers()),
     }
 }
 
 /// The first address port that an edge with these inputs compares with its size and finds out of range. It takes no memory.
-pub fn out_of_range(primitive: &Primitive, inputs: &[Option<Bits>]) -> Option<usize>
-    ensures value { result ≡ (row_of primitive.now).out_of_range inputs.now }
+pub fn out_of_range(addresses: &Addresses<'_>, inputs: &[Option<Bits>]) -> Option<usize>
+    ensures value { result ≡ ranges.beyond_of addresses.now inputs.now }
 {
-    // a memory has a width, a size and an address width at least, and no other primitive has three numbers
-    if primitive.numbers().len() < 3 {
-        return None;
+    let port = first_beyond(addresses.sizes, inputs)?;
+    if is_on(inputs, addresses.enable) {
+        Some(port)
+    } else {
+        None
     }
-    out_by_name(primitive, inputs)
 }

@@ -5,17 +5,23 @@ ghost use Rattle.cx_meaning.specs.Designs.{OfPrimitive};
 ghost use Rattle.cx_design.specs.PlainForms.{plain_cell, plain_kind};
 ghost use Rattle.cx_eval_cycle.specs.Stepping.{AreStepping, AreSteppingCells, HaveNumbers, IsKeptOf, kept_at};
 
-use crate::enabling::{enabling_ports, has_enabling};
+use crate::ranges::{Addresses, addresses_of};
+use crate::sides::ports_on;
 use cx_cells::Primitive;
 use cx_design::{Cell, CellKind};
+use cx_prim::Side;
 use cx_text::Memory;
 use std::alloc::Global;
 
-/// A cell that can step: its primitive, and for each of its ports whether it is an enabling one.
+/// A cell that can step: its primitive, and what a cycle looks at.
 #[derive(Drop)]
 pub struct SteppingCell<'a> {
     pub primitive: &'a Primitive,
-    pub enabling: Vec<bool>,
+    /// The numbers of its enabling ports, ascending.
+    pub enabling: Vec<usize>,
+    /// The numbers of its plain inputs, ascending.
+    pub plain: Vec<usize>,
+    pub addresses: Addresses<'a>,
 }
 
 /// The cells of a component that can step, as they are known before any run.
@@ -46,12 +52,15 @@ fn stepping_primitive<'a>(
 ) -> Result<Option<SteppingCell<'a>>, Memory>
     ensures value { IfOk result (IsKeptOf (Some (OfPrimitive primitive.now))) }
 {
-    if !has_enabling(primitive) {
+    let enabling = ports_on(alloc, primitive, Side::Enable)?;
+    if enabling.is_empty() {
         return Ok(None);
     }
     Ok(Some(SteppingCell {
         primitive,
-        enabling: enabling_ports(alloc, primitive)?,
+        enabling,
+        plain: ports_on(alloc, primitive, Side::Plain)?,
+        addresses: addresses_of(primitive),
     }))
 }
 

@@ -1,12 +1,12 @@
 -- Ports that are gathered one by one.
-use Rattle.std.proofs.Common.{◌≡◌, ℕ, zero, suc, ◌+◌, ◌-◌, ◌<◌, ◌≤◌, Bool, true, false, List, get_or, [], ◌∷◌, ◌++◌, length, take, set, Option, Some, None, Ok, Err, append_assoc, refl, sym, ap, ◌∙◌, arith}
+use Rattle.std.proofs.Common.{◌≡◌, ℕ, zero, suc, ◌+◌, ◌-◌, ◌<◌, Bool, true, false, List, get_or, [], ◌∷◌, ◌++◌, length, take, set, Option, Some, None, Ok, Err, append_assoc, refl, sym, ap, ◌∙◌, arith}
 use Rattle.cx_bits.specs.BitVector.{BitVector}
 use Rattle.cx_prim.specs.declared.ports.PortRow.{PortRow}
 use Rattle.cx_meaning.specs.declared.sights.Seen.{Seen}
 use Rattle.cx_meaning.specs.declared.sights.Seen.TheVariants.{Value, Conflict, Undefined}
 use Rattle.cx_meaning.specs.Sights.{Gathered, Given, Lacks, with_entry, gather_port, gather}
 use Rattle.cx_prim.specs.Rows.{FitsPorts}
-use Rattle.cx_eval_drives.specs.Gathers.{gather_all, entry_of, AreWide, WantedAreWide}
+use Rattle.cx_eval_drives.specs.Gathers.{gather_all, entry_of, WantedAreWide}
 
 pub counts : (look : ℕ → Seen) (wanted : ℕ → Bool) (p : ℕ) (ports : List PortRow) → gather look wanted p ports ≡ gather_all look wanted p (length ports)
 counts look wanted p [] = refl
@@ -70,17 +70,6 @@ module _ (look : ℕ → Seen) (wanted : ℕ → Bool) where
   so_far_lacks count p inputs x lt far is =
       ap (with_front (take p inputs)) (sym (entry_err (wanted p) p (look p) x (gather_all look wanted (p + 1) (count - (p + 1))) is) ∙ sym (one_more count p lt)) ∙ far
 
-  all_of : (xs : List (Option BitVector)) (n : ℕ) → length xs ≤ n → take n xs ++ [] ≡ xs
-  all_of [] zero le = refl
-  all_of [] (suc n) le = refl
-  all_of (x ∷ xs) zero le = absurd (omega arith)
-  all_of (x ∷ xs) (suc n) le = ap (λ ys. x ∷ ys) (all_of xs n (let h : suc (length xs) ≤ suc n = le in omega arith))
-
-  pub so_far_end : (count p : ℕ) (inputs : List (Option BitVector)) → count ≤ p → length inputs ≤ p → IsSoFar count inputs p → Given inputs ≡ gather_all look wanted 0 count
-  so_far_end count p inputs le all far =
-      let none : count - p ≡ 0 = omega arith in
-      ap (λ xs. Given xs) (sym (all_of inputs p all)) ∙ ap (λ n. with_front (take p inputs) (gather_all look wanted p n)) (sym none) ∙ far
-
 -- WHAT IS GIVEN is what is seen, an entry for each port
 entry_step : (w : Bool) (p : ℕ) (x : Seen) (g : Gathered) (xs : List (Option BitVector)) → gather_port w p x g ≡ Given xs
     → (e : Option BitVector) × (ys : List (Option BitVector)) × (g ≡ Given ys) × (xs ≡ e ∷ ys) × ((b : BitVector) → e ≡ Some b → x ≡ Value b)
@@ -92,13 +81,13 @@ entry_step true p Conflict g xs is = cc
 entry_step true p Undefined g xs is = cc
 
 module _ (look : ℕ → Seen) (wanted : ℕ → Bool) where
-  pub given_count : (p n : ℕ) (xs : List (Option BitVector)) → gather_all look wanted p n ≡ Given xs → length xs ≡ n
+  given_count : (p n : ℕ) (xs : List (Option BitVector)) → gather_all look wanted p n ≡ Given xs → length xs ≡ n
   given_count p zero xs is = let f : [] ≡ xs = cc in ap length (sym f)
   given_count p (suc n) xs is =
       let s = entry_step (wanted p) p (look p) (gather_all look wanted (suc p) n) xs is in
       ap length s.3 ∙ ap suc (given_count (suc p) n s.1 s.2)
 
-  pub given_seen : (p n : ℕ) (xs : List (Option BitVector)) → gather_all look wanted p n ≡ Given xs → (k : ℕ) (b : BitVector) → get_or xs k None ≡ Some b → look (p + k) ≡ Value b
+  given_seen : (p n : ℕ) (xs : List (Option BitVector)) → gather_all look wanted p n ≡ Given xs → (k : ℕ) (b : BitVector) → get_or xs k None ≡ Some b → look (p + k) ≡ Value b
   given_seen p zero xs is k b e = let f : [] ≡ xs = cc in absurd (none_is (get_or xs k None) b (sym (ap (λ ys. get_or ys k None) f)) e)
     where
       none_is : (o : Option BitVector) (b : BitVector) → o ≡ None → o ≡ Some b → ⊥
@@ -111,12 +100,6 @@ module _ (look : ℕ → Seen) (wanted : ℕ → Bool) where
       let s = entry_step (wanted p) p (look p) (gather_all look wanted (suc p) n) xs is in
       let z : p + suc k ≡ suc p + k = omega arith in
       ap look z ∙ given_seen (suc p) n s.1 s.2 k b (ap (λ ys. get_or ys (suc k) None) (sym s.3) ∙ e)
-
-  pub given_fits : (ports : List PortRow) (n : ℕ) (xs : List (Option BitVector)) → n ≡ length ports → AreWide look ports → Given xs ≡ gather_all look wanted 0 n → FitsPorts ports xs
-  given_fits ports n xs same wide is = record {
-    count = given_count 0 n xs (sym is) ∙ same;
-    widths = λ k port b at e. wide k port b at (let z : 0 + k ≡ k = omega arith in ap look (sym z) ∙ given_seen 0 n xs (sym is) k b e);
-  }
 
 -- only what is wanted is given
 unwanted_none : (p : ℕ) (x : Seen) (g : Gathered) (xs : List (Option BitVector)) → gather_port false p x g ≡ Given xs → get_or xs 0 None ≡ None

@@ -2,15 +2,11 @@
 #![tactic(auto)]
 
 mod driving;
-mod gather_laws;
-mod gathering;
 mod look_laws;
 mod targets;
 mod truths;
 
 pub use driving::Drivers;
-pub use gather_laws::gather_counts;
-pub use gathering::Lack;
-pub use look_laws::{active_is_acyclic, known_ports_decide, own_assigns_drive};
+pub use look_laws::{active_is_acyclic, own_assigns_drive};
 pub use targets::{Drive, add_source, offset_of};
 pub use truths::{Truth, and_truth, compared, not_truth, of_bit, or_truth, truth_of};

@@ -39,7 +39,7 @@ side_driven i q row sides.Plain e = absurd (cc)
 side_driven i q row sides.Output e = absurd (cc)
 side_driven i q row sides.Registered e = absurd (cc)
 
-module _ (asking : Asking) (can : CanAsk (asked_of asking) asking.nodes.now asking.drivers.now) (found : NodePort) (f : IsFound (asked_of asking) found) where
+module _ (asking : Asking) (can : CanAsk (asked_of asking) asking.nodes.now) (found : NodePort) (f : IsFound (asked_of asking) found) where
   abbrev a : Asked
   a = asked_of asking
 

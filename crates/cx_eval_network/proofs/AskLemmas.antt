@@ -87,7 +87,7 @@ asked_at a nodes h node found e = choice (found_at nodes node) (found_is a.desig
     choice None at g = absurd (cc)
     choice (Some x) at g = choose x at (nat_le a.instance x.instance) g
 
-module _ (asking : Asking) (can : CanAsk (asked_of asking) asking.nodes.now asking.drivers.now) (found : NodePort) (f : IsFound (asked_of asking) found) where
+module _ (asking : Asking) (can : CanAsk (asked_of asking) asking.nodes.now) (found : NodePort) (f : IsFound (asked_of asking) found) where
   abbrev a : Asked
   a = asked_of asking
 

@@ -1,6 +1,7 @@
 -- Inputs that are gathered from what marks know.
-use Rattle.std.proofs.Common.{◌≡◌, ℕ, zero, suc, ◌+◌, ◌-◌, ◌<◌, ◌≤◌, Bool, true, false, nat_lt, Option, Some, None, Ok, Err, List, [], ◌∷◌, ◌++◌, get_or, length, take, refl, sym, ap, ◌∙◌, arith}
+use Rattle.std.proofs.Common.{◌≡◌, ℕ, zero, suc, ◌+◌, ◌-◌, ◌<◌, ◌≤◌, Bool, true, false, nat_lt, Option, Some, None, Ok, Err, List, [], ◌∷◌, ◌++◌, get_or, length, replicate, take, refl, sym, ap, ◌∙◌, arith}
 use Rattle.std.specs.Prelude.{Result, slice_get}
+use Rattle.std.proofs.lemmas.List.{length-replicate, take-replicate}
 use Rattle.cx_bits.specs.BitVector.{BitVector}
 use Rattle.cx_prim.specs.declared.ports.PortRow.{PortRow}
 use Rattle.cx_meaning.specs.declared.sights.Seen.{Seen}
@@ -9,7 +10,7 @@ use Rattle.cx_meaning.specs.Sights.{Given, gather, gather_port, output_seen, wit
 use Rattle.cx_prim.specs.Rows.{FitsPorts}
 use Rattle.cx_text.proofs.NumberLaws.{lt_true, true_lt}
 use Rattle.cx_eval_drives.specs.Gathers.{entry_of, gather_all}
-use Rattle.cx_eval_drives.proofs.GatherLemmas.{IsSoFar, counts, so_far_lacks, wanted_fits, with_front}
+use Rattle.cx_eval_drives.proofs.GatherLemmas.{IsSoFar, counts, so_far_begin, so_far_lacks, wanted_fits, with_front}
 use Rattle.cx_eval_network.specs.declared.marks.NodeMark.{NodeMark}
 use Rattle.cx_eval_network.specs.declared.marks.NodeMark.TheVariants.{Unseen, Open, Known}
 use Rattle.cx_eval_network.specs.declared.network.Found.{Found}
@@ -125,3 +126,27 @@ module _ (own : List NodeMark) (first reads : ℕ) (look : ℕ → Seen) (ports 
 
   pub output_given : (inputs : List (Option BitVector)) → length inputs ≡ length ports → IsGathered own first reads look inputs None → output_seen f (Given inputs) ≡ output
   output_given inputs sized h = ap (output_seen f) (h ∙ whole inputs sized)
+
+-- AN OUTPUT THAT READS NO INPUT is handed nothing at each
+pub front_nothing : (all : List (Option BitVector)) (count : ℕ) (ports : List PortRow) → all ≡ replicate 9 None → count ≡ length ports → length ports ≤ 9 → take count all ≡ replicate (length ports) None
+front_nothing all count ports is sized few = ap (take count) is ∙ take-replicate count 9 None (omega (arith, sized, few)) ∙ ap (λ n. replicate n None) sized
+
+module _ (ports : List PortRow) (inputs : List (Option BitVector)) (is : inputs ≡ replicate (length ports) None) where
+  bare_copies : (count n : ℕ) → get_or (replicate {A = Option BitVector} count None) n None ≡ None
+  bare_copies zero n = refl
+  bare_copies (suc count) zero = refl
+  bare_copies (suc count) (suc n) = bare_copies count n
+
+  pub nothing_sized : length inputs ≡ length ports
+  nothing_sized = ap length is ∙ length-replicate (length ports) None
+
+  given : (look : ℕ → Seen) → Given inputs ≡ gather_all look (λ q. nat_lt q 0) 0 (length inputs)
+  given look =
+      gathered_end look 0 (length inputs) 0 inputs refl (omega arith) (λ n le. ap (λ xs. get_or xs n None) is ∙ bare_copies (length ports) n)
+      (so_far_begin look (λ q. nat_lt q 0) (length inputs) inputs)
+
+  pub nothing_fits : FitsPorts ports inputs
+  nothing_fits = gathered_fits [] 0 0 ports inputs nothing_sized (λ q port b at lt. absurd (omega (arith, lt))) (given (shown_look [] 0 0))
+
+  pub nothing_given : (look : ℕ → Seen) (f : List (Option BitVector) → Option BitVector) → output_seen f (Given inputs) ≡ output_seen f (gather look (λ q. nat_lt q 0) 0 ports)
+  nothing_given look f = output_given [] 0 0 look ports f inputs nothing_sized (given look)

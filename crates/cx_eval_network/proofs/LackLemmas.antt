@@ -37,7 +37,7 @@ module _ (marks : List NodeMark) where
       choice false is behind f = let same : m ≡ k = same_some m k f in (inl (sym same), ap (known_at marks) same ∙ is)
 
 -- WHAT A FOUND PORT leads to
-module _ (asking : Asking) (can : CanAsk (asked_of asking) asking.nodes.now asking.drivers.now) (found : NodePort) (f : IsFound (asked_of asking) found) where
+module _ (asking : Asking) (can : CanAsk (asked_of asking) asking.nodes.now) (found : NodePort) (f : IsFound (asked_of asking) found) where
   abbrev a : Asked
   a = asked_of asking
 

@@ -1,8 +1,10 @@
 -- Ports that are found in a listed order are found as they are seen.
 use Rattle.std.proofs.Common.{◌≡◌, true, ℕ, ◌+◌, ◌^◌, ◌<◌, ◌≤◌, Option, Some, None, List, [], drop, length, slice_get, set, ⊎_elim, refl, sym, ap, ◌∙◌, subst, arith}
-use Rattle.std.specs.Prelude.{IfSome, option_map, if◌then◌else◌}
+use Rattle.std.specs.Prelude.{option_map, if◌then◌else◌}
 use Rattle.cx_text.proofs.ListLaws.{set_other, set_same, there_at, there_below}
 use Rattle.cx_text.proofs.NumberLaws.{equal, never, same_or}
+use Rattle.cx_meaning.specs.declared.ports.PortRef.{PortRef}
+use Rattle.cx_meaning.specs.declared.ports.PortRef.TheVariants.{Cell}
 use Rattle.cx_meaning.specs.declared.sights.Seen.{Seen}
 use Rattle.cx_meaning.specs.Designs.{PlainDesign}
 use Rattle.cx_meaning.specs.Sights.{target_seen}
@@ -10,6 +12,7 @@ use Rattle.cx_design.specs.declared.actives.Active.{Active}
 use Rattle.cx_design.specs.declared.actives.Active.TheVariants as actives
 use Rattle.cx_state.specs.declared.tables.InstanceRow.{InstanceRow}
 use Rattle.cx_state.specs.Tables.{row_at}
+use Rattle.cx_design_leads.specs.Nodes as part
 use Rattle.cx_eval_drives.specs.Drives.{acting_of, offset_by}
 use Rattle.cx_eval_network.specs.declared.asking.Asking.{Asking}
 use Rattle.cx_eval_network.specs.declared.listed.InstanceList.{InstanceList}
@@ -21,18 +24,22 @@ use Rattle.cx_eval_network.specs.declared.network.Found.TheVariants.{Worth, Wait
 use Rattle.cx_eval_network.specs.declared.numbering.InstanceNodes.{InstanceNodes}
 use Rattle.cx_eval_network.specs.declared.numbering.NodePort.{NodePort}
 use Rattle.cx_eval_network.specs.declared.numbering.Nodes.{Nodes}
+use Rattle.cx_eval_network.specs.declared.parts.PartNodes.{PartNodes}
 use Rattle.cx_eval_network.specs.declared.planned.PartPlans.{PartPlans}
 use Rattle.cx_eval_network.specs.declared.planned.PlannedPort.{PlannedPort}
+use Rattle.cx_eval_network.specs.declared.planned.PlannedPort.TheVariants.{Numbered, Fixed}
+use Rattle.cx_eval_network.specs.declared.listed.FoundBy.{FoundBy}
+use Rattle.cx_eval_network.specs.declared.listed.FoundBy.TheVariants as by
 use Rattle.cx_eval_network.specs.declared.planned.PortPlan.{PortPlan}
 use Rattle.cx_eval_network.specs.declared.planned.PortPlan.TheVariants as plans
 use Rattle.cx_eval_network.specs.Asked.{CanAsk, active_in}
-use Rattle.cx_eval_network.specs.Askings.{IsFound, asked_of}
+use Rattle.cx_eval_network.specs.Askings.{IsCellPort, IsFound, asked_of}
 use Rattle.cx_eval_network.specs.Demands.{IsRight, Keeps, Looked, Ready, is_unseen}
 use Rattle.cx_eval_network.specs.Evaluated.{Gives, port_found}
-use Rattle.cx_eval_network.specs.Lists.{AreListed, IsSource}
+use Rattle.cx_eval_network.specs.Lists.{ActsAs, AreListed, IsFoundBy, IsSource}
 use Rattle.cx_eval_network.specs.Networks.{Asked, seen_at, value_at}
 use Rattle.cx_eval_network.specs.Nodes.{IsInList, IsListOf, IsNodesOf, first_node, node_at, part_at}
-use Rattle.cx_eval_network.specs.Plans.{IsPlanOf}
+use Rattle.cx_eval_network.specs.Plans.{Inputs, IsPlanOf, decides, planned}
 use Rattle.cx_eval_network.proofs.LookLemmas.{driven_known}
 use Rattle.cx_eval_network.proofs.NodeLemmas.{nodes_within}
 use Rattle.cx_eval_network.proofs.ValueLemmas.{value_there}
@@ -76,32 +83,52 @@ module _ (d : PlainDesign) (rows : List InstanceRow) (nodes : Nodes) (h : IsNode
   abbrev k : ℕ
   k = (row_at rows n).component
 
-  pub list_there : (active : Active) (place : InstanceNodes) (list : InstanceList) → slice_get nodes.instances.items n ≡ Some place → list.first ≡ place.first
-      → ((part : PartPlans) → slice_get nodes.plans.items place.component ≡ Some part → AreListed part.ports.items active list.ports.now) → IsListOf d rows n active list
-  list_there active place list at first listed =
+  pub list_there : (active : Active) (place : InstanceNodes) (list : InstanceList) → slice_get nodes.instances.items n ≡ Some place → list.place ≡ place
+      → ((part : PartNodes) (planned : PartPlans) → slice_get nodes.parts.items place.component ≡ Some part → slice_get nodes.plans.items place.component ≡ Some planned → AreListed part.ports.items planned.ports.items active list.ports.now)
+      → IsListOf d rows n active list
+  list_there active place list at is listed =
       let there = h.there n lt in
-      let planned : (part : PartPlans) × (slice_get nodes.plans.items k ≡ Some part) = there_at nodes.plans.items k (let many = h.plans.count in omega (arith, there, many)) in
+      let its_plans : (part : PartPlans) × (slice_get nodes.plans.items k ≡ Some part) = there_at nodes.plans.items k (let many = h.plans.count in omega (arith, there, many)) in
       let numbered = there_at nodes.parts.items k (let many = h.parts.count in omega (arith, there, many)) in
-      let plan_of = h.plans.each k planned.0 planned.1 in
+      let plan_of = h.plans.each k its_plans.0 its_plans.1 in
       let ports = (h.parts.each k numbered.0 numbered.1).ports in
+      let component = h.placed.components n place at in
+      let all = listed numbered.0 its_plans.0 (ap (slice_get nodes.parts.items) component ∙ numbered.1) (ap (slice_get nodes.plans.items) component ∙ its_plans.1) in
       record {
-        first = first ∙ h.placed.firsts n place at;
+        place = record { component = ap (λ (p : InstanceNodes). p.component) is ∙ component; first = ap (λ (p : InstanceNodes). p.first) is ∙ h.placed.firsts n place at };
         each = λ j own e.
-            let port = listed planned.0 (ap (slice_get nodes.plans.items) (h.placed.components n place at) ∙ planned.1) j own e in
-            let below = there_below planned.0.ports.items own.number port.plan port.there in
-            let found = there_at numbered.0.ports.items own.number (let many = plan_of.sized in let all = ports.sized in omega (arith, below, many, all)) in
-            let number = ports.each own.number found.0 found.1 in
+            let listed_port = all j own e in
+            let number = ports.each own.number listed_port.port listed_port.stands in
             record {
-              port = found.0;
+              port = listed_port.port;
               number = number;
-              plan = port.plan;
-              plans = plan_of.each own.number found.0 port.plan port.there number;
-              source = port.source;
+              plan = listed_port.plan;
+              plans = plan_of.each own.number listed_port.port listed_port.plan listed_port.there number;
+              found_by = listed_port.found_by;
             };
       }
 
+-- THE LIST of an active set is one of what acts as that
+module _ (active other : Active) (same : ActsAs active other) where
+  source_as : (plan : PortPlan) (source : PlannedPort) → IsSource active plan source → IsSource other plan source
+  source_as (plans.Driven plan) source seen = λ further acts. seen further (λ owner. acts owner ∙ same owner)
+  source_as (plans.Output reads) source h = h
+  source_as plans.Apart source h = h
+
+  found_as : (port : PortRef) (plan : PortPlan) (found : FoundBy) → IsFoundBy active port plan found → IsFoundBy other port plan found
+  found_as port plan (by.Port number) h = source_as plan (Numbered number) h
+  found_as port plan (by.Fixed seen) h = source_as plan (Fixed seen) h
+  found_as port plan (by.State cell output) h = h
+  found_as port plan by.Look h = h
+
+  pub list_as : (d : PlainDesign) (rows : List InstanceRow) (n : ℕ) (list : InstanceList) → IsListOf d rows n active list → IsListOf d rows n other list
+  list_as d rows n list h = record {
+    place = h.place;
+    each = λ j listed at. let l = h.each j listed at in record { port = l.port; number = l.number; plan = l.plan; plans = l.plans; found_by = found_as l.port l.plan listed.found_by l.found_by };
+  }
+
 -- A LISTED PORT of the asked instance
-module _ (asking : Asking) (can : CanAsk (asked_of asking) asking.nodes.now asking.drivers.now) (listed : ListedPort)
+module _ (asking : Asking) (can : CanAsk (asked_of asking) asking.nodes.now) (listed : ListedPort)
     (l : IsInList (part_at (asked_of asking).design (asked_of asking).rows asking.instance) asking.active.now listed) where
   abbrev a : Asked
   a = asked_of asking
@@ -144,8 +171,21 @@ module _ (asking : Asking) (can : CanAsk (asked_of asking) asking.nodes.now aski
     by_plan (plans.Driven plan) e source seen (Waits m) f = tt
     by_plan (plans.Driven plan) e source seen (Worth x) f =
         driven_known asking can found is_found plan asking.active.now marks own (Worth x) e here_active right refl
-        (λ i owned look stand agree. subst (Gives (target_seen plan.undriven look (acting_of (offset_by asking.active.now) owned))) f (seen i owned look own stand agree))
+        (λ i owned look stand agree. subst (Gives (target_seen plan.undriven look (acting_of (offset_by asking.active.now) owned))) f (seen asking.active.now (λ owner. refl) i owned look own stand agree))
 
-    pub source_known : (o : Option PlannedPort) → IfSome o (IsSource asking.active.now l.plan) → IfSome o (λ source. Gives (value_at a asking.nodes.now node) (port_found own source))
-    source_known None s = s
-    source_known (Some source) s = subst (λ x. Gives x (port_found own source)) (sym value_is) (by_plan l.plan l.plans source s (port_found own source) refl)
+    pub source_known : (source : PlannedPort) → IsSource asking.active.now l.plan source → Gives (value_at a asking.nodes.now node) (port_found own source)
+    source_known source s = subst (λ x. Gives x (port_found own source)) (sym value_is) (by_plan l.plan l.plans source s (port_found own source) refl)
+
+  -- one that the state of its cell gives
+  module _ (cell output : ℕ) (is : l.port ≡ Cell cell output) where
+    abbrev port : PortRef
+    port = Cell cell output
+
+    pub state_found : IsCellPort a a.instance cell output
+    state_found = record { number = listed.number; from = from_there; within = can.within; at = ap (part.node_of (part_at a.design a.rows a.instance)) (sym is) ∙ l.number }
+
+    pub state_reads : l.plan ≡ plans.Output 0 → decides (part_at a.design a.rows a.instance) port ≡ Inputs 0
+    state_reads e = ap (decides (part_at a.design a.rows a.instance)) (sym is) ∙ sym l.plans ∙ ap planned e
+
+    pub state_known : seen_at a a.instance port ≡ value_at a asking.nodes.now node
+    state_known = ap (seen_at a a.instance) (sym is) ∙ sym value_is

@@ -171,7 +171,7 @@ module _ (a : Asked) (nodes : Nodes) (h : IsNetwork a nodes) (k : ℕ) (from : a
         mapped (m ∷ ns) (inr h) = inr (mapped ns h)
 
 -- WHAT A LOOK FINDS at a driven port
-module _ (asking : Asking) (can : CanAsk (asked_of asking) asking.nodes.now asking.drivers.now) (found : NodePort) (f : IsFound (asked_of asking) found) where
+module _ (asking : Asking) (can : CanAsk (asked_of asking) asking.nodes.now) (found : NodePort) (f : IsFound (asked_of asking) found) where
   abbrev a : Asked
   a = asked_of asking
 

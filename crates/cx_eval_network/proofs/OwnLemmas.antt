@@ -22,7 +22,7 @@ use Rattle.cx_meaning.proofs.SightsLemmas.{outputs_at}
 use Rattle.cx_rules.specs.Ports.{cell_width, width_of}
 use Rattle.cx_rules.proofs.PortsLemmas.{part_is}
 use Rattle.cx_rules.specs.Wellformed.{port_count}
-use Rattle.cx_text.proofs.OptionLaws.{same_width}
+use Rattle.cx_text.proofs.OptionLaws.{none_is_some, same_width}
 use Rattle.cx_design_parts.specs.Outputs.{ReadsFirst, read_count}
 use Rattle.cx_state.specs.Tables.{child_of, row_at}
 use Rattle.cx_state.specs.States.{HoldCells, StandsFor, instance_state}
@@ -38,7 +38,7 @@ use Rattle.cx_eval_network.specs.declared.network.Found.TheVariants.{Worth, Wait
 use Rattle.cx_eval_network.specs.declared.numbering.NodePort.{NodePort}
 use Rattle.cx_eval_network.specs.declared.numbering.Nodes.{Nodes}
 use Rattle.cx_eval_network.specs.Asked.{CanAsk}
-use Rattle.cx_eval_network.specs.Askings.{IsFound, LookedOwn, OwnSeen, asked_of}
+use Rattle.cx_eval_network.specs.Askings.{IsCellPort, IsFound, LookedOwn, OwnSeen, asked_of}
 use Rattle.cx_eval_network.specs.Demands.{Looked, is_known}
 use Rattle.cx_eval_network.specs.Evaluated.{InputsAgree, IsOutput, by_mark}
 use Rattle.cx_eval_network.specs.LeadPorts.{cell_leads, lead_ports, side_leads}
@@ -67,6 +67,18 @@ looked_mark list value marks node listed known = by (slice_get marks node) refl
     by (Some Unseen) is = (listed, ap is_known is)
     by (Some Open) is = (listed, ap is_known is)
     by (Some (Known x)) is = known x is
+
+-- an output of a cell is found as any port
+module _ (a : Asked) (instance cell port : ℕ) (p : IsCellPort a instance cell port) where
+  abbrev pub cell_port : NodePort
+  cell_port = record { instance = instance; component = (row_at a.rows instance).component; port = ports.Cell cell port; number = p.number }
+
+  pub cell_port_found : IsFound a cell_port
+  cell_port_found = record { from = p.from; within = p.within; component = refl; number = p.at }
+
+  -- where nothing is known
+  pub none_seen : OwnSeen a cell_port []
+  none_seen q n x e known = absurd (none_is_some (Known x) known)
 
 -- THE OUTPUT of the instance at a cell
 module _ (a : Asked) (nodes : Nodes) (h : IsNetwork a nodes) (k : ℕ) (from : a.instance ≤ k) (lt : k < length a.rows) (c n : ℕ) (child : Instance) (e : cell_at (cells_of (instance_of a k)) c ≡ OfInstance child) where
@@ -137,7 +149,7 @@ numbered_in i c q n (suc reads) lt e =
     split (suc q) zero lt = absurd (omega (arith, lt))
     split (suc q) (suc r) lt = ⊎_elim (λ (l : q < r). inl (omega (arith, l))) (λ (l : q ≡ r). inr (ap suc l)) (split q r (omega (arith, lt)))
 
-module _ (asking : Asking) (can : CanAsk (asked_of asking) asking.nodes.now asking.drivers.now) (found : NodePort) (f : IsFound (asked_of asking) found) where
+module _ (asking : Asking) (can : CanAsk (asked_of asking) asking.nodes.now) (found : NodePort) (f : IsFound (asked_of asking) found) where
   abbrev a : Asked
   a = asked_of asking
 

@@ -1,6 +1,8 @@
 -- What the drivers of a port come to, where at most one is active and has no guard.
-use Rattle.std.proofs.Common.{◌≡◌, ℕ, Some, Option, List, drop, length, refl, sym, ap, ◌∙◌, subst, arith}
+use Rattle.std.proofs.Common.{◌≡◌, ℕ, Some, None, Option, List, drop, length, refl, sym, ap, ◌∙◌, subst, arith}
 use Rattle.std.proofs.lemmas.List.{drop_all, length-map}
+use Rattle.std.specs.Prelude.{is_some}
+use Rattle.cx_text.proofs.NumberLaws.{never}
 use Rattle.cx_meaning.specs.declared.ports.PortRef.{PortRef}
 use Rattle.cx_meaning.specs.declared.sights.Seen.{Seen}
 use Rattle.cx_meaning.specs.Active.{Owned}
@@ -17,6 +19,7 @@ use Rattle.cx_eval_network.specs.declared.marks.NodeMark.{NodeMark}
 use Rattle.cx_eval_network.specs.declared.planned.PlannedAssign.{PlannedAssign}
 use Rattle.cx_eval_network.specs.declared.planned.PlannedPort.{PlannedPort}
 use Rattle.cx_eval_network.specs.declared.planned.PlannedPort.TheVariants.{Fixed}
+use Rattle.cx_eval_network.specs.declared.soles.Sole.{Sole}
 use Rattle.cx_eval_network.specs.declared.soles.Sole.TheVariants as soles
 use Rattle.cx_eval_network.specs.Evaluated.{Agree, Gives, port_found}
 use Rattle.cx_eval_network.specs.Lists.{IsSole}
@@ -49,6 +52,16 @@ sole_source i a look own drive offset assign e guard agree none = (look q, drive
 
     gives : Gives (look q) (port_found own assign.source)
     gives = subst (λ s. Gives (look q) (port_found own s)) (sym (ap (λ (x : NumberedAssign). x.source) e)) (source_gives i look own agree q)
+
+-- what one that is active comes to at each offset it comes to at that of others; one that is not active comes to what is behind it
+module _ (own : List NodeMark) (look : Look) (a : Owned) (drive : Drive) (sole : Sole) where
+  pub acting_as : (p o : Option ℕ) (at : ℕ) → is_some p ≡ is_some o → o ≡ Some at → ((offset : ℕ) → IsSole own sole (with_assign look (Some offset) a drive)) → IsSole own sole (with_assign look p a drive)
+  acting_as None o at same e f = never (same ∙ ap is_some e)
+  acting_as (Some offset) o at same e f = f offset
+
+  pub resting_as : (p o : Option ℕ) → is_some p ≡ is_some o → o ≡ None → IsSole own sole drive → IsSole own sole (with_assign look p a drive)
+  resting_as None o same e rest = rest
+  resting_as (Some offset) o same e rest = never (sym (same ∙ ap is_some e))
 
 -- all are gone through, from none on
 pub none_left : (i : Instance) (assigns : List PlannedAssign) (owned : List Owned) (look : Look) (offset : Option ℕ → Option ℕ) (left : ℕ) → StandFor i assigns owned → left ≡ length assigns → drive_of look offset (drop left owned) ≡ drives.Nothing

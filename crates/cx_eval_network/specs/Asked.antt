@@ -15,19 +15,16 @@ use Rattle.cx_state.specs.States.{IsStateOf, PlainInstance, instance_state}
 use Rattle.cx_eval_network.specs.declared.marks.NodeMark.{NodeMark}
 use Rattle.cx_eval_network.specs.declared.numbering.Nodes.{Nodes}
 use Rattle.cx_eval_network.specs.Nodes.{node_at}
-use Rattle.cx_eval_drives.specs.declared.driving.Drivers.{Drivers}
-use Rattle.cx_eval_drives.specs.Drivers.{AreDrivers}
 use Rattle.cx_eval_network.specs.Networks.{Asked, IsNetwork, node_shown, path_at}
 
 abbrev pub asked : PlainDesign → List InstanceRow → List ℕ → List PlainInstance → ℕ → Active → Asked
 asked d rows children state n active = record { design = d; rows = rows; children = children; state = state; instance = n; active = plain_active (instance_at (tree_of d) (path_at d n)) active }
 
--- the asked instance is there, in an accepted design with its drivers, in a state of it
-pub record CanAsk (a : Asked) (nodes : Nodes) (drivers : Drivers) : Type 0 where
+-- the asked instance is there, in an accepted design, in a state of it
+pub record CanAsk (a : Asked) (nodes : Nodes) : Type 0 where
   pub network : IsNetwork a nodes
   pub within : a.instance < length a.rows
   pub accepted : IsAccepted a.design
-  pub driven : AreDrivers a.design drivers
   pub fits : IsStateOf a.design a.state
 
 -- the active set of an instance, and what its inputs are held as: in the asked one alone something is active, and inputs are held

@@ -1,5 +1,6 @@
 -- What an asking stands for, and what a look at a port in it finds.
-use Rattle.std.specs.Prelude.{◌≡◌, ◌≤◌, ◌<◌, List, Some, length}
+use Rattle.std.specs.Prelude.{◌≡◌, ◌≤◌, ◌<◌, ℕ, List, Some, length}
+use Rattle.cx_meaning.specs.declared.ports.PortRef.TheVariants.{Cell}
 use Rattle.cx_design.specs.declared.actives.Active.TheVariants as actives
 use Rattle.cx_design.specs.PlainDesigns.{plain_design}
 use Rattle.cx_state.specs.States.{plain_state}
@@ -23,7 +24,7 @@ asked_of a = asked (plain_design a.design.now) a.table.now.rows.items a.table.no
 
 -- what can be asked, with the empty active set for the instances below
 pub record IsAsking (a : Asking) : Type 0 where
-  pub can : CanAsk (asked_of a) a.nodes.now a.drivers.now
+  pub can : CanAsk (asked_of a) a.nodes.now
   pub nothing : a.nothing.now ≡ actives.Nothing
 
 -- a port that is found in the asked instance or in a later one
@@ -32,6 +33,13 @@ pub record IsFound (a : Asked) (found : NodePort) : Type 0 where
   pub within : found.instance < length a.rows
   pub component : found.component ≡ (row_at a.rows found.instance).component
   pub number : node_of (part_at a.design a.rows found.instance) found.port ≡ Some found.number
+
+-- an output of a cell, in the same way
+pub record IsCellPort (a : Asked) (instance cell port : ℕ) : Type 0 where
+  pub number : ℕ
+  pub from : a.instance ≤ instance
+  pub within : instance < length a.rows
+  pub at : node_of (part_at a.design a.rows instance) (Cell cell port) ≡ Some number
 
 -- what decides it, what is known of the ports of its instance, and what a look at it finds, by the numbers of these
 abbrev pub decided_by : Asked → NodePort → Deciding

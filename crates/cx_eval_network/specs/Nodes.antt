@@ -1,5 +1,5 @@
 -- Numbers for the ports of all instances, their nodes: instance by instance, and in each as its component numbers its ports.
-use Rattle.std.specs.Prelude.{◌≡◌, ℕ, zero, suc, ◌+◌, ◌^◌, ◌≤◌, ◌<◌, ◌⊎◌, List, Option, Some, None, IfSome, length, slice_get, option_map}
+use Rattle.std.specs.Prelude.{◌≡◌, ℕ, zero, suc, ◌+◌, ◌^◌, ◌≤◌, ◌<◌, ◌⊎◌, List, Option, Some, None, length, replicate, slice_get, option_map}
 use Rattle.cx_meaning.specs.declared.ports.PortRef.{PortRef}
 use Rattle.cx_meaning.specs.Designs.{PlainDesign}
 use Rattle.cx_meaning.specs.Instances.{Instance}
@@ -17,7 +17,7 @@ use Rattle.cx_eval_network.specs.Plans.{HavePlans, IsPlanOf}
 use Rattle.cx_eval_network.specs.declared.planned.PortPlan.{PortPlan}
 use Rattle.cx_eval_network.specs.declared.listed.ListedPort.{ListedPort}
 use Rattle.cx_eval_network.specs.declared.listed.InstanceList.{InstanceList}
-use Rattle.cx_eval_network.specs.Lists.{HaveLists, IsSource}
+use Rattle.cx_eval_network.specs.Lists.{HaveLists, IsFoundBy}
 use Rattle.cx_eval_network.specs.declared.instance_ports.InstancePorts.{InstancePorts}
 
 -- the component of an instance with what is below it, by the rows of the instances
@@ -87,24 +87,30 @@ pub record ArePlaced (d : PlainDesign) (rows : List InstanceRow) (count : ℕ) (
 pub record IsNodesOf (d : PlainDesign) (rows : List InstanceRow) (nodes : Nodes) : Type 0 where
   pub parts : HaveParts d nodes.parts.items
   pub plans : HavePlans d nodes.plans.items
-  pub lists : HaveLists nodes.plans.items nodes.lists.items
+  pub lists : HaveLists nodes.parts.items nodes.plans.items nodes.lists.items
   pub there : (n : ℕ) → n < length rows → (row_at rows n).component < length d.components
   pub placed : ArePlaced d rows (length rows) nodes.instances.items nodes.ports.items
+  pub nothing : nodes.nothing.items ≡ replicate 9 None
   pub fits : node_count d rows < 2 ^ 64
 
 -- what stands at a node, as the numbering has it
 abbrev pub found_at : Nodes → ℕ → Option NodePort
 found_at nodes node = slice_get nodes.ports.items node
 
--- a listed port of a component has a plan, and its source is one by that plan
+-- a listed port of a component has a plan, and is found by that
 pub record IsInList (i : Instance) (active : Active) (listed : ListedPort) : Type 0 where
   pub port : PortRef
   pub number : part.node_of i port ≡ Some listed.number
   pub plan : PortPlan
   pub plans : IsPlanOf i port plan
-  pub source : IfSome listed.source (IsSource active plan)
+  pub found_by : IsFoundBy active port plan listed.found_by
 
--- THE LIST of an instance under an active set: its first node, and ports of its component
+-- where an instance stands: its component, and its first node
+pub record IsPlaceOf (d : PlainDesign) (rows : List InstanceRow) (n : ℕ) (place : InstanceNodes) : Type 0 where
+  pub component : place.component ≡ (row_at rows n).component
+  pub first : place.first ≡ first_node d rows n
+
+-- A LIST of an instance under an active set: where that stands, and ports of its component
 pub record IsListOf (d : PlainDesign) (rows : List InstanceRow) (n : ℕ) (active : Active) (list : InstanceList) : Type 0 where
-  pub first : list.first ≡ first_node d rows n
+  pub place : IsPlaceOf d rows n list.place
   pub each : (j : ℕ) (listed : ListedPort) → slice_get list.ports.now j ≡ Some listed → IsInList (part_at d rows n) active listed

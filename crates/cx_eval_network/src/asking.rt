@@ -3,7 +3,6 @@
 use crate::looking::look_at_node;
 use crate::{Found, Network, NodeMark, Nodes};
 use cx_design::{Active, Design};
-use cx_eval_drives::Drivers;
 use cx_state::{InstanceTable, State};
 
 /// An instance of a design that is asked under an active set, in a state. The ports of all instances are the nodes of a network.
@@ -12,7 +11,6 @@ pub struct Asking<'a> {
     pub design: &'a Design,
     pub table: &'a InstanceTable,
     pub nodes: &'a Nodes,
-    pub drivers: &'a Drivers<'a>,
     pub state: &'a State,
     pub active: &'a Active,
     /// The empty active set, for the instances below.

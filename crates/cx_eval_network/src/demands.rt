@@ -7,13 +7,14 @@ ghost use Rattle.cx_eval_network.specs.Askings.{IsAsking, asked_of};
 ghost use Rattle.cx_eval_network.specs.Networks.{value_at};
 
 use crate::asking::Asking;
-use crate::filling::fill;
+use crate::filling::{fill, listed_group};
 use crate::finding::find;
-use crate::marked::shown_at;
+use crate::listed::GroupList;
+use crate::marked::{found_at, shown_at};
 use crate::marks::{NodeMark, unseen_marks};
-use crate::network::Network;
+use crate::network::{Found, Network};
 use crate::touched::Touched;
-use cx_design::{Active, Seen};
+use cx_design::Seen;
 use cx_text::Memory;
 use std::alloc::Global;
 use std::marker::Model;
@@ -77,6 +78,9 @@ impl Marks {
         ensures value { Demanded (N.value net.now) root self.old self.new }
         ensures count { length self.new ≡ length self.old }
     {
+        if let Found::Worth(seen) = found_at(&self.marks, root) {
+            return seen;
+        }
         find(
             net,
             &mut self.marks,
@@ -87,17 +91,17 @@ impl Marks {
         shown_at(&self.marks, root)
     }
 
-    /// Finds ports of the asked instance in the order that is listed for the group that is active there, each by one look. What
-    /// is not found so is left to demands. It takes no memory.
-    pub fn fill(&mut self, asking: &Asking<'_>)
+    /// Finds the ports of a list of the only group that is active in the asked instance, in their order, each at once. What is
+    /// not found so is left to demands. It takes no memory.
+    pub fn fill(&mut self, asking: &Asking<'_>, list: GroupList)
         requires can { IsAsking asking.now }
         requires ready { Ready (value_at (asked_of asking.now) asking.now.nodes.now) self.old }
         ensures ready { Ready (value_at (asked_of asking.now) asking.now.nodes.now) self.new }
         ensures kept { Keeps self.old self.new }
         ensures count { length self.new ≡ length self.old }
     {
-        if let Active::Group(group) = asking.active {
-            let list = asking.nodes.listed(asking.instance, *group);
+        if let Some(group) = listed_group(asking.active) {
+            let list = asking.nodes.listed(asking.instance, group, list);
             fill(asking, &mut self.marks, &mut self.touched, list);
         }
     }

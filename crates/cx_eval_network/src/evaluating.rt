@@ -35,7 +35,7 @@ fn port_seen(own: &[NodeMark], port: PlannedPort) -> Seen
 }
 
 /// What is known of a planned port, or its number.
-pub fn source_found(own: &[NodeMark], source: PlannedPort) -> Found
+fn source_found(own: &[NodeMark], source: PlannedPort) -> Found
     ensures value { result ≡ port_found own.now source }
 {
     match source {

@@ -35,7 +35,7 @@ mod touched;
 pub use asking::Asking;
 pub use demands::Marks;
 pub use instance_ports::InstancePorts;
-pub use listed::{GroupPorts, InstanceList, ListedPort, PartLists};
+pub use listed::{FoundBy, GroupList, GroupPorts, InstanceList, ListedPort, PartLists};
 pub use literals::literal_seen;
 pub use marks::{NodeMark, is_known};
 pub use network::{Found, Network};

@@ -1,18 +1,42 @@
 //! The ports that a turn of a group looks at first, each behind those that it rests on.
 
-use crate::planned::PlannedPort;
+use crate::numbering::InstanceNodes;
+use cx_design::Seen;
 
-/// A port of a component by its number. Where it has a source, it is seen as this while the group is active; else it is looked at.
+/// How a listed port is found while its group is active.
+#[derive(Clone, Copy, Debug, PartialEq, Eq)]
+pub enum FoundBy {
+    /// It is seen as the port of this number.
+    Port(u32),
+    /// It is seen as this.
+    Fixed(Seen),
+    /// It is an output of this cell that reads no input.
+    State { cell: u32, port: u32 },
+    /// By a look at it.
+    Look,
+}
+
+/// A port of a component by its number, and how it is found.
 #[derive(Clone, Copy, Debug, PartialEq, Eq)]
 pub struct ListedPort {
     pub number: usize,
-    pub source: Option<PlannedPort>,
+    pub found_by: FoundBy,
+}
+
+/// The two lists of a group.
+#[derive(Clone, Copy, Debug, PartialEq, Eq)]
+pub enum GroupList {
+    /// Its done hole, behind what this rests on at once.
+    Hole,
+    /// The other ports that it drives, with what they rest on at once.
+    Others,
 }
 
 /// The listed ports of a group.
 #[derive(Debug, Drop)]
 pub struct GroupPorts {
-    pub ports: Vec<ListedPort>,
+    pub hole: Vec<ListedPort>,
+    pub others: Vec<ListedPort>,
 }
 
 /// Those of each group of a component.
@@ -21,9 +45,9 @@ pub struct PartLists {
     pub groups: Vec<GroupPorts>,
 }
 
-/// The listed ports of a group in an instance, and the first node of this.
+/// Listed ports of a group in an instance, and where this stands.
 #[derive(Clone, Copy)]
 pub struct InstanceList<'a> {
-    pub first: usize,
+    pub place: InstanceNodes,
     pub ports: &'a [ListedPort],
 }

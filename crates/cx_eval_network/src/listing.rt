@@ -1,16 +1,16 @@
 //! The lists of the groups of a component, made before any run.
 
-ghost use Rattle.std.specs.Prelude.{IfOk, OnOk, length};
+ghost use Rattle.std.specs.Prelude.{◌≡◌, IfOk, OnOk, length, slice_get};
 ghost use Rattle.cx_graphs.specs.Graphs.{Bounded, IsGraph, edges_of};
 ghost use Rattle.cx_design.specs.PlainDesigns.{plain_design};
-ghost use Rattle.cx_eval_network.specs.Lists.{AreListed, ArePartLists, HaveLists};
+ghost use Rattle.cx_eval_network.specs.Lists.{AreGroupPorts, AreListed, ArePartLists, HaveLists};
 ghost use Rattle.cx_eval_network.specs.Nodes.{HaveParts};
 ghost use Rattle.cx_eval_network.specs.Plans.{HavePlans};
 
-use crate::listed::{GroupPorts, ListedPort, PartLists};
+use crate::listed::{GroupList, GroupPorts, ListedPort, PartLists};
 use crate::parts::{PartNodes, narrow};
 use crate::planned::{PartPlans, PlannedAssign, PlannedPort, PortPlan, port_plan};
-use crate::soles::{FEW, source_of};
+use crate::soles::{FEW, found_by};
 use cx_design::{Active, Assign, Component, Design, PortRef};
 use cx_design_parts::component;
 use cx_eval_drives::offset_of;
@@ -27,7 +27,7 @@ pub fn all_lists(
 ) -> Result<Vec<PartLists>, Memory>
     requires parts { HaveParts (plain_design design.now) parts.now }
     requires plans { HavePlans (plain_design design.now) plans.now }
-    ensures value { IfOk result (λ lists. HaveLists plans.now lists.items) }
+    ensures value { IfOk result (λ lists. HaveLists parts.now plans.now lists.items) }
 {
     let mut lists = Vec::new(alloc);
     for number in 0..plans.len() {
@@ -49,91 +49,149 @@ fn part_lists(
     part: &PartNodes,
     plans: &PartPlans,
 ) -> Result<PartLists, Memory>
-    ensures value { IfOk result (ArePartLists plans.now.ports.items) }
+    ensures value { IfOk result (ArePartLists part.now.ports.items plans.now.ports.items) }
 {
     let mut groups = Vec::new(alloc);
     for (number, group) in component.groups.iter().enumerate() {
         let active = Active::Group(narrow(number)?);
         let assigns = group.assigns.as_slice();
-        let ports = group_ports(alloc, part, plans.ports.as_slice(), &active, assigns)?;
-        groups.push(GroupPorts { ports })?;
+        let own = group_ports(alloc, part, plans.ports.as_slice(), &active, assigns)?;
+        groups.push(own)?;
     }
     Ok(PartLists { groups })
 }
 
-/// The list of a group. Where its ports rest on one another in a circle, it is empty.
+/// The lists of a group.
 fn group_ports(
     alloc: Global,
     part: &PartNodes,
     plans: &[PortPlan],
     active: &Active,
     assigns: &[Assign],
-) -> Result<Vec<ListedPort>, Memory>
-    ensures value { IfOk result (λ ports. AreListed plans.now active.now ports.items) }
+) -> Result<GroupPorts, Memory>
+    ensures value { IfOk result (AreGroupPorts part.now.ports.items plans.now active.now) }
 {
-    let ports = touched_ports(alloc, part, plans, active, assigns)?;
+    let hole = ordered_ports(alloc, part, plans, active, assigns, GroupList::Hole)?;
+    let others = ordered_ports(alloc, part, plans, active, assigns, GroupList::Others)?;
+    Ok(GroupPorts { hole, others })
+}
+
+/// One of them. Where its ports rest on one another in a circle, it is empty.
+fn ordered_ports(
+    alloc: Global,
+    part: &PartNodes,
+    plans: &[PortPlan],
+    active: &Active,
+    assigns: &[Assign],
+    list: GroupList,
+) -> Result<Vec<ListedPort>, Memory>
+    ensures value { IfOk result (λ ports. AreListed part.now.ports.items plans.now active.now ports.items) }
+{
+    let ports = touched_ports(alloc, part, plans, active, assigns, list)?;
     let graph = links(alloc, part, plans, active, ports.as_slice())?;
     match order(alloc, graph.as_slice())? {
-        Some(order) => listed_ports(alloc, plans, active, ports.as_slice(), order.as_slice()),
+        Some(order) => listed_ports(
+            alloc,
+            part,
+            plans,
+            active,
+            ports.as_slice(),
+            order.as_slice(),
+        ),
         None => Ok(Vec::new(alloc)),
     }
 }
 
-/// The ports of some places, each with its source.
+/// The ports of some places, each with how it is found.
 fn listed_ports(
     alloc: Global,
+    part: &PartNodes,
     plans: &[PortPlan],
     active: &Active,
-    ports: &[usize],
+    numbers: &[usize],
     places: &[u32],
 ) -> Result<Vec<ListedPort>, Memory>
-    ensures value { IfOk result (λ listed. AreListed plans.now active.now listed.items) }
+    ensures value { IfOk result (λ listed. AreListed part.now.ports.items plans.now active.now listed.items) }
 {
     let mut listed = Vec::new(alloc);
     for place in places {
-        if let Some(number) = ports.get(*place as usize) {
-            add_listed(&mut listed, plans, active, *number)?;
+        if let Some(number) = numbers.get(*place as usize) {
+            add_listed(&mut listed, part, plans, active, *number)?;
         }
     }
     Ok(listed)
 }
 
-/// Adds a port with its source, where it is there.
+/// Adds a port with how it is found, where it is there.
 fn add_listed(
     listed: &mut Vec<ListedPort>,
+    part: &PartNodes,
     plans: &[PortPlan],
     active: &Active,
     number: usize,
 ) -> Result<(), Memory>
-    ensures value { OnOk result (AreListed plans.now active.now listed.old.items → AreListed plans.now active.now listed.new.items) }
+    ensures value { OnOk result (AreListed part.now.ports.items plans.now active.now listed.old.items → AreListed part.now.ports.items plans.now active.now listed.new.items) }
 {
-    if let Some(plan) = port_plan(plans, number) {
-        listed.push(ListedPort {
-            number,
-            source: source_of(active, plan),
-        })?;
+    if let Some(port) = port_of(part, number) {
+        if let Some(plan) = port_plan(plans, number) {
+            listed.push(ListedPort {
+                number,
+                found_by: found_by(active, port, plan),
+            })?;
+        }
     }
     Ok(())
 }
 
-/// The ports that a group drives, and those that they rest on at once, each once.
+/// The port of a number, where it is there.
+fn port_of(part: &PartNodes, number: usize) -> Option<PortRef>
+    ensures value { result ≡ slice_get part.now.ports.items number }
+{
+    part.ports.get(number).copied()
+}
+
+/// The ports that a group drives and that belong to a list of it, and those that they rest on at once, each once.
 fn touched_ports(
     alloc: Global,
     part: &PartNodes,
     plans: &[PortPlan],
     active: &Active,
     assigns: &[Assign],
+    list: GroupList,
 ) -> Result<Vec<usize>, Memory> {
     let mut found = Vec::new(alloc);
     for assign in assigns {
-        if let Some(number) = part.numbers.node(assign.target) {
-            found.push(number as usize)?;
-            add_rests(&mut found, part, plans, active, number as usize)?;
+        if is_in(list, assign.target) {
+            add_touched(&mut found, part, plans, active, assign.target)?;
         }
     }
     found.sort_unstable();
     found.dedup();
     Ok(found)
+}
+
+/// Whether a driven port belongs to a list.
+fn is_in(list: GroupList, target: PortRef) -> bool {
+    let is_hole = matches!(target, PortRef::Done(_));
+    match list {
+        GroupList::Hole => is_hole,
+        GroupList::Others => !is_hole,
+    }
+}
+
+/// Adds a driven port, and those that it rests on at once.
+fn add_touched(
+    found: &mut Vec<usize>,
+    part: &PartNodes,
+    plans: &[PortPlan],
+    active: &Active,
+    target: PortRef,
+) -> Result<(), Memory> {
+    if let Some(number) = part.numbers.node(target) {
+        found.push(number as usize)?;
+        add_rests(found, part, plans, active, number as usize)?;
+    }
+    Ok(())
 }
 
 /// Which of some ports rest on which, by their places.

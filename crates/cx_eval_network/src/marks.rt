@@ -46,7 +46,7 @@ pub fn unseen_marks(alloc: Global, count: usize) -> Result<Vec<NodeMark>, Memory
 
 /// So many copies of an item.
 #[tactic(auto, using(std::proofs::lemmas::List::replicate_more))]
-fn copies<T: Copy>(alloc: Global, item: T, count: usize) -> Result<Vec<T>, Memory>
+pub fn copies<T: Copy>(alloc: Global, item: T, count: usize) -> Result<Vec<T>, Memory>
     ensures value { IfOk result (λ all. all.items ≡ replicate count item) }
 {
     let mut all = Vec::new(alloc);

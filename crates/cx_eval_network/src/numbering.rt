@@ -1,6 +1,6 @@
 //! Numbers for the ports of all instances.
 
-ghost use Rattle.std.specs.Prelude.{◌≡◌, ◌+◌, ◌<◌, ℕ, List, IfNone, IfOk, IfSome, None, OnOk, Some, length, slice_get};
+ghost use Rattle.std.specs.Prelude.{◌≡◌, ◌+◌, ◌<◌, ℕ, List, IfNone, IfOk, IfSome, None, OnOk, Some, length, replicate, slice_get};
 ghost use Rattle.cx_meaning.specs.Designs.{PlainDesign};
 ghost use Rattle.cx_design.specs.PlainDesigns.{plain_design};
 ghost use Rattle.cx_state.specs.declared.tables.InstanceRow.{InstanceRow};
@@ -9,17 +9,23 @@ ghost use Rattle.cx_meaning.specs.declared.ports.PortRef as refs;
 ghost use Rattle.cx_rules.specs.Ports.{component_of};
 ghost use Rattle.cx_design_leads.specs.Nodes.{node_of};
 ghost use Rattle.cx_eval_network.specs.Nodes.{ArePortsOf, HaveParts, IsListOf, IsNodesOf, IsPortOf, StandBehind, found_at, node_at, node_count};
-ghost use Rattle.cx_eval_network.specs.Lists.{AreListed, HaveLists};
+ghost use Rattle.cx_eval_network.specs.Lists.{AreGroupPorts, AreListed, HaveLists};
 ghost use Rattle.cx_eval_network.specs.Plans.{HavePlans, IsPlanOf};
+ghost use Rattle.cx_eval_network.specs.declared.parts.PartNodes.{PartNodes};
 ghost use Rattle.cx_eval_network.specs.declared.planned.PartPlans.{PartPlans};
+ghost use Rattle.cx_eval_network.specs.declared.planned.PortPlan.{PortPlan};
+ghost use Rattle.cx_design.specs.declared.actives.Active.{Active};
 ghost use Rattle.cx_design.specs.declared.actives.Active.TheVariants.{Group};
 
 use crate::instance_ports::InstancePorts;
-use crate::listed::{InstanceList, ListedPort, PartLists};
+use crate::listed::{GroupList, GroupPorts, InstanceList, ListedPort, PartLists};
 use crate::listing::all_lists;
+use crate::marks::copies;
+use crate::outputs::ROOM;
 use crate::parts::PartNodes;
 use crate::planned::{PartPlans, PortPlan, port_plan};
 use crate::plans::all_plans;
+use cx_bits::Bits;
 use cx_design::{Design, PortRef};
 use cx_state::{InstanceRow, InstanceTable};
 use cx_text::Memory;
@@ -54,6 +60,8 @@ pub struct Nodes {
     instances: Vec<InstanceNodes>,
     /// What stands at each node.
     ports: Vec<NodePort>,
+    /// Nothing at each port of the longest primitive: what outputs are handed that read no input.
+    nothing: Vec<Option<Bits>>,
 }
 
 impl Nodes {
@@ -68,7 +76,8 @@ impl Nodes {
         }
         let plans = all_plans(alloc, design, parts.as_slice())?;
         let lists = all_lists(alloc, design, parts.as_slice(), plans.as_slice())?;
-        let nodes = placed(alloc, table.rows.as_slice(), parts, plans, lists)?;
+        let nothing = copies(alloc, None, ROOM)?;
+        let nodes = placed(alloc, table.rows.as_slice(), parts, plans, lists, nothing)?;
         Ok(nodes)
     }
 
@@ -118,20 +127,24 @@ impl Nodes {
         self.ports.get(node).copied()
     }
 
-    /// The listed ports of a group of an instance.
-    pub fn listed(&self, instance: usize, group: u32) -> InstanceList<'_>
+    /// Listed ports of a group of an instance.
+    pub fn listed(&self, instance: usize, group: u32, list: GroupList) -> InstanceList<'_>
         ensures value { (d : PlainDesign) (rows : List InstanceRow) → IsNodesOf d rows self.now → instance < length rows → IsListOf d rows instance (Group group) result }
     {
         match instance_nodes(self.instances.as_slice(), instance) {
             Some(place) => InstanceList {
-                first: place.first,
-                ports: group_ports(self.lists.as_slice(), place.component, group),
+                place,
+                ports: group_ports(self.lists.as_slice(), place.component, group, list),
             },
-            None => InstanceList {
-                first: 0,
-                ports: &[],
-            },
+            None => unlisted(),
         }
+    }
+
+    /// Nothing at each port of a primitive.
+    pub fn nothing(&self) -> &[Option<Bits>]
+        ensures value { result.now ≡ self.now.nothing.items }
+    {
+        self.nothing.as_slice()
     }
 
     /// What is known of a port of a component before any run, by its number there.
@@ -172,16 +185,38 @@ fn part_plans(plans: &[PartPlans], component: u32) -> Option<&PartPlans>
     plans.get(component as usize)
 }
 
-/// The listed ports of a group of a component; none where they are not there.
-fn group_ports(lists: &[PartLists], component: u32, group: u32) -> &[ListedPort]
-    ensures value { (plans : List PartPlans) (part : PartPlans) → HaveLists plans lists.now → slice_get plans component ≡ Some part → AreListed part.ports.items (Group group) result.now }
+/// No listed ports.
+fn unlisted() -> InstanceList<'static> {
+    InstanceList {
+        place: InstanceNodes {
+            component: 0,
+            first: 0,
+        },
+        ports: &[],
+    }
+}
+
+/// Listed ports of a group of a component; none where they are not there.
+fn group_ports(lists: &[PartLists], component: u32, group: u32, list: GroupList) -> &[ListedPort]
+    ensures value { (parts : List PartNodes) (plans : List PartPlans) (part : PartNodes) (planned : PartPlans) → HaveLists parts plans lists.now → slice_get parts component ≡ Some part → slice_get plans component ≡ Some planned
+        → AreListed part.ports.items planned.ports.items (Group group) result.now }
 {
     match lists.get(component as usize) {
         Some(own) => match own.groups.get(group as usize) {
-            Some(group) => group.ports.as_slice(),
+            Some(group) => ports_in(group, list),
             None => &[],
         },
         None => &[],
+    }
+}
+
+/// The ports of one of the lists of a group.
+fn ports_in(group: &GroupPorts, list: GroupList) -> &[ListedPort]
+    ensures value { (ports : List refs.PortRef) (plans : List PortPlan) (active : Active) → AreGroupPorts ports plans active group.now → AreListed ports plans active result.now }
+{
+    match list {
+        GroupList::Hole => group.hole.as_slice(),
+        GroupList::Others => group.others.as_slice(),
     }
 }
 
@@ -192,9 +227,10 @@ fn placed(
     parts: Vec<PartNodes>,
     plans: Vec<PartPlans>,
     lists: Vec<PartLists>,
+    nothing: Vec<Option<Bits>>,
 ) -> Result<Nodes, Memory>
     requires within { (n : ℕ) → n < length rows.now → (row_at rows.now n).component < length parts.items }
-    ensures value { IfOk result (λ nodes. (d : PlainDesign) → HaveParts d parts.items → HavePlans d plans.items → HaveLists plans.items lists.items → IsNodesOf d rows.now nodes) }
+    ensures value { IfOk result (λ nodes. (d : PlainDesign) → HaveParts d parts.items → HavePlans d plans.items → HaveLists parts.items plans.items lists.items → nothing.items ≡ replicate 9 None → IsNodesOf d rows.now nodes) }
 {
     let mut instances = Vec::new(alloc);
     let mut ports = Vec::new(alloc);
@@ -213,6 +249,7 @@ fn placed(
         lists,
         instances,
         ports,
+        nothing,
     })
 }
 

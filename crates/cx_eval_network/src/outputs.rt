@@ -9,11 +9,13 @@ ghost use Rattle.cx_meaning.specs.declared.sights.Seen as views;
 ghost use Rattle.cx_meaning.specs.Instances.{OfRow, cell_at, cells_of};
 ghost use Rattle.cx_meaning.specs.Rows.{side_of};
 ghost use Rattle.cx_meaning.specs.Sights as sights;
-ghost use Rattle.cx_eval_network.specs.Askings.{IsAsking, IsFound, LookedOwn, OwnSeen, asked_of, decided_by};
+ghost use Rattle.cx_state.specs.Tables.{row_at};
+ghost use Rattle.cx_eval_network.specs.Askings.{IsAsking, IsCellPort, IsFound, LookedOwn, OwnSeen, asked_of, decided_by};
 ghost use Rattle.cx_eval_network.specs.Evaluated.{FillsWith, InputsAgree, InputsFit, IsGathered, IsNoValue, IsOutput};
+ghost use Rattle.cx_eval_network.specs.Networks.{seen_at};
 ghost use Rattle.cx_eval_network.specs.Nodes.{part_at};
 ghost use Rattle.cx_eval_network.specs.declared.network.Found.TheVariants.{Worth};
-ghost use Rattle.cx_eval_network.specs.Plans.{Inputs, side_decides};
+ghost use Rattle.cx_eval_network.specs.Plans.{Inputs, decides, side_decides};
 
 use crate::asking::Asking;
 use crate::marked::found_at;
@@ -30,7 +32,7 @@ use cx_state::alike_laws::rows_stand;
 use cx_state::width_laws::states_hold_widths;
 
 /// Room for the ports of any primitive: the longest row is that of a sequential memory of four dimensions, with nine.
-const ROOM: usize = 9;
+pub const ROOM: usize = 9;
 
 /// What an output of a primitive is seen as that reads so many inputs, the first; or the number of one of these that is not known.
 pub fn output_found(asking: &Asking<'_>, own: &[NodeMark], found: NodePort, reads: usize) -> Found
@@ -41,11 +43,67 @@ pub fn output_found(asking: &Asking<'_>, own: &[NodeMark], found: NodePort, read
     ensures found { LookedOwn (asked_of asking.now) found own.now result }
 {
     match found.port {
+        PortRef::Cell(cell, port) if reads == 0 => {
+            Found::Worth(state_seen(asking, found.instance, found.component, cell, port))
+        }
         PortRef::Cell(cell, port) => cell_output(asking, own, found, cell, port, reads),
         PortRef::Input(_) | PortRef::Output(_) | PortRef::Done(_) | PortRef::Literal(_, _) => {
             unreachable!()
         }
     }
+}
+
+/// What an output of a cell's primitive is seen as that reads no input: by its state, with no room for inputs.
+pub fn state_seen(
+    asking: &Asking<'_>,
+    instance: usize,
+    component: u32,
+    cell: u32,
+    port: u32,
+) -> Seen
+    requires can { IsAsking asking.now }
+    requires found { IsCellPort (asked_of asking.now) instance cell port }
+    requires component { component ≡ (row_at (asked_of asking.now).rows instance).component }
+    requires reads { decides (part_at (asked_of asking.now).design (asked_of asking.now).rows instance) (Cell cell port) ≡ Inputs 0 }
+    ensures value { result ≡ seen_at (asked_of asking.now) instance (Cell cell port) }
+{
+    match stands_at(asking.design, component as usize, cell) {
+        At::Primitive(primitive) => { primitive_state(asking, instance, cell, port, primitive) }
+        At::Nothing | At::Part(_) => unreachable!(),
+    }
+}
+
+/// The same, by its primitive.
+fn primitive_state(
+    asking: &Asking<'_>,
+    instance: usize,
+    cell: u32,
+    port: u32,
+    primitive: &Primitive,
+) -> Seen
+    requires can { IsAsking asking.now }
+    requires found { IsCellPort (asked_of asking.now) instance cell port }
+    requires row { cell_at (cells_of (part_at (asked_of asking.now).design (asked_of asking.now).rows instance)) cell ≡ OfRow (row_of primitive.now) }
+    requires reads { side_decides (part_at (asked_of asking.now).design (asked_of asking.now).rows instance) (Cell cell port) (row_of primitive.now) (side_of (row_of primitive.now) port) ≡ Inputs 0 }
+    ensures value { result ≡ seen_at (asked_of asking.now) instance (Cell cell port) }
+{
+    rows_stand();
+    outputs_read_first();
+    match cell_state(cells_of(asking, instance), cell) {
+        Some(state) => held_output(asking, primitive, state, port as usize),
+        None => unreachable!(),
+    }
+}
+
+/// The same, by what its primitive holds.
+fn held_output(asking: &Asking<'_>, primitive: &Primitive, state: &PrimState, port: usize) -> Seen
+    requires can { IsAsking asking.now }
+    requires state { IsState (row_of primitive.now).shape state.now }
+    requires output { HasSide (row_of primitive.now) port is_output_side }
+    ensures value { (look : ℕ → views.Seen) → result ≡ sights.output_seen (λ given. (row_of primitive.now).output state.now given port) (sights.gather look (λ q. nat_lt q 0) 0 (row_of primitive.now).ports) }
+{
+    let inputs = &asking.nodes.nothing()[..primitive.port_count()];
+    seen_of(primitive.output(state, inputs, port))
 }
 
 /// The same of a port of a cell.

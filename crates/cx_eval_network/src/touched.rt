@@ -29,6 +29,7 @@ impl Touched {
     }
 
     /// Knows a node of which nothing was known.
+    #[inline(always)]
     pub fn know(&mut self, marks: &mut [NodeMark], node: usize, seen: Seen)
         requires touched { AreTouched self.old.nodes.items self.old.count marks.old }
         requires unseen { slice_get marks.old node ≡ Some marks_are.Unseen }

@@ -27,6 +27,7 @@ first_fault-requires c =
     let own = ap (λ (a : Asked). (component_at a.design (row_at a.rows a.instance).component).cells) (sym c.ask-asking.ensures.asked) in
     record {
       can = c.ask-asking.ensures.can;
+      own = c.own_ports-ports.ensures.own;
       ready = can_demand t rows n active asking c.ask-asking.ensures.asked c.ask-asking.ensures.nodes c.args.marks.now c.requires.ready;
       cells = subst (λ (cells : List PlainCell). AreStepping cells c.deref.result.now) own (subst (AreStepping (cells_at t n)) (sym c.deref.ensures.value) c.stepping_of-stepping.ensures.value.kept);
       rooms = subst (λ (ks : List (Option SteppingCell)). HaveRooms ks c.args.rooms.now) kept c.requires.rooms;

@@ -37,8 +37,8 @@ overflow_cast-number c =
 pub bounds-rooms-cell : goal.bounds-rooms-cell
 bounds-rooms-cell c = room_below c.args.asking.now c.requires.can c.args.cells.now c.requires.cells c.args.cell c.in-Some.stepping.now c.in-Some.ensures.some c.args.rooms.now c.requires.rooms
 
-pub look_in-requires-clause-own : goal.look_in-requires-clause-own
-look_in-requires-clause-own c = (own_of c.args.asking.now c.requires.can c.args.cells.now c.requires.cells c.args.cell c.in-Some.stepping.now c.in-Some.ensures.some).primitive
+pub look_in-requires-clause-cell : goal.look_in-requires-clause-cell
+look_in-requires-clause-cell c = (own_of c.args.asking.now c.requires.can c.args.cells.now c.requires.cells c.args.cell c.in-Some.stepping.now c.in-Some.ensures.some).primitive
 
 pub look_in-requires-clause-stepping : goal.look_in-requires-clause-stepping
 look_in-requires-clause-stepping c = (own_of c.args.asking.now c.requires.can c.args.cells.now c.requires.cells c.args.cell c.in-Some.stepping.now c.in-Some.ensures.some).stepping_is
@@ -68,7 +68,7 @@ returns-in-Ok c =
       rooms = rooms_after a c.requires.can c.args.cells.now c.requires.cells c.args.cell stepping c.in-Some.ensures.some c.args.rooms.now c.requires.rooms room c.look_in.ensures.room;
       gathered =
           gathered_after a c.requires.can c.args.cells.now c.requires.cells c.args.cell stepping c.in-Some.ensures.some c.args.rooms.now c.requires.rooms room state holds
-          (record { outcome = c.in-Ok.ensures.value; fits = c.in-Ok.ensures.fits; looked_at = c.in-Ok.ensures.looked_at });
+          (record { outcome = c.in-Ok.ensures.value; fits = c.look_in.ensures.room; looked_at = c.in-Ok.ensures.looked_at });
       others = others_after a c.requires.can c.args.cells.now c.requires.cells c.args.cell stepping c.in-Some.ensures.some c.args.rooms.now c.requires.rooms room;
     }
 

@@ -1,5 +1,4 @@
 use Rattle.std.proofs.Common.{sym, subst, ◌∙◌}
-use Rattle.cx_state.specs.States.{plain_state}
 use Rattle.cx_eval_network.specs.declared.numbering.Nodes.{Nodes}
 use Rattle.cx_eval_network.specs.Askings.{asked_of}
 use Rattle.cx_eval_network.specs.Demands.{Ready}

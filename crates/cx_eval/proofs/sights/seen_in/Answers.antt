@@ -8,5 +8,5 @@ use Rattle.cx_eval.proofs.sights.seen_in.Goals as goal
 pub returns-clause-value : goal.returns-clause-value
 returns-clause-value c =
     let t = c.args.tables.now in
-    is_seen (design_of t) t.table.rows.items t.table.children.items (plain_state c.args.state.now) c.args.instance c.args.active.now c.requires.tables.table c.requires.state c.args.port c.port_seen.result
-    (c.port_seen.ensures.value ∙ ap (λ (a : Asked). seen_at a a.instance c.args.port) c.ask-asking.ensures.asked)
+    is_seen (design_of t) t.table.rows.items t.table.children.items (plain_state c.args.state.now) c.args.instance c.args.active.now c.requires.tables.table c.requires.state c.args.port c.demand_port.result
+    (c.demand_port.ensures.value ∙ ap (λ (a : Asked). seen_at a a.instance c.args.port) c.ask-asking.ensures.asked)

@@ -19,6 +19,8 @@ loop-number-preserved c =
     let sized = c.loop-number.invariant.sized in
     record {
       sized = ap length c.in_ok-push.ensures.items ∙ length-append c.loop-number.lists.items _ ∙ ap (λ k. k + 1) sized;
-      each = lists_more c.args.plans.now c.loop-number.lists.items _ n c.index-plans-number.result c.in_ok-own.own sized (get_some c.args.plans.now n c.index-plans-number.result c.loop-number-test.true c.index-plans-number.is)
+      each = lists_more c.args.parts.now c.args.plans.now c.loop-number.lists.items _ n c.index-parts-number.result c.index-plans-number.result c.in_ok-own.own sized
+          (get_some c.args.parts.now n c.index-parts-number.result (let lt = c.loop-number-test.true in let many = c.requires.plans.count in let all = c.requires.parts.count in omega (arith, lt, many, all)) c.index-parts-number.is)
+          (get_some c.args.plans.now n c.index-plans-number.result c.loop-number-test.true c.index-plans-number.is)
           c.in_ok-own.ensures.value c.in_ok-push.ensures.items c.loop-number.invariant.each;
     }

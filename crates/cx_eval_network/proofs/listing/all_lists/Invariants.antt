@@ -6,5 +6,5 @@ use Rattle.cx_eval_network.proofs.listing.all_lists.Given as goal
 abbrev pub invariant-loop-number : goal.invariant-loop-number
 invariant-loop-number l = record {
   sized : length l.lists.items ≡ l.number;
-  each : HaveLists l.plans l.lists.items;
+  each : HaveLists l.parts l.plans l.lists.items;
 }

@@ -6,5 +6,5 @@ use Rattle.cx_eval_network.proofs.listing.part_lists.Given as goal
 abbrev pub invariant-loop-number : goal.invariant-loop-number
 invariant-loop-number l = record {
   sized : length l.groups.items ≡ l.number;
-  each : GroupsListed l.plans.ports.items l.groups.items;
+  each : GroupsListed l.part.ports.items l.plans.ports.items l.groups.items;
 }

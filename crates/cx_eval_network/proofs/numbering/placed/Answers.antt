@@ -21,7 +21,7 @@ loop-number-preserved c = λ d parts.
 
 pub returns : goal.returns
 returns c = record {
-  value = λ d parts plans lists.
+  value = λ d parts plans lists nothing.
       let end : c.loop-number.number ≡ length c.args.rows.now = omega arith in
       let placed : ArePlaced d c.args.rows.now (length c.args.rows.now) c.loop-number.instances.items c.loop-number.ports.items =
       subst (λ k. ArePlaced d c.args.rows.now k c.loop-number.instances.items c.loop-number.ports.items) end (c.loop-number.invariant d parts) in
@@ -31,6 +31,7 @@ returns c = record {
         lists = lists;
         there = λ n lt. subst (λ k. (row_at c.args.rows.now n).component < k) parts.count (c.requires.within n lt);
         placed = placed;
+        nothing = nothing;
         fits = let long = placed.nodes in let ok = c.loop-number.ports.ok in let small = c.loop-number.ports.small in omega (arith, long, ok, small);
       };
 }

@@ -9,7 +9,7 @@ use Rattle.cx_eval_network.proofs.soles.sole_of.Goals as goal
 pub loop-left-init : goal.loop-left-init
 loop-left-init c = record {
   within = omega arith;
-  sole = λ i owned look own stand agree. none_left i c.args.assigns.now owned look (offset_by c.args.active.now) _ stand refl;
+  sole = λ other same i owned look own stand agree. none_left i c.args.assigns.now owned look (offset_by other) _ stand refl;
 }
 
 pub loop-left-preserved : goal.loop-left-preserved
@@ -19,18 +19,18 @@ loop-left-preserved c =
     let some = c.loop-left-test.true in
     record {
       within = omega (arith, within);
-      sole = λ i owned look own stand agree.
-          let offset = offset_by c.args.active.now in
+      sole = λ other same i owned look own stand agree.
+          let offset = offset_by other in
           let at = stand_at numbered_assign (assign_plan i) c.args.assigns.now owned (left - 1) c.index-assigns-left.result stand (omega (arith, within, some)) c.index-assigns-left.is in
           let back : left ≡ suc (left - 1) = omega (arith, some) in
           subst (IsSole own c.sole_with-sole.result) (sym (ap (drive_of look offset) at.2))
-          (c.sole_with-sole.ensures.value i at.0 look own _ at.1 agree (subst (λ n. IsSole own c.loop-left.sole (drive_of look offset (drop n owned))) back (c.loop-left.invariant.sole i owned look own stand agree)));
+          (c.sole_with-sole.ensures.value other same i at.0 look own _ at.1 agree (subst (λ n. IsSole own c.loop-left.sole (drive_of look offset (drop n owned))) back (c.loop-left.invariant.sole other same i owned look own stand agree)));
     }
 
 pub returns : goal.returns
 returns c =
     let none : c.loop-left.left ≡ 0 = omega arith in
     record {
-      value = λ i owned look own stand agree.
-          subst (λ n. IsSole own c.loop-left.sole (drive_of look (offset_by c.args.active.now) (drop n owned))) none (c.loop-left.invariant.sole i owned look own stand agree);
+      value = λ other same i owned look own stand agree.
+          subst (λ n. IsSole own c.loop-left.sole (drive_of look (offset_by other) (drop n owned))) none (c.loop-left.invariant.sole other same i owned look own stand agree);
     }

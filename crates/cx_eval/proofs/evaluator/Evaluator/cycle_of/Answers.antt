@@ -9,14 +9,14 @@ use Rattle.cx_eval.proofs.evaluator.Evaluator.cycle_of.Goals as goal
 
 pub returns-clause-value : goal.returns-clause-value
 returns-clause-value c =
-    subst (λ design. Cycled (plain_design design) (plain_state c.args.state.now) (plain_state c.cycle_listed.new.state) c.args.instance c.args.active.now (listed_in c.args.cells.now) c.cycle_listed.result) c.self.view_is c.cycle_listed.ensures.value
+    subst (λ design. Cycled (plain_design design) (plain_state c.args.state.now) (plain_state c.cycle_anew.new.state) c.args.instance c.args.active.now (listed_in c.args.cells.now) c.cycle_anew.result) c.self.view_is c.cycle_anew.ensures.value
 
-pub cycle_listed-requires-clause-rooms : goal.cycle_listed-requires-clause-rooms
-cycle_listed-requires-clause-rooms c = subst (AreRooms c.self.inside.tables) (sym c.deref_mut.ensures.value) c.self.invariant.2
+pub cycle_anew-requires-clause-rooms : goal.cycle_anew-requires-clause-rooms
+cycle_anew-requires-clause-rooms c = subst (AreRooms c.self.inside.tables) (sym c.deref_mut.ensures.value) c.self.invariant.2
 
 pub invariant_of-self : goal.invariant_of-self
 invariant_of-self c =
     let old = c.self.inside.rooms in
-    let new = c.cycle_listed.new.rooms in
-    let count : length new ≡ old.len = omega (arith, c.cycle_listed.auto.rooms, c.deref_mut.ensures.len) in
-    (c.self.invariant.0, c.cycle_listed.ensures.count, subst (AreRooms c.self.inside.tables) (sym (with_items_is old new count)) c.cycle_listed.ensures.rooms)
+    let new = c.cycle_anew.new.rooms in
+    let count : length new ≡ old.len = omega (arith, c.cycle_anew.auto.rooms, c.deref_mut.ensures.len) in
+    (c.self.invariant.0, c.cycle_anew.ensures.count, subst (AreRooms c.self.inside.tables) (sym (with_items_is old new count)) c.cycle_anew.ensures.rooms)

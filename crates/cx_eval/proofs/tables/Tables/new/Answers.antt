@@ -12,7 +12,6 @@ returns-clause-tables c = record {
   accepted = c.design-design.ensures.accepted;
   table = subst (λ d. IsTable (plain_design d) c.in_ok-table.table.rows.items c.in_ok-table.table.children.items) (sym c.design-design.ensures.value) c.in_ok-table.ensures.value;
   numbered = c.in_ok-nodes.ensures.value;
-  driven = c.in_ok-drivers.ensures.value;
   stepping = c.in_ok-parts.ensures.value;
   nothing = refl;
 }

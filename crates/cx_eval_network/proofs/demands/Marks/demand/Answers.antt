@@ -8,5 +8,5 @@ returns-clause-seen g c =
     let old = c.self.inside.marks in
     let new = c.find.new.marks in
     let count : length new ≡ old.len = omega (arith, c.find.auto.marks, c.deref_mut.ensures.len) in
-    let same : c.deref.result.now ≡ new = c.deref.ensures.value ∙ with_items_is old new count in
+    let same : c.deref-2.result.now ≡ new = c.deref-2.ensures.value ∙ with_items_is old new count in
     c.shown_at.ensures.value ∙ ap (λ marks. shown (slice_get marks c.args.root)) same ∙ ap shown c.find.ensures.value.found

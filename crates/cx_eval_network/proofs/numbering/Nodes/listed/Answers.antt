@@ -11,7 +11,7 @@ returns-in-Some c = record {
       let nodes = c.args.self.now in
       let place : slice_get nodes.instances.items c.args.instance ≡ Some c.in-Some.place = ap (λ xs. slice_get xs c.args.instance) (sym c.as_slice.ensures.value) ∙ sym c.in-Some.ensures.value in
       list_there d rows nodes h c.args.instance lt (Group c.args.group) c.in-Some.place _ place refl
-      (λ part plan. c.group_ports.ensures.value nodes.plans.items part (subst (HaveLists nodes.plans.items) (sym c.as_slice-in-Some.ensures.value) h.lists) plan);
+      (λ part planned stands plan. c.group_ports.ensures.value nodes.parts.items nodes.plans.items part planned (subst (HaveLists nodes.parts.items nodes.plans.items) (sym c.as_slice-in-Some.ensures.value) h.lists) stands plan);
 }
 
 pub returns-in-None : goal.returns-in-None

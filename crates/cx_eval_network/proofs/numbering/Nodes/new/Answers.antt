@@ -62,6 +62,6 @@ returns c = record {
   value =
       let all : length c.args.design.now.components.items ≡ c.loop-number.number = search rules in
       let parts = have_parts _ _ c.args.design.now c.loop-number.invariant.sized c.loop-number.invariant.each all in
-      let lists = subst (λ plans. HaveLists plans c.in_ok-lists.lists.items) c.as_slice-3.ensures.value c.in_ok-lists.ensures.value in
-      subst (λ xs. IsNodesOf (plain_design c.args.design.now) xs c.in_ok-nodes.nodes) c.as_slice-4.ensures.value (c.in_ok-nodes.ensures.value (plain_design c.args.design.now) parts c.in_ok-plans.ensures.value lists);
+      let lists = subst (λ plans. HaveLists c.loop-number.parts.items plans c.in_ok-lists.lists.items) c.as_slice-3.ensures.value (subst (λ ps. HaveLists ps c.as_slice-3.result.now c.in_ok-lists.lists.items) c.as_slice-2.ensures.value c.in_ok-lists.ensures.value) in
+      subst (λ xs. IsNodesOf (plain_design c.args.design.now) xs c.in_ok-nodes.nodes) c.as_slice-4.ensures.value (c.in_ok-nodes.ensures.value (plain_design c.args.design.now) parts c.in_ok-plans.ensures.value lists c.in_ok-nothing.ensures.value);
 }
