@@ -24,7 +24,7 @@ mod FlatCycles
 mod FlatTops
 mod CopiedControl
 mod FlatGroups
-mod FlatLengths
+pub mod FlatLengths
 pub mod FlatTurns
 pub mod Windows
 pub mod FlatDeeds
@@ -47,7 +47,7 @@ pub mod FlatStatements
 pub mod FlatRuns
 pub mod Ruled
 mod Statements
-mod FairParts
+pub mod FairParts
 pub mod FlatOrigins
 mod FlatBlocks
 pub mod AcceptedTrees
@@ -66,7 +66,7 @@ mod FlatBare
 mod FlatCaptures
 mod FlatDepends
 mod FlatCallees
-mod StaticControls
+pub mod StaticControls
 mod AcceptedAsks
 pub mod AcceptedRuns
 mod FaultRuns
@@ -126,3 +126,5 @@ mod FlatSound
 mod FlatCells
 mod FlatWellformed
 pub mod FlatAccepted
+pub mod WholeSteady
+pub mod WholePlaces

@@ -46,7 +46,7 @@ flat_form_of kids part (Placed form place) = refl
 groups_form : (s : PlainStatement) (g : ℕ) → In (groups_in (form_of s)) g → In (groups_of s) g
 groups_form (Placed form place) g i = i
 
-timed_form : (s : PlainStatement) (k : ℕ) → In (timed_in (form_of s)) k → In (timed_of s) k
+pub timed_form : (s : PlainStatement) (k : ℕ) → In (timed_in (form_of s)) k → In (timed_of s) k
 timed_form (Placed form place) k i = i
 
 -- what is claimed of a tree

@@ -30,7 +30,7 @@ use Rattle.cx_flattening.proofs.FlatLimits.{zero_plus}
 use Rattle.cx_profiling.specs.Counting.{ChildrenCount, count_island, count_call_or_turns, count_enable, counting, count_control, count_below}
 use Rattle.cx_profiling.specs.WholeCounting.{whole_count_form, whole_count, whole_count_parts, whole_count_arms, count_whole_call_or_turns, count_whole_enable, whole_counting, count_whole_control, count_whole_below}
 use Rattle.cx_profiling.proofs.ControlLemmas.{count_child}
-use Rattle.cx_profiling.proofs.WholeLeaves.{whole_child}
+use Rattle.cx_flattening.proofs.WholeSteady.{whole_child}
 use Rattle.cx_profiling.proofs.FlatTotals.{IsThere}
 use Rattle.cx_profiling.proofs.FlatTells.{Tells, none_tells, plus_tells, group_tells, island_tells, below_tells}
 

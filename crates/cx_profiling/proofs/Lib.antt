@@ -72,7 +72,6 @@ pub mod WholeWithin
 pub mod WholeArms
 pub mod ControlLemmas
 pub mod WholeLeaves
-pub mod WholeSteady
 pub mod TallyWithin
 pub mod OutputLemmas
 pub mod StoreDrives

@@ -23,7 +23,7 @@ use Rattle.cx_profiling.proofs.RoleLemmas.{Role, as_main, as_child, as_kept, rol
 use Rattle.cx_profiling.proofs.GrownTrees.{InTree, main_in_tree}
 use Rattle.cx_profiling.proofs.AlikeLemmas.{some_levels, entry_counts, instrumented_is}
 use Rattle.cx_profiling.proofs.WholeMain.{whole_main_owes}
-use Rattle.cx_profiling.proofs.WholeSteady.{steady_whole}
+use Rattle.cx_flattening.proofs.WholeSteady.{steady_whole}
 use Rattle.cx_profiling.proofs.ReadLemmas.{profile_reads}
 
 module _ (d : PlainDesign) (design : IsDesign d) (accepted : IsAccepted d) (grown_accepted : IsAccepted (with_counts d)) (undone : NoneNamesDone d) (some : 1 ≤ entry_count d) where

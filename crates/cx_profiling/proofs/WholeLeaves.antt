@@ -43,6 +43,7 @@ use Rattle.cx_flattening.specs.Whole.{whole_cycle, whole_from, whole_island, cal
 use Rattle.cx_flattening.proofs.Ruled.{AllRuled, AllRuledBelow}
 use Rattle.cx_flattening.proofs.DeedSources.{island_does}
 use Rattle.cx_flattening.proofs.DeedsOnce.{deeds_circle}
+use Rattle.cx_flattening.proofs.WholeSteady.{whole_child}
 use Rattle.cx_profiling.specs.Counters.{Counter, is_counted, counters, first_gained}
 use Rattle.cx_profiling.specs.Counting.{once, made_with}
 use Rattle.cx_profiling.specs.WholeCounting.{count_whole_island, count_whole_call_or_turns, count_whole_enable, whole_counting, count_whole_control, count_whole_below}
@@ -74,13 +75,6 @@ ruled_child (a_primitive row rest) zero child h e = absurd (row_instance row chi
 ruled_child (a_primitive row rest) (suc c) child h e = ruled_child rest c child h e
 ruled_child (an_instance other rest) zero child h e = subst AllRuled (instance_is other child e) h.0
 ruled_child (an_instance other rest) (suc c) child h e = ruled_child rest c child h.1 e
-
-pub whole_child : (cells : Cells) (c : ℕ) (child : Instance) → cell_at cells c ≡ OfInstance child → (held : Held) (s : State) (n : ℕ) → whole_below cells c held s n ≡ whole_control child held s n
-whole_child no_cells c child e held s n = absurd (nothing_instance child e)
-whole_child (a_primitive row rest) zero child e held s n = absurd (row_instance row child e)
-whole_child (a_primitive row rest) (suc c) child e held s n = whole_child rest c child e held s n
-whole_child (an_instance x rest) zero child e held s n = ap (λ y. whole_control y held s n) (instance_is x child e)
-whole_child (an_instance x rest) (suc c) child e held s n = whole_child rest c child e held s n
 
 pub counts_child : (cells : Cells) (c : ℕ) (child : Instance) → cell_at cells c ≡ OfInstance child → (held : Held) (s : State) (n : ℕ) → count_whole_below cells c held s n ≡ count_whole_control child held s n
 counts_child no_cells c child e held s n = absurd (nothing_instance child e)

@@ -50,7 +50,7 @@ use Rattle.cx_profiling.proofs.CirclesKept.{main_acyclic}
 use Rattle.cx_profiling.proofs.SeenOutputs.{below_there}
 use Rattle.cx_profiling.proofs.GrownIslands.{TwinKeeps}
 use Rattle.cx_profiling.proofs.WholeLeaves.{whole_control_carries, whole_kids}
-use Rattle.cx_profiling.proofs.WholeSteady.{steady_statement, whole_settles}
+use Rattle.cx_flattening.proofs.WholeSteady.{steady_statement, whole_settles}
 use Rattle.cx_profiling.proofs.WholeStores.{whole_store_runs}
 use Rattle.cx_profiling.proofs.MainLemmas.{set_middle, more_after, memory_rests}
 use Rattle.cx_profiling.proofs.OutputLemmas.{counted_of}

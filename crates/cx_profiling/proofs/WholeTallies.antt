@@ -44,8 +44,8 @@ use Rattle.cx_profiling.proofs.ShownLemmas.{IsBelow, WhereShown, child_count, ow
 use Rattle.cx_profiling.proofs.TallyAnswers.{Fits, FitsIn, fits_both, fits_idle, fits_loop, fits_rounds, fits_stay, fits_test, fits_then, fits_turn, fits_turns, fits_wait, fits_within}
 use Rattle.cx_profiling.proofs.TallyWithin.{once_few, member, steady_fits, lifted_fits, then_fits}
 use Rattle.cx_profiling.proofs.WholeArms.{later_own, first_own, later_below, first_below}
-use Rattle.cx_profiling.proofs.WholeLeaves.{whole_child, counts_child}
-use Rattle.cx_profiling.proofs.WholeSteady.{steady_whole}
+use Rattle.cx_profiling.proofs.WholeLeaves.{counts_child}
+use Rattle.cx_flattening.proofs.WholeSteady.{whole_child, steady_whole}
 use Rattle.cx_rewrites.proofs.MovedLemmas.{joined-with_last, with_last}
 
 -- a group with a name that is not a comb group stands at this entry

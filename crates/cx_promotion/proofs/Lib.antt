@@ -39,7 +39,6 @@ mod Runs
 mod Pieces
 mod WholeStays
 mod WholeLists
-mod WholeSteady
 mod WholeIslands
 mod WholeRests
 mod WholePieces
@@ -47,5 +46,3 @@ mod WholeLeaves
 mod ControlStays
 mod WholeRuns
 pub mod WholeDesigns
-mod PlacedParts
-pub mod WholePlaces

@@ -14,7 +14,7 @@ use Rattle.cx_flattening.proofs.AcceptedTrees.{good}
 use Rattle.cx_promotion.specs.Made.{DesignMade, WholeQuickens}
 use Rattle.cx_rewrites.specs.Places.{SameDesign}
 use Rattle.cx_rewrites.proofs.PlaceDesigns.{external_rows-same}
-use Rattle.cx_promotion.proofs.WholePlaces.{whole_main-same}
+use Rattle.cx_flattening.proofs.WholePlaces.{whole_main-same}
 use Rattle.cx_promotion.proofs.Trees.{trees_are_twins}
 use Rattle.cx_promotion.proofs.DesignsQuicken.{start-twin, tree_is, same_end, rows_same}
 use Rattle.cx_promotion.proofs.WholeRuns.{whole_quickens}

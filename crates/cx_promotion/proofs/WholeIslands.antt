@@ -29,7 +29,8 @@ use Rattle.cx_promotion.proofs.MadeBeside.{MadeBeside}
 use Rattle.cx_promotion.proofs.StaticStays.{Same}
 use Rattle.cx_promotion.proofs.InvokesMade.{form_lasts_same}
 use Rattle.cx_promotion.proofs.WholeStays.{entries_still, own_timed, whole_stays, looks_stay}
-use Rattle.cx_promotion.proofs.WholeLists.{AllThere, island_events_same, TimedEvents, deeds_timed, island_timed}
+use Rattle.cx_flattening.proofs.FlatLengths.{AllThere}
+use Rattle.cx_promotion.proofs.WholeLists.{island_events_same, TimedEvents, deeds_timed, island_timed}
 
 -- THE INVOKES OF A STATEMENT that stands in a component are there
 module _ (part : PlainComponent) where

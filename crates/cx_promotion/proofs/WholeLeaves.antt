@@ -37,7 +37,7 @@ use Rattle.cx_promotion.proofs.StaticStays.{Same as SameLengths}
 use Rattle.cx_promotion.proofs.LeavesQuicken.{same_fault, SameSettled, Quicker, same_le, grown, steady_quicker, recounted, child_settled, group_idle, called_stays, captures_stays, length_stays, lift_carried, inputs_stay}
 use Rattle.cx_promotion.proofs.WholeStays.{whole_stays}
 use Rattle.cx_promotion.proofs.WholeIslands.{whole_island_stays}
-use Rattle.cx_promotion.proofs.WholeSteady.{steady_island, steady_after}
+use Rattle.cx_flattening.proofs.WholeSteady.{steady_island, steady_after}
 
 -- nothing leads in a circle where nothing is done below
 own_circle : (i : Instance) (act : Active) → IsAcyclic i act → AreAcyclic i → NoCircle i act []

@@ -18,6 +18,9 @@ use Rattle.cx_flattening.specs.Lists.{island_events}
 use Rattle.cx_flattening.specs.Whole.{is_static}
 use Rattle.cx_flattening.proofs.Ruled.{AllRuled, AllRuledBelow}
 use Rattle.cx_flattening.proofs.Windows.{events-child}
+use Rattle.cx_flattening.proofs.FairParts.{some_of}
+use Rattle.cx_flattening.proofs.FlatLengths.{AllThere, there_left, there_right}
+use Rattle.cx_flattening.proofs.StaticControls.{timed_form}
 use Rattle.cx_promotion.specs.Made as made
 use Rattle.cx_promotion.specs.Made.{IsPromoted, FormMade, StatementMade}
 use Rattle.cx_promotion.proofs.Twins.{Twins, TwinCells}
@@ -27,20 +30,6 @@ use Rattle.cx_promotion.proofs.StaticStays.{Same, same_left, same_right, parts_s
 use Rattle.cx_promotion.proofs.InvokesMade.{lasts_same}
 use Rattle.cx_promotion.proofs.WholeStays.{timed_still, IsTimed, TimedDeeds}
 use Rattle.cx_promotion.proofs.Impossible.{no_true}
-
--- numbers of invokes that are there
-abbrev pub AllThere : List ℕ → ℕ → Type 0
-AllThere ks n = (k : ℕ) → In ks k → k < n
-
-there_left : (xs ys : List ℕ) (n : ℕ) → AllThere (xs ++ ys) n → AllThere xs n
-there_left xs ys n there k i = there k (in_left xs ys k i)
-
-there_right : (xs ys : List ℕ) (n : ℕ) → AllThere (xs ++ ys) n → AllThere ys n
-there_right xs ys n there k i = there k (in_right xs ys k i)
-
-some_of : (o : Option ℕ) → is_some o ≡ true → (n : ℕ) × (o ≡ Some n)
-some_of None e = no_true e
-some_of (Some n) e = (n, refl)
 
 -- a group with a length has it in the new design too
 pub timed_same : (i j : Instance) (h : MadeBeside i j) (g : ℕ) → is_some (group_length (part_of i) g) ≡ true → group_length (part_of j) g ≡ group_length (part_of i) g
@@ -139,9 +128,6 @@ events_of part below (Placed form place) b = refl
 
 visited_below : (s : PlainStatement) (P : Visited → Type 0) → ((v : Visited) → In (visit Dynamic s) v → P v) → (v : Visited) → In (visit_parts Dynamic (form_of s)) v → P v
 visited_below (Placed form place) P all v k = all v (inr k)
-
-timed_form : (s : PlainStatement) (k : ℕ) → In (timed_in (form_of s)) k → In (timed_of s) k
-timed_form (Placed form place) k i = i
 
 mutual
   pub control_events_same : (i j : Instance) → Twins MadeBeside i j → AllRuled i → AllControlled i → is_static i ≡ true → (b : Beginning) → control_events j b ≡ control_events i b

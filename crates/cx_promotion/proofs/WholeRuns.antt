@@ -27,7 +27,7 @@ use Rattle.cx_promotion.proofs.ControlStays.{visit_joined, tests_carry, static_s
 use Rattle.cx_promotion.proofs.MadeControl.{made_groups}
 use Rattle.cx_promotion.proofs.LeavesQuicken.{same_fault, recounted, SameSettled, Quicker, steady_quicker, with_settled}
 use Rattle.cx_promotion.proofs.InvokesMade.{made_invokes, drives_all-made}
-use Rattle.cx_promotion.proofs.WholeSteady.{steady_island, whole_settles}
+use Rattle.cx_flattening.proofs.WholeSteady.{steady_island, whole_settles}
 use Rattle.cx_promotion.proofs.WholeIslands.{whole_island_stays}
 use Rattle.cx_promotion.proofs.WholePieces.{piece_whole, promoted_whole}
 use Rattle.cx_promotion.proofs.WholeLeaves.{enable_whole}

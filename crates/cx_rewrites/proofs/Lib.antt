@@ -21,13 +21,13 @@ pub mod ReflectLemmas
 pub mod ClosedLemmas
 pub mod StandingLemmas
 pub mod PlaceLemmas
-mod PlaceStatements
+pub mod PlaceStatements
 pub mod PlaceRuns
 pub mod PlaceDesigns
 mod PlacePorts
 mod PlaceLeads
 mod PlaceShapes
-mod PlaceInvokes
+pub mod PlaceInvokes
 pub mod PlaceRules
 mod PlaceCalls
 mod PlaceLimits

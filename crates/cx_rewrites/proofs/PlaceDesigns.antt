@@ -40,7 +40,7 @@ externals_from-unplaced c (cell ∷ rest) = ap (if_external cell.external c) (ex
 externals_of-same : (part other : PlainComponent) → SamePart part other → externals_of part ≡ externals_of other
 externals_of-same part other same = sym (externals_from-unplaced 0 part.cells) ∙ ap (externals_from 0) same.cells ∙ externals_from-unplaced 0 other.cells
 
-start-same : (i j : Instance) → SameTree i j → (words : List (List ℕ)) → start i words ≡ start j words
+pub start-same : (i j : Instance) → SameTree i j → (words : List (List ℕ)) → start i words ≡ start j words
 start-same i j t words = fun_ext one
   where
     one : (path : Path) → start i words path ≡ start j words path

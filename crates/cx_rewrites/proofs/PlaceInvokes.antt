@@ -79,7 +79,7 @@ module _ (part other : PlainComponent) (same : SamePart part other) where
   captures_of-same [] = refl
   captures_of-same (k ∷ ks) = ap₂ ◌++◌ (of_invoke capture_of (λ v. refl) k) (captures_of-same ks)
 
-  invokes_cell-same : (ks : List ℕ) (c : ℕ) → invokes_cell other ks c ≡ invokes_cell part ks c
+  pub invokes_cell-same : (ks : List ℕ) (c : ℕ) → invokes_cell other ks c ≡ invokes_cell part ks c
   invokes_cell-same [] c = refl
   invokes_cell-same (k ∷ ks) c = ap₂ ◌||◌ (of_invoke (λ v. is_cell_of v c) (λ v. refl) k) (invokes_cell-same ks c)
 

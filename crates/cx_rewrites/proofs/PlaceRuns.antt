@@ -26,7 +26,7 @@ use Rattle.cx_rewrites.proofs.PlaceLemmas.{SameTree, SameCells, same_parts, seen
 use Rattle.cx_rewrites.proofs.PlaceStatements.{kind-same, groups_drive-same, called-same, captures-same, groups_of-unplaced, form_length-unplaced, form_flat-unplaced}
 
 -- from the same state, equal meanings carry each other
-equal_carries : (go on : Meaning State Fault) → ((s : State) (n : ℕ) → on s n ≡ go s n) → Carries Exact Same (λ (f : Fault). f) (λ s n. none) go on
+pub equal_carries : (go on : Meaning State Fault) → ((s : State) (n : ℕ) → on s n ≡ go s n) → Carries Exact Same (λ (f : Fault). f) (λ s n. none) go on
 equal_carries go on h before s z n m room same =
     subst (λ x. Carried Exact Same (λ (f : Fault). f) before none (go s n) x) (sym (h z m)) (same_carries (λ s1 k. none) go before s z n m room same)
 

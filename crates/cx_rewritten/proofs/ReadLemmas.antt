@@ -20,7 +20,7 @@ use Rattle.cx_numbering.specs.DesignOf.{design_of}
 use Rattle.cx_rewrites.specs.Places.{SameDesign}
 use Rattle.cx_rewrites.proofs.PlaceAccepted.{accepted_there}
 use Rattle.cx_rewrites.proofs.PlaceDesigns.{tree_of-same, words_of-same, external_rows-same}
-use Rattle.cx_promotion.proofs.WholePlaces.{whole_main-same}
+use Rattle.cx_flattening.proofs.WholePlaces.{whole_main-same}
 use Rattle.cx_rewritten.specs.Ordered.{places_in, Rise, AreOf, none_left, left_out, one_kept, StandAs, KeepsOrder}
 use Rattle.cx_rewritten.specs.Written.{IsWritten, IsReadAs}
 use Rattle.cx_rewritten.proofs.CommentLemmas.{shifted, behind_comments}

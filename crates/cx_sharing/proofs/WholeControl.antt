@@ -9,7 +9,6 @@ use Rattle.cx_meaning.specs.Instances.{Instance, Node, Cells, no_cells, a_primit
 use Rattle.cx_meaning.specs.Control.{Leaves, run_form, run}
 use Rattle.cx_meaning.specs.Cycles.{Fault}
 use Rattle.cx_meaning.specs.Sights.{Held}
-use Rattle.cx_meaning.proofs.InstancesLemmas.{instance_is, row_instance, nothing_instance}
 use Rattle.cx_rules.specs.Circles.{AreAcyclic, AcyclicBelow}
 use Rattle.cx_rules.specs.Invokes.{drives_all}
 use Rattle.cx_rules.specs.Items.{Context, Dynamic, below_dynamic, Visited, visit, visit_all, statements_in}
@@ -25,6 +24,7 @@ use Rattle.cx_flattening.specs.Controlled.{AllControlled, AllControlledBelow}
 use Rattle.cx_flattening.specs.Whole.{whole_leaves, whole_control, whole_below}
 use Rattle.cx_flattening.proofs.DeedsApart.{Stands}
 use Rattle.cx_flattening.proofs.Ruled.{AllRuled, AllRuledBelow}
+use Rattle.cx_flattening.proofs.WholeSteady.{whole_child}
 use Rattle.cx_sharing.specs.Giving.{new_cell}
 use Rattle.cx_sharing.specs.Following.{SharedStands, shared_fault}
 use Rattle.cx_sharing.proofs.TwinStates.{merged_state, held_other}
@@ -36,14 +36,6 @@ use Rattle.cx_sharing.proofs.WholeLeaves.{drives_alike, enable_alike}
 -- the forms of a tree that keeps the rules
 ruled_forms : (i : Instance) → AllRuled i → (v : Visited) → In (statements_in (part_of i)) v → IsForm (part_of i) v.form
 ruled_forms (Node part cells) rules v k = (rules.0.statements v k).form
-
--- the run of a child
-whole_child : (cells : Cells) (c : ℕ) (child : Instance) → cell_at cells c ≡ OfInstance child → (held : Held) (s : State) (n : ℕ) → whole_below cells c held s n ≡ whole_control child held s n
-whole_child no_cells c child e held s n = absurd (nothing_instance child e)
-whole_child (a_primitive row rest) zero child e held s n = absurd (row_instance row child e)
-whole_child (a_primitive row rest) (suc c) child e held s n = whole_child rest c child e held s n
-whole_child (an_instance x rest) zero child e held s n = ap (λ y. whole_control y held s n) (instance_is x child e)
-whole_child (an_instance x rest) (suc c) child e held s n = whole_child rest c child e held s n
 
 module _ {i j : Instance} (both : Twins i j) (controlled : AllControlled i) (rules : AllRuled i) (calm : AreAcyclic i) (held : Held)
     (kids : (c : ℕ) (child : Instance) → cell_at (cells_of i) c ≡ OfInstance child → (own : Held)

@@ -1,10 +1,10 @@
 -- LAWS OF RUNS with static components: a greater budget shows no more than that a run goes on, and every statement leaves a settled state.
-use Rattle.std.proofs.Common.{ℕ, zero, suc, Bool, true, false, List, [], Option, Some, None, arith}
+use Rattle.std.proofs.Common.{◌≡◌, ℕ, zero, suc, ap, Bool, true, false, List, [], Option, Some, None, arith}
 use Rattle.cx_meaning.specs.declared.kinds.GroupKind.{GroupKind}
 use Rattle.cx_meaning.specs.declared.kinds.GroupKind.TheVariants as kinds
 use Rattle.cx_meaning.specs.Rows.{KeepsIdle}
 use Rattle.cx_meaning.specs.Designs.{PlainForm, Enable, Timed, PlainStatement, group_at}
-use Rattle.cx_meaning.specs.Instances.{Instance, Node, Cells, no_cells, a_primitive, an_instance, cells_of, part_of, State, under, idle, IsSettled}
+use Rattle.cx_meaning.specs.Instances.{Instance, Node, Cells, no_cells, a_primitive, an_instance, OfInstance, cell_at, cells_of, part_of, State, under, idle, IsSettled}
 use Rattle.cx_meaning.specs.Active.{capture}
 use Rattle.cx_meaning.specs.Sights.{Held}
 use Rattle.cx_meaning.specs.Cycles.{Fault}
@@ -17,12 +17,21 @@ use Rattle.cx_meaning.specs.Budgets.{IsSteady, Leaves}
 use Rattle.cx_meaning.specs.Laws.{AllRows}
 use Rattle.cx_meaning.proofs.AnswersLemmas.{steady_idle, steady_turn, steady_turns, grows_turn, grows_then, turn_beyond, leaves_last, leaves_idle, leaves_turn, leaves_turns}
 use Rattle.cx_meaning.proofs.ControlLemmas.{LeavesAreSteady, steady_run, leaves_run}
+use Rattle.cx_meaning.proofs.InstancesLemmas.{instance_is, row_instance, nothing_instance}
 use Rattle.cx_meaning.proofs.RunningLemmas.{idle_settles, grows_lifted, merge_settles}
 use Rattle.cx_rules.specs.Invokes.{form_lasts}
 use Rattle.cx_flattening.specs.Events.{Event}
 use Rattle.cx_flattening.specs.Deeds.{History, no_history, and_now}
 use Rattle.cx_flattening.specs.Lists.{island_events}
 use Rattle.cx_flattening.specs.Whole.{look_below, whole_cycle, whole_turn, whole_from, whole_island, after_child, call, group_turn, call_or_turns, enable_kind, whole_leaves, whole_control, whole_below}
+
+-- the run of a child
+pub whole_child : (cells : Cells) (c : ℕ) (child : Instance) → cell_at cells c ≡ OfInstance child → (held : Held) (s : State) (n : ℕ) → whole_below cells c held s n ≡ whole_control child held s n
+whole_child no_cells c child e held s n = absurd (nothing_instance child e)
+whole_child (a_primitive row rest) zero child e held s n = absurd (row_instance row child e)
+whole_child (a_primitive row rest) (suc c) child e held s n = whole_child rest c child e held s n
+whole_child (an_instance x rest) zero child e held s n = ap (λ y. whole_control y held s n) (instance_is x child e)
+whole_child (an_instance x rest) (suc c) child e held s n = whole_child rest c child e held s n
 
 module _ (i : Instance) (held : Held) where
   steady_cycles : (list : List Event) (left t : ℕ) (h : History) → IsSteady (whole_from i held list left t h)
@@ -34,11 +43,11 @@ module _ (i : Instance) (held : Held) where
       grows_turn (idle i) s _ n (λ after. whole_from i held list left (suc t) (and_now h t (look_below i held s)) after n) (λ after. whole_from i held list left (suc t) (and_now h t (look_below i held s)) after m)
       (λ after. steady_cycles list left (suc t) (and_now h t (look_below i held s)) after n m (omega arith))
 
-  steady_island : (form : PlainForm) → IsSteady (whole_island i held form)
+  pub steady_island : (form : PlainForm) → IsSteady (whole_island i held form)
   steady_island form s n m le = steady_cycles (island_events i form) (form_lasts (part_of i) form) 0 no_history s n m le
 
 module _ (i : Instance) (children : Children) (held : Held) (g : ℕ) where
-  steady_after : (c : ℕ) (capturing : Bool) → IsSteady (after_child i held g c capturing)
+  pub steady_after : (c : ℕ) (capturing : Bool) → IsSteady (after_child i held g c capturing)
   steady_after c true s n m le = steady_turn (idle i) (λ s1. turn_of (whole_cycle i held (capture g c) [] s1)) (idle_turn (idle i)) (steady_idle State Fault (idle i)) s n m le
   steady_after c false s n m le = steady_idle State Fault (idle i) s n m le
 

@@ -27,9 +27,10 @@ use Rattle.cx_rewrites.specs.Places.{unplaced_assign, unplaced_invoke, unplaced_
 use Rattle.cx_rewrites.proofs.FollowLemmas.{same_carries, carried_is_same}
 use Rattle.cx_rewrites.proofs.BesideLemmas.{run_carries}
 use Rattle.cx_rewrites.proofs.PlaceLemmas.{SameTree, SameCells, same_parts, seen-same, cycle-same, idle-same}
-use Rattle.cx_promotion.proofs.PlacedParts.{kind-same, groups_drive-same, called-same, captures-same, groups_of-unplaced, invokes_of-unplaced, invokes_cell-same, captures_of-same, lengths-same, form_lasts-unplaced, lasts-unplaced, start-same}
-use Rattle.cx_rewrites.proofs.PlaceRuns.{same_part_itself, same_tree_itself}
-use Rattle.cx_rewrites.proofs.PlaceDesigns.{tree_of-same}
+use Rattle.cx_rewrites.proofs.PlaceStatements.{kind-same, groups_drive-same, called-same, captures-same, groups_of-unplaced}
+use Rattle.cx_rewrites.proofs.PlaceInvokes.{invokes_of-unplaced, invokes_cell-same, captures_of-same, lengths-same, form_lasts-unplaced, lasts-unplaced}
+use Rattle.cx_rewrites.proofs.PlaceRuns.{equal_carries, same_part_itself, same_tree_itself}
+use Rattle.cx_rewrites.proofs.PlaceDesigns.{tree_of-same, start-same}
 use Rattle.cx_flattening.specs.Events.{no_invoke, the_invoke, Spot, spot, Event, Runs, Feeds, Looks, Beginning, Events, later_by, also_if, group_events, capture_events, rounds_events, source_in, source_to, bound_below, invoke_events, form_events, events, seq_events, par_events, control_events, events_below}
 use Rattle.cx_flattening.specs.Deeds.{History, no_history, Deed, Acts, Fed, deed_if, is_now, deeds_in, hold, spot_if, looked_in, own_entries, deeds_below, held_if, held_below, and_now, first_unclear}
 use Rattle.cx_flattening.specs.Lists.{island_events}
@@ -274,11 +275,6 @@ mutual
   look_at-same (an_instance child rest) (a_primitive twin more) h c s path p = absurd h
   look_at-same (an_instance child rest) (an_instance twin more) (t, h) zero s path p = look_below-same child twin t unheld s path p
   look_at-same (an_instance child rest) (an_instance twin more) (t, h) (suc c) s path p = look_at-same rest more h c s path p
-
--- from the same state, equal meanings carry each other
-equal_carries : (go on : Meaning State Fault) → ((s : State) (n : ℕ) → on s n ≡ go s n) → Carries Exact Same (λ (f : Fault). f) (λ s n. none) go on
-equal_carries go on h before s z n m room same =
-    subst (λ x. Carried Exact Same (λ (f : Fault). f) before none (go s n) x) (sym (h z m)) (same_carries (λ s1 k. none) go before s z n m room same)
 
 -- LEAVES of two instances of the same tree, whose children run alike
 module _ (i j : Instance) (t : SameTree i j) (kids others : Children) (children : (c : ℕ) (held : Held) (s : State) (n : ℕ) → others c held s n ≡ kids c held s n) (held : Held) where
