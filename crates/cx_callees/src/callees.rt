@@ -50,7 +50,8 @@ fn is_done_number(part: &Component, port: u32) -> bool
 /// The component cell of which a port is one.
 pub fn callee_of(design: &Design, number: usize, port: PortRef) -> Option<Callee<'_>>
     requires within { number < length design.now.components.items }
-    ensures value { option_map plain_callee result ≡ callees.callee_of (component_of (plain_design design.now) number) port }
+    ensures value { option_map plain_callee result ≡
+        callees.callee_of (component_of (plain_design design.now) number) port }
 {
     match port {
         PortRef::Cell(cell, _) => match stands_at(design, number, cell) {
@@ -69,7 +70,8 @@ pub fn called<'a>(
     assigns: &[Assign],
 ) -> Result<Vec<Callee<'a>>, Memory>
     requires within { number < length design.now.components.items }
-    ensures value { IfOk result (λ list. map plain_callee list.items ≡ called_of (component_of (plain_design design.now) number) (plain_assigns assigns.now)) }
+    ensures value { IfOk result (λ list. map plain_callee list.items ≡
+        called_of (component_of (plain_design design.now) number) (plain_assigns assigns.now)) }
 {
     let mut list = Vec::new(alloc);
     let mut last = None;
@@ -100,7 +102,10 @@ fn add_callee<'a>(
     last: Option<u32>,
     callee: Option<Callee<'a>>,
 ) -> Result<Option<u32>, Memory>
-    ensures value { (rest : List PlainCallee) → IfOk result (λ now_last. map plain_callee list.new.items ++ apart now_last rest ≡ map plain_callee list.old.items ++ apart last (callees.and_then (option_map plain_callee callee.entry) rest)) }
+    ensures value { (rest : List PlainCallee) →
+        IfOk result (λ now_last. map plain_callee list.new.items ++ apart now_last rest ≡
+        map plain_callee list.old.items
+        ++ apart last (callees.and_then (option_map plain_callee callee.entry) rest)) }
 {
     let Some(callee) = callee else {
         return Ok(last);

@@ -8,4 +8,5 @@ use Rattle.cx_prim.specs.Rows.{Inputs, input, Row}
 -- a value stands at port n, where an edge looks at it
 pub record IsSeenAt (r : Row) (state : CellState) (inputs : Inputs) (n : ℕ) : Type 0 where
   pub enabling : (port : PortRow) → slice_get r.ports n ≡ Some port → port.side ≡ Enable → IsSome (input inputs n)
-  pub demanded : (port : PortRow) → slice_get r.ports n ≡ Some port → port.side ≡ Plain → r.demands state inputs n ≡ true → IsSome (input inputs n)
+  pub demanded : (port : PortRow) → slice_get r.ports n ≡ Some port → port.side ≡ Plain
+      → r.demands state inputs n ≡ true → IsSome (input inputs n)

@@ -9,4 +9,5 @@ twelve = 10 ∷ 11 ∷ 12 ∷ 13 ∷ 14 ∷ 15 ∷ 16 ∷ 17 ∷ 18 ∷ 19 ∷ 2
 
 -- a primitive of this name and these numbers starts with the twelve words
 abbrev pub TakesTwelve : List ℕ → List ℕ → Type 0
-TakesTwelve name numbers = (p : PrimitiveRow) → IsNamed p.name name → p.numbers ≡ numbers → TakesWords (row_of p).shape twelve
+TakesTwelve name numbers =
+    (p : PrimitiveRow) → IsNamed p.name name → p.numbers ≡ numbers → TakesWords (row_of p).shape twelve

@@ -42,8 +42,10 @@ fn is_wanted<C: Cycle>(cell: &C, state: &C::State, inputs: &[Option<Bits>], n: u
     requires state_fits { IsState (C.meaning cell.now).shape (C.shown state.now) }
     requires inputs_fit { FitsPorts (C.meaning cell.now).ports inputs.now }
     requires within { n < length (C.meaning cell.now).ports }
-    ensures enabling { (port : PortRow) → slice_get (C.meaning cell.now).ports n ≡ Some port → port.side ≡ Enable → result ≡ true }
-    ensures demanded { (port : PortRow) → slice_get (C.meaning cell.now).ports n ≡ Some port → port.side ≡ Plain → result ≡ (C.meaning cell.now).demands (C.shown state.now) inputs.now n }
+    ensures enabling { (port : PortRow) → slice_get (C.meaning cell.now).ports n ≡ Some port →
+        port.side ≡ Enable → result ≡ true }
+    ensures demanded { (port : PortRow) → slice_get (C.meaning cell.now).ports n ≡ Some port →
+        port.side ≡ Plain → result ≡ (C.meaning cell.now).demands (C.shown state.now) inputs.now n }
 {
     match cell.port(n).side {
         Side::Enable => true,

@@ -46,8 +46,12 @@ kind_lawful (kinds.Unary p) = unary_lawful p.operator p.width p.out_width p.with
 kind_lawful (kinds.Binary p) = binary_lawful p.operator p.width
 kind_lawful (kinds.Mux p) = mux_lawful p.width
 kind_lawful (kinds.Register p) = register_lawful p.width p.within
-kind_lawful (kinds.Memory p) = memory_lawful p.layout.width (take p.layout.dimensions p.layout.sizes) (take p.layout.dimensions p.layout.address_widths) p.layout.within
-kind_lawful (kinds.Sequential p) = sequential_lawful p.layout.width (take p.layout.dimensions p.layout.sizes) (take p.layout.dimensions p.layout.address_widths) p.layout.within
+kind_lawful (kinds.Memory p) =
+    memory_lawful p.layout.width (take p.layout.dimensions p.layout.sizes)
+    (take p.layout.dimensions p.layout.address_widths) p.layout.within
+kind_lawful (kinds.Sequential p) =
+    sequential_lawful p.layout.width (take p.layout.dimensions p.layout.sizes)
+    (take p.layout.dimensions p.layout.address_widths) p.layout.within
 kind_lawful (kinds.Multiplier p) = multiplier_lawful p.width p.within
 kind_lawful (kinds.Divider p) = divider_lawful p.width p.within
 kind_lawful (kinds.Timer p) = timer_lawful p.length p.some p.few

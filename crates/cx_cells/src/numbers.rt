@@ -109,7 +109,8 @@ fn constant(numbers: &[u64]) -> Option<Kind>
 
 fn same_width(operator: UnaryOperator, numbers: &[u64]) -> Option<Kind>
     requires { (width : ℕ) → IsWidth width → IsUnary operator width width }
-    ensures value { at_width (λ width. unary_row width width (apply_unary operator width)) numbers.now ≡ option_map kind_row result }
+    ensures value { at_width (λ width. unary_row width width (apply_unary operator width)) numbers.now ≡
+        option_map kind_row result }
 {
     let width = lone_width(numbers)?;
     Some(Kind::Unary(Unary {
@@ -120,7 +121,9 @@ fn same_width(operator: UnaryOperator, numbers: &[u64]) -> Option<Kind>
 }
 
 fn binary(operator: BinaryOperator, numbers: &[u64]) -> Option<Kind>
-    ensures value { at_width (λ width. binary_row width (binary_out_width operator width) (apply_binary operator)) numbers.now ≡ option_map kind_row result }
+    ensures value { at_width
+        (λ width. binary_row width (binary_out_width operator width) (apply_binary operator)) numbers.now ≡
+        option_map kind_row result }
 {
     Some(Kind::Binary(Binary {
         operator,
@@ -196,7 +199,8 @@ fn sequential(dimensions: usize, numbers: &[u64]) -> Option<Kind>
 fn layout(dimensions: usize, numbers: &[u64]) -> Option<Layout>
     requires some { 1 ≤ dimensions }
     requires few { dimensions ≤ 4 }
-    ensures value { (make : ℕ → List ℕ → List ℕ → Row) → memory_at dimensions make numbers.now ≡ option_map (row_at_layout make) result }
+    ensures value { (make : ℕ → List ℕ → List ℕ → Row) →
+        memory_at dimensions make numbers.now ≡ option_map (row_at_layout make) result }
 {
     let (number, rest) = numbers.split_first()?;
     let width = width_of(*number)?;

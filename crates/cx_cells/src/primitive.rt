@@ -68,7 +68,8 @@ impl Primitive {
         ensures ok { IfOk result (λ p. IsNamed p.name name.now) }
         ensures value { IfOk result (λ p. p.numbers ≡ numbers.now) }
         ensures unknown { IsErrOf result PrimFault.Unknown ↔ ((named : PrimitiveName) → ¬ IsNamed named name.now) }
-        ensures bad_parameters { IsErrOf result PrimFault.BadParameters ↔ ((named : PrimitiveName) × IsNamed named name.now × (row_at named numbers.now ≡ None)) }
+        ensures bad_parameters { IsErrOf result PrimFault.BadParameters ↔
+            ((named : PrimitiveName) × IsNamed named name.now × (row_at named numbers.now ≡ None)) }
     {
         let named = PrimitiveName::from_text(name).ok_or(PrimFault::Unknown)?;
         let kind = kind_of(named, numbers).ok_or(PrimFault::BadParameters)?;

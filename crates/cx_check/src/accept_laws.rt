@@ -10,5 +10,6 @@ ghost use Rattle.cx_check.specs.Verdicts.{IsSame};
 /// one name, but where operands that are no sources share a place.
 pub fn one_verdict()
     ensures accepted { (tree : PlainTree) (told : Diagnostic) → IsAcceptedTree tree → TreeBreak tree told → ⊥ }
-    ensures refused { (tree : PlainTree) (told other : Diagnostic) → TreeBreak tree told → TreeBreak tree other → IsSame (design_of tree) told other }
+    ensures refused { (tree : PlainTree) (told other : Diagnostic) → TreeBreak tree told →
+        TreeBreak tree other → IsSame (design_of tree) told other }
 {}

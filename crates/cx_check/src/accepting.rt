@@ -22,7 +22,8 @@ pub fn accept(alloc: Global, tree: &Tree) -> Result<Checked, Refusal>
     ensures value { IfOk result (λ checked. plain_design checked ≡ design_of (plain_tree tree.now)) }
     ensures rule { IfErr result (IsTreeRefusal (plain_tree tree.now)) }
     // A tree that breaks a rule is refused, by that rule at that place and with its name, unless memory is wanting.
-    ensures all_refusals { (told : DiagnosticValue) → TreeBreak (plain_tree tree.now) told → MatchResult result (λ _. ⊥) (TellsAs (design_of (plain_tree tree.now)) told) }
+    ensures all_refusals { (told : DiagnosticValue) → TreeBreak (plain_tree tree.now) told →
+        MatchResult result (λ _. ⊥) (TellsAs (design_of (plain_tree tree.now)) told) }
 {
     match cx_names::resolve(alloc, tree) {
         Ok(design) => accept_named(alloc, design),

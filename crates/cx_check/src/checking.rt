@@ -24,7 +24,8 @@ pub fn check(alloc: Global, design: Design) -> Result<Checked, Refused>
     ensures rule { IfErr result (λ refused. IsRefusal (plain_design design) refused.refusal) }
     ensures back { IfErr result (λ refused. plain_design refused.design ≡ plain_design design) }
     // A design that breaks a rule is refused, by its first break and with its name, unless memory is wanting.
-    ensures all_refusals { (told : Diagnostic) → FirstBreak (plain_design design) told → MatchResult result (λ _. ⊥) (λ refused. TellsAs (plain_design design) told refused.refusal) }
+    ensures all_refusals { (told : Diagnostic) → FirstBreak (plain_design design) told →
+        MatchResult result (λ _. ⊥) (λ refused. TellsAs (plain_design design) told refused.refusal) }
 {
     match stages(alloc, &design) {
         Ok(()) => Ok(Checked::new(design)),

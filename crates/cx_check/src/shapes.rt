@@ -23,7 +23,8 @@ pub fn check_shapes(alloc: Global, design: &Design) -> Result<(), Refusal>
 
 /// The first break of a design.
 fn first_break(alloc: Global, design: &Design) -> Result<FirstBreak, Memory>
-    ensures value { IfOk result (λ first. (found : List Broken) × AreBreaks 4 (plain_design design.now) found × (first ≡ first_of None found)) }
+    ensures value { IfOk result (λ first.
+        (found : List Broken) × AreBreaks 4 (plain_design design.now) found × (first ≡ first_of None found)) }
 {
     let mut first = FirstBreak::new();
     cx_shape_rules::add_breaks(alloc, &mut first, design)?;

@@ -6,7 +6,8 @@ use Rattle.cx_rules.specs.RaceRule.{HasCycle}
 
 -- the continuous assignments have one with each of the groups
 abbrev pub AreGroupCircles : Instance → List Bool → Type 0
-AreGroupCircles i groups = (g : ℕ) (found : Bool) → slice_get groups g ≡ Some found → IsTrue found ↔ HasCycle i (group g)
+AreGroupCircles i groups =
+    (g : ℕ) (found : Bool) → slice_get groups g ≡ Some found → IsTrue found ↔ HasCycle i (group g)
 
 -- the continuous assignments have one, and they have one with each of the groups
 pub record AreCircles (i : Instance) (whole : Bool) (groups : List Bool) : Type 0 where

@@ -14,7 +14,8 @@ use Rattle.cx_design_leads.specs.Links.{driven_node}
 pub record AreTargetLists (i : Instance) (groups : List PlainGroup) (lists : Edges) : Type 0 where
   pub count : length lists ≡ length groups
   pub within : (k : ℕ) → Bounded (node_count i) (targets_of lists k)
-  pub all : (k : ℕ) (g : PlainGroup) (a : PlainAssign) (m : ℕ) → slice_get groups k ≡ Some g → In g.assigns a → driven_node i a.target ≡ Some m → In (targets_of lists k) m
+  pub all : (k : ℕ) (g : PlainGroup) (a : PlainAssign) (m : ℕ) → slice_get groups k ≡ Some g
+      → In g.assigns a → driven_node i a.target ≡ Some m → In (targets_of lists k) m
 
 -- a node is one that a group drives, or leads to one
 pub record LeadsToGroup (i : Instance) (graph : Edges) (g n : ℕ) : Type 0 where

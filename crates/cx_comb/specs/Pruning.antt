@@ -20,7 +20,8 @@ pub record AddsTargets (i : Instance) (assigns : List PlainAssign) (before after
 -- the nodes that groups drive are in the list
 pub record HasTargets (i : Instance) (groups : List PlainGroup) (targets : List ℕ) : Type 0 where
   pub within : Bounded (node_count i) targets
-  pub all : (g : PlainGroup) (a : PlainAssign) (m : ℕ) → In groups g → In g.assigns a → driven_node i a.target ≡ Some m → In targets m
+  pub all : (g : PlainGroup) (a : PlainAssign) (m : ℕ) → In groups g → In g.assigns a
+      → driven_node i a.target ≡ Some m → In targets m
 
 -- the marked nodes of a list
 pub record AreMarked (nodes : List ℕ) (marks : List Bool) (marked : List ℕ) : Type 0 where
@@ -37,7 +38,8 @@ pub record IsKept (g : Edges) (marks : List Bool) (kept : Edges) : Type 0 where
 -- from which an edge leads to a marked one
 pub record IsPruned (i : Instance) (g : Edges) (marks : List Bool) (pruned : Edges) : Type 0 where
   pub kept : IsKept g marks pruned
-  pub driven : (group : ℕ) (a : PlainAssign) (m : ℕ) → In (group_at (part_of i) group).assigns a → driven_node i a.target ≡ Some m → Marked marks m
+  pub driven : (group : ℕ) (a : PlainAssign) (m : ℕ) → In (group_at (part_of i) group).assigns a
+      → driven_node i a.target ≡ Some m → Marked marks m
   pub along : (m n : ℕ) → In (targets_of g m) n → Marked marks n → Marked marks m
 
 -- a graph serves for the search of circles under groups

@@ -26,7 +26,8 @@ pub fn check(alloc: Global, design: &Design) -> Result<(), Refusal>
 
 /// The first break of a design.
 fn first_break(alloc: Global, design: &Design) -> Result<FirstBreak, Memory>
-    ensures value { IfOk result (λ first. (found : List Broken) × AreBreaks 5 (plain_design design.now) found × (first ≡ first_of None found)) }
+    ensures value { IfOk result (λ first.
+        (found : List Broken) × AreBreaks 5 (plain_design design.now) found × (first ≡ first_of None found)) }
 {
     let mut first = FirstBreak::new();
     for number in 0..design.components.len() {
@@ -43,7 +44,9 @@ fn add_component(
     number: usize,
 ) -> Result<(), Memory>
     requires within { number < length design.now.components.items }
-    ensures value { IfOk result (λ _. (found : List Broken) × AreBreaksBy (BreaksAt (plain_design design.now) number) found × (first.new ≡ first_of first.old found)) }
+    ensures value { IfOk result (λ _. (found : List Broken)
+        × AreBreaksBy (BreaksAt (plain_design design.now) number) found
+        × (first.new ≡ first_of first.old found)) }
 {
     let circles = find_circles(alloc, design, number)?;
     add_circles(alloc, first, design, number, &circles)?;

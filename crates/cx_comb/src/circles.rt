@@ -36,7 +36,8 @@ pub struct Circles {
 /// The circles of a component.
 pub fn find_circles(alloc: Global, design: &Design, number: usize) -> Result<Circles, Memory>
     requires within { number < length design.now.components.items }
-    ensures value { IfOk result (λ circles. AreCircles (component_of (plain_design design.now) number) circles.whole circles.groups.items) }
+    ensures value { IfOk result (λ circles.
+        AreCircles (component_of (plain_design design.now) number) circles.whole circles.groups.items) }
 {
     let nodes = Nodes::new(alloc, design, number)?;
     let graph = continuous_leads(alloc, design, number, &nodes)?;
@@ -71,10 +72,13 @@ fn circular_groups(
 ) -> Result<Vec<bool>, Memory>
     requires within { number < length design.now.components.items }
     requires nodes { IsNodesOf (component_of (plain_design design.now) number) nodes.now }
-    requires graph { HasEdges (component_of (plain_design design.now) number) (Leads (component_of (plain_design design.now) number) active.nothing) (edges_of graph.now) }
+    requires graph { HasEdges (component_of (plain_design design.now) number)
+        (Leads (component_of (plain_design design.now) number) active.nothing) (edges_of graph.now) }
     requires no_circle { HasCircle (targets_of (edges_of graph.now)) → ⊥ }
-    ensures count { IfOk result (λ groups. length groups.items ≡ length (component_at (plain_design design.now) number).groups) }
-    ensures value { IfOk result (λ groups. AreGroupCircles (component_of (plain_design design.now) number) groups.items) }
+    ensures count { IfOk result
+        (λ groups. length groups.items ≡ length (component_at (plain_design design.now) number).groups) }
+    ensures value { IfOk result
+        (λ groups. AreGroupCircles (component_of (plain_design design.now) number) groups.items) }
 {
     let pruned = pruned(alloc, design, number, nodes, graph)?;
     let owners = owners(alloc, design, number, nodes, pruned.as_slice())?;
@@ -120,7 +124,8 @@ fn is_circular(
     requires more { IsClear (node_count (component_of (plain_design design.now) number)) more.old }
     ensures walk { OnOk result (IsReady (node_count (component_of (plain_design design.now) number)) walk.new) }
     ensures more { OnOk result (IsClear (node_count (component_of (plain_design design.now) number)) more.new) }
-    ensures value { IfOk result (λ found. IsTrue found ↔ HasCycle (component_of (plain_design design.now) number) (active.group group)) }
+    ensures value { IfOk result (λ found.
+        IsTrue found ↔ HasCycle (component_of (plain_design design.now) number) (active.group group)) }
 {
     more.add_group(alloc, design, number, nodes, group)?;
     let found = meets_circle(pruned, owners, walk, more, group)?;
@@ -136,11 +141,13 @@ fn meets_circle(
     more: &GroupLeads,
     group: usize,
 ) -> Result<bool, Memory>
-    requires pruned { (i : Instance) × ServesGroups i (edges_of pruned.now) × AreOwners i (edges_of pruned.now) owners.now × IsGroupOf i group more.now }
+    requires pruned { (i : Instance) × ServesGroups i (edges_of pruned.now) ×
+        AreOwners i (edges_of pruned.now) owners.now × IsGroupOf i group more.now }
     requires len { length owners.now ≡ length pruned.now }
     requires walk { IsReady (length pruned.now) walk.old }
     ensures walk { OnOk result (IsReady (length pruned.now) walk.new) }
-    ensures value { IfOk result (λ found. IsTrue found ↔ HasCircleFrom (both (edges_of pruned.now) (edges_of more.now.edges.items)) more.now.targets.items) }
+    ensures value { IfOk result (λ found. IsTrue found ↔
+        HasCircleFrom (both (edges_of pruned.now) (edges_of more.now.edges.items)) more.now.targets.items) }
 {
     if !leads_back(owners, more, group) {
         return Ok(false);

@@ -31,8 +31,10 @@ pub fn owners(
     requires within { number < length design.now.components.items }
     requires nodes { IsNodesOf (component_of (plain_design design.now) number) nodes.now }
     requires pruned { ServesGroups (component_of (plain_design design.now) number) (edges_of pruned.now) }
-    ensures len { IfOk result (λ owners. length owners.items ≡ node_count (component_of (plain_design design.now) number)) }
-    ensures value { IfOk result (λ owners. AreOwners (component_of (plain_design design.now) number) (edges_of pruned.now) owners.items) }
+    ensures len { IfOk result
+        (λ owners. length owners.items ≡ node_count (component_of (plain_design design.now) number)) }
+    ensures value { IfOk result (λ owners.
+        AreOwners (component_of (plain_design design.now) number) (edges_of pruned.now) owners.items) }
 {
     let lists = target_lists(alloc, design, number, nodes)?;
     let turned = turned(alloc, pruned)?;
@@ -51,7 +53,8 @@ fn target_lists(
 ) -> Result<Vec<Vec<u32>>, Memory>
     requires within { number < length design.now.components.items }
     requires nodes { IsNodesOf (component_of (plain_design design.now) number) nodes.now }
-    ensures value { IfOk result (λ lists. AreTargetLists (component_of (plain_design design.now) number) (component_at (plain_design design.now) number).groups (edges_of lists.items)) }
+    ensures value { IfOk result (λ lists. AreTargetLists (component_of (plain_design design.now) number)
+        (component_at (plain_design design.now) number).groups (edges_of lists.items)) }
 {
     let mut lists = Vec::new(alloc);
     let groups = component(design, number).groups.as_slice();
@@ -68,7 +71,8 @@ fn target_lists(
 pub fn leads_back(owners: &[Owners], more: &GroupLeads, group: usize) -> bool
     requires targets { Bounded (length more.now.edges.items) more.now.targets.items }
     requires edges { (n : ℕ) → Bounded (length owners.now) (targets_of (edges_of more.now.edges.items) n) }
-    ensures never { result ≡ false → (m n : ℕ) → In more.now.targets.items m → In (targets_of (edges_of more.now.edges.items) m) n → Covers (owners_at owners.now n) group → ⊥ }
+    ensures never { result ≡ false → (m n : ℕ) → In more.now.targets.items m →
+        In (targets_of (edges_of more.now.edges.items) m) n → Covers (owners_at owners.now n) group → ⊥ }
 {
     for target in more.targets.as_slice() {
         if has_owned(owners, more.edges[*target as usize].as_slice(), group) {

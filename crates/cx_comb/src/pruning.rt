@@ -32,8 +32,11 @@ pub fn pruned(
 ) -> Result<Vec<Vec<u32>>, Memory>
     requires within { number < length design.now.components.items }
     requires nodes { IsNodesOf (component_of (plain_design design.now) number) nodes.now }
-    requires graph { HasEdges (component_of (plain_design design.now) number) (Leads (component_of (plain_design design.now) number) active.nothing) (edges_of graph.now) }
-    ensures value { IfOk result (λ pruned. (marks : List Bool) × IsPruned (component_of (plain_design design.now) number) (edges_of graph.now) marks (edges_of pruned.items)) }
+    requires graph { HasEdges (component_of (plain_design design.now) number)
+        (Leads (component_of (plain_design design.now) number) active.nothing) (edges_of graph.now) }
+    ensures value { IfOk result (λ pruned. (marks : List Bool)
+        × IsPruned (component_of (plain_design design.now) number) (edges_of graph.now) marks
+        (edges_of pruned.items)) }
 {
     let targets = group_targets(alloc, design, number, nodes)?;
     let turned = turned(alloc, graph)?;
@@ -51,7 +54,9 @@ fn group_targets(
 ) -> Result<Vec<u32>, Memory>
     requires within { number < length design.now.components.items }
     requires nodes { IsNodesOf (component_of (plain_design design.now) number) nodes.now }
-    ensures value { IfOk result (λ targets. HasTargets (component_of (plain_design design.now) number) (component_at (plain_design design.now) number).groups targets.items) }
+    ensures value { IfOk result (λ targets.
+        HasTargets (component_of (plain_design design.now) number)
+        (component_at (plain_design design.now) number).groups targets.items) }
 {
     let mut targets = Vec::new(alloc);
     let groups = component(design, number).groups.as_slice();
@@ -77,7 +82,8 @@ pub fn add_targets(
 ) -> Result<(), Memory>
     requires within { number < length design.now.components.items }
     requires nodes { IsNodesOf (component_of (plain_design design.now) number) nodes.now }
-    ensures value { OnOk result (AddsTargets (component_of (plain_design design.now) number) (plain_assigns assigns.now) targets.old.items targets.new.items) }
+    ensures value { OnOk result (AddsTargets (component_of (plain_design design.now) number)
+        (plain_assigns assigns.now) targets.old.items targets.new.items) }
 {
     for assign in assigns {
         add_target(targets, design, number, nodes, assign)?;
@@ -95,7 +101,8 @@ fn add_target(
 ) -> Result<(), Memory>
     requires within { number < length design.now.components.items }
     requires nodes { IsNodesOf (component_of (plain_design design.now) number) nodes.now }
-    ensures value { OnOk result (AddsTargets (component_of (plain_design design.now) number) (plain_assign assign.now ∷ []) targets.old.items targets.new.items) }
+    ensures value { OnOk result (AddsTargets (component_of (plain_design design.now) number)
+        (plain_assign assign.now ∷ []) targets.old.items targets.new.items) }
 {
     match driven(design, number, nodes, assign.target) {
         Some(target) => {

@@ -25,7 +25,9 @@ pub fn add_circles(
 ) -> Result<(), Memory>
     requires within { number < length design.now.components.items }
     requires count { length circles.now.groups.items ≡ length (component_at (plain_design design.now) number).groups }
-    ensures value { IfOk result (λ _. first.new ≡ first_of first.old (component_breaks (plain_design design.now) number circles.now.whole circles.now.groups.items)) }
+    ensures value { IfOk result (λ _. first.new ≡
+        first_of first.old
+        (component_breaks (plain_design design.now) number circles.now.whole circles.now.groups.items)) }
 {
     add_whole(alloc, first, design, number, circles.whole)?;
     add_groups(alloc, first, design, number, circles.groups.as_slice())?;
@@ -41,7 +43,8 @@ fn add_whole(
     found: bool,
 ) -> Result<(), Memory>
     requires within { number < length design.now.components.items }
-    ensures value { IfOk result (λ _. first.new ≡ first_of first.old (told_if found (whole_break (plain_design design.now) number))) }
+    ensures value { IfOk result
+        (λ _. first.new ≡ first_of first.old (told_if found (whole_break (plain_design design.now) number))) }
 {
     if !found {
         return Ok(());
@@ -65,7 +68,8 @@ fn add_groups(
 ) -> Result<(), Memory>
     requires within { number < length design.now.components.items }
     requires count { length groups.now ≡ length (component_at (plain_design design.now) number).groups }
-    ensures value { IfOk result (λ _. first.new ≡ first_of first.old (numbered (group_breaks (plain_design design.now) number) 0 groups.now)) }
+    ensures value { IfOk result (λ _. first.new ≡
+        first_of first.old (numbered (group_breaks (plain_design design.now) number) 0 groups.now)) }
 {
     for group in 0..groups.len() {
         add_group(alloc, first, design, number, group, groups[group])?;
@@ -84,7 +88,8 @@ fn add_group(
 ) -> Result<(), Memory>
     requires within { number < length design.now.components.items }
     requires group { group < length (component_at (plain_design design.now) number).groups }
-    ensures value { IfOk result (λ _. first.new ≡ first_of first.old (group_breaks (plain_design design.now) number group found)) }
+    ensures value { IfOk result
+        (λ _. first.new ≡ first_of first.old (group_breaks (plain_design design.now) number group found)) }
 {
     if !found {
         return Ok(());
@@ -107,7 +112,9 @@ fn add_break(
     place: Place,
     name: &Name,
 ) -> Result<(), Memory>
-    ensures value { IfOk result (λ _. first.new ≡ earlier first.old (record { rule = CombCycle; spot = plain_spot spot; place = place; name = name.now })) }
+    ensures value { IfOk result (λ _. first.new ≡
+        earlier first.old
+        (record { rule = CombCycle; spot = plain_spot spot; place = place; name = name.now })) }
 {
     if first.is_first(Rule::CombCycle, spot, place) {
         let name = Name::from_bytes(alloc, name.bytes())?;

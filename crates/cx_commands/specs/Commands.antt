@@ -25,7 +25,8 @@ pub record IsBudget (digits : List ℕ) (budget : ℕ) : Type 0 where
 
 -- the words are this name, two files and the digits of a budget
 abbrev pub AsksRun : List (List ℕ) → List ℕ → List ℕ → List ℕ → ℕ → Type 0
-AsksRun words name first second budget = (digits : List ℕ) × (words ≡ name ∷ first ∷ second ∷ digits ∷ []) × IsBudget digits budget
+AsksRun words name first second budget =
+    (digits : List ℕ) × (words ≡ name ∷ first ∷ second ∷ digits ∷ []) × IsBudget digits budget
 
 -- the words are this name and a file
 abbrev pub AsksDesign : List (List ℕ) → List ℕ → List ℕ → Type 0
@@ -37,7 +38,9 @@ AsksTrial words seed = (digits : List ℕ) × (words ≡ codes "trial" ∷ digit
 
 -- the words are `weave`, two files, the digits of a count of choices, which is no greater than a budget, and a list
 abbrev pub AsksWeave : List (List ℕ) → List ℕ → List ℕ → ℕ → List ℕ → Type 0
-AsksWeave words design json steps list = (digits : List ℕ) × (words ≡ codes "weave" ∷ design ∷ json ∷ digits ∷ list ∷ []) × IsBudget digits steps × IsList list
+AsksWeave words design json steps list =
+    (digits : List ℕ) × (words ≡ codes "weave" ∷ design ∷ json ∷ digits ∷ list ∷ []) × IsBudget digits steps
+    × IsList list
 
 -- the words ask for this command
 abbrev pub Asks : List (List ℕ) → Asked → Type 0
@@ -104,15 +107,19 @@ pub record Wanted : Type 0 where
 -- the files that a command reads, in the order of the words
 abbrev pub wanted_by : Asked → List Wanted
 wanted_by (compile design) = record { file = design; most = DESIGN_BYTES } ∷ []
-wanted_by (interp design json budget) = record { file = design; most = DESIGN_BYTES } ∷ record { file = json; most = DATA_BYTES } ∷ []
+wanted_by (interp design json budget) =
+    record { file = design; most = DESIGN_BYTES } ∷ record { file = json; most = DATA_BYTES } ∷ []
 wanted_by (check design) = record { file = design; most = DESIGN_BYTES } ∷ []
-wanted_by (sim verilog json budget) = record { file = verilog; most = VERILOG_BYTES } ∷ record { file = json; most = DATA_BYTES } ∷ []
+wanted_by (sim verilog json budget) =
+    record { file = verilog; most = VERILOG_BYTES } ∷ record { file = json; most = DATA_BYTES } ∷ []
 wanted_by (trial seed) = []
 wanted_by (share design) = record { file = design; most = DESIGN_BYTES } ∷ []
 wanted_by (promote design) = record { file = design; most = DESIGN_BYTES } ∷ []
 wanted_by (instrument design) = record { file = design; most = DESIGN_BYTES } ∷ []
-wanted_by (profile design json budget) = record { file = design; most = DESIGN_BYTES } ∷ record { file = json; most = DATA_BYTES } ∷ []
-wanted_by (weave design json steps list) = record { file = design; most = DESIGN_BYTES } ∷ record { file = json; most = DATA_BYTES } ∷ []
+wanted_by (profile design json budget) =
+    record { file = design; most = DESIGN_BYTES } ∷ record { file = json; most = DATA_BYTES } ∷ []
+wanted_by (weave design json steps list) =
+    record { file = design; most = DESIGN_BYTES } ∷ record { file = json; most = DATA_BYTES } ∷ []
 
 abbrev pub files_of : Asked → List (List ℕ)
 files_of command = map (λ w. w.file) (wanted_by command)

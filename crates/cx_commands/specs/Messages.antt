@@ -23,7 +23,9 @@ number n = part (decimal n)
 
 -- of a break: refused LINE:COLUMN RULE NAME
 abbrev pub break_line : Diagnostic → List ℕ
-break_line told = codes "refused" ++ number told.place.line ++ codes ":" ++ decimal told.place.column ++ part (text_of told.rule) ++ part told.name
+break_line told =
+    codes "refused" ++ number told.place.line ++ codes ":" ++ decimal told.place.column
+    ++ part (text_of told.rule) ++ part told.name
 
 -- of a data file: data KIND NAME INDEX
 abbrev pub data_line : DataFault → List ℕ

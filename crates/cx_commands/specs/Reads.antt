@@ -10,7 +10,8 @@ pub record HoldsWithin (held : Option (List ℕ → Option (List ℕ))) (most : 
   pub within : length bytes ≤ most
 
 -- the file holds bytes of which P holds, where it is told what files hold; in any case within its limit
-pub record OfFile (held : Option (List ℕ → Option (List ℕ))) (most : ℕ) (file : List ℕ) (P : List ℕ → Type 0) : Type 0 where
+pub record OfFile (held : Option (List ℕ → Option (List ℕ))) (most : ℕ) (file : List ℕ)
+    (P : List ℕ → Type 0) : Type 0 where
   pub bytes : List ℕ
   pub reads : HoldsWithin held most file bytes
   pub is : P bytes
@@ -18,7 +19,8 @@ pub record OfFile (held : Option (List ℕ → Option (List ℕ))) (most : ℕ) 
 -- the first file of which something is told: each before it was read within its limit
 pub data FirstOf (held : Option (List ℕ → Option (List ℕ))) (tells : Wanted → Type 0) : List Wanted → Type 0 where
   here : {w : Wanted} {ws : List Wanted} → tells w → FirstOf held tells (w ∷ ws)
-  later : {w : Wanted} {ws : List Wanted} (bytes : List ℕ) → HoldsWithin held w.most w.file bytes → FirstOf held tells ws → FirstOf held tells (w ∷ ws)
+  later : {w : Wanted} {ws : List Wanted} (bytes : List ℕ) → HoldsWithin held w.most w.file bytes
+      → FirstOf held tells ws → FirstOf held tells (w ∷ ws)
 
 -- it has more bytes than it may have, and so many where it is told
 pub record IsOver (held : Option (List ℕ → Option (List ℕ))) (file : List ℕ) (seen : ℕ) (w : Wanted) : Type 0 where
@@ -34,7 +36,8 @@ abbrev pub IsReadFault : Option (List ℕ → Option (List ℕ)) → ℕ → ℕ
 IsReadFault held before after file = HasRisen before after ⊎ IsAbsent held file
 
 -- it could not be read
-pub record IsUnread (held : Option (List ℕ → Option (List ℕ))) (before after : ℕ) (file : List ℕ) (w : Wanted) : Type 0 where
+pub record IsUnread (held : Option (List ℕ → Option (List ℕ))) (before after : ℕ) (file : List ℕ)
+    (w : Wanted) : Type 0 where
   pub is : file ≡ w.file
   pub fault : IsReadFault held before after file
 

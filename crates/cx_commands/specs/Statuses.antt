@@ -22,7 +22,9 @@ status_of (refusals.Stop stops.Memory) = statuses.Memory
 
 -- the status says that a file or the budget does not serve, or that the run has a fault
 abbrev pub IsRefusing : Status → Type 0
-IsRefusing status = (status ≡ statuses.Refused) ⊎ (status ≡ statuses.More) ⊎ (status ≡ statuses.Fault) ⊎ (status ≡ statuses.ReadFault)
+IsRefusing status =
+    (status ≡ statuses.Refused) ⊎ (status ≡ statuses.More) ⊎ (status ≡ statuses.Fault)
+    ⊎ (status ≡ statuses.ReadFault)
 
 -- the line was written, as far as it was taken: where it was not taken whole, the count of faults rose or stands at its last value
 abbrev pub ReceivesLine : Option (List ℕ) → ℕ → List ℕ → Option (List ℕ) → ℕ → Type 0

@@ -32,13 +32,18 @@ name_at (t ∷ ts) = word_of t.kind
 
 -- the tokens are no file for this reason
 pub data TokensFault : List Token → Diagnostic → Type 0 where
-  unexpected : (tokens front back : List Token) → IsUnexpected tokens front back → TokensFault tokens (record { rule = rules.Unexpected; place = place_at back tokens; name = name_at back })
-  too_deep : (tokens front back : List Token) → IsDeep tokens front back → TokensFault tokens (record { rule = rules.TooDeep; place = place_at back tokens; name = [] })
+  unexpected : (tokens front back : List Token) → IsUnexpected tokens front back
+      → TokensFault tokens
+      (record { rule = rules.Unexpected; place = place_at back tokens; name = name_at back })
+  too_deep : (tokens front back : List Token) → IsDeep tokens front back
+      → TokensFault tokens (record { rule = rules.TooDeep; place = place_at back tokens; name = [] })
 
 -- the text has no tree for this reason
 pub data StageOneFault : List ℕ → Diagnostic → Type 0 where
-  no_tokens : (text : List ℕ) (kind : LexKind) (rule : Rule) (place : Place) → FirstFault text kind place → rule_of kind ≡ Some rule → StageOneFault text (record { rule = rule; place = place; name = [] })
-  no_tree : (text : List ℕ) (tokens : List Token) (fault : Diagnostic) → Lex text tokens → TokensFault tokens fault → StageOneFault text fault
+  no_tokens : (text : List ℕ) (kind : LexKind) (rule : Rule) (place : Place) → FirstFault text kind place
+      → rule_of kind ≡ Some rule → StageOneFault text (record { rule = rule; place = place; name = [] })
+  no_tree : (text : List ℕ) (tokens : List Token) (fault : Diagnostic) → Lex text tokens
+      → TokensFault tokens fault → StageOneFault text fault
 
 -- the text has this tree
 abbrev pub HasTree : List ℕ → PlainTree → Type 0
@@ -46,7 +51,9 @@ HasTree text tree = (tokens : List Token) × Lex text tokens × Parse tokens tre
 
 -- what is told of a token that cannot be read
 abbrev pub IsNoToken : LexFault → Stop → Type 0
-IsNoToken fault stop = TellsBreak (λ told. (rule : Rule) × (rule_of fault.kind ≡ Some rule) × (told ≡ record { rule = rule; place = fault.place; name = [] })) stop
+IsNoToken fault stop =
+    TellsBreak (λ told. (rule : Rule) × (rule_of fault.kind ≡ Some rule)
+    × (told ≡ record { rule = rule; place = fault.place; name = [] })) stop
 
 -- what is told of tokens that are no file
 abbrev pub IsNoFile : List Token → Stop → Type 0

@@ -135,7 +135,8 @@ fn verdict_of(words: &[Word]) -> Option<Command<'_>>
 }
 
 fn compiler_of(words: &[Word]) -> Option<Command<'_>>
-    ensures { MatchOption result ((design : List ℕ) → Asks words.now (compile design) → ⊥) (λ command. Asks words.now (asked_of command)) }
+    ensures { MatchOption result ((design : List ℕ) → Asks words.now (compile design) → ⊥)
+        (λ command. Asks words.now (asked_of command)) }
 {
     match design_of(words, b"compile".as_slice()) {
         Some(design) => Some(Command::Compile { design }),
@@ -144,7 +145,8 @@ fn compiler_of(words: &[Word]) -> Option<Command<'_>>
 }
 
 fn checker_of(words: &[Word]) -> Option<Command<'_>>
-    ensures { MatchOption result ((design : List ℕ) → Asks words.now (check design) → ⊥) (λ command. Asks words.now (asked_of command)) }
+    ensures { MatchOption result ((design : List ℕ) → Asks words.now (check design) → ⊥)
+        (λ command. Asks words.now (asked_of command)) }
 {
     match design_of(words, b"check".as_slice()) {
         Some(design) => Some(Command::Check { design }),
@@ -153,7 +155,8 @@ fn checker_of(words: &[Word]) -> Option<Command<'_>>
 }
 
 fn sharer_of(words: &[Word]) -> Option<Command<'_>>
-    ensures { MatchOption result ((design : List ℕ) → Asks words.now (share design) → ⊥) (λ command. Asks words.now (asked_of command)) }
+    ensures { MatchOption result ((design : List ℕ) → Asks words.now (share design) → ⊥)
+        (λ command. Asks words.now (asked_of command)) }
 {
     match design_of(words, b"share".as_slice()) {
         Some(design) => Some(Command::Share { design }),
@@ -162,7 +165,8 @@ fn sharer_of(words: &[Word]) -> Option<Command<'_>>
 }
 
 fn promoter_of(words: &[Word]) -> Option<Command<'_>>
-    ensures { MatchOption result ((design : List ℕ) → Asks words.now (promote design) → ⊥) (λ command. Asks words.now (asked_of command)) }
+    ensures { MatchOption result ((design : List ℕ) → Asks words.now (promote design) → ⊥)
+        (λ command. Asks words.now (asked_of command)) }
 {
     match design_of(words, b"promote".as_slice()) {
         Some(design) => Some(Command::Promote { design }),
@@ -171,7 +175,8 @@ fn promoter_of(words: &[Word]) -> Option<Command<'_>>
 }
 
 fn instrumenter_of(words: &[Word]) -> Option<Command<'_>>
-    ensures { MatchOption result ((design : List ℕ) → Asks words.now (instrument design) → ⊥) (λ command. Asks words.now (asked_of command)) }
+    ensures { MatchOption result ((design : List ℕ) → Asks words.now (instrument design) → ⊥)
+        (λ command. Asks words.now (asked_of command)) }
 {
     match design_of(words, b"instrument".as_slice()) {
         Some(design) => Some(Command::Instrument { design }),
@@ -181,7 +186,8 @@ fn instrumenter_of(words: &[Word]) -> Option<Command<'_>>
 
 /// The file of the words `NAME FILE`.
 fn design_of<'a>(words: &'a [Word], name: &[u8]) -> Option<&'a [u8]>
-    ensures { MatchOption result ((design : List ℕ) → AsksDesign words.now name.now design → ⊥) (λ design. AsksDesign words.now name.now design.now) }
+    ensures { MatchOption result ((design : List ℕ) → AsksDesign words.now name.now design → ⊥)
+        (λ design. AsksDesign words.now name.now design.now) }
 {
     match words {
         [word, file] if word.bytes() == name => Some(file.bytes()),
@@ -210,7 +216,9 @@ fn design_run_of(words: &[Word]) -> Option<Command<'_>>
 }
 
 fn interpreter_of(words: &[Word]) -> Option<Command<'_>>
-    ensures { MatchOption result ((design json : List ℕ) (budget : ℕ) → Asks words.now (interp design json budget) → ⊥) (λ command. Asks words.now (asked_of command)) }
+    ensures { MatchOption result
+        ((design json : List ℕ) (budget : ℕ) → Asks words.now (interp design json budget) → ⊥)
+        (λ command. Asks words.now (asked_of command)) }
 {
     match run_on_files(words, b"interp".as_slice()) {
         Some((design, json, budget)) => Some(Command::Interp {
@@ -223,7 +231,9 @@ fn interpreter_of(words: &[Word]) -> Option<Command<'_>>
 }
 
 fn profiler_of(words: &[Word]) -> Option<Command<'_>>
-    ensures { MatchOption result ((design json : List ℕ) (budget : ℕ) → Asks words.now (profile design json budget) → ⊥) (λ command. Asks words.now (asked_of command)) }
+    ensures { MatchOption result
+        ((design json : List ℕ) (budget : ℕ) → Asks words.now (profile design json budget) → ⊥)
+        (λ command. Asks words.now (asked_of command)) }
 {
     match run_on_files(words, b"profile".as_slice()) {
         Some((design, json, budget)) => Some(Command::Profile {
@@ -236,7 +246,9 @@ fn profiler_of(words: &[Word]) -> Option<Command<'_>>
 }
 
 fn simulator_of(words: &[Word]) -> Option<Command<'_>>
-    ensures { MatchOption result ((verilog json : List ℕ) (budget : ℕ) → Asks words.now (sim verilog json budget) → ⊥) (λ command. Asks words.now (asked_of command)) }
+    ensures { MatchOption result
+        ((verilog json : List ℕ) (budget : ℕ) → Asks words.now (sim verilog json budget) → ⊥)
+        (λ command. Asks words.now (asked_of command)) }
 {
     match run_on_files(words, b"sim".as_slice()) {
         Some((verilog, json, budget)) => Some(Command::Sim {
@@ -250,7 +262,8 @@ fn simulator_of(words: &[Word]) -> Option<Command<'_>>
 
 /// The files and the budget of the words `NAME FILE FILE BUDGET`.
 fn run_on_files<'a>(words: &'a [Word], name: &[u8]) -> Option<(&'a [u8], &'a [u8], u64)>
-    ensures { MatchOption result ((first second : List ℕ) (budget : ℕ) → AsksRun words.now name.now first second budget → ⊥)
+    ensures { MatchOption result
+        ((first second : List ℕ) (budget : ℕ) → AsksRun words.now name.now first second budget → ⊥)
         (λ found. AsksRun words.now name.now found.0.now found.1.now found.2) }
 {
     match words {
@@ -264,7 +277,8 @@ fn run_on_files<'a>(words: &'a [Word], name: &[u8]) -> Option<(&'a [u8], &'a [u8
 
 /// The command of the words `trial SEED`.
 fn trial_of(words: &[Word]) -> Option<Command<'_>>
-    ensures { MatchOption result ((seed : ℕ) → Asks words.now (trial seed) → ⊥) (λ command. Asks words.now (asked_of command)) }
+    ensures { MatchOption result ((seed : ℕ) → Asks words.now (trial seed) → ⊥)
+        (λ command. Asks words.now (asked_of command)) }
 {
     match words {
         [name, digits] if name.bytes() == b"trial".as_slice() => {
@@ -277,7 +291,8 @@ fn trial_of(words: &[Word]) -> Option<Command<'_>>
 
 /// The command of the words `weave FILE FILE STEPS LIST`.
 fn weaver_of(words: &[Word]) -> Option<Command<'_>>
-    ensures { MatchOption result ((design json : List ℕ) (steps : ℕ) (list : List ℕ) → Asks words.now (weave design json steps list) → ⊥) (λ command. Asks words.now (asked_of command)) }
+    ensures { MatchOption result ((design json : List ℕ) (steps : ℕ) (list : List ℕ) →
+        Asks words.now (weave design json steps list) → ⊥) (λ command. Asks words.now (asked_of command)) }
 {
     match words {
         [name, design, json, digits, list] if name.bytes() == b"weave".as_slice() => {
@@ -295,7 +310,8 @@ fn weaver_on<'a>(
     steps: u64,
     list: &'a [u8],
 ) -> Option<Command<'a>>
-    ensures { MatchOption result (IsList list.now → ⊥) (λ command. IsList list.now × (asked_of command ≡ weave design.now json.now steps list.now)) }
+    ensures { MatchOption result (IsList list.now → ⊥)
+        (λ command. IsList list.now × (asked_of command ≡ weave design.now json.now steps list.now)) }
 {
     if is_list(list) {
         Some(Command::Weave {

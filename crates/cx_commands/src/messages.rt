@@ -144,7 +144,8 @@ fn push_data_fault(line: &mut Vec<u8>, fault: &DataFault) -> Result<(), Memory>
 
 #[tactic(auto, using(crate::proofs::MessageLemmas::behind_two))]
 fn push_counted(line: &mut Vec<u8>, kind: &[u8], name: &[u8], index: u64) -> Result<(), Memory>
-    ensures value { IfOk result (λ _. line.new.items ≡ line.old.items ++ (part kind.now ++ (part name.now ++ messages.number index))) }
+    ensures value { IfOk result (λ _.
+        line.new.items ≡ line.old.items ++ (part kind.now ++ (part name.now ++ messages.number index))) }
 {
     push_named(line, kind, name)?;
     push_number(line, index)?;

@@ -37,7 +37,8 @@ pub record EndsAlike (text json : List ℕ) (budget : ℕ) (dump : List ℕ) : T
   pub main : run_main given.design (words_loaded given.memories) budget ≡ End after turns
   pub told : dump ≡ dump_text turns (with_words given.memories (words_of (tree_of given.design) after))
   pub machine : EndsSo given.design (words_loaded given.memories) budget turns after
-  pub net : NetRun (net_for given.design) (words_loaded given.memories) budget (DoneAt turns (words_of (tree_of given.design) after))
+  pub net : NetRun (net_for given.design) (words_loaded given.memories) budget
+      (DoneAt turns (words_of (tree_of given.design) after))
 
 -- MAIN NEEDS MORE TURNS: the machine is not done in any of these cycles; the net comes to something, so no part of it is ever without a
 -- value, and where it is done in a cycle main does not need more turns than that
@@ -46,5 +47,6 @@ pub record WaitsAlike (text json : List ℕ) (budget : ℕ) : Type 0 where
   pub main : run_main given.design (words_loaded given.memories) budget ≡ More
   pub machine : GoesOnSo given.design (words_loaded given.memories) budget
   pub net : HasOutcome (NetRun (net_for given.design)) (words_loaded given.memories) budget
-  pub not_before : (cycle : ℕ) (left : List (List ℕ)) → NetRun (net_for given.design) (words_loaded given.memories) budget (DoneAt cycle left)
+  pub not_before : (cycle : ℕ) (left : List (List ℕ))
+      → NetRun (net_for given.design) (words_loaded given.memories) budget (DoneAt cycle left)
       → run_main given.design (words_loaded given.memories) cycle ≢ More

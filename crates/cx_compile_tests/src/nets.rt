@@ -59,7 +59,8 @@ fn number(width: u8, value: u128) -> Result<NetExpr, Fail>
 
 /// A driver of port `port` of the only cell.
 fn of_port(port: u32, guard: NetExpr, source: NetExpr) -> NetDriver
-    ensures { plain_net_driver result ≡ hand.driver (ToPort (ports.Cell 0 port)) (plain_net_expr guard) (plain_net_expr source) }
+    ensures { plain_net_driver result ≡
+        hand.driver (ToPort (ports.Cell 0 port)) (plain_net_expr guard) (plain_net_expr source) }
 {
     NetDriver {
         target: NetTarget::Port(PortRef::Cell(0, port)),

@@ -16,13 +16,15 @@ abbrev pub IsNameOf : PlainSource → (ℕ → PlainModule) → PlainKind → Li
 IsNameOf source module_for (OfPrimitive p) name = IsModule source (module_of p name)
 IsNameOf source module_for (OfComponent k) name = (module_for k).name ≡ name
 
--- THE MODULE OF COMPONENT k: its instances are those of the component's cells, in their order and each of the module of the cell's kind, and behind
--- them timers alone
+-- THE MODULE OF COMPONENT k: its instances are those of the component's cells, in their order and each of the module
+-- of the cell's kind, and behind them timers alone
 pub record HasEachCell (d : PlainDesign) (source : PlainSource) (module_for : ℕ → PlainModule) (k : ℕ) : Type 0 where
   pub stands : IsModule source (module_for k)
   pub cells : (c : ℕ) (cell : PlainCell) → slice_get (component_at d k).cells c ≡ Some cell
-      → (x : PlainInstance) × (slice_get (module_for k).instances c ≡ Some x) × IsNameOf source module_for cell.kind x.kind
-  pub timers : (t : ℕ) (x : PlainInstance) → slice_get (module_for k).instances (length (component_at d k).cells + t) ≡ Some x
+      → (x : PlainInstance) × (slice_get (module_for k).instances c ≡ Some x)
+      × IsNameOf source module_for cell.kind x.kind
+  pub timers : (t : ℕ) (x : PlainInstance)
+      → slice_get (module_for k).instances (length (component_at d k).cells + t) ≡ Some x
       → (n : ℕ) × IsModule source (module_of (record { name = primitives.Timer; numbers = n ∷ [] }) x.kind)
 
 -- EACH CELL HAS ITS INSTANCE, of each component that main reaches, and main's is the module `main`
@@ -33,4 +35,6 @@ pub record HasCells (d : PlainDesign) (source : PlainSource) : Type 0 where
 
 -- EACH MODULE STANDS SOMEWHERE: `main`, or an instance in the tree below it, is of it
 abbrev pub EachStands : PlainSource → Type 0
-EachStands source = (m : PlainModule) → IsModule source m → (i : ℕ) × (instance : Placed) × (slice_get (instances_of source) i ≡ Some instance) × (instance.part ≡ m)
+EachStands source =
+    (m : PlainModule) → IsModule source m → (i : ℕ) × (instance : Placed)
+    × (slice_get (instances_of source) i ≡ Some instance) × (instance.part ≡ m)

@@ -35,10 +35,11 @@ use Rattle.cx_compiler.specs.Cells.{HasCells, EachStands}
 use Rattle.cx_compiler.specs.Texts.{IsDesignOf, TextBreak}
 use Rattle.cx_compiler.specs.Simulated.{IsVerilogOf}
 
--- THE TEXT OF A DESIGN: it spells a sound source, which realises the design, from any power-up state and behind any script of waiting and running too,
--- whose reset sets every register to 0, in which nothing of the design's control hides, each cell has its instance and each module stands somewhere, whose names are no words of
--- Verilog, and which has few nets; and where few static ifs stand around a statement it has few bytes: 4,096 for each unit of the design's size, and 256
--- for each unit of its weight
+-- THE TEXT OF A DESIGN: it spells a sound source, which realises the design, from any power-up state and behind any
+-- script of waiting and running too, whose reset sets every register to 0, in which nothing of the design's control
+-- hides, each cell has its instance and each module stands somewhere, whose names are no words of Verilog, and which
+-- has few nets; and where few static ifs stand around a statement it has few bytes: 4,096 for each unit of the
+-- design's size, and 256 for each unit of its weight
 pub record IsTextOf (d : PlainDesign) (answer : List ℕ) : Type 0 where
   pub source : PlainSource
   pub spelled : IsVerilogOf answer source
@@ -59,8 +60,9 @@ written_net d = inlined (net_of (lowered_of d))
 abbrev pub written_source : PlainDesign → PlainSource
 written_source d = source_of (written_net d)
 
--- WHAT compile WRITES of a text: it is accepted, 32 bits count the parts of its design, this is within the size that compile takes, the design that is
--- run tells of each run what it means, and this is the text of the design that is run, to the byte
+-- WHAT compile WRITES of a text: it is accepted, 32 bits count the parts of its design, this is within the size that
+-- compile takes, the design that is run tells of each run what it means, and this is the text of the design that is
+-- run, to the byte
 pub record IsCompiled (text answer : List ℕ) : Type 0 where
   pub design : PlainDesign
   pub stands : IsDesignOf text design
@@ -89,13 +91,14 @@ HasItsNet d net = IsDesign d → IsFlat d → IsAccepted d → IsHolelessNetFor 
 abbrev pub IsRealised : PlainDesign → Type 0
 IsRealised d = IsDesign d → IsFlat d → IsAccepted d → Realises d (written_source d)
 
--- of a design: it is within the size, with static components counted where they are invoked, and this is the net of the design that is run: the one
--- that is written, and where that breaks no rule it does what it means
+-- of a design: it is within the size, with static components counted where they are invoked, and this is the net of
+-- the design that is run: the one that is written, and where that breaks no rule it does what it means
 abbrev pub IsSizedNet : PlainDesign → PlainNet → Type 0
-IsSizedNet d net = (counted_design_size d ≤ COMPILE_SIZE) × (net ≡ written_net (runnable d)) × HasItsNet (runnable d) net
+IsSizedNet d net =
+    (counted_design_size d ≤ COMPILE_SIZE) × (net ≡ written_net (runnable d)) × HasItsNet (runnable d) net
 
--- THE NET OF A TEXT: the text is accepted, 32 bits count the parts of its design, this is within the size that compile takes, and this is a net of the
--- design that is run, of which a text can be written
+-- THE NET OF A TEXT: the text is accepted, 32 bits count the parts of its design, this is within the size that
+-- compile takes, and this is a net of the design that is run, of which a text can be written
 pub record IsNetOfText (text : List ℕ) (net : PlainNet) : Type 0 where
   pub design : PlainDesign
   pub stands : IsDesignOf text design
@@ -121,7 +124,9 @@ counted_too_large d = size_break (counted_design_size d)
 
 -- the text is accepted, and its design is over the size
 abbrev pub IsTooLarge : List ℕ → Diagnostic → Type 0
-IsTooLarge text told = (d : PlainDesign) × IsDesignOf text d × (COMPILE_SIZE < counted_design_size d) × (told ≡ counted_too_large d)
+IsTooLarge text told =
+    (d : PlainDesign) × IsDesignOf text d × (COMPILE_SIZE < counted_design_size d)
+    × (told ≡ counted_too_large d)
 
 -- REFUSED by compile: the text breaks a rule, or else that on sizes
 abbrev pub CompileBreak : List ℕ → Diagnostic → Type 0
@@ -148,7 +153,9 @@ abbrev pub IsRunWritten : PlainDesign → List ℕ → Type 0
 IsRunWritten d answer = (counted_design_size d ≤ COMPILE_SIZE) × IsVerilogOf answer (written_source (runnable d))
 
 abbrev pub IsRunTooLarge : PlainDesign → Stop → Type 0
-IsRunTooLarge d stop = (stop ≡ stops.Memory) ⊎ ((COMPILE_SIZE < counted_design_size d) × (stop ≡ stops.Rule (counted_too_large d)))
+IsRunTooLarge d stop =
+    (stop ≡ stops.Memory)
+    ⊎ ((COMPILE_SIZE < counted_design_size d) × (stop ≡ stops.Rule (counted_too_large d)))
 
 -- a design keeps what every design keeps, has no static component, and breaks no rule
 abbrev pub KeepsRules : PlainDesign → Type 0

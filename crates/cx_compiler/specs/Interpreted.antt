@@ -30,7 +30,8 @@ pub record PlainLeft : Type 0 where
 
 -- what a run within this budget comes to: what it leaves; its fault; or that it needs more turns
 abbrev pub left_of : PlainDesign → List PlainMemory → ℕ → answers.Answer State Fault → Result PlainLeft Stop
-left_of d memories budget (answers.End after turns) = Ok (record { turns = turns; memories = with_words memories (words_of (tree_of d) after) })
+left_of d memories budget (answers.End after turns) =
+    Ok (record { turns = turns; memories = with_words memories (words_of (tree_of d) after) })
 left_of d memories budget (answers.Fault fault turn) = Err (fault_stop d fault turn)
 left_of d memories budget answers.More = Err (stops.More budget)
 
@@ -62,7 +63,8 @@ design_result d json budget = dumped (design_left d json budget)
 
 -- THE SAME BY A DESIGN'S OWN MEANING, with static components: what is left, by what the run of main tells
 abbrev pub left_told : List PlainMemory → ℕ → tellings.Told → Result PlainLeft Stop
-left_told memories budget (tellings.Ended turns words) = Ok (record { turns = turns; memories = with_words memories words })
+left_told memories budget (tellings.Ended turns words) =
+    Ok (record { turns = turns; memories = with_words memories words })
 left_told memories budget (tellings.Faulted kind name turn) = Err (stops.Fault kind name turn)
 left_told memories budget tellings.GoesOn = Err (stops.More budget)
 

@@ -32,10 +32,15 @@ AreShallow = (text : List ℕ) (d : PlainDesign) → IsDesignOf text d → IsFla
 
 -- where this is so of what is run of an accepted text within the size, the text of its source is within the limit of a Verilog text
 abbrev pub NeverTooLong : Type 0
-NeverTooLong = (text : List ℕ) (d : PlainDesign) → IsDesignOf text d → design_size d < 2 ^ 32 → counted_design_size d ≤ COMPILE_SIZE → IsShallow (runnable d)
+NeverTooLong =
+    (text : List ℕ) (d : PlainDesign) → IsDesignOf text d → design_size d < 2 ^ 32
+    → counted_design_size d ≤ COMPILE_SIZE → IsShallow (runnable d)
     → (n : ℕ) → IsTooLong VERILOG_BYTES (text_of (written_source (runnable d))) (TooLong n) → ⊥
 
 -- in an accepted design, where the run of main has a fault, no order of the leaves ends
 abbrev pub NoneEnds : Type 0
-NoneEnds = (d : PlainDesign) (words : List (List ℕ)) (order : Choices) (budget steps : ℕ) (fault : cycles.Fault) (turn : ℕ) (after : State) (made sum : ℕ)
-    → IsDesign d → IsAccepted d → run_main d words budget ≡ answers.Fault fault turn → woven d words order steps ≡ Ends after made sum → ⊥
+NoneEnds =
+    (d : PlainDesign) (words : List (List ℕ)) (order : Choices) (budget steps : ℕ) (fault : cycles.Fault)
+    (turn : ℕ) (after : State) (made sum : ℕ)
+    → IsDesign d → IsAccepted d → run_main d words budget ≡ answers.Fault fault turn
+    → woven d words order steps ≡ Ends after made sum → ⊥

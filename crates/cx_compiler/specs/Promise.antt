@@ -35,23 +35,31 @@ pub record IsRunIn (text json : List ℕ) (budget cycle : ℕ) (dump : List ℕ)
 
 pub record KeepsPromise (text verilog : List ℕ) : Type 0 where
   -- what the interpreter dumps within a budget of turns, the simulator dumps within as many cycles, byte for byte
-  pub same_dump : (json : List ℕ) (budget : ℕ) (dump : List ℕ) → Interprets text json budget (Ok dump) → Simulates verilog json budget (Ok dump)
+  pub same_dump : (json : List ℕ) (budget : ℕ) (dump : List ℕ) → Interprets text json budget (Ok dump)
+      → Simulates verilog json budget (Ok dump)
   -- what the simulator dumps, the interpreter dumps with as many turns as there were cycles, or it tells a fault within them
-  pub no_other_dump : (json : List ℕ) (budget : ℕ) (dump : List ℕ) → Simulates verilog json budget (Ok dump) → (cycle : ℕ) × IsRunIn text json budget cycle dump
+  pub no_other_dump : (json : List ℕ) (budget : ℕ) (dump : List ℕ)
+      → Simulates verilog json budget (Ok dump) → (cycle : ℕ) × IsRunIn text json budget cycle dump
   -- where the interpreter needs more turns, the simulator needs more cycles
-  pub no_sooner : (json : List ℕ) (budget : ℕ) → Interprets text json budget (Err (stops.More budget)) → Simulates verilog json budget (Err (stops.More budget))
+  pub no_sooner : (json : List ℕ) (budget : ℕ) → Interprets text json budget (Err (stops.More budget))
+      → Simulates verilog json budget (Err (stops.More budget))
   -- they refuse the same data files, for the same fault
   pub same_data : (json : List ℕ) (budget : ℕ) (fault : DataFault)
       → Interprets text json budget (Err (stops.Json fault)) ↔ Simulates verilog json budget (Err (stops.Json fault))
   -- whatever the budgets, the simulator dumps nothing else
-  pub no_second_dump : (json : List ℕ) (turns cycles : ℕ) (dump other : List ℕ) → Interprets text json turns (Ok dump) → Simulates verilog json cycles (Ok other) → other ≡ dump
+  pub no_second_dump : (json : List ℕ) (turns cycles : ℕ) (dump other : List ℕ)
+      → Interprets text json turns (Ok dump) → Simulates verilog json cycles (Ok other) → other ≡ dump
   -- where the interpreter has a fault in a turn, the simulator is not done in the cycle of that number, nor before
-  pub quiet : (json : List ℕ) (budget : ℕ) (kind : FaultKind) (path : List ℕ) (turn : ℕ) → Interprets text json budget (Err (stops.Fault kind path turn)) → Simulates verilog json turn (Err (stops.More turn))
+  pub quiet : (json : List ℕ) (budget : ℕ) (kind : FaultKind) (path : List ℕ) (turn : ℕ)
+      → Interprets text json budget (Err (stops.Fault kind path turn))
+      → Simulates verilog json turn (Err (stops.More turn))
   -- FROM ANY POWER-UP STATE the text does what the simulator tells of it
-  pub from_power : (json : List ℕ) (budget : ℕ) (result : Result (List ℕ) Stop) → Simulates verilog json budget result → DoesFromPower verilog json budget result
-  -- ALWAYS: from any power-up state, run after run with waits between, the source of the text does what the design that is run does, and each run is main
-  -- from the state in which the run before ended
-  pub always : (d : PlainDesign) (source : PlainSource) → IsDesignOf text d → IsVerilogOf verilog source → RealisesAlways (runnable d) source
+  pub from_power : (json : List ℕ) (budget : ℕ) (result : Result (List ℕ) Stop)
+      → Simulates verilog json budget result → DoesFromPower verilog json budget result
+  -- ALWAYS: from any power-up state, run after run with waits between, the source of the text does what the design
+  -- that is run does, and each run is main from the state in which the run before ended
+  pub always : (d : PlainDesign) (source : PlainSource) → IsDesignOf text d → IsVerilogOf verilog source
+      → RealisesAlways (runnable d) source
   -- no net of the text is ever without a value
   pub no_loop : (json : List ℕ) (budget : ℕ) (net : List ℕ) → Simulates verilog json budget (Err (stops.Loop net)) → ⊥
 

@@ -14,10 +14,11 @@ pub use Rattle.cx_flattening.specs.Runnable.{has_invokes, is_static_part, any_st
 -- its run tells what the design tells by its own meaning, and it has the same external memories
 pub record RunsAsMeant (d : PlainDesign) : Type 0 where
   pub rows : external_rows (runnable d) ≡ external_rows d
-  pub runs : (words : List (List ℕ)) (budget : ℕ) → told (runnable d) (run_main (runnable d) words budget) ≡ told d (whole_main d words budget)
+  pub runs : (words : List (List ℕ)) (budget : ℕ)
+      → told (runnable d) (run_main (runnable d) words budget) ≡ told d (whole_main d words budget)
 
--- WHAT FLATTENING ASKS of a design: it keeps what every design keeps, breaks no rule, nothing looks at the done of a static component's cell, and no
--- name of its cells and ports is empty or holds a point
+-- WHAT FLATTENING ASKS of a design: it keeps what every design keeps, breaks no rule, nothing looks at the done of a
+-- static component's cell, and no name of its cells and ports is empty or holds a point
 pub record CanBeFlattened (d : PlainDesign) : Type 0 where
   pub design : IsDesign d
   pub accepted : IsAccepted d

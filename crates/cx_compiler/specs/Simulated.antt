@@ -38,12 +38,15 @@ pub record IsVerilogRefusal (text : List ℕ) (refused : ReadRefusal) : Type 0 w
 -- or that `done` is 0 in all these cycles
 abbrev pub told_outcome : PlainSource → List PlainMemory → ℕ → Outcome → Result (List ℕ) Stop
 told_outcome source memories budget (DoneAt cycle words) = Ok (dump_text cycle (with_words memories words))
-told_outcome source memories budget (LoopAt instance net) = Err (stops.Loop (path_of (instances_of source) instance net))
+told_outcome source memories budget (LoopAt instance net) =
+    Err (stops.Loop (path_of (instances_of source) instance net))
 told_outcome source memories budget NotDone = Err (stops.More budget)
 
 -- THE RUN OF A SOURCE with these memories loaded
 abbrev pub RunDoes : PlainSource → List PlainMemory → ℕ → Result (List ℕ) Stop → Type 0
-RunDoes source memories budget result = (o : Outcome) × SimRun source (words_loaded memories) budget o × (result ≡ told_outcome source memories budget o)
+RunDoes source memories budget result =
+    (o : Outcome) × SimRun source (words_loaded memories) budget o
+    × (result ≡ told_outcome source memories budget o)
 
 abbrev pub LoadedDoes : PlainSource → ℕ → Result (List PlainMemory) DataFault → Result (List ℕ) Stop → Type 0
 LoadedDoes source budget (Ok memories) result = RunDoes source memories budget result
@@ -55,7 +58,8 @@ SourceDoes source json budget result = LoadedDoes source budget (load_of json (r
 
 -- the text spells a sound source, which does this
 abbrev pub Spells : List ℕ → List ℕ → ℕ → Result (List ℕ) Stop → Type 0
-Spells verilog json budget result = (source : PlainSource) × IsVerilogOf verilog source × SourceDoes source json budget result
+Spells verilog json budget result =
+    (source : PlainSource) × IsVerilogOf verilog source × SourceDoes source json budget result
 
 -- WHAT A VERILOG TEXT DOES ON A DATA FILE: it spells a sound source, which does this; or it spells none, and that is told
 abbrev pub Simulates : List ℕ → List ℕ → ℕ → Result (List ℕ) Stop → Type 0
@@ -63,11 +67,13 @@ Simulates verilog json budget result =
     Spells verilog json budget result
     ⊎ ((refused : ReadRefusal) × IsVerilogRefusal verilog refused × (result ≡ Err (stops.Verilog refused)))
 
--- THE RUN FROM POWER-UP of a source: from each state with these memories loaded and zeros in all other arrays, whatever its registers hold, whatever
--- stands on the nets in the cycle of the edge with reset and whatever go is there, a run that is told so
+-- THE RUN FROM POWER-UP of a source: from each state with these memories loaded and zeros in all other arrays,
+-- whatever its registers hold, whatever stands on the nets in the cycle of the edge with reset and whatever go is
+-- there, a run that is told so
 abbrev pub PowerDoes : PlainSource → List PlainMemory → ℕ → Result (List ℕ) Stop → Type 0
 PowerDoes source memories budget result =
-    (power : State) → HasPower source (words_loaded memories) power → (o : Outcome) × PowerRun source power budget o × (result ≡ told_outcome source memories budget o)
+    (power : State) → HasPower source (words_loaded memories) power
+    → (o : Outcome) × PowerRun source power budget o × (result ≡ told_outcome source memories budget o)
 
 abbrev pub LoadedPowerDoes : PlainSource → ℕ → Result (List PlainMemory) DataFault → Result (List ℕ) Stop → Type 0
 LoadedPowerDoes source budget (Ok memories) result = PowerDoes source memories budget result
@@ -75,7 +81,9 @@ LoadedPowerDoes source budget (Err fault) result = result ≡ Err (stops.Json fa
 
 -- WHAT A VERILOG TEXT DOES FROM ANY POWER-UP STATE on a data file: it spells a sound source, which does this from each
 abbrev pub DoesFromPower : List ℕ → List ℕ → ℕ → Result (List ℕ) Stop → Type 0
-DoesFromPower verilog json budget result = (source : PlainSource) × IsVerilogOf verilog source × LoadedPowerDoes source budget (load_of json (rows_of source.externals)) result
+DoesFromPower verilog json budget result =
+    (source : PlainSource) × IsVerilogOf verilog source
+    × LoadedPowerDoes source budget (load_of json (rows_of source.externals)) result
 
 -- WHAT A RUN LEAVES in the first cycle in which `done` is 1, with these memories loaded
 pub record RunLeaves (source : PlainSource) (memories : List PlainMemory) (budget : ℕ) (left : PlainLeft) : Type 0 where
@@ -113,7 +121,9 @@ StopsRun source memories budget stop = (stop ≡ stops.Memory) ⊎ RunDoes sourc
 
 -- what is told of a text that is not read
 abbrev pub IsNoSource : List ℕ → Stop → Type 0
-IsNoSource text stop = (stop ≡ stops.Memory) ⊎ ((refused : ReadRefusal) × IsVerilogRefusal text refused × (stop ≡ stops.Verilog refused))
+IsNoSource text stop =
+    (stop ≡ stops.Memory)
+    ⊎ ((refused : ReadRefusal) × IsVerilogRefusal text refused × (stop ≡ stops.Verilog refused))
 
 -- why a text is not read
 abbrev pub read_stop : ReadRefusal → Stop

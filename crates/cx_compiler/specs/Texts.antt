@@ -23,8 +23,8 @@ IsAcceptedText text = (tree : PlainTree) × HasTree text tree × IsAcceptedTree 
 abbrev pub IsDesignOf : List ℕ → PlainDesign → Type 0
 IsDesignOf text d = (tree : PlainTree) × HasTree text tree × IsAcceptedTree tree × (d ≡ design_of tree)
 
--- WHAT IS RUN of a text: the text is accepted, 32 bits count the parts of its design, and this is the design that is run, which has no static
--- component, and tells of each run what the text's design means
+-- WHAT IS RUN of a text: the text is accepted, 32 bits count the parts of its design, and this is the design that is
+-- run, which has no static component, and tells of each run what the text's design means
 pub record IsRunOf (text : List ℕ) (run : PlainDesign) : Type 0 where
   pub design : PlainDesign
   pub stands : IsDesignOf text design

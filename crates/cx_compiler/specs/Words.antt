@@ -6,4 +6,6 @@ use Rattle.cx_vtree.specs.Layout.{is_word}
 
 -- the names of the external memories of a design are words
 abbrev pub HasWords : PlainDesign → Type 0
-HasWords d = (cell : PlainCell) → In (component_at d d.main).cells cell → cell.external ≡ true → is_word cell.name ≡ true
+HasWords d =
+    (cell : PlainCell) → In (component_at d d.main).cells cell → cell.external ≡ true
+    → is_word cell.name ≡ true

@@ -35,8 +35,8 @@ use itoa::Buffer;
 use std::alloc::Global;
 
 /// Writes the Verilog text of a design that is accepted and within the size that is compiled. What it writes keeps the promise: it is done
-/// first in the cycle, and with the bytes, with which the interpreter ends, and never where the interpreter needs more turns; and from any power-up
-/// state each run begins where the one before ended, with waits between.
+/// first in the cycle, and with the bytes, with which the interpreter ends, and never where the interpreter needs
+/// more turns; and from any power-up state each run begins where the one before ended, with waits between.
 pub fn compile(alloc: Global, text: &[u8]) -> Result<Vec<u8>, Stop>
     requires { length text.now ≤ 1048576 }
     ensures answer { IfOk result (λ verilog. IsCompiled text.now verilog.items) }
@@ -96,7 +96,8 @@ pub fn compile_design(alloc: Global, design: &Checked) -> Result<Vec<u8>, Stop>
 
 /// The rule on sizes, which a design of this size breaks.
 pub(crate) fn too_large(alloc: Global, size: u64) -> Stop
-    ensures { (result ≡ stops.Memory) ⊎ (result ≡ stops.Rule (record { rule = rules.TooLarge; place = no_place; name = decimal size })) }
+    ensures { (result ≡ stops.Memory) ⊎
+        (result ≡ stops.Rule (record { rule = rules.TooLarge; place = no_place; name = decimal size })) }
 {
     let mut buffer = Buffer::new();
     match Name::from_bytes(alloc, buffer.format(size).as_bytes()) {

@@ -33,7 +33,8 @@ pub fn no_text_names_a_static_done()
 /// The flat design of an accepted text with fewer than 2^32 parts tells of each run what the design of the text tells, and has
 /// its external memories.
 pub fn accepted_texts_keep_their_runs()
-    ensures { (text : List ℕ) (tree : PlainTree) → HasTree text tree → names_break tree ≡ None → IsAccepted (design_of tree)
+    ensures { (text : List ℕ) (tree : PlainTree) → HasTree text tree → names_break tree ≡ None →
+        IsAccepted (design_of tree)
         → design_size (design_of tree) < 2 ^ 32 → KeepsRuns (design_of tree) }
 {
     accepted_designs_keep_their_runs();
@@ -41,7 +42,8 @@ pub fn accepted_texts_keep_their_runs()
 
 /// The design of an accepted text with fewer than 2^32 parts has all that flattening asks for.
 pub fn accepted_texts_can_be_flattened()
-    ensures { (text : List ℕ) (tree : PlainTree) → HasTree text tree → names_break tree ≡ None → IsAccepted (design_of tree)
+    ensures { (text : List ℕ) (tree : PlainTree) → HasTree text tree → names_break tree ≡ None →
+        IsAccepted (design_of tree)
         → design_size (design_of tree) < 2 ^ 32 → CanBeFlattened (design_of tree) }
 {}
 
@@ -76,7 +78,8 @@ pub fn what_is_run_runs_as_meant()
 
 /// So does that of an accepted text with fewer than 2^32 parts.
 pub fn accepted_texts_run_as_meant()
-    ensures { (text : List ℕ) (tree : PlainTree) → HasTree text tree → names_break tree ≡ None → IsAccepted (design_of tree)
+    ensures { (text : List ℕ) (tree : PlainTree) → HasTree text tree → names_break tree ≡ None →
+        IsAccepted (design_of tree)
         → design_size (design_of tree) < 2 ^ 32 → RunsAsMeant (design_of tree) }
 {
     accepted_designs_keep_their_runs();

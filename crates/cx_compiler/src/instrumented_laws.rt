@@ -29,7 +29,8 @@ pub fn instrumented_keeps_guards()
 
 /// The external memories of an instrumented design have words for names where those of its design have, and 32 bits count its size.
 pub fn instrumented_keeps_words()
-    ensures { (d : PlainDesign) → IsDesign d → design_size (instrumented d) < 2 ^ 32 → HasWords d → HasWords (instrumented d) }
+    ensures { (d : PlainDesign) → IsDesign d → design_size (instrumented d) < 2 ^ 32 → HasWords d →
+        HasWords (instrumented d) }
 {}
 
 /// No statement of an instrumented design stands within more static ifs than those of its design do, which are 64 at most.
@@ -45,15 +46,19 @@ pub fn instrumented_names_no_static_done()
 /// No name of a cell or of a port of an instrumented design is empty or holds a point, where none of its design does and 32 bits
 /// count its size.
 pub fn instrumented_has_plain_names()
-    ensures { (d : PlainDesign) → IsDesign d → ArePlainNames d → design_size (instrumented d) < 2 ^ 32 → ArePlainNames (instrumented d) }
+    ensures { (d : PlainDesign) → IsDesign d → ArePlainNames d → design_size (instrumented d) < 2 ^ 32 →
+        ArePlainNames (instrumented d) }
 {}
 
 /// So an instrumented design can be flattened where its design can, it keeps the limits and 32 bits count its size; and where it is
 /// within the size that is compiled, the net of what is run of it can be emitted, and what spells the source of that is its text.
 pub fn instrumented_is_written()
-    ensures flattens { (d : PlainDesign) → CanBeFlattened d → design_size (instrumented d) < 2 ^ 32 → KeepsStage 7 (instrumented d) → CanBeFlattened (instrumented d) }
-    ensures emitted { (d : PlainDesign) → CanBeFlattened d → design_size (instrumented d) < 2 ^ 32 → KeepsStage 7 (instrumented d) → HasGuards d → HasWords d → RunEmitsWithin (instrumented d) }
-    ensures text { (d : PlainDesign) → CanBeFlattened d → design_size (instrumented d) < 2 ^ 32 → KeepsStage 7 (instrumented d) → HasGuards d → HasWords d → IsRealised (runnable (instrumented d))
+    ensures flattens { (d : PlainDesign) → CanBeFlattened d → design_size (instrumented d) < 2 ^ 32 →
+        KeepsStage 7 (instrumented d) → CanBeFlattened (instrumented d) }
+    ensures emitted { (d : PlainDesign) → CanBeFlattened d → design_size (instrumented d) < 2 ^ 32 →
+        KeepsStage 7 (instrumented d) → HasGuards d → HasWords d → RunEmitsWithin (instrumented d) }
+    ensures text { (d : PlainDesign) → CanBeFlattened d → design_size (instrumented d) < 2 ^ 32 →
+        KeepsStage 7 (instrumented d) → HasGuards d → HasWords d → IsRealised (runnable (instrumented d))
         → (answer : List ℕ) → IsRunWritten (instrumented d) answer → IsTextOf (runnable (instrumented d)) answer }
 {
     sources_realise_always();

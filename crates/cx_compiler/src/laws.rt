@@ -1,4 +1,5 @@
-//! What follows from the definitions of what the commands and the passes do: each function does nothing but call others, and its clause is the law.
+//! What follows from the definitions of what the commands and the passes do: each function does nothing but call
+//! others, and its clause is the law.
 
 ghost use Rattle.cx_compiler.specs.Laws.{AreShallow, NeverTooLong, NoneEnds, OneSource};
 ghost use Rattle.cx_compiler.specs.Promise.{PromiseIsKept};

@@ -20,12 +20,20 @@ pub record ControlRules (i : Instance) : Type 0 where
   -- a design that is not lowered has no timed statement
   pub is_untimed : (k : ℕ) (place : Place) → Stands i (Placed (Timed k) place) → ⊥
   -- no arm reads what another drives
-  pub unshared : (v : Visited) → In (statements_in (part_of i)) v → (c : ℕ) → IsShared (part_of i) (arms_of v.form) c → ⊥
+  pub unshared : (v : Visited) → In (statements_in (part_of i)) v → (c : ℕ)
+      → IsShared (part_of i) (arms_of v.form) c → ⊥
   -- an island takes a cycle at least
-  pub lasts : (form : PlainForm) (place : Place) → Stands i (Placed form place) → is_island_form (part_of i) form ≡ true → 0 < form_length (part_of i) form
+  pub lasts : (form : PlainForm) (place : Place) → Stands i (Placed form place)
+      → is_island_form (part_of i) form ≡ true → 0 < form_length (part_of i) form
   -- a group calls as said, and nothing else drives a component cell
-  pub calls : (g : ℕ) (place : Place) (c : ℕ) → Stands i (Placed (Enable g) place) → called i g ≡ Some c → CallRules i g c
-  pub calls_it : (g : ℕ) (place : Place) (c : ℕ) (child : Instance) → Stands i (Placed (Enable g) place) → cell_at (cells_of i) c ≡ OfInstance child → drives (part_of i) (Placed (Enable g) place) c ≡ true → called i g ≡ Some c
-  pub no_island_calls : (form : PlainForm) (place : Place) (c : ℕ) (child : Instance) → Stands i (Placed form place) → is_static form ≡ true → cell_at (cells_of i) c ≡ OfInstance child
+  pub calls : (g : ℕ) (place : Place) (c : ℕ) → Stands i (Placed (Enable g) place) → called i g ≡ Some c
+      → CallRules i g c
+  pub calls_it : (g : ℕ) (place : Place) (c : ℕ) (child : Instance) → Stands i (Placed (Enable g) place)
+      → cell_at (cells_of i) c ≡ OfInstance child → drives (part_of i) (Placed (Enable g) place) c ≡ true
+      → called i g ≡ Some c
+  pub no_island_calls : (form : PlainForm) (place : Place) (c : ℕ) (child : Instance)
+      → Stands i (Placed form place) → is_static form ≡ true → cell_at (cells_of i) c ≡ OfInstance child
       → drives (part_of i) (Placed form place) c ≡ true → ⊥
-  pub own_inputs : (held other : Held) (s : State) (n : ℕ) → ((input : ℕ) → input < length (part_of i).inputs → held input ≡ other input) → run_control i held s n ≡ run_control i other s n
+  pub own_inputs : (held other : Held) (s : State) (n : ℕ)
+      → ((input : ℕ) → input < length (part_of i).inputs → held input ≡ other input)
+      → run_control i held s n ≡ run_control i other s n

@@ -16,7 +16,9 @@ design_machine d = Coded.machine (coded_control (tree_of d))
 
 -- after so many cycles, from the start with the loaded words
 abbrev pub moment_of : (d : PlainDesign) → List (List ℕ) → ℕ → Moment (design_machine d)
-moment_of d words k = after_cycles (spot_idle (tree_of d)) (design_machine d) k (record { control = Machine.start (design_machine d); store = shown unheld (start (tree_of d) words) })
+moment_of d words k =
+    after_cycles (spot_idle (tree_of d)) (design_machine d) k
+    (record { control = Machine.start (design_machine d); store = shown unheld (start (tree_of d) words) })
 
 -- what the machine does where main ends after t turns
 pub record EndsSo (d : PlainDesign) (words : List (List ℕ)) (n t : ℕ) (after : State) : Type 0 where
@@ -32,5 +34,6 @@ pub record GoesOnSo (d : PlainDesign) (words : List (List ℕ)) (n : ℕ) : Type
 
 -- THE MACHINE OF A DESIGN ends as its main does, and is not done where that still runs; of a fault nothing is said
 pub record MachineRuns (d : PlainDesign) : Type 0 where
-  pub ends : (words : List (List ℕ)) (n t : ℕ) (after : State) → run_main d words n ≡ End after t → EndsSo d words n t after
+  pub ends : (words : List (List ℕ)) (n t : ℕ) (after : State) → run_main d words n ≡ End after t
+      → EndsSo d words n t after
   pub goes_on : (words : List (List ℕ)) (n : ℕ) → run_main d words n ≡ More → GoesOnSo d words n

@@ -50,7 +50,8 @@ abbrev mutual
 -- the first true guard drives
 abbrev pub first_on : Values → BitVector → List Acting → BitVector
 first_on v undriven [] = undriven
-first_on v undriven (a ∷ rest) = if guard_on v a.offset a.assign.guard then v a.assign.source.port else first_on v undriven rest
+first_on v undriven (a ∷ rest) =
+    if guard_on v a.offset a.assign.guard then v a.assign.source.port else first_on v undriven rest
 
 -- what stands at all ports of a cell
 abbrev pub given : Values → ℕ → ℕ → List PortRow → Inputs
@@ -70,7 +71,8 @@ module _ (i : Instance) (go : Active) (s : State) (around : Around) (v : Values)
   abbrev pub side_flow : Row → ℕ → ℕ → Side → BitVector
   side_flow row c p sides.Enable = driven_flow (ports.Cell c p)
   side_flow row c p sides.Plain = driven_flow (ports.Cell c p)
-  side_flow row c p sides.Output = unwrap_or (row.output (s (c ∷ [])) (given v c 0 row.ports) p) (zero_of (width_of i (ports.Cell c p)))
+  side_flow row c p sides.Output =
+      unwrap_or (row.output (s (c ∷ [])) (given v c 0 row.ports) p) (zero_of (width_of i (ports.Cell c p)))
   side_flow row c p sides.Registered = unwrap_or (row.output (s (c ∷ [])) [] p) (zero_of (width_of i (ports.Cell c p)))
 
   abbrev pub part_flow : ℕ → ℕ → PartPort → BitVector
@@ -102,12 +104,17 @@ Reaches i act p q = (p ≡ q) ⊎ Depends i act p q
 
 -- what one active set makes of a port is not disturbed by what else is active: of each port that it depends on, the union
 -- has the assignments that the set has; and what stands around the instance is what the set takes it to be, where that is a value
-pub record Undisturbed (i : Instance) (held : Held) (act go : Active) (s : State) (around : Around) (p : PortRef) : Type 0 where
+pub record Undisturbed (i : Instance) (held : Held) (act go : Active) (s : State) (around : Around)
+    (p : PortRef) : Type 0 where
   -- a hole is seen under its own group, whose go is cut where the hole is 1, and outputs are driven continuously
-  pub assigns : (c q : ℕ) (o : Owned) → Reaches i act p (ports.Cell c q) → In (source_order (part_of i)) o → o.assign.target ≡ ports.Cell c q → offset_of act o.owner ≡ offset_of go o.owner
+  pub assigns : (c q : ℕ) (o : Owned) → Reaches i act p (ports.Cell c q) → In (source_order (part_of i)) o
+      → o.assign.target ≡ ports.Cell c q → offset_of act o.owner ≡ offset_of go o.owner
   pub holes : (g : ℕ) → Reaches i act p (ports.Done g) → act.offset g ≡ Some 0
   pub inputs : (n : ℕ) (b : BitVector) → Reaches i act p (ports.Input n) → held n ≡ Value b → around.input n ≡ b
-  pub outputs : (c q n : ℕ) (child : Instance) (b : BitVector) → Reaches i act p (ports.Cell c q) → cell_at (cells_of i) c ≡ OfInstance child
-      → part_port (part_of child) q ≡ AnOutput n → Sees child unheld nothing (under c s) (ports.Output n) (Value b) → around.output c n ≡ b
-  pub dones : (c q : ℕ) (child : Instance) → Reaches i act p (ports.Cell c q) → cell_at (cells_of i) c ≡ OfInstance child
+  pub outputs : (c q n : ℕ) (child : Instance) (b : BitVector) → Reaches i act p (ports.Cell c q)
+      → cell_at (cells_of i) c ≡ OfInstance child
+      → part_port (part_of child) q ≡ AnOutput n
+      → Sees child unheld nothing (under c s) (ports.Output n) (Value b) → around.output c n ≡ b
+  pub dones : (c q : ℕ) (child : Instance) → Reaches i act p (ports.Cell c q)
+      → cell_at (cells_of i) c ≡ OfInstance child
       → part_port (part_of child) q ≡ ItsDone → Value (around.done c) ≡ bit_of (is_done_cell act.done_cell c)

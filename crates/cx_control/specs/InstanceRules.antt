@@ -21,17 +21,24 @@ pub record InstanceRules (i : Instance) : Type 0 where
   -- nothing leads in a circle
   pub circles : AreAcyclic i
   pub groups : (g : ℕ) → g < length (part_of i).groups → IsAcyclic i (group g)
-  pub islands : (v : Visited) (h : History) (t : ℕ) → In (statements_in (part_of i)) v → IsAcyclic i (entries (active_in h t (form_flat (part_of i) v.form 0 [])))
+  pub islands : (v : Visited) (h : History) (t : ℕ) → In (statements_in (part_of i)) v
+      → IsAcyclic i (entries (active_in h t (form_flat (part_of i) v.form 0 [])))
   pub closed : (s : PlainStatement) → IsClosed (part_of i) s (Reads (part_of i) s)
   -- an idle turn settles all cells
   pub settles : (s : State) → IsSettled i (idle i s)
   -- a cycle keeps what no active group drives, and what is no primitive cell
-  pub quiet : (held : Held) (act : Active) (s after : State) (c : ℕ) → IsUndriven (part_of i) act c → IsSettledAt i s c → cycle i held act s ≡ Goes after → IsKeptAt s after c
-  pub children : (child : Instance) (held : Held) (act : Active) (s after : State) (c : ℕ) → cell_at (cells_of i) c ≡ OfInstance child → cycle i held act s ≡ Goes after → IsKeptAt s after c
+  pub quiet : (held : Held) (act : Active) (s after : State) (c : ℕ) → IsUndriven (part_of i) act c
+      → IsSettledAt i s c → cycle i held act s ≡ Goes after → IsKeptAt s after c
+  pub children : (child : Instance) (held : Held) (act : Active) (s after : State) (c : ℕ)
+      → cell_at (cells_of i) c ≡ OfInstance child → cycle i held act s ≡ Goes after → IsKeptAt s after c
   -- what a statement does not drive nothing drives that it has active
-  pub alone : (s : PlainStatement) (g c : ℕ) → In (groups_of s) g → drives (part_of i) s c ≡ false → IsUndriven (part_of i) (group g) c
-  pub capturing : (s : PlainStatement) (g called c : ℕ) → In (groups_of s) g → drives (part_of i) s c ≡ false → IsUndriven (part_of i) (capture g called) c
-  pub in_island : (form : PlainForm) (place : Place) (h : History) (t c : ℕ) → drives (part_of i) (Placed form place) c ≡ false → IsUndriven (part_of i) (entries (active_in h t (form_flat (part_of i) form 0 []))) c
+  pub alone : (s : PlainStatement) (g c : ℕ) → In (groups_of s) g → drives (part_of i) s c ≡ false
+      → IsUndriven (part_of i) (group g) c
+  pub capturing : (s : PlainStatement) (g called c : ℕ) → In (groups_of s) g
+      → drives (part_of i) s c ≡ false → IsUndriven (part_of i) (capture g called) c
+  pub in_island : (form : PlainForm) (place : Place) (h : History) (t c : ℕ)
+      → drives (part_of i) (Placed form place) c ≡ false
+      → IsUndriven (part_of i) (entries (active_in h t (form_flat (part_of i) form 0 []))) c
 
 -- a statement of the dynamic control of an instance
 abbrev pub Stands : Instance → PlainStatement → Type 0

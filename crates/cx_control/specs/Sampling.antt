@@ -39,23 +39,27 @@ module _ (part : PlainComponent) (now : PortRef → Bool) (kept : Samples) where
     form_now (StaticPar length arms) n live m = arms_now arms n live m
     form_now (StaticIf length test a b) n live m =
         if nat_eq m n then taken (now test.port) (kept n) live
-        else if nat_lt m (suc n + ifs_of a) then statement_now a (suc n) (where_so (taken (now test.port) (kept n) live) live) m
+        else if nat_lt m (suc n + ifs_of a)
+        then statement_now a (suc n) (where_so (taken (now test.port) (kept n) live) live) m
         else statement_now b (suc n + ifs_of a) (where_so (not (taken (now test.port) (kept n) live)) live) m
     form_now (StaticRepeat length count a) n live m = statement_now a n (option_map (λ j. j % length_of part a) live) m
     form_now (Timed k) n live m = false
 
     -- within its length
     pub statement_now : PlainStatement → ℕ → Option ℕ → ℕ → Bool
-    statement_now (Placed form place) n live m = form_now form n (option_and_then (within_length (length_of part (Placed form place))) live) m
+    statement_now (Placed form place) n live m =
+        form_now form n (option_and_then (within_length (length_of part (Placed form place))) live) m
 
     pub parts_now : PlainStatements → ℕ → Option ℕ → ℕ → Bool
     parts_now no_statements n live m = false
     parts_now (a_statement s ss) n live m =
-        if nat_lt m (n + ifs_of s) then statement_now s n live m else parts_now ss (n + ifs_of s) (option_and_then (behind_length (length_of part s)) live) m
+        if nat_lt m (n + ifs_of s) then statement_now s n live m
+        else parts_now ss (n + ifs_of s) (option_and_then (behind_length (length_of part s)) live) m
 
     pub arms_now : PlainStatements → ℕ → Option ℕ → ℕ → Bool
     arms_now no_statements n live m = false
-    arms_now (a_statement s ss) n live m = if nat_lt m (n + ifs_of s) then statement_now s n live m else arms_now ss (n + ifs_of s) live m
+    arms_now (a_statement s ss) n live m =
+        if nat_lt m (n + ifs_of s) then statement_now s n live m else arms_now ss (n + ifs_of s) live m
 
 -- the samples in cycle t of an island, from those of the cycle before
 abbrev pub samples_now : PlainComponent → (PortRef → Bool) → ℕ → PlainForm → Samples → Samples

@@ -35,7 +35,8 @@ pub record RestsAt (cells : Cells) (c : ℕ) (b : Bare) : Type 0 where
   pub numbers_rest : (path : Path) (n : ℕ) → b.number c path n ≡ 0
 
 -- THE INVARIANT of an instance over the leaves that run; good says it of what stands at each of its cells
-module _ (i : Instance) (children : ℕ → Coded) (good : (c : ℕ) → Control (Machine.Place (Coded.machine (children c))) → Bare → Type 0) where
+module _ (i : Instance) (children : ℕ → Coded)
+    (good : (c : ℕ) → Control (Machine.Place (Coded.machine (children c))) → Bare → Type 0) where
   -- the hole of a group is 1, whatever the inputs of the instance are
   abbrev pub HoleIsSet : Bare → ℕ → Type 0
   HoleIsSet b g = (held : Held) → truth_of (seen i held (group g) b.cell (ports.Done g)) ≡ One
@@ -49,25 +50,31 @@ module _ (i : Instance) (children : ℕ → Coded) (good : (c : ℕ) → Control
 
   -- while a group calls: the child runs, or is at its end, or the registers have captured
   pub data Calling (g c : ℕ) (b : Bare) : Type 0 where
-    runs : (p : Machine.Place (Coded.machine (children c))) → Coding.IsFine (Coded.coding (children c)) p → HasCode b c (At p) → good c (At p) (bare_under c b)
+    runs : (p : Machine.Place (Coded.machine (children c))) → Coding.IsFine (Coded.coding (children c)) p
+        → HasCode b c (At p) → good c (At p) (bare_under c b)
         → (captures i g ≡ true → HoleIsOpen b g) → Calling g c b
     at_end : HasCode b c Done → good c Done (bare_under c b) → (captures i g ≡ true → HoleIsOpen b g) → Calling g c b
     captured : RestsAt (cells_of i) c b → captures i g ≡ true → HoleIsSet b g → Calling g c b
 
   pub record GoodAt (leaves : List (Running (leaf_machines i children))) (b : Bare) : Type 0 where
-    pub rests : (c : ℕ) → ((r : Running (leaf_machines i children)) → In leaves r → drives (part_of i) (leaf_of (leaf_machines i children) r) c ≡ false) → RestsAt (cells_of i) c b
-    pub calls : (g : ℕ) (place : Place) (stand : Machine.Place (LeafMachines.enable (leaf_machines i children) g)) (c : ℕ)
+    pub rests : (c : ℕ) → ((r : Running (leaf_machines i children)) → In leaves r →
+        drives (part_of i) (leaf_of (leaf_machines i children) r) c ≡ false) → RestsAt (cells_of i) c b
+    pub calls : (g : ℕ) (place : Place)
+        (stand : Machine.Place (LeafMachines.enable (leaf_machines i children) g)) (c : ℕ)
         → In leaves (AGroup g place stand) → called i g ≡ Some c → Calling g c b
     -- below what is no component all numbers are 0
-    pub nowhere : (c : ℕ) → ((child : Instance) → cell_at (cells_of i) c ≡ OfInstance child → ⊥) → (path : Path) (n : ℕ) → b.number c path n ≡ 0
+    pub nowhere : (c : ℕ) → ((child : Instance) → cell_at (cells_of i) c ≡ OfInstance child → ⊥)
+        → (path : Path) (n : ℕ) → b.number c path n ≡ 0
 
 -- OF AN INSTANCE, and of what stands at its cells
 abbrev mutual
   pub good_control : (i : Instance) → Control (Machine.Place (Coded.machine (coded_control i))) → Bare → Type 0
   good_control (Node part cells) k b =
-      GoodAt (Node part cells) (coded_below cells) (good_below cells) (at_control (running (leaf_machines (Node part cells) (coded_below cells)) part.control) k) b
+      GoodAt (Node part cells) (coded_below cells) (good_below cells)
+      (at_control (running (leaf_machines (Node part cells) (coded_below cells)) part.control) k) b
 
-  pub good_below : (cells : Cells) (c : ℕ) → Control (Machine.Place (Coded.machine (coded_below cells c))) → Bare → Type 0
+  pub good_below : (cells : Cells) (c : ℕ) → Control (Machine.Place (Coded.machine (coded_below cells c)))
+      → Bare → Type 0
   good_below no_cells c k b = Unit {0}
   good_below (a_primitive row rest) zero k b = Unit {0}
   good_below (a_primitive row rest) (suc c) k b = good_below rest c k b

@@ -17,7 +17,8 @@ module _ {X : Type 0} {V : X → Type 0} {F : Type 0} (leaves : LeafMachines X V
     form_coding (Seq no_statements) = unit_coding
     form_coding (Seq (a_statement first later)) = seq_coding (statement_coding first) (parts_coding later)
     form_coding (Par no_statements) = unit_coding
-    form_coding (Par (a_statement first later)) = bank_coding (par_bank (region_bank (statement_coding first)) (arms_bank later))
+    form_coding (Par (a_statement first later)) =
+        bank_coding (par_bank (region_bank (statement_coding first)) (arms_bank later))
     form_coding (If test comb a b) = if_coding (statement_coding a) (statement_coding b)
     form_coding (While test comb a) = while_coding (statement_coding a)
     form_coding (Repeat zero a) = unit_coding

@@ -54,7 +54,8 @@ pub fn cells_step()
 
 /// And one that no active group drives makes its idle step.
 pub fn cells_idle()
-    ensures { (d : PlainDesign) (path : Path) (go : Active) (s : State) (around : Around) (v : Values) (c : ℕ) (row : Row)
+    ensures { (d : PlainDesign) (path : Path) (go : Active) (s : State) (around : Around) (v : Values)
+        (c : ℕ) (row : Row)
         → IsDesign d → IsAccepted d → Solves (instance_at (tree_of d) path) go s around v
         → IsUndriven (part_of (instance_at (tree_of d) path)) go c
         → cell_at (cells_of (instance_at (tree_of d) path)) c ≡ OfRow row
@@ -68,7 +69,8 @@ pub fn cells_idle()
 /// reads, all that is active together has what the statement's own set has. So of each port of a cell that it depends on the
 /// assignments are the same, and it depends on no hole of another group.
 pub fn apart_is_undisturbed()
-    ensures assigns { (d : PlainDesign) (path : Path) (s : PlainStatement) (act go : Active) (p : PortRef) (c q : ℕ) (o : Owned)
+    ensures assigns { (d : PlainDesign) (path : Path) (s : PlainStatement) (act go : Active) (p : PortRef)
+        (c q : ℕ) (o : Owned)
         → IsDesign d → IsAccepted d → IsApart (part_of (instance_at (tree_of d) path)) s act go
         → IsOf (part_of (instance_at (tree_of d) path)) s act p
         → Reaches (instance_at (tree_of d) path) act p (Cell c q)

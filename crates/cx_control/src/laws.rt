@@ -25,8 +25,10 @@ use cx_laws::laws::{
 
 /// Every instance of an accepted design without static components keeps the rules that its control needs.
 pub fn instances_keep_rules()
-    ensures rules { (d : PlainDesign) (path : Path) → IsDesign d → IsFlat d → IsAccepted d → ControlRules (instance_at (tree_of d) path) }
-    ensures islands { (d : PlainDesign) (path : Path) → IsFlat d → IsAccepted d → IslandRules (instance_at (tree_of d) path) }
+    ensures rules { (d : PlainDesign) (path : Path) → IsDesign d → IsFlat d → IsAccepted d →
+        ControlRules (instance_at (tree_of d) path) }
+    ensures islands { (d : PlainDesign) (path : Path) → IsFlat d → IsAccepted d →
+        IslandRules (instance_at (tree_of d) path) }
 {
     cycles_keep_the_rest();
     own_inputs_suffice();
@@ -43,17 +45,19 @@ pub fn instances_keep_rules()
 pub fn controls_stand()
     ensures codes { (d : PlainDesign) (path : Path)
         → IsDesign d → IsFlat d → IsAccepted d
-        → IsRegion (Coded.machine (coded_control (instance_at (tree_of d) path))) (Coded.coding (coded_control (instance_at (tree_of d) path))) }
+        → IsRegion (Coded.machine (coded_control (instance_at (tree_of d) path)))
+        (Coded.coding (coded_control (instance_at (tree_of d) path))) }
     ensures keeps { (d : PlainDesign) (path : Path)
         → IsDesign d → IsFlat d → IsAccepted d
         → Keeps (coded_control (instance_at (tree_of d) path)) (good_control (instance_at (tree_of d) path))
-        (λ below cell. idle_at (instance_at (tree_of d) path) below cell) (λ below n v. number_idle_at (instance_at (tree_of d) path) below n v) }
+        (λ below cell. idle_at (instance_at (tree_of d) path) below cell)
+        (λ below n v. number_idle_at (instance_at (tree_of d) path) below n v) }
 {
     instances_keep_rules();
 }
 
-/// The machine of an accepted design without static components ends as its main does, after as many cycles and with the same cells, and is not done while
-/// main needs more turns.
+/// The machine of an accepted design without static components ends as its main does, after as many cycles and with
+/// the same cells, and is not done while main needs more turns.
 pub fn machine_runs()
     ensures { (d : PlainDesign) → IsDesign d → IsFlat d → IsAccepted d → MachineRuns d }
 {

@@ -15,7 +15,8 @@ use std::alloc::Global;
 /// A block, with other names of cells.
 #[cycle(control)]
 pub fn named_block<N: CellNames>(alloc: Global, names: &N, block: &Block) -> Result<Block, Memory>
-    ensures value { IfOk result (λ named. plain_block named ≡ naming.named_block (N.renaming names.now) (plain_block block.now)) }
+    ensures value { IfOk result
+        (λ named. plain_block named ≡ naming.named_block (N.renaming names.now) (plain_block block.now)) }
 {
     let statements = named_statements(alloc, names, block.statements.as_slice())?;
     Ok(Block {
@@ -30,7 +31,9 @@ fn named_statements<N: CellNames>(
     names: &N,
     statements: &[StatementItem],
 ) -> Result<Vec<StatementItem>, Memory>
-    ensures value { IfOk result (λ named. plain.statements_of (plain_statements named.items) ≡ naming.named_statements (N.renaming names.now) (plain.statements_of (plain_statements statements.now))) }
+    ensures value { IfOk result (λ named. plain.statements_of (plain_statements named.items) ≡
+        naming.named_statements (N.renaming names.now)
+        (plain.statements_of (plain_statements statements.now))) }
 {
     let mut named = Vec::with_capacity(alloc, statements.len())?;
     for statement in statements {
@@ -46,7 +49,8 @@ pub fn named_statement<N: CellNames>(
     names: &N,
     statement: &StatementItem,
 ) -> Result<StatementItem, Memory>
-    ensures value { IfOk result (λ named. plain_statement named ≡ naming.named_statement (N.renaming names.now) (plain_statement statement.now)) }
+    ensures value { IfOk result (λ named.
+        plain_statement named ≡ naming.named_statement (N.renaming names.now) (plain_statement statement.now)) }
 {
     let attributes = copied_attributes(alloc, statement.attributes.as_slice())?;
     let form = named_form(alloc, names, &statement.form)?;
@@ -63,7 +67,8 @@ fn named_else<N: CellNames>(
     names: &N,
     block: &Option<Block>,
 ) -> Result<Option<Block>, Memory>
-    ensures value { IfOk result (λ named. plain.else_of (option_map plain_block named) ≡ naming.named_else (N.renaming names.now) (plain.else_of (option_map plain_block block.now))) }
+    ensures value { IfOk result (λ named. plain.else_of (option_map plain_block named) ≡
+        naming.named_else (N.renaming names.now) (plain.else_of (option_map plain_block block.now))) }
 {
     match block {
         None => Ok(None),
@@ -77,7 +82,8 @@ pub(crate) fn named_form<N: CellNames>(
     names: &N,
     form: &StatementForm,
 ) -> Result<StatementForm, Memory>
-    ensures value { IfOk result (λ named. plain_form named ≡ naming.named_form (N.renaming names.now) (plain_form form.now)) }
+    ensures value { IfOk result
+        (λ named. plain_form named ≡ naming.named_form (N.renaming names.now) (plain_form form.now)) }
 {
     match form {
         StatementForm::Enable { group, marks } => enable(alloc, group, marks),

@@ -16,7 +16,8 @@ pub(crate) fn named_option<N: CellNames>(
     names: &N,
     guard: &Option<GuardItem>,
 ) -> Result<Option<GuardItem>, Memory>
-    ensures value { IfOk result (λ named. option_map plain_guard named ≡ option_map (naming.named_guard (N.renaming names.now)) (option_map plain_guard guard.now)) }
+    ensures value { IfOk result (λ named. option_map plain_guard named ≡
+        option_map (naming.named_guard (N.renaming names.now)) (option_map plain_guard guard.now)) }
 {
     match guard {
         None => Ok(None),
@@ -30,7 +31,8 @@ fn named_guard<N: CellNames>(
     names: &N,
     guard: &GuardItem,
 ) -> Result<GuardItem, Memory>
-    ensures value { IfOk result (λ named. plain_guard named ≡ naming.named_guard (N.renaming names.now) (plain_guard guard.now)) }
+    ensures value { IfOk result
+        (λ named. plain_guard named ≡ naming.named_guard (N.renaming names.now) (plain_guard guard.now)) }
 {
     match guard {
         GuardItem::Or(parts) => Ok(GuardItem::Or(named_guards(alloc, names, parts)?)),
@@ -58,7 +60,8 @@ fn named_guards<N: CellNames>(
     names: &N,
     guards: &[GuardItem],
 ) -> Result<Vec<GuardItem>, Memory>
-    ensures value { IfOk result (λ named. guards_of (plain_guards named.items) ≡ naming.named_guards (N.renaming names.now) (guards_of (plain_guards guards.now))) }
+    ensures value { IfOk result (λ named. guards_of (plain_guards named.items) ≡
+        naming.named_guards (N.renaming names.now) (guards_of (plain_guards guards.now))) }
 {
     let mut named = Vec::with_capacity(alloc, guards.len())?;
     for guard in guards {

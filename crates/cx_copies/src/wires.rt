@@ -18,7 +18,8 @@ pub fn named_wires<N: CellNames>(
     names: &N,
     wires: &[WireItem],
 ) -> Result<Vec<WireItem>, Memory>
-    ensures value { IfOk result (λ named. map plain_wire named.items ≡ map (naming.named_wire (N.renaming names.now)) (map plain_wire wires.now)) }
+    ensures value { IfOk result (λ named. map plain_wire named.items ≡
+        map (naming.named_wire (N.renaming names.now)) (map plain_wire wires.now)) }
 {
     let mut named = Vec::with_capacity(alloc, wires.len())?;
     for wire in wires {
@@ -28,7 +29,8 @@ pub fn named_wires<N: CellNames>(
 }
 
 fn named_wire<N: CellNames>(alloc: Global, names: &N, wire: &WireItem) -> Result<WireItem, Memory>
-    ensures value { IfOk result (λ named. plain_wire named ≡ naming.named_wire (N.renaming names.now) (plain_wire wire.now)) }
+    ensures value { IfOk result
+        (λ named. plain_wire named ≡ naming.named_wire (N.renaming names.now) (plain_wire wire.now)) }
 {
     match wire {
         WireItem::Group(group) => Ok(WireItem::Group(named_group(alloc, names, group)?)),
@@ -41,7 +43,8 @@ pub(crate) fn named_group<N: CellNames>(
     names: &N,
     group: &GroupItem,
 ) -> Result<GroupItem, Memory>
-    ensures value { IfOk result (λ named. plain_group named ≡ naming.named_group (N.renaming names.now) (plain_group group.now)) }
+    ensures value { IfOk result
+        (λ named. plain_group named ≡ naming.named_group (N.renaming names.now) (plain_group group.now)) }
 {
     let attributes = copied_attributes(alloc, group.attributes.as_slice())?;
     let name = copied_name(alloc, &group.name)?;
@@ -62,7 +65,8 @@ fn named_assigns<N: CellNames>(
     names: &N,
     assigns: &[AssignItem],
 ) -> Result<Vec<AssignItem>, Memory>
-    ensures value { IfOk result (λ named. map plain_assign named.items ≡ map (naming.named_assign (N.renaming names.now)) (map plain_assign assigns.now)) }
+    ensures value { IfOk result (λ named. map plain_assign named.items ≡
+        map (naming.named_assign (N.renaming names.now)) (map plain_assign assigns.now)) }
 {
     let mut named = Vec::with_capacity(alloc, assigns.len())?;
     for assign in assigns {
@@ -76,7 +80,8 @@ pub(crate) fn named_assign<N: CellNames>(
     names: &N,
     assign: &AssignItem,
 ) -> Result<AssignItem, Memory>
-    ensures value { IfOk result (λ named. plain_assign named ≡ naming.named_assign (N.renaming names.now) (plain_assign assign.now)) }
+    ensures value { IfOk result
+        (λ named. plain_assign named ≡ naming.named_assign (N.renaming names.now) (plain_assign assign.now)) }
 {
     let attributes = copied_attributes(alloc, assign.attributes.as_slice())?;
     let target = named_operand(alloc, names, &assign.target)?;

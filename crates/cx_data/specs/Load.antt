@@ -53,7 +53,10 @@ from_numbers shape signed (Some numbers) = from_words shape signed (words_of (wo
 -- before that, the format and then the width
 abbrev pub from_entry : PlainRow → Option PlainEntry → Result PlainMemory DataFault
 from_entry shape None = Err (BadFormat shape.name)
-from_entry shape (Some entry) = if is_width shape.width entry.width then from_numbers shape entry.signed (numbers_of shape.sizes entry.numbers) else Err (WidthDiffers shape.name)
+from_entry shape (Some entry) =
+    if is_width shape.width entry.width
+    then from_numbers shape entry.signed (numbers_of shape.sizes entry.numbers)
+    else Err (WidthDiffers shape.name)
 
 -- first, whether there is a member of the name
 abbrev pub from_member : PlainRow → Option Data → Result PlainMemory DataFault
@@ -67,7 +70,8 @@ member_of name top = if is_utf8 name then get name top else None
 abbrev pub memory_of : Data → PlainRow → Result PlainMemory DataFault
 memory_of top shape = from_member shape (member_of shape.name top)
 
-abbrev pub before_memories : Result PlainMemory DataFault → Result (List PlainMemory) DataFault → Result (List PlainMemory) DataFault
+abbrev pub before_memories : Result PlainMemory DataFault → Result (List PlainMemory) DataFault
+    → Result (List PlainMemory) DataFault
 before_memories (Err fault) more = Err fault
 before_memories (Ok m) more = result_map_both (λ ms. m ∷ ms) (λ fault. fault) more
 
@@ -78,7 +82,9 @@ memories_of top (shape ∷ shapes) = before_memories (memory_of top shape) (memo
 
 -- the value of the bytes, where they are a JSON text whose top is an object; a text is UTF-8
 abbrev pub top_of : List ℕ → Option Data
-top_of json = if is_utf8 json then option_and_then (λ d. if is_some (as_object d) then Some d else None) (read json) else None
+top_of json =
+    if is_utf8 json then option_and_then (λ d. if is_some (as_object d) then Some d else None) (read json)
+    else None
 
 abbrev pub from_top : Option Data → List PlainRow → Result (List PlainMemory) DataFault
 from_top None shapes = Err NotJson

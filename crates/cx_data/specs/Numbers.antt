@@ -8,12 +8,16 @@ use Rattle.serde_json.specs.Find.{as_array, as_integer, as_number}
 -- the numbers of each item, one after another, where each item has them
 abbrev pub numbers_of_each : (Data → Option (List Num)) → Items → Option (List Num)
 numbers_of_each numbers no_items = Some []
-numbers_of_each numbers (item d ds) = option_and_then (λ ns. option_map (λ more. ns ++ more) (numbers_of_each numbers ds)) (numbers d)
+numbers_of_each numbers (item d ds) =
+    option_and_then (λ ns. option_map (λ more. ns ++ more) (numbers_of_each numbers ds)) (numbers d)
 
 -- the numbers in row-major order, where arrays nest and have lengths by the sizes, outermost first
 abbrev pub numbers_of : List ℕ → Data → Option (List Num)
 numbers_of [] d = option_map (λ n. n ∷ []) (as_number d)
-numbers_of (size ∷ sizes) d = option_and_then (λ items. if items_len items == size then numbers_of_each (numbers_of sizes) items else None) (as_array d)
+numbers_of (size ∷ sizes) d =
+    option_and_then
+    (λ items. if items_len items == size then numbers_of_each (numbers_of sizes) items else None)
+    (as_array d)
 
 -- the word of an integer in range; `negsuc n` is the integer -(n + 1), whose word is its two's complement
 abbrev pub word_of_integer : Bool → ℕ → ℤ → Option ℕ

@@ -16,7 +16,8 @@ pub fn moved_statement<M: PortMoves>(
     moves: &M,
     statement: &Statement,
 ) -> Result<Statement, Memory>
-    ensures value { IfOk result (λ s. plain_statement s ≡ statement_moved (M.moving moves.now) (plain_statement statement.now)) }
+    ensures value { IfOk result
+        (λ s. plain_statement s ≡ statement_moved (M.moving moves.now) (plain_statement statement.now)) }
 {
     copied_statement(alloc, moves, &SameGroups, statement)
 }
@@ -39,7 +40,8 @@ pub fn copied_statement<M: PortMoves, G: GroupMoves>(
     groups: &G,
     statement: &Statement,
 ) -> Result<Statement, Memory>
-    ensures value { IfOk result (λ s. plain_statement s ≡ copies.copied_statement (M.moving moves.now) (G.numbering groups.now) (plain_statement statement.now)) }
+    ensures value { IfOk result (λ s. plain_statement s ≡
+        copies.copied_statement (M.moving moves.now) (G.numbering groups.now) (plain_statement statement.now)) }
 {
     let form = copied_form(alloc, moves, groups, &statement.form)?;
     let place = statement.place;
@@ -54,7 +56,8 @@ fn copied_form<M: PortMoves, G: GroupMoves>(
     groups: &G,
     form: &Form,
 ) -> Result<Form, Memory>
-    ensures value { IfOk result (λ f. plain_form f ≡ copies.copied_form (M.moving moves.now) (G.numbering groups.now) (plain_form form.now)) }
+    ensures value { IfOk result (λ f.
+        plain_form f ≡ copies.copied_form (M.moving moves.now) (G.numbering groups.now) (plain_form form.now)) }
 {
     match form {
         Form::Empty => Ok(Form::Empty),
@@ -122,7 +125,8 @@ fn copied_box<M: PortMoves, G: GroupMoves>(
     groups: &G,
     statement: &Statement,
 ) -> Result<Box<Statement>, Memory>
-    ensures value { IfOk result (λ s. plain_statement s.value ≡ copies.copied_statement (M.moving moves.now) (G.numbering groups.now) (plain_statement statement.now)) }
+    ensures value { IfOk result (λ s. plain_statement s.value ≡
+        copies.copied_statement (M.moving moves.now) (G.numbering groups.now) (plain_statement statement.now)) }
 {
     let statement = copied_statement(alloc, moves, groups, statement)?;
     Ok(Box::new(alloc, statement)?)
@@ -136,7 +140,8 @@ fn copied_parts<M: PortMoves, G: GroupMoves>(
     groups: &G,
     parts: &[Statement],
 ) -> Result<Vec<Statement>, Memory>
-    ensures value { IfOk result (λ all. plain_statements all.items ≡ copies.copied_statements (M.moving moves.now) (G.numbering groups.now) (plain_statements parts.now)) }
+    ensures value { IfOk result (λ all. plain_statements all.items ≡
+        copies.copied_statements (M.moving moves.now) (G.numbering groups.now) (plain_statements parts.now)) }
 {
     let mut all = Vec::with_capacity(alloc, parts.len())?;
     for statement in parts {

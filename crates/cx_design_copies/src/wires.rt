@@ -41,7 +41,8 @@ fn moved_guards<M: PortMoves>(
     moves: &M,
     guards: &[Guard],
 ) -> Result<Vec<Guard>, Memory>
-    ensures value { IfOk result (λ copies. guards_of (map plain_guard copies.items) ≡ guards_moved (M.moving moves.now) (guards_of (map plain_guard guards.now))) }
+    ensures value { IfOk result (λ copies. guards_of (map plain_guard copies.items) ≡
+        guards_moved (M.moving moves.now) (guards_of (map plain_guard guards.now))) }
 {
     let mut copies = Vec::with_capacity(alloc, guards.len())?;
     for guard in guards {
@@ -52,7 +53,8 @@ fn moved_guards<M: PortMoves>(
 
 /// The assignment with other ports.
 fn moved_again<M: PortMoves>(alloc: Global, moves: &M, assign: &Assign) -> Result<Assign, Memory>
-    ensures value { IfOk result (λ copy. plain_assign copy ≡ moved_assign (M.moving moves.now) (plain_assign assign.now)) }
+    ensures value { IfOk result
+        (λ copy. plain_assign copy ≡ moved_assign (M.moving moves.now) (plain_assign assign.now)) }
 {
     Ok(Assign {
         target: moves.port(assign.target)?,
@@ -68,7 +70,8 @@ pub fn moved_assigns<M: PortMoves>(
     moves: &M,
     assigns: &[Assign],
 ) -> Result<Vec<Assign>, Memory>
-    ensures value { IfOk result (λ copies. plain_assigns copies.items ≡ map (moved_assign (M.moving moves.now)) (plain_assigns assigns.now)) }
+    ensures value { IfOk result (λ copies.
+        plain_assigns copies.items ≡ map (moved_assign (M.moving moves.now)) (plain_assigns assigns.now)) }
 {
     with_moved_assigns(
         alloc,
@@ -85,7 +88,8 @@ pub fn with_moved_assigns<M: PortMoves>(
     moves: &M,
     assigns: &[Assign],
 ) -> Result<Vec<Assign>, Memory>
-    ensures value { IfOk result (λ all. plain_assigns all.items ≡ plain_assigns front.items ++ map (moved_assign (M.moving moves.now)) (plain_assigns assigns.now)) }
+    ensures value { IfOk result (λ all. plain_assigns all.items ≡
+        plain_assigns front.items ++ map (moved_assign (M.moving moves.now)) (plain_assigns assigns.now)) }
 {
     let mut all = front;
     for assign in assigns {
@@ -112,7 +116,8 @@ pub fn moved_groups<M: PortMoves>(
     moves: &M,
     groups: &[Group],
 ) -> Result<Vec<Group>, Memory>
-    ensures value { IfOk result (λ copies. map plain_group copies.items ≡ map (group_moved (M.moving moves.now)) (map plain_group groups.now)) }
+    ensures value { IfOk result (λ copies.
+        map plain_group copies.items ≡ map (group_moved (M.moving moves.now)) (map plain_group groups.now)) }
 {
     let mut copies = Vec::with_capacity(alloc, groups.len())?;
     for group in groups {

@@ -42,7 +42,9 @@ ToInputs i from c count m n = (m ≡ from) × ((q : ℕ) × (q < count) × (node
 
 -- of a combinational output, of the first ports of a row, of a cell, and of the first cells
 abbrev pub OfPort : Instance → ℕ → Row → ℕ → Link
-OfPort i c row p m n = (side_of row p ≡ Output) × (node_of i (ports.Cell c p) ≡ Some m) × ((q : ℕ) × (row.reads p q ≡ true) × (node_of i (ports.Cell c q) ≡ Some n))
+OfPort i c row p m n =
+    (side_of row p ≡ Output) × (node_of i (ports.Cell c p) ≡ Some m)
+    × ((q : ℕ) × (row.reads p q ≡ true) × (node_of i (ports.Cell c q) ≡ Some n))
 
 abbrev pub OfPorts : Instance → ℕ → Row → ℕ → Link
 OfPorts i c row count m n = (p : ℕ) × (p < count) × OfPort i c row p m n

@@ -29,7 +29,9 @@ pub fn add_assign(
     requires within { number < length design.now.components.items }
     requires nodes { IsNodesOf (component_of (plain_design design.now) number) nodes.now }
     requires graph { length graph.old.items ≡ node_count (component_of (plain_design design.now) number) }
-    ensures value { OnOk result (Adds (edges_of graph.old.items) (OfAssign (component_of (plain_design design.now) number) (plain_assign assign.now)) (edges_of graph.new.items)) }
+    ensures value { OnOk result (Adds (edges_of graph.old.items)
+        (OfAssign (component_of (plain_design design.now) number) (plain_assign assign.now))
+        (edges_of graph.new.items)) }
 {
     match driven(design, number, nodes, assign.target) {
         Some(from) => {
@@ -62,7 +64,8 @@ pub fn add_named(
     assign: &Assign,
 ) -> Result<(), Memory>
     requires from { from < length graph.old.items }
-    ensures value { OnOk result ((i : Instance) → IsNodesOf i nodes.now → Adds (edges_of graph.old.items) (ToNamed i from (plain_assign assign.now)) (edges_of graph.new.items)) }
+    ensures value { OnOk result ((i : Instance) → IsNodesOf i nodes.now →
+        Adds (edges_of graph.old.items) (ToNamed i from (plain_assign assign.now)) (edges_of graph.new.items)) }
 {
     let operands = operands(alloc, &assign.guard)?;
     add_ports(graph, nodes, from, operands.as_slice())?;
@@ -79,7 +82,8 @@ fn add_ports(
 ) -> Result<(), Memory>
     requires from { from < length graph.old.items }
     ensures len { OnOk result (length graph.new.items ≡ length graph.old.items) }
-    ensures value { OnOk result ((i : Instance) → IsNodesOf i nodes.now → Adds (edges_of graph.old.items) (ToPorts i from ports.now) (edges_of graph.new.items)) }
+    ensures value { OnOk result ((i : Instance) → IsNodesOf i nodes.now →
+        Adds (edges_of graph.old.items) (ToPorts i from ports.now) (edges_of graph.new.items)) }
 {
     for port in ports {
         add_port(graph, nodes, from, port.port)?;
@@ -96,7 +100,8 @@ pub fn add_port(
 ) -> Result<(), Memory>
     requires from { from < length graph.old.items }
     ensures len { OnOk result (length graph.new.items ≡ length graph.old.items) }
-    ensures value { OnOk result ((i : Instance) → IsNodesOf i nodes.now → Adds (edges_of graph.old.items) (ToPort i from port) (edges_of graph.new.items)) }
+    ensures value { OnOk result ((i : Instance) → IsNodesOf i nodes.now →
+        Adds (edges_of graph.old.items) (ToPort i from port) (edges_of graph.new.items)) }
 {
     match nodes.node(port) {
         Some(to) => {

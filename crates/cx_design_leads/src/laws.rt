@@ -24,7 +24,8 @@ pub fn nodes_are_within()
 
 /// Each port that is there has a node, but for literals.
 pub fn ports_have_nodes()
-    ensures { (i : Instance) (p : PortRef) → IsThere i p → ((w v : ℕ) → p ≢ Literal w v) → (n : ℕ) × (node_of i p ≡ Some n) }
+    ensures { (i : Instance) (p : PortRef) → IsThere i p → ((w v : ℕ) → p ≢ Literal w v) →
+        (n : ℕ) × (node_of i p ≡ Some n) }
 {}
 
 /// What leads on under a group does so under the continuous assignments, or by an assignment of the group.
@@ -35,6 +36,7 @@ pub fn group_leads_on()
 
 /// In a component of a design a port that leads on has a node.
 pub fn leads_have_nodes()
-    ensures { (d : PlainDesign) (k : ℕ) → IsDesign d → k < length d.components → (act : Active) (p q : PortRef) → Leads (component_of d k) act p q
+    ensures { (d : PlainDesign) (k : ℕ) → IsDesign d → k < length d.components →
+        (act : Active) (p q : PortRef) → Leads (component_of d k) act p q
         → (m : ℕ) × (node_of (component_of d k) p ≡ Some m) }
 {}

@@ -95,8 +95,11 @@ fn between(first: u32, last: u32, number: u32) -> Option<u32>
 /// Where the ports of each cell begin, and where those of the last end.
 fn starts(alloc: Global, design: &Design, number: usize) -> Result<Vec<u32>, Memory>
     requires within { number < length design.now.components.items }
-    ensures len { IfOk result (λ starts. length starts.items ≡ cell_count (cells_of (component_of (plain_design design.now) number)) + 1) }
-    ensures value { IfOk result (λ starts. (c : ℕ) → c < length starts.items → slice_index starts.items c ≡ ports_before (cells_of (component_of (plain_design design.now) number)) c) }
+    ensures len { IfOk result (λ starts.
+        length starts.items ≡ cell_count (cells_of (component_of (plain_design design.now) number)) + 1) }
+    ensures value { IfOk result (λ starts. (c : ℕ) → c < length starts.items
+        → slice_index starts.items c ≡
+        ports_before (cells_of (component_of (plain_design design.now) number)) c) }
 {
     let mut next = 0;
     let mut starts = Vec::new(alloc);
@@ -120,7 +123,8 @@ fn start(starts: &[u32], cell: usize) -> u32
 /// How many ports a cell has.
 fn port_count(design: &Design, number: usize, cell: u32) -> Result<u32, Memory>
     requires within { number < length design.now.components.items }
-    ensures value { IfOk result (λ count. count ≡ wellformed.port_count (cell_at (cells_of (component_of (plain_design design.now) number)) cell)) }
+    ensures value { IfOk result (λ count. count ≡
+        wellformed.port_count (cell_at (cells_of (component_of (plain_design design.now) number)) cell)) }
 {
     match stands_at(design, number, cell) {
         At::Nothing => Ok(0),

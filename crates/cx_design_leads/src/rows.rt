@@ -31,7 +31,8 @@ pub fn add_cells(
     requires within { number < length design.now.components.items }
     requires nodes { IsNodesOf (component_of (plain_design design.now) number) nodes.now }
     requires graph { length graph.old.items ≡ node_count (component_of (plain_design design.now) number) }
-    ensures value { OnOk result (let i = component_of (plain_design design.now) number in Adds (edges_of graph.old.items) (OfCells i (cell_count (cells_of i))) (edges_of graph.new.items)) }
+    ensures value { OnOk result (let i = component_of (plain_design design.now) number in
+        Adds (edges_of graph.old.items) (OfCells i (cell_count (cells_of i))) (edges_of graph.new.items)) }
 {
     for cell in 0..component(design, number).cells.len() {
         let cell_number = narrow(cell)?;
@@ -51,7 +52,8 @@ fn add_cell(
     requires within { number < length design.now.components.items }
     requires nodes { IsNodesOf (component_of (plain_design design.now) number) nodes.now }
     requires graph { length graph.old.items ≡ node_count (component_of (plain_design design.now) number) }
-    ensures value { OnOk result (Adds (edges_of graph.old.items) (OfCell (component_of (plain_design design.now) number) cell) (edges_of graph.new.items)) }
+    ensures value { OnOk result (Adds (edges_of graph.old.items)
+        (OfCell (component_of (plain_design design.now) number) cell) (edges_of graph.new.items)) }
 {
     match stands_at(design, number, cell) {
         At::Primitive(primitive) => {
@@ -75,7 +77,9 @@ fn add_outputs(
     requires within { number < length design.now.components.items }
     requires nodes { IsNodesOf (component_of (plain_design design.now) number) nodes.now }
     requires graph { length graph.old.items ≡ node_count (component_of (plain_design design.now) number) }
-    ensures value { OnOk result (Adds (edges_of graph.old.items) (OfPorts (component_of (plain_design design.now) number) cell (row_of primitive.now) (length (row_of primitive.now).ports)) (edges_of graph.new.items)) }
+    ensures value { OnOk result (Adds (edges_of graph.old.items)
+        (OfPorts (component_of (plain_design design.now) number) cell (row_of primitive.now)
+        (length (row_of primitive.now).ports)) (edges_of graph.new.items)) }
 {
     for port in 0..primitive.port_count() {
         let port_number = narrow(port)?;
@@ -97,7 +101,9 @@ fn add_output(
     requires within { number < length design.now.components.items }
     requires nodes { IsNodesOf (component_of (plain_design design.now) number) nodes.now }
     requires graph { length graph.old.items ≡ node_count (component_of (plain_design design.now) number) }
-    ensures value { OnOk result (Adds (edges_of graph.old.items) (OfPort (component_of (plain_design design.now) number) cell (row_of primitive.now) port) (edges_of graph.new.items)) }
+    ensures value { OnOk result (Adds (edges_of graph.old.items)
+        (OfPort (component_of (plain_design design.now) number) cell (row_of primitive.now) port)
+        (edges_of graph.new.items)) }
 {
     outputs_read_first();
     if !is_output(primitive, port) {
@@ -132,7 +138,8 @@ fn add_inputs(
     count: u32,
 ) -> Result<(), Memory>
     requires from { from < length graph.old.items }
-    ensures value { OnOk result ((i : Instance) → IsNodesOf i nodes.now → Adds (edges_of graph.old.items) (ToInputs i from cell count) (edges_of graph.new.items)) }
+    ensures value { OnOk result ((i : Instance) → IsNodesOf i nodes.now →
+        Adds (edges_of graph.old.items) (ToInputs i from cell count) (edges_of graph.new.items)) }
 {
     for input in 0..count {
         add_port(graph, nodes, from, PortRef::Cell(cell, input))?;

@@ -15,7 +15,8 @@ use Rattle.cx_design_parts.specs.Breaks.{Broken, key}
 pub record AreBreaks (stage : ℕ) (d : PlainDesign) (found : List Broken) : Type 0 where
   pub in_stage : (b : Broken) → In found b → stage_of b.rule ≡ stage
   pub break : (b : Broken) → In found b → Breaks d b.rule b.spot b.place b.name
-  pub all : (rule : Rule) (spot : Spot) (place : Place) (name : List ℕ) → stage_of rule ≡ stage → Breaks d rule spot place name
+  pub all : (rule : Rule) (spot : Spot) (place : Place) (name : List ℕ) → stage_of rule ≡ stage
+      → Breaks d rule spot place name
       → (b : Broken) × In found b × (comes_before (key_of rule spot place) (key b) ≡ false)
 
 -- the list has breaks of a family alone, and for each break of the family one that no break comes before

@@ -14,7 +14,8 @@ use Rattle.cx_design_parts.specs.declared.parts.PartPort.TheVariants.{Go, Input,
 abbrev pub StandsFor : At → plain.At → Type 0
 StandsFor Nothing at = at ≡ plain.Nothing
 StandsFor (Primitive primitive) at = at ≡ OfRow (row_of primitive.now)
-StandsFor (Part component) at = (child : Instance) × (at ≡ OfInstance child) × (part_of child ≡ plain_component component.now)
+StandsFor (Part component) at =
+    (child : Instance) × (at ≡ OfInstance child) × (part_of child ≡ plain_component component.now)
 
 abbrev pub plain_part_port : PartPort → sights.PartPort
 plain_part_port Go = sights.Go

@@ -86,7 +86,8 @@ impl FirstBreak {
     /// What a check of a stage answers: the first break, if there is one.
     pub fn result(self) -> Result<(), Refusal>
         ensures value { result ≡ answer_of self }
-        ensures answer { (stage : ℕ) (d : PlainDesign) (found : List Broken) → AreBreaks stage d found → self ≡ first_of None found
+        ensures answer { (stage : ℕ) (d : PlainDesign) (found : List Broken) → AreBreaks stage d found →
+            self ≡ first_of None found
             → IsAnswer stage d result }
     {
         answer(self)

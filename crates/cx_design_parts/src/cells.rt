@@ -33,7 +33,8 @@ pub fn component(design: &Design, number: usize) -> &Component
 /// The cell of a number, where the component has it.
 pub fn cell_of(component: &Component, number: u32) -> Option<&Cell>
     ensures none { IfNone result (slice_get (plain_component component.now).cells number ≡ None) }
-    ensures some { IfSome result (λ cell. slice_get (plain_component component.now).cells number ≡ Some (plain_cell cell.now)) }
+    ensures some { IfSome result
+        (λ cell. slice_get (plain_component component.now).cells number ≡ Some (plain_cell cell.now)) }
 {
     component.cells.as_slice().get(number as usize)
 }

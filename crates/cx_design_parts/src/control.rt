@@ -74,7 +74,8 @@ fn add_statement<'a>(
     context: Context,
     statement: &'a Statement,
 ) -> Result<(), Memory>
-    ensures value { IfOk result (λ _. map plain_visited list.new.items ≡ map plain_visited list.old.items ++ visit (plain_context context) (plain_statement statement.now)) }
+    ensures value { IfOk result (λ _. map plain_visited list.new.items ≡
+        map plain_visited list.old.items ++ visit (plain_context context) (plain_statement statement.now)) }
 {
     list.push(Visited {
         context,
@@ -90,7 +91,8 @@ fn add_parts<'a>(
     context: Context,
     form: &'a Form,
 ) -> Result<(), Memory>
-    ensures value { IfOk result (λ _. map plain_visited list.new.items ≡ map plain_visited list.old.items ++ visit_parts (plain_context context) (plain_form form.now)) }
+    ensures value { IfOk result (λ _. map plain_visited list.new.items ≡
+        map plain_visited list.old.items ++ visit_parts (plain_context context) (plain_form form.now)) }
 {
     match form {
         Form::Empty | Form::Enable(_) | Form::StaticInvoke(_) | Form::Timed(_) => Ok(()),
@@ -119,7 +121,9 @@ fn add_all<'a>(
     context: Context,
     parts: &'a [Statement],
 ) -> Result<(), Memory>
-    ensures value { IfOk result (λ _. map plain_visited list.new.items ≡ map plain_visited list.old.items ++ items.visit_all (plain_context context) (plain_statements parts.now)) }
+    ensures value { IfOk result (λ _. map plain_visited list.new.items ≡
+        map plain_visited list.old.items
+        ++ items.visit_all (plain_context context) (plain_statements parts.now)) }
 {
     for part in parts {
         add_statement(list, context, part)?;

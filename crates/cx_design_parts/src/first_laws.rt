@@ -16,11 +16,13 @@ pub fn first_of_joined()
 pub fn breaks_of_numbered()
     ensures within { (f : ℕ → ℕ → List Broken) (n : ℕ) (parts : List ℕ) (b : Broken) → In (numbered f n parts) b
         → (m : ℕ) × (part : ℕ) × (slice_get parts m ≡ Some part) × In (f (n + m) part) b }
-    ensures all { (f : ℕ → ℕ → List Broken) (n : ℕ) (parts : List ℕ) (m part : ℕ) (b : Broken) → slice_get parts m ≡ Some part
+    ensures all { (f : ℕ → ℕ → List Broken) (n : ℕ) (parts : List ℕ) (m part : ℕ) (b : Broken) →
+        slice_get parts m ≡ Some part
         → In (f (n + m) part) b → In (numbered f n parts) b }
 {}
 
 /// A list that has the breaks of a stage answers for the stage.
 pub fn breaks_of_stage()
-    ensures { (stage : ℕ) (d : PlainDesign) (found : List Broken) → AreBreaksBy (StageBreaks stage d) found → AreBreaks stage d found }
+    ensures { (stage : ℕ) (d : PlainDesign) (found : List Broken) →
+        AreBreaksBy (StageBreaks stage d) found → AreBreaks stage d found }
 {}

@@ -96,7 +96,8 @@ fn add_atoms(ports: &mut Vec<PlacedPort>, guard: &Guard) -> Result<(), Memory>
 }
 
 fn add_comparisons(pairs: &mut Vec<Pair>, guard: &Guard) -> Result<(), Memory>
-    ensures value { IfOk result (λ _. map plain_pair pairs.new.items ≡ map plain_pair pairs.old.items ++ items.comparisons_of (plain_guard guard.now)) }
+    ensures value { IfOk result (λ _. map plain_pair pairs.new.items ≡
+        map plain_pair pairs.old.items ++ items.comparisons_of (plain_guard guard.now)) }
 {
     match guard {
         Guard::True | Guard::During(_, _) | Guard::Port(_) => {}
@@ -115,7 +116,8 @@ fn add_comparisons(pairs: &mut Vec<Pair>, guard: &Guard) -> Result<(), Memory>
 }
 
 fn add_ranges(ranges: &mut Vec<Range>, guard: &Guard) -> Result<(), Memory>
-    ensures value { IfOk result (λ _. map plain_range ranges.new.items ≡ map plain_range ranges.old.items ++ items.ranges_of (plain_guard guard.now)) }
+    ensures value { IfOk result (λ _. map plain_range ranges.new.items ≡
+        map plain_range ranges.old.items ++ items.ranges_of (plain_guard guard.now)) }
 {
     match guard {
         Guard::True | Guard::Port(_) | Guard::Compare(_, _, _) => {}

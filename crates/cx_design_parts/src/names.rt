@@ -35,7 +35,8 @@ fn path_bytes(
     port: PortRef,
 ) -> Result<Vec<u8>, Memory>
     requires within { number < length design.now.components.items }
-    ensures value { IfOk result (λ text. text.items ≡ ports.path_of (component_of (plain_design design.now) number) port) }
+    ensures value { IfOk result
+        (λ text. text.items ≡ ports.path_of (component_of (plain_design design.now) number) port) }
 {
     let part = component(design, number);
     match port {
@@ -112,7 +113,8 @@ pub fn group_name(component: &Component, group: u32) -> &[u8]
 
 fn cell_port_name(design: &Design, number: usize, cell: u32, port: u32) -> &[u8]
     requires within { number < length design.now.components.items }
-    ensures value { result.now ≡ ports.cell_port_name (cell_at (cells_of (component_of (plain_design design.now) number)) cell) port }
+    ensures value { result.now ≡
+        ports.cell_port_name (cell_at (cells_of (component_of (plain_design design.now) number)) cell) port }
 {
     match stands_at(design, number, cell) {
         At::Nothing => &[],
@@ -163,7 +165,8 @@ fn decl_of(decls: &[PortDecl], number: u32) -> Option<&PortDecl>
 /// The group of a number, where the component has it.
 pub fn group_of(component: &Component, number: u32) -> Option<&Group>
     ensures none { IfNone result (slice_get (plain_component component.now).groups number ≡ None) }
-    ensures some { IfSome result (λ group. slice_get (plain_component component.now).groups number ≡ Some (plain_group group.now)) }
+    ensures some { IfSome result
+        (λ group. slice_get (plain_component component.now).groups number ≡ Some (plain_group group.now)) }
 {
     component.groups.as_slice().get(number as usize)
 }

@@ -23,7 +23,8 @@ pub fn source_order<'a>(
     alloc: Global,
     component: &'a Component,
 ) -> Result<Vec<OwnedAssign<'a>>, Memory>
-    ensures value { IfOk result (λ list. map plain_owned list.items ≡ active.source_order (plain_component component.now)) }
+    ensures value { IfOk result
+        (λ list. map plain_owned list.items ≡ active.source_order (plain_component component.now)) }
 {
     let mut list = all_assigns(alloc, component)?;
     list.sort_by_key(|a| (a.assign.place.line, a.assign.place.column))?;
@@ -32,7 +33,9 @@ pub fn source_order<'a>(
 
 /// The continuous assignments, and those of each group in the order of the groups.
 fn all_assigns<'a>(alloc: Global, component: &'a Component) -> Result<Vec<OwnedAssign<'a>>, Memory>
-    ensures value { IfOk result (λ list. map plain_owned list.items ≡ owned None (plain_assigns component.now.always.items) ++ owned_by_groups 0 (map plain_group component.now.groups.items)) }
+    ensures value { IfOk result (λ list. map plain_owned list.items ≡
+        owned None (plain_assigns component.now.always.items)
+        ++ owned_by_groups 0 (map plain_group component.now.groups.items)) }
 {
     let mut list = Vec::new(alloc);
     append(&mut list, None, component.always.as_slice())?;
@@ -48,7 +51,8 @@ fn append<'a>(
     owner: Option<usize>,
     assigns: &'a [Assign],
 ) -> Result<(), Memory>
-    ensures value { IfOk result (λ _. map plain_owned list.new.items ≡ map plain_owned list.old.items ++ owned owner (plain_assigns assigns.now)) }
+    ensures value { IfOk result (λ _. map plain_owned list.new.items ≡
+        map plain_owned list.old.items ++ owned owner (plain_assigns assigns.now)) }
 {
     for assign in assigns {
         list.push(OwnedAssign { owner, assign })?;

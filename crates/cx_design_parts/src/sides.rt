@@ -63,7 +63,8 @@ pub fn is_part_port(design: &Design, number: usize, port: PortRef) -> bool
 /// Whether a cell's port is one of its outputs.
 fn is_cell_output(design: &Design, number: usize, cell: u32, port: u32) -> bool
     requires within { number < length design.now.components.items }
-    ensures value { result ≡ ports.is_cell_output (cell_at (cells_of (component_of (plain_design design.now) number)) cell) port }
+    ensures value { result ≡
+        ports.is_cell_output (cell_at (cells_of (component_of (plain_design design.now) number)) cell) port }
 {
     match stands_at(design, number, cell) {
         At::Nothing => false,
@@ -78,7 +79,8 @@ fn is_cell_output(design: &Design, number: usize, cell: u32, port: u32) -> bool
 /// Whether a cell's port is an enabling port of a primitive.
 fn enables_cell(design: &Design, number: usize, cell: u32, port: u32) -> bool
     requires within { number < length design.now.components.items }
-    ensures value { result ≡ ports.enables_cell (cell_at (cells_of (component_of (plain_design design.now) number)) cell) port }
+    ensures value { result ≡
+        ports.enables_cell (cell_at (cells_of (component_of (plain_design design.now) number)) cell) port }
 {
     match stands_at(design, number, cell) {
         At::Primitive(primitive) => matches!(side(primitive, port), Side::Enable),
@@ -89,7 +91,8 @@ fn enables_cell(design: &Design, number: usize, cell: u32, port: u32) -> bool
 /// Whether a cell is one of a component.
 fn is_instance(design: &Design, number: usize, cell: u32) -> bool
     requires within { number < length design.now.components.items }
-    ensures value { result ≡ ports.is_instance (cell_at (cells_of (component_of (plain_design design.now) number)) cell) }
+    ensures value { result ≡
+        ports.is_instance (cell_at (cells_of (component_of (plain_design design.now) number)) cell) }
 {
     matches!(stands_at(design, number, cell), At::Part(_))
 }

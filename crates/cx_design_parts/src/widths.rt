@@ -52,7 +52,8 @@ pub fn keeps_literal(width: u32, value: u128) -> bool
 
 fn cell_width(design: &Design, number: usize, cell: u32, port: u32) -> Option<u32>
     requires within { number < length design.now.components.items }
-    ensures value { result ≡ ports.cell_width (cell_at (cells_of (component_of (plain_design design.now) number)) cell) port }
+    ensures value { result ≡
+        ports.cell_width (cell_at (cells_of (component_of (plain_design design.now) number)) cell) port }
 {
     match stands_at(design, number, cell) {
         At::Nothing => None,

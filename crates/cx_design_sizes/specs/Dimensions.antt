@@ -23,4 +23,6 @@ dimensions_of _ = 0
 -- the numbers are the width, the sizes, and the address widths
 abbrev pub memory_words : ℕ → List ℕ → ℕ
 memory_words dimensions [] = 0
-memory_words dimensions (width ∷ rest) = if nat_lt 0 dimensions && nat_le dimensions (length rest) then capped (word_count (take dimensions rest)) else 0
+memory_words dimensions (width ∷ rest) =
+    if nat_lt 0 dimensions && nat_le dimensions (length rest)
+    then capped (word_count (take dimensions rest)) else 0

@@ -6,7 +6,8 @@ use Rattle.cx_text.specs.Members.{In}
 -- each component stands behind those of its cells, main is among them, and they are no more than the design has
 pub record IsChildrenFirst (d : PlainDesign) (order : List ℕ) : Type 0 where
   pub there : (k : ℕ) → In order k → k < length d.components
-  pub behind : (i k j : ℕ) (cell : PlainCell) → slice_get order i ≡ Some k → In (component_at d k).cells cell → cell.kind ≡ OfComponent j → In (take i order) j
+  pub behind : (i k j : ℕ) (cell : PlainCell) → slice_get order i ≡ Some k
+      → In (component_at d k).cells cell → cell.kind ≡ OfComponent j → In (take i order) j
   pub main : In order d.main
   pub few : length order ≤ length d.components
 
@@ -22,7 +23,9 @@ unplaced placed (OfComponent k) = if_unplaced (slice_get placed k) k
 
 -- no cell from one number to before another has a component that is not placed
 abbrev pub ArePlaced : List Bool → List PlainCell → ℕ → ℕ → Type 0
-ArePlaced placed cells from to = (i : ℕ) (cell : PlainCell) → from ≤ i → i < to → slice_get cells i ≡ Some cell → unplaced placed cell.kind ≡ None
+ArePlaced placed cells from to =
+    (i : ℕ) (cell : PlainCell) → from ≤ i → i < to → slice_get cells i ≡ Some cell
+    → unplaced placed cell.kind ≡ None
 
 -- the first cell from a number on whose component is not placed
 pub record IsNext (placed : List Bool) (cells : List PlainCell) (from number component : ℕ) : Type 0 where

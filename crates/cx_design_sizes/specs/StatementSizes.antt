@@ -15,7 +15,8 @@ context_of contexts.Amiss = items.Amiss
 
 -- the occurrences of a statement that is an island
 abbrev pub occurrences_at : PlainComponent → items.Context → PlainStatement → ℕ
-occurrences_at part context (Placed form place) = island_occurrences part (is_island part (record { context = context; form = form; place = place })) form
+occurrences_at part context (Placed form place) =
+    island_occurrences part (is_island part (record { context = context; form = form; place = place })) form
 
 -- statements, with the occurrences of those that are islands
 abbrev pub statements_size : PlainComponent → List Visited → ℕ

@@ -1,4 +1,5 @@
-//! Counts over a design: lengths and occurrences of static control, sizes of components, their order, and tallies over the tree of instances.
+//! Counts over a design: lengths and occurrences of static control, sizes of components, their order, and tallies
+//! over the tree of instances.
 #![tactic(auto)]
 
 mod context;

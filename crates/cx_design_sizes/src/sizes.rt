@@ -67,7 +67,8 @@ pub fn groups_size(groups: &[Group]) -> u64
 
 /// The occurrences of a statement that is an island.
 fn island_occurrences(part: &Component, context: LimitContext, statement: &Statement) -> u64
-    ensures { result ≡ capped (occurrences_at (plain_component part.now) (context_of context) (plain_statement statement.now)) }
+    ensures { result ≡ capped
+        (occurrences_at (plain_component part.now) (context_of context) (plain_statement statement.now)) }
 {
     if context == LimitContext::Dynamic && is_island_form(part, &statement.form) {
         form_occurrences(part, &statement.form)
@@ -79,7 +80,8 @@ fn island_occurrences(part: &Component, context: LimitContext, statement: &State
 /// A statement with all in it, and the occurrences of islands.
 #[cycle(statement)]
 fn statement_size(part: &Component, context: LimitContext, statement: &Statement) -> u64
-    ensures { result ≡ capped (statements_size (plain_component part.now) (visit (context_of context) (plain_statement statement.now))) }
+    ensures { result ≡ capped (statements_size (plain_component part.now)
+        (visit (context_of context) (plain_statement statement.now))) }
 {
     parts_size(part, context, &statement.form)
         .saturating_add(island_occurrences(part, context, statement))
@@ -89,7 +91,8 @@ fn statement_size(part: &Component, context: LimitContext, statement: &Statement
 /// What is in a form that stands so, and the occurrences of islands.
 #[cycle(statement)]
 fn parts_size(part: &Component, context: LimitContext, form: &Form) -> u64
-    ensures { result ≡ capped (statements_size (plain_component part.now) (visit_parts (context_of context) (plain_form form.now))) }
+    ensures { result ≡ capped (statements_size (plain_component part.now)
+        (visit_parts (context_of context) (plain_form form.now))) }
 {
     match form {
         Form::Empty | Form::Enable(_) | Form::StaticInvoke(_) | Form::Timed(_) => 0,
@@ -115,7 +118,8 @@ fn parts_size(part: &Component, context: LimitContext, form: &Form) -> u64
 /// Statements with all in them, and the occurrences of islands.
 #[cycle(statement)]
 fn all_size(part: &Component, context: LimitContext, statements: &[Statement]) -> u64
-    ensures { result ≡ capped (statements_size (plain_component part.now) (visit_all (context_of context) (plain_statements statements.now))) }
+    ensures { result ≡ capped (statements_size (plain_component part.now)
+        (visit_all (context_of context) (plain_statements statements.now))) }
 {
     let mut size = 0u64;
     for statement in statements {

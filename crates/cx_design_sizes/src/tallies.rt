@@ -74,7 +74,8 @@ fn cells_tally(tallies: &[LimitTally], cells: &[Cell]) -> LimitTally
 
 /// The counts of a component, by those of the components of its cells.
 fn component_tally(tallies: &[LimitTally], part: &Component) -> LimitTally
-    ensures { result ≡ counts.above (plain_component part.now) (counts.cells_tally tallies.now (map plain_cell part.now.cells.items)) }
+    ensures { result ≡ counts.above (plain_component part.now)
+        (counts.cells_tally tallies.now (map plain_cell part.now.cells.items)) }
 {
     let below = cells_tally(tallies, &part.cells);
     LimitTally {
@@ -95,7 +96,8 @@ pub fn component_tallies(
 ) -> Result<Vec<LimitTally>, Memory>
     requires first { IsChildrenFirst (plain_design design.now) order.now }
     ensures sized { IfOk result (λ tallies. length tallies.items ≡ length design.now.components.items) }
-    ensures value { IfOk result (λ tallies. counts.AreTallied (plain_design design.now) (length order.now) tallies.items order.now) }
+    ensures value { IfOk result
+        (λ tallies. counts.AreTallied (plain_design design.now) (length order.now) tallies.items order.now) }
 {
     let components = design.components.as_slice();
     let mut tallies = vec![in alloc; NO_TALLY; components.len()]?;

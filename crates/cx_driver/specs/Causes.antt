@@ -38,11 +38,13 @@ unread_by (refusals.Stop stop) names = names
 
 -- no read failed but that of the file that is told
 abbrev pub TellsUnread : {X : Type 0} → Result X Refusal → List (List ℕ) → List (List ℕ) → Type 0
-TellsUnread r old_names new_names = MatchResult r (λ _. new_names ≡ old_names) (λ why. new_names ≡ unread_by why old_names)
+TellsUnread r old_names new_names =
+    MatchResult r (λ _. new_names ≡ old_names) (λ why. new_names ≡ unread_by why old_names)
 
--- what a command tells where it has no answer: a refusal of this status that is true of its files, with its line; and no read failed but that of
--- the file that is told
-pub record ToldWhy (command : Asked) (held : Option (List ℕ → Option (List ℕ))) (before after : ℕ) (old_names new_names : List (List ℕ)) (status : Status) (err_old : Option (List ℕ)) (err_before : ℕ)
+-- what a command tells where it has no answer: a refusal of this status that is true of its files, with its line; and
+-- no read failed but that of the file that is told
+pub record ToldWhy (command : Asked) (held : Option (List ℕ → Option (List ℕ))) (before after : ℕ)
+    (old_names new_names : List (List ℕ)) (status : Status) (err_old : Option (List ℕ)) (err_before : ℕ)
     (err_new : Option (List ℕ)) (err_after : ℕ) : Type 0 where
   pub refusal : Refusal
   pub tells : status ≡ status_of refusal
@@ -57,9 +59,12 @@ IsMissing holds file w = (file ≡ w.file) × IsAbsent (Some holds) file
 -- this is so of files that are told: one is over its limit, or is not there, and each before it is within its limit
 abbrev pub IsTrueOfFile : Asked → (List ℕ → Option (List ℕ)) → Refusal → Type 0
 IsTrueOfFile command holds (refusals.TooLong file seen) = IsTooLong (Some holds) command file.now seen
-IsTrueOfFile command holds (refusals.ReadFault file) = FirstOf (Some holds) (IsMissing holds file.now) (wanted_by command)
+IsTrueOfFile command holds (refusals.ReadFault file) =
+    FirstOf (Some holds) (IsMissing holds file.now) (wanted_by command)
 IsTrueOfFile command holds (refusals.Stop stop) = ⊥
 
 -- this is told, with its status and its line; or memory is wanting
 abbrev pub IsTold : Refusal → Status → Option (List ℕ) → ℕ → Option (List ℕ) → ℕ → Type 0
-IsTold why status err_old before err_new after = ((status ≡ status_of why) × ReceivesLine err_old before (line_of why) err_new after) ⊎ (status ≡ statuses.Memory)
+IsTold why status err_old before err_new after =
+    ((status ≡ status_of why) × ReceivesLine err_old before (line_of why) err_new after)
+    ⊎ (status ≡ statuses.Memory)

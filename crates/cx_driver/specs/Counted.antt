@@ -19,11 +19,13 @@ plain_counted counted = record { left = plain_left counted.left; counts = counte
 -- these groups are the entries of the profile of a design, each by its number and that of its instance
 pub record AreEntries (d : PlainDesign) (groups : List ProfiledGroup) : Type 0 where
   pub numbers : map (λ g. g.group) groups ≡ map (λ e. e.group) (entries_of (tree_of d))
-  pub instances : map (λ g. slice_get (paths_of (tree_of d)) g.instance) groups ≡ map (λ e. Some e.path) (entries_of (tree_of d))
+  pub instances : map (λ g. slice_get (paths_of (tree_of d)) g.instance) groups ≡
+      map (λ e. Some e.path) (entries_of (tree_of d))
 
 -- a table has of each group of each instance of a design what the run of main counts, modulo two to the 64
 abbrev pub AreTallied : PlainDesign → List (List ℕ) → ℕ → List (List ℕ) → Type 0
-AreTallied d words budget counts = (n g : ℕ) (path : Path) → IsNumber d n path → g < length (part_of (instance_at (tree_of d) path)).groups
+AreTallied d words budget counts =
+    (n g : ℕ) (path : Path) → IsNumber d n path → g < length (part_of (instance_at (tree_of d) path)).groups
     → count_at counts n g % 2 ^ 64 ≡ tally_of d words budget path g % 2 ^ 64
 
 -- what a design leaves on a data file, with its counts, or why it does not

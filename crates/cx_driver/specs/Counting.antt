@@ -23,7 +23,8 @@ CountBreak text told = TextBreak text told ⊎ ExceedsLimit text told
 abbrev pub IsLimitStop : PlainDesign → Stop → Type 0
 IsLimitStop d stop = TellsBreak (IsFirstOf 7 (instrumented d)) stop
 
--- what a design that is counted keeps: what flattening asks for, and what its text has, so that the text of its instrumented design can be written
+-- what a design that is counted keeps: what flattening asks for, and what its text has, so that the text of its
+-- instrumented design can be written
 pub record CanCount (d : PlainDesign) : Type 0 where
   pub flattens : CanBeFlattened d
   pub guards : HasGuards d

@@ -15,8 +15,8 @@ use Rattle.cx_compiler.specs.Compiled.{IsRunTooLarge, IsTextOf, counted_too_larg
 use Rattle.cx_compiler.specs.Texts.{IsDesignOf}
 use Rattle.cx_driver.specs.Counting.{CountBreak, IsLimitStop}
 
--- WHAT instrument WRITES of a text: it is accepted, its instrumented design is accepted and within the size that compile takes, and this is the text of what
--- is run of that design, to the byte
+-- WHAT instrument WRITES of a text: it is accepted, its instrumented design is accepted and within the size that
+-- compile takes, and this is the text of what is run of that design, to the byte
 pub record IsInstrumented (text answer : List ℕ) : Type 0 where
   pub design : PlainDesign
   pub stands : IsDesignOf text design
@@ -27,12 +27,15 @@ pub record IsInstrumented (text answer : List ℕ) : Type 0 where
 
 -- the text is accepted, its instrumented design keeps the limits, and is within the size
 abbrev pub IsInstrumentable : List ℕ → Type 0
-IsInstrumentable text = (d : PlainDesign) × IsDesignOf text d × KeepsStage 7 (instrumented d) × (counted_design_size (instrumented d) ≤ COMPILE_SIZE)
+IsInstrumentable text =
+    (d : PlainDesign) × IsDesignOf text d × KeepsStage 7 (instrumented d)
+    × (counted_design_size (instrumented d) ≤ COMPILE_SIZE)
 
 -- the text is accepted, its instrumented design keeps the limits, and is over the size
 abbrev pub IsTooLargeToCount : List ℕ → Diagnostic → Type 0
 IsTooLargeToCount text told =
-    (d : PlainDesign) × IsDesignOf text d × KeepsStage 7 (instrumented d) × (COMPILE_SIZE < counted_design_size (instrumented d)) × (told ≡ counted_too_large (instrumented d))
+    (d : PlainDesign) × IsDesignOf text d × KeepsStage 7 (instrumented d)
+    × (COMPILE_SIZE < counted_design_size (instrumented d)) × (told ≡ counted_too_large (instrumented d))
 
 -- REFUSED by instrument: the text breaks a rule; or else its instrumented design exceeds a limit; or else it is over the size
 abbrev pub InstrumentBreak : List ℕ → Diagnostic → Type 0
@@ -50,7 +53,9 @@ IsInstrumentStop text stop = TellsBreak (InstrumentBreak text) stop
 -- the same of a design
 abbrev pub IsInstrumentedDesign : PlainDesign → List ℕ → Type 0
 IsInstrumentedDesign d answer =
-    IsAccepted (instrumented d) × (counted_design_size (instrumented d) ≤ COMPILE_SIZE) × IsTextOf (runnable (instrumented d)) answer × (answer ≡ text_of (written_source (runnable (instrumented d))))
+    IsAccepted (instrumented d) × (counted_design_size (instrumented d) ≤ COMPILE_SIZE)
+    × IsTextOf (runnable (instrumented d)) answer
+    × (answer ≡ text_of (written_source (runnable (instrumented d))))
 
 abbrev pub IsInstrumentedStop : PlainDesign → Stop → Type 0
 IsInstrumentedStop d stop = IsLimitStop d stop ⊎ (KeepsStage 7 (instrumented d) × IsRunTooLarge (instrumented d) stop)

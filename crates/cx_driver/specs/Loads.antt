@@ -8,4 +8,6 @@ use Rattle.cx_commands.specs.declared.stops.Stop.TheVariants as stops
 
 -- its first fault, unless memory is wanting
 abbrev pub IsUnloaded : List PlainRow → List ℕ → Stop → Type 0
-IsUnloaded rows json stop = (stop ≡ stops.Memory) ⊎ ((fault : DataFault) × (load_of json rows ≡ Err fault) × (stop ≡ stops.Json fault))
+IsUnloaded rows json stop =
+    (stop ≡ stops.Memory)
+    ⊎ ((fault : DataFault) × (load_of json rows ≡ Err fault) × (stop ≡ stops.Json fault))

@@ -21,11 +21,14 @@ StopsNoLater stops.Memory other = other ≡ Err stops.Memory
 
 -- a dump of no more turns, with the same memories
 abbrev pub ToldNoLater : Result (List ℕ) Stop → Result (List ℕ) Stop → Type 0
-ToldNoLater (Ok dump) other = (turns : ℕ) × (fewer : ℕ) × (memories : List PlainMemory) × (dump ≡ dump_text turns memories) × (other ≡ Ok (dump_text fewer memories)) × (fewer ≤ turns)
+ToldNoLater (Ok dump) other =
+    (turns : ℕ) × (fewer : ℕ) × (memories : List PlainMemory) × (dump ≡ dump_text turns memories)
+    × (other ≡ Ok (dump_text fewer memories)) × (fewer ≤ turns)
 ToldNoLater (Err stop) other = StopsNoLater stop other
 
--- INTERPRETED NO LATER: the second text is accepted; and on every data file and within every budget of turns, where `interp` dumps of the first,
--- it dumps of the second, of no more turns and with the same memories; and it refuses the same data files for the same fault
+-- INTERPRETED NO LATER: the second text is accepted; and on every data file and within every budget of turns, where
+-- `interp` dumps of the first, it dumps of the second, of no more turns and with the same memories; and it refuses
+-- the same data files for the same fault
 pub record InterpretsNoLater (text other : List ℕ) : Type 0 where
   pub accepted : IsAcceptedText other
   pub told : (json : List ℕ) (budget : ℕ) (result : Result (List ℕ) Stop) → Interprets text json budget result

@@ -31,7 +31,8 @@ Does held (interp design json budget) result =
     OfFile held DESIGN_BYTES design (λ text. OfFile held DATA_BYTES json (λ bytes. Interprets text bytes budget result))
 Does held (check design) result = OfFile held DESIGN_BYTES design (λ text. Checks text result)
 Does held (sim verilog json budget) result =
-    OfFile held VERILOG_BYTES verilog (λ text. OfFile held DATA_BYTES json (λ bytes. Simulates text bytes budget result))
+    OfFile held VERILOG_BYTES verilog
+    (λ text. OfFile held DATA_BYTES json (λ bytes. Simulates text bytes budget result))
 Does held (trial seed) result = Tries seed result
 Does held (share design) result = OfFile held DESIGN_BYTES design (λ text. Shares text result)
 Does held (promote design) result = OfFile held DESIGN_BYTES design (λ text. Promotes text result)
@@ -39,7 +40,8 @@ Does held (instrument design) result = OfFile held DESIGN_BYTES design (λ text.
 Does held (profile design json budget) result =
     OfFile held DESIGN_BYTES design (λ text. OfFile held DATA_BYTES json (λ bytes. Profiles text bytes budget result))
 Does held (weave design json steps list) result =
-    OfFile held DESIGN_BYTES design (λ text. OfFile held DATA_BYTES json (λ bytes. Weaves text bytes steps (numbers_in list) result))
+    OfFile held DESIGN_BYTES design
+    (λ text. OfFile held DATA_BYTES json (λ bytes. Weaves text bytes steps (numbers_in list) result))
 
 -- what it writes
 abbrev pub IsAnswer : Option (List ℕ → Option (List ℕ)) → Asked → List ℕ → Type 0

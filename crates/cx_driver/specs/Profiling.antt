@@ -47,11 +47,13 @@ with_counts_of counts (Err stop) = Err stop
 
 -- THE RUN OF MAIN with these memories loaded, by the design's own meaning, counted
 abbrev pub counted_left : PlainDesign → List PlainMemory → ℕ → Result PlainCounted Stop
-counted_left d memories budget = with_counts_of (active_counts d (words_loaded memories) budget) (meant_left d memories budget)
+counted_left d memories budget =
+    with_counts_of (active_counts d (words_loaded memories) budget) (meant_left d memories budget)
 
 -- which is told as the dump of what is left, and a line for each group
 abbrev pub profiled : PlainDesign → Result PlainCounted Stop → Result (List ℕ) Stop
-profiled d (Ok counted) = Ok (dump_text counted.left.turns counted.left.memories ++ active_lines (group_paths d) counted.counts)
+profiled d (Ok counted) =
+    Ok (dump_text counted.left.turns counted.left.memories ++ active_lines (group_paths d) counted.counts)
 profiled d (Err stop) = Err stop
 
 abbrev pub loaded_counted : PlainDesign → ℕ → Result (List PlainMemory) DataFault → Result PlainCounted Stop
@@ -65,8 +67,8 @@ design_counted d json budget = loaded_counted d budget (load_of json (external_r
 abbrev pub design_profile : PlainDesign → List ℕ → ℕ → Result (List ℕ) Stop
 design_profile d json budget = profiled d (design_counted d json budget)
 
--- WHAT profile DOES WITH A TEXT AND A DATA FILE: the text is accepted, its instrumented design keeps the limits, and its design does this; or the text is
--- refused, and that is told
+-- WHAT profile DOES WITH A TEXT AND A DATA FILE: the text is accepted, its instrumented design keeps the limits, and
+-- its design does this; or the text is refused, and that is told
 abbrev pub Profiles : List ℕ → List ℕ → ℕ → Result (List ℕ) Stop → Type 0
 Profiles text json budget result =
     ((d : PlainDesign) × IsDesignOf text d × KeepsStage 7 (instrumented d) × (result ≡ design_profile d json budget))
@@ -89,4 +91,5 @@ abbrev pub IsDesignProfile : PlainDesign → List ℕ → ℕ → List ℕ → T
 IsDesignProfile d json budget answer = KeepsStage 7 (instrumented d) × (design_profile d json budget ≡ Ok answer)
 
 abbrev pub IsDesignProfileStop : PlainDesign → List ℕ → ℕ → Stop → Type 0
-IsDesignProfileStop d json budget stop = IsLimitStop d stop ⊎ (KeepsStage 7 (instrumented d) × (design_profile d json budget ≡ Err stop))
+IsDesignProfileStop d json budget stop =
+    IsLimitStop d stop ⊎ (KeepsStage 7 (instrumented d) × (design_profile d json budget ≡ Err stop))

@@ -17,7 +17,9 @@ use Rattle.cx_compiler.specs.Compiled.{too_large}
 
 -- a data file with zeros for the sixteen words
 abbrev pub zeros : List ℕ
-zeros = codes "{\"mem\":{\"data\":[0,0,0,0,0,0,0,0,0,0,0,0,0,0,0,0],\"format\":{\"numeric_type\":\"bitnum\",\"is_signed\":false,\"width\":32}}}"
+zeros =
+    codes
+    "{\"mem\":{\"data\":[0,0,0,0,0,0,0,0,0,0,0,0,0,0,0,0],\"format\":{\"numeric_type\":\"bitnum\",\"is_signed\":false,\"width\":32}}}"
 
 -- the sum of all words
 abbrev pub words_sum : List PlainMemory → ℕ
@@ -29,14 +31,17 @@ counted piece number = piece ++ decimal number
 
 -- trial SEED cycles TURNS sum SUM
 abbrev pub trial_line : ℕ → ℕ → ℕ → List ℕ
-trial_line seed turns total = counted (codes "trial ") seed ++ counted (codes " cycles ") turns ++ counted (codes " sum ") total ++ codes "\n"
+trial_line seed turns total =
+    counted (codes "trial ") seed ++ counted (codes " cycles ") turns ++ counted (codes " sum ") total
+    ++ codes "\n"
 
 abbrev pub line_of : ℕ → PlainLeft → List ℕ
 line_of seed left = trial_line seed left.turns (words_sum left.memories)
 
 -- of a design that leaves this: the line, where the design is within the size that is compiled
 abbrev pub line_result : ℕ → PlainDesign → Result PlainLeft Stop → Result (List ℕ) Stop
-line_result seed d (Ok left) = if nat_lt COMPILE_SIZE (design_size d) then Err (stops.Rule (too_large d)) else Ok (line_of seed left)
+line_result seed d (Ok left) =
+    if nat_lt COMPILE_SIZE (design_size d) then Err (stops.Rule (too_large d)) else Ok (line_of seed left)
 line_result seed d (Err stop) = Err stop
 
 -- WHAT IS TOLD OF A DESIGN: the line of what its run on zeros leaves within the greatest budget, or why there is none

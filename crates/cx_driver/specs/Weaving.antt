@@ -24,7 +24,8 @@ woven_text made sum memories = dump_text made memories ++ codes "leaves " ++ dec
 
 -- what a woven run of so many choices comes to, as it is told
 abbrev pub told_woven : PlainDesign → List PlainMemory → ℕ → Woven → Result (List ℕ) Stop
-told_woven d memories steps (woven.Ends after made sum) = Ok (woven_text made sum (with_words memories (words_of (tree_of d) after)))
+told_woven d memories steps (woven.Ends after made sum) =
+    Ok (woven_text made sum (with_words memories (words_of (tree_of d) after)))
 told_woven d memories steps (woven.Faults fault made) = Err (fault_stop d fault made)
 told_woven d memories steps woven.More = Err (stops.More steps)
 
@@ -55,7 +56,9 @@ StopsWeaving text json steps list stop = Weaves text json steps list (Err stop)
 
 -- whatever its budget, the interpreter tells no fault
 abbrev pub NeverFaults : List ℕ → List ℕ → Type 0
-NeverFaults text json = (budget : ℕ) (kind : FaultKind) (path : List ℕ) (turn : ℕ) → Interprets text json budget (Err (stops.Fault kind path turn)) → ⊥
+NeverFaults text json =
+    (budget : ℕ) (kind : FaultKind) (path : List ℕ) (turn : ℕ)
+    → Interprets text json budget (Err (stops.Fault kind path turn)) → ⊥
 
 -- what is told of a text without an answer
 abbrev pub IsWeaveStop : List ℕ → List ℕ → ℕ → List ℕ → Stop → Type 0
@@ -74,13 +77,16 @@ IsRunWoven d list memories steps answer = woven_result d list memories steps ≡
 abbrev pub StopsRunWoven : PlainDesign → List ℕ → List PlainMemory → ℕ → Stop → Type 0
 StopsRunWoven d list memories steps stop = (stop ≡ stops.Memory) ⊎ (woven_result d list memories steps ≡ Err stop)
 
--- EVERY LIST ENDS as the interpreter does, which dumped this: with enough choices, one number for all lists, the woven run by a list writes so
--- many choices and the words of that dump
+-- EVERY LIST ENDS as the interpreter does, which dumped this: with enough choices, one number for all lists, the
+-- woven run by a list writes so many choices and the words of that dump
 abbrev pub EveryListEnds : List ℕ → List ℕ → List ℕ → Type 0
 EveryListEnds text json dump =
     (turns : ℕ) × (memories : List PlainMemory) × (dump ≡ dump_text turns memories) × (enough : ℕ)
-    × ((list : List ℕ) (steps : ℕ) → enough ≤ steps → (sum : ℕ) × IsWovenAnswer text json steps list (woven_text enough sum memories))
+    × ((list : List ℕ) (steps : ℕ) → enough ≤ steps →
+    (sum : ℕ) × IsWovenAnswer text json steps list (woven_text enough sum memories))
 
 -- of every text whose design has parts that 32 bits count
 abbrev pub AllListsEnd : List ℕ → List ℕ → Type 0
-AllListsEnd text json = (d : PlainDesign) (budget : ℕ) (dump : List ℕ) → IsDesignOf text d → design_size d < 2 ^ 32 → IsInterpAnswer text json budget dump → EveryListEnds text json dump
+AllListsEnd text json =
+    (d : PlainDesign) (budget : ℕ) (dump : List ℕ) → IsDesignOf text d → design_size d < 2 ^ 32
+    → IsInterpAnswer text json budget dump → EveryListEnds text json dump

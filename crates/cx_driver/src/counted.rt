@@ -111,9 +111,12 @@ struct Tallied {
 fn run_tallied(alloc: Global, design: &Checked, loaded: Loaded, turns: u64) -> Result<Tallied, Stop>
     requires flat { IsFlat (plain_design design.now) }
     requires fits { FitsRows (external_rows (plain_design design.now)) (plain_loaded loaded) }
-    ensures answer { IfOk result (λ tallied. IsRunLeft (plain_design design.now) (plain_loaded loaded) turns (plain_left tallied.left)) }
+    ensures answer { IfOk result (λ tallied.
+        IsRunLeft (plain_design design.now) (plain_loaded loaded) turns (plain_left tallied.left)) }
     ensures ready { IfOk result (λ tallied. CanDump tallied.left) }
-    ensures counted { IfOk result (λ tallied. AreTallied (plain_design design.now) (words_loaded (plain_loaded loaded)) turns (plain_counts tallied.counts)) }
+    ensures counted { IfOk result (λ tallied.
+        AreTallied (plain_design design.now) (words_loaded (plain_loaded loaded)) turns
+        (plain_counts tallied.counts)) }
     ensures cause { IfErr result (StopsRun (plain_design design.now) (plain_loaded loaded) turns) }
 {
     let begun = Begun::new(alloc, design, &loaded)?;

@@ -15,14 +15,17 @@ use cx_design::Checked;
 use cx_emitted::script_laws::sources_realise_always;
 use std::alloc::Global;
 
-/// Writes the Verilog text of the design of a text with a counter for each group, where it keeps the limits and is within the size that is compiled.
+/// Writes the Verilog text of the design of a text with a counter for each group, where it keeps the limits and is
+/// within the size that is compiled.
 pub fn instrument(alloc: Global, text: &[u8]) -> Result<Vec<u8>, Stop>
     requires { length text.now ≤ 1048576 }
     ensures answer { IfOk result (λ verilog. IsInstrumented text.now verilog.items) }
     ensures cause { IfErr result (IsInstrumentStop text.now) }
-    // A text that is accepted, and whose instrumented design keeps the limits and is within the size, is answered, unless memory is wanting.
+    // A text that is accepted, and whose instrumented design keeps the limits and is within the size, is answered,
+    // unless memory is wanting.
     ensures all_answers { IsInstrumentable text.now → MatchResult result (λ _. Unit {0}) (λ stop. stop ≡ stops.Memory) }
-    // A rule that the text breaks is told, or else a limit that the instrumented design exceeds, or else that it is too large, unless memory is wanting.
+    // A rule that the text breaks is told, or else a limit that the instrumented design exceeds, or else that it is
+    // too large, unless memory is wanting.
     ensures all_refusals { (told : DiagnosticValue) → InstrumentBreak text.now told
         → MatchResult result (λ _. ⊥) (λ stop. (stop ≡ stops.Memory) ⊎ (stop ≡ stops.Rule told)) }
 {

@@ -96,7 +96,8 @@ pub(crate) fn run_loaded(
 ) -> Result<Left, Stop>
     requires flat { IsFlat (plain_design design.now) }
     requires fits { FitsRows (external_rows (plain_design design.now)) (plain_loaded loaded) }
-    ensures answer { IfOk result (λ left. IsRunLeft (plain_design design.now) (plain_loaded loaded) turns (plain_left left)) }
+    ensures answer { IfOk result
+        (λ left. IsRunLeft (plain_design design.now) (plain_loaded loaded) turns (plain_left left)) }
     ensures ready { IfOk result CanDump }
     ensures cause { IfErr result (StopsRun (plain_design design.now) (plain_loaded loaded) turns) }
 {
@@ -116,7 +117,8 @@ pub(crate) fn end(
 ) -> Result<Left, Stop>
     requires run { HasRun design.now (words_loaded (plain_loaded loaded)) turns ran.now }
     requires fits { FitsRows (external_rows (plain_design design.now)) (plain_loaded loaded) }
-    ensures answer { IfOk result (λ left. IsRunLeft (plain_design design.now) (plain_loaded loaded) turns (plain_left left)) }
+    ensures answer { IfOk result
+        (λ left. IsRunLeft (plain_design design.now) (plain_loaded loaded) turns (plain_left left)) }
     ensures ready { IfOk result CanDump }
     ensures cause { IfErr result (StopsRun (plain_design design.now) (plain_loaded loaded) turns) }
 {
@@ -132,8 +134,11 @@ fn finished(design: &Checked, ran: &Ran<'_>, mut loaded: Loaded, turns: u64) -> 
     requires run { (words : List (List ℕ)) × (budget : ℕ) × HasRun design.now words budget ran.now }
     requires fits { FitsRows (external_rows (plain_design design.now)) (plain_loaded loaded) }
     ensures count { result.turns ≡ turns }
-    ensures words { (words : List (List ℕ)) (budget : ℕ) (after : State) → HasRun design.now words budget ran.now → run_main (plain_design design.now) words budget ≡ End after turns
-        → plain_loaded result.loaded ≡ with_words (plain_loaded loaded) (words_of (tree_of (plain_design design.now)) after) }
+    ensures words { (words : List (List ℕ)) (budget : ℕ) (after : State) →
+        HasRun design.now words budget ran.now →
+        run_main (plain_design design.now) words budget ≡ End after turns
+        → plain_loaded result.loaded ≡
+        with_words (plain_loaded loaded) (words_of (tree_of (plain_design design.now)) after) }
 
     ensures ready { CanDump result }
 {

@@ -24,8 +24,9 @@ use cx_text::Memory;
 use itoa::Buffer;
 use std::alloc::Global;
 
-/// Runs the control of `main` by its meaning, with the words of a data file loaded, within a budget of turns. Answers the dump of its turns and of the
-/// words in which it leaves the external memories, and a line with the count of its active cycles for each group.
+/// Runs the control of `main` by its meaning, with the words of a data file loaded, within a budget of turns. Answers
+/// the dump of its turns and of the words in which it leaves the external memories, and a line with the count of its
+/// active cycles for each group.
 pub fn profile(alloc: Global, text: &[u8], json: &[u8], turns: u64) -> Result<Vec<u8>, Stop>
     requires text { length text.now ≤ 1048576 }
     requires budget { turns ≤ BUDGET }
@@ -36,8 +37,8 @@ pub fn profile(alloc: Global, text: &[u8], json: &[u8], turns: u64) -> Result<Ve
     ensures all_answers { (answer : List ℕ) → IsProfileAnswer text.now json.now turns answer
         → MatchResult result (λ text. text.items ≡ answer) (λ stop. stop ≡ stops.Memory) }
 
-    // A rule that the text breaks is told, a limit that the instrumented design exceeds, the fault of the data file, that of the run, or that the budget
-    // does not suffice, unless memory is wanting.
+    // A rule that the text breaks is told, a limit that the instrumented design exceeds, the fault of the data file,
+    // that of the run, or that the budget does not suffice, unless memory is wanting.
     ensures all_stops { (why : StopValue) → StopsProfile text.now json.now turns why
         → MatchResult result (λ _. ⊥) (λ stop. (stop ≡ stops.Memory) ⊎ (stop ≡ why)) }
 {
@@ -84,7 +85,8 @@ fn profile_text(
 /// A line for each group.
 fn push_lines(text: &mut Vec<u8>, groups: &[ProfiledGroup], counts: &[u64]) -> Result<(), Memory>
     requires each { length groups.now ≡ length counts.now }
-    ensures { IfOk result (λ _. text.new.items ≡ text.old.items ++ active_lines (map (λ g. g.path) groups.now) counts.now) }
+    ensures { IfOk result
+        (λ _. text.new.items ≡ text.old.items ++ active_lines (map (λ g. g.path) groups.now) counts.now) }
 {
     let mut index = 0usize;
     for group in groups {

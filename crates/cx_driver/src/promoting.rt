@@ -15,7 +15,8 @@ use cx_compiler::tried;
 use cx_rewritten::promote_text;
 use std::alloc::Global;
 
-/// Writes the design of a text with its groups of known length as static ones and runs of them as static seqs, behind a line for each such group.
+/// Writes the design of a text with its groups of known length as static ones and runs of them as static seqs, behind
+/// a line for each such group.
 pub fn promote(alloc: Global, text: &[u8]) -> Result<Vec<u8>, Stop>
     requires { length text.now ≤ 1048576 }
     ensures answer { IfOk result (λ answer. PromotesText text.now answer.items) }

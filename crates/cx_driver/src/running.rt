@@ -45,52 +45,73 @@ pub fn run<F: Files, O: Sink, E: Sink>(
     err: &mut E,
 ) -> Status
     ensures done { result ≡ statuses.Done →
-        (text : List ℕ) × IsAnswerTo (F.held files.old) words.now text × (O.written out.new ≡ grown (O.written out.old) text) }
+        (text : List ℕ) × IsAnswerTo (F.held files.old) words.now text
+        × (O.written out.new ≡ grown (O.written out.old) text) }
 
     // THE PROMISE: what `compile` wrote of a file keeps it.
     ensures promise { result ≡ statuses.Done → (file : List ℕ) → Asks words.now (asked.compile file)
-        → (verilog : List ℕ) × KeepsOfFile (F.held files.old) file verilog × (O.written out.new ≡ grown (O.written out.old) verilog) }
+        → (verilog : List ℕ) × KeepsOfFile (F.held files.old) file verilog
+        × (O.written out.new ≡ grown (O.written out.old) verilog) }
 
     // What `share` wrote of a file is accepted, and interpreted as the file is.
     ensures shared { result ≡ statuses.Done → (file : List ℕ) → Asks words.now (asked.share file)
-        → (answer : List ℕ) × AlikeOfFile (F.held files.old) file answer × (O.written out.new ≡ grown (O.written out.old) answer) }
+        → (answer : List ℕ) × AlikeOfFile (F.held files.old) file answer
+        × (O.written out.new ≡ grown (O.written out.old) answer) }
 
     // What `promote` wrote of a file is accepted, and interpreted no later than the file, with the same memories.
     ensures promoted { result ≡ statuses.Done → (file : List ℕ) → Asks words.now (asked.promote file)
-        → (answer : List ℕ) × NoLaterOfFile (F.held files.old) file answer × (O.written out.new ≡ grown (O.written out.old) answer) }
+        → (answer : List ℕ) × NoLaterOfFile (F.held files.old) file answer
+        × (O.written out.new ≡ grown (O.written out.old) answer) }
 
     ensures words { (result ≡ statuses.Words) ↔ AsksNothing words.now }
     ensures read_fault { result ≡ statuses.ReadFault → (file : List ℕ) × IsFileOf words.now file
-        × IsReadFault (F.held files.old) (F.faults files.old) (F.faults files.new) file × (F.failures files.new ≡ F.failures files.old ++ file ∷ []) }
+        × IsReadFault (F.held files.old) (F.faults files.old) (F.faults files.new) file
+        × (F.failures files.new ≡ F.failures files.old ++ file ∷ []) }
     ensures write_fault { result ≡ statuses.WriteFault → HasRisen (O.faults out.old) (O.faults out.new) }
 
     ensures part { result ≡ statuses.WriteFault →
-        (text : List ℕ) × IsAnswerTo (F.held files.old) words.now text × GrowsByPart (O.written out.old) text (O.written out.new) }
+        (text : List ℕ) × IsAnswerTo (F.held files.old) words.now text
+        × GrowsByPart (O.written out.old) text (O.written out.new) }
     ensures nothing { result ≢ statuses.Done → result ≢ statuses.WriteFault →
         O.written out.new ≡ O.written out.old }
 
     ensures cause { IsRefusing result → (command : Asked) × Asks words.now command
-        × ToldWhy command (F.held files.old) (F.faults files.old) (F.faults files.new) (F.failures files.old) (F.failures files.new) result
+        × ToldWhy command (F.held files.old) (F.faults files.old) (F.faults files.new)
+        (F.failures files.old) (F.failures files.new) result
         (E.written err.old) (E.faults err.old) (E.written err.new) (E.faults err.new) }
     ensures quiet { result ≡ statuses.Done → E.written err.new ≡ E.written err.old }
     ensures all_read { result ≡ statuses.Done → F.failures files.new ≡ F.failures files.old }
-    ensures said { (told : List ℕ) → fixed_line result ≡ Some told → ReceivesLine (E.written err.old) (E.faults err.old) told (E.written err.new) (E.faults err.new) }
+    ensures said { (told : List ℕ) → fixed_line result ≡ Some told →
+        ReceivesLine (E.written err.old) (E.faults err.old) told (E.written err.new) (E.faults err.new) }
 
-    // Where the files are told, or none is read, and they give an answer, and no read failed, it is written, but for a failing output and want of memory.
-    ensures completes { (command : Asked) → Asks words.now command → OfTold command (F.held files.old) (λ held. CanAnswer held command)
-        → (HasRisen (F.faults files.old) (F.faults files.new) → ⊥) → (result ≡ statuses.Done) ⊎ (result ≡ statuses.WriteFault) ⊎ (result ≡ statuses.Memory) }
+    // Where the files are told, or none is read, and they give an answer, and no read failed, it is written, but for
+    // a failing output and want of memory.
+    ensures completes { (command : Asked) → Asks words.now command →
+        OfTold command (F.held files.old) (λ held. CanAnswer held command)
+        → (HasRisen (F.faults files.old) (F.faults files.new) → ⊥)
+        → (result ≡ statuses.Done) ⊎ (result ≡ statuses.WriteFault) ⊎ (result ≡ statuses.Memory) }
 
-    // Where the files are told, or none is read, and they stop the command, and no read failed, the status is that of what stops it, but for want of memory.
-    ensures all_stops { (command : Asked) (why : StopValue) → Asks words.now command → OfTold command (F.held files.old) (λ held. IsStopped held command why)
-        → (HasRisen (F.faults files.old) (F.faults files.new) → ⊥) → (result ≡ status_of (refusals.Stop why)) ⊎ (result ≡ statuses.Memory) }
+    // Where the files are told, or none is read, and they stop the command, and no read failed, the status is that of
+    // what stops it, but for want of memory.
+    ensures all_stops { (command : Asked) (why : StopValue) → Asks words.now command →
+        OfTold command (F.held files.old) (λ held. IsStopped held command why)
+        → (HasRisen (F.faults files.old) (F.faults files.new) → ⊥)
+        → (result ≡ status_of (refusals.Stop why)) ⊎ (result ≡ statuses.Memory) }
 
     // And that is told by its line.
-    ensures all_lines { (command : Asked) (why : StopValue) → Asks words.now command → OfTold command (F.held files.old) (λ held. IsStopped held command why)
-        → (HasRisen (F.faults files.old) (F.faults files.new) → ⊥) → IsTold (refusals.Stop why) result (E.written err.old) (E.faults err.old) (E.written err.new) (E.faults err.new) }
+    ensures all_lines { (command : Asked) (why : StopValue) → Asks words.now command →
+        OfTold command (F.held files.old) (λ held. IsStopped held command why)
+        → (HasRisen (F.faults files.old) (F.faults files.new) → ⊥)
+        → IsTold (refusals.Stop why) result (E.written err.old) (E.faults err.old) (E.written err.new)
+        (E.faults err.new) }
 
-    // Where the files are told, and one is over its limit or is not there, behind others that are within theirs, it is told, but for want of memory.
-    ensures all_files { (command : Asked) (why : RefusalValue) → Asks words.now command → IsSomeAnd (F.held files.old) (λ holds. IsTrueOfFile command holds why)
-        → (HasRisen (F.faults files.old) (F.faults files.new) → ⊥) → IsTold why result (E.written err.old) (E.faults err.old) (E.written err.new) (E.faults err.new) }
+    // Where the files are told, and one is over its limit or is not there, behind others that are within theirs, it
+    // is told, but for want of memory.
+    ensures all_files { (command : Asked) (why : RefusalValue) → Asks words.now command →
+        IsSomeAnd (F.held files.old) (λ holds. IsTrueOfFile command holds why)
+        → (HasRisen (F.faults files.old) (F.faults files.new) → ⊥)
+        → IsTold why result (E.written err.old) (E.faults err.old) (E.written err.new)
+        (E.faults err.new) }
 
     ensures kept { F.held files.new ≡ F.held files.old }
 {
@@ -113,30 +134,43 @@ fn obey<F: Files, O: Sink, E: Sink>(
 ) -> Status
     requires possible { IsPossible (asked_of command) }
     ensures done { result ≡ statuses.Done →
-        (text : List ℕ) × IsAnswer (F.held files.old) (asked_of command.entry) text × (O.written out.new ≡ grown (O.written out.old) text) }
+        (text : List ℕ) × IsAnswer (F.held files.old) (asked_of command.entry) text
+        × (O.written out.new ≡ grown (O.written out.old) text) }
 
     ensures words { result ≢ statuses.Words }
     ensures read_fault { result ≡ statuses.ReadFault → (file : List ℕ) × Contains (files_of (asked_of command.entry)) file
-        × IsReadFault (F.held files.old) (F.faults files.old) (F.faults files.new) file × (F.failures files.new ≡ F.failures files.old ++ file ∷ []) }
+        × IsReadFault (F.held files.old) (F.faults files.old) (F.faults files.new) file
+        × (F.failures files.new ≡ F.failures files.old ++ file ∷ []) }
     ensures write_fault { result ≡ statuses.WriteFault → HasRisen (O.faults out.old) (O.faults out.new) }
 
     ensures part { result ≡ statuses.WriteFault →
-        (text : List ℕ) × IsAnswer (F.held files.old) (asked_of command.entry) text × GrowsByPart (O.written out.old) text (O.written out.new) }
+        (text : List ℕ) × IsAnswer (F.held files.old) (asked_of command.entry) text
+        × GrowsByPart (O.written out.old) text (O.written out.new) }
     ensures nothing { result ≢ statuses.Done → result ≢ statuses.WriteFault →
         O.written out.new ≡ O.written out.old }
 
-    ensures cause { IsRefusing result → ToldWhy (asked_of command.entry) (F.held files.old) (F.faults files.old) (F.faults files.new)
-        (F.failures files.old) (F.failures files.new) result (E.written err.old) (E.faults err.old) (E.written err.new) (E.faults err.new) }
+    ensures cause { IsRefusing result →
+        ToldWhy (asked_of command.entry) (F.held files.old) (F.faults files.old) (F.faults files.new)
+        (F.failures files.old) (F.failures files.new) result (E.written err.old) (E.faults err.old)
+        (E.written err.new) (E.faults err.new) }
     ensures quiet { result ≡ statuses.Done → E.written err.new ≡ E.written err.old }
     ensures all_read { result ≡ statuses.Done → F.failures files.new ≡ F.failures files.old }
-    ensures said { (told : List ℕ) → fixed_line result ≡ Some told → ReceivesLine (E.written err.old) (E.faults err.old) told (E.written err.new) (E.faults err.new) }
+    ensures said { (told : List ℕ) → fixed_line result ≡ Some told →
+        ReceivesLine (E.written err.old) (E.faults err.old) told (E.written err.new) (E.faults err.new) }
 
     ensures completes { OfTold (asked_of command.entry) (F.held files.old) (λ held. CanAnswer held (asked_of command.entry))
-        → (HasRisen (F.faults files.old) (F.faults files.new) → ⊥) → (result ≡ statuses.Done) ⊎ (result ≡ statuses.WriteFault) ⊎ (result ≡ statuses.Memory) }
-    ensures all_stops { (why : StopValue) → OfTold (asked_of command.entry) (F.held files.old) (λ held. IsStopped held (asked_of command.entry) why)
-        → (HasRisen (F.faults files.old) (F.faults files.new) → ⊥) → (result ≡ status_of (refusals.Stop why)) ⊎ (result ≡ statuses.Memory) }
-    ensures all_files { (why : RefusalValue) → IsSomeAnd (F.held files.old) (λ holds. IsTrueOfFile (asked_of command.entry) holds why)
-        → (HasRisen (F.faults files.old) (F.faults files.new) → ⊥) → IsTold why result (E.written err.old) (E.faults err.old) (E.written err.new) (E.faults err.new) }
+        → (HasRisen (F.faults files.old) (F.faults files.new) → ⊥)
+        → (result ≡ statuses.Done) ⊎ (result ≡ statuses.WriteFault) ⊎ (result ≡ statuses.Memory) }
+    ensures all_stops { (why : StopValue) →
+        OfTold (asked_of command.entry) (F.held files.old)
+        (λ held. IsStopped held (asked_of command.entry) why)
+        → (HasRisen (F.faults files.old) (F.faults files.new) → ⊥)
+        → (result ≡ status_of (refusals.Stop why)) ⊎ (result ≡ statuses.Memory) }
+    ensures all_files { (why : RefusalValue) →
+        IsSomeAnd (F.held files.old) (λ holds. IsTrueOfFile (asked_of command.entry) holds why)
+        → (HasRisen (F.faults files.old) (F.faults files.new) → ⊥)
+        → IsTold why result (E.written err.old) (E.faults err.old) (E.written err.new)
+        (E.faults err.new) }
 
     ensures kept { F.held files.new ≡ F.held files.old }
 {
@@ -148,10 +182,12 @@ fn obey<F: Files, O: Sink, E: Sink>(
 
 /// Writes the answer, or says that it could not be written.
 fn deliver<O: Sink, E: Sink>(text: &[u8], out: &mut O, err: &mut E) -> Status
-    ensures cases { ((result ≡ statuses.Done) × (O.written out.new ≡ grown (O.written out.old) text.now) × (E.written err.new ≡ E.written err.old))
+    ensures cases { ((result ≡ statuses.Done) × (O.written out.new ≡ grown (O.written out.old) text.now) ×
+        (E.written err.new ≡ E.written err.old))
         ⊎ ((result ≡ statuses.WriteFault) × HasRisen (O.faults out.old) (O.faults out.new)
         × GrowsByPart (O.written out.old) text.now (O.written out.new)
-        × ReceivesLine (E.written err.old) (E.faults err.old) (codes "write-fault\n") (E.written err.new) (E.faults err.new)) }
+        × ReceivesLine (E.written err.old) (E.faults err.old) (codes "write-fault\n") (E.written err.new)
+        (E.faults err.new)) }
 {
     match write_all(out, text) {
         Ok(()) => Status::Done,
@@ -164,8 +200,11 @@ fn deliver<O: Sink, E: Sink>(text: &[u8], out: &mut O, err: &mut E) -> Status
 
 /// Says why there is no answer.
 fn refuse<E: Sink>(alloc: Global, refusal: &Refusal<'_>, err: &mut E) -> Status
-    ensures { ((result ≡ status_of refusal.now) × ReceivesLine (E.written err.old) (E.faults err.old) (line_of refusal.now) (E.written err.new) (E.faults err.new))
-        ⊎ ((result ≡ statuses.Memory) × ReceivesLine (E.written err.old) (E.faults err.old) (codes "memory\n") (E.written err.new) (E.faults err.new)) }
+    ensures { ((result ≡ status_of refusal.now) ×
+        ReceivesLine (E.written err.old) (E.faults err.old) (line_of refusal.now) (E.written err.new)
+        (E.faults err.new))
+        ⊎ ((result ≡ statuses.Memory) × ReceivesLine (E.written err.old) (E.faults err.old)
+        (codes "memory\n") (E.written err.new) (E.faults err.new)) }
 {
     match line(alloc, refusal) {
         Ok(line) => {
@@ -194,7 +233,8 @@ fn answer<'a, F: Files>(
 ) -> Result<Vec<u8>, Refusal<'a>>
     requires possible { IsPossible (asked_of command) }
     ensures answer { IfOk result (λ text. IsAnswer (F.held files.old) (asked_of command.entry) text.items) }
-    ensures cause { IfErr result (HasCause (asked_of command.entry) (F.held files.old) (F.faults files.old) (F.faults files.new)) }
+    ensures cause { IfErr result
+        (HasCause (asked_of command.entry) (F.held files.old) (F.faults files.old) (F.faults files.new)) }
     ensures unread { TellsUnread result (F.failures files.old) (F.failures files.new) }
     ensures kept { F.held files.new ≡ F.held files.old }
 {
@@ -236,7 +276,8 @@ fn compiled<'a, F: Files>(
     files: &mut F,
 ) -> Result<Vec<u8>, Refusal<'a>>
     ensures answer { IfOk result (λ text. IsAnswer (F.held files.old) (asked.compile design.now) text.items) }
-    ensures cause { IfErr result (HasCause (asked.compile design.now) (F.held files.old) (F.faults files.old) (F.faults files.new)) }
+    ensures cause { IfErr result
+        (HasCause (asked.compile design.now) (F.held files.old) (F.faults files.old) (F.faults files.new)) }
     ensures unread { TellsUnread result (F.failures files.old) (F.failures files.new) }
     ensures kept { F.held files.new ≡ F.held files.old }
 {
@@ -255,8 +296,10 @@ fn interpreted<'a, F: Files>(
     budget: u64,
     files: &mut F,
 ) -> Result<Vec<u8>, Refusal<'a>>
-    ensures answer { IfOk result (λ text. IsAnswer (F.held files.old) (asked.interp design.now json.now budget) text.items) }
-    ensures cause { IfErr result (HasCause (asked.interp design.now json.now budget) (F.held files.old) (F.faults files.old) (F.faults files.new)) }
+    ensures answer { IfOk result
+        (λ text. IsAnswer (F.held files.old) (asked.interp design.now json.now budget) text.items) }
+    ensures cause { IfErr result (HasCause (asked.interp design.now json.now budget) (F.held files.old)
+        (F.faults files.old) (F.faults files.new)) }
     ensures unread { TellsUnread result (F.failures files.old) (F.failures files.new) }
     ensures kept { F.held files.new ≡ F.held files.old }
 {
@@ -276,8 +319,10 @@ fn simulated<'a, F: Files>(
     budget: u64,
     files: &mut F,
 ) -> Result<Vec<u8>, Refusal<'a>>
-    ensures answer { IfOk result (λ text. IsAnswer (F.held files.old) (asked.sim verilog.now json.now budget) text.items) }
-    ensures cause { IfErr result (HasCause (asked.sim verilog.now json.now budget) (F.held files.old) (F.faults files.old) (F.faults files.new)) }
+    ensures answer { IfOk result
+        (λ text. IsAnswer (F.held files.old) (asked.sim verilog.now json.now budget) text.items) }
+    ensures cause { IfErr result (HasCause (asked.sim verilog.now json.now budget) (F.held files.old)
+        (F.faults files.old) (F.faults files.new)) }
     ensures unread { TellsUnread result (F.failures files.old) (F.failures files.new) }
     ensures kept { F.held files.new ≡ F.held files.old }
 {
@@ -299,8 +344,10 @@ fn woven<'a, F: Files>(
     files: &mut F,
 ) -> Result<Vec<u8>, Refusal<'a>>
     requires list { IsList list.now }
-    ensures answer { IfOk result (λ text. IsAnswer (F.held files.old) (asked.weave design.now json.now steps list.now) text.items) }
-    ensures cause { IfErr result (HasCause (asked.weave design.now json.now steps list.now) (F.held files.old) (F.faults files.old) (F.faults files.new)) }
+    ensures answer { IfOk result
+        (λ text. IsAnswer (F.held files.old) (asked.weave design.now json.now steps list.now) text.items) }
+    ensures cause { IfErr result (HasCause (asked.weave design.now json.now steps list.now)
+        (F.held files.old) (F.faults files.old) (F.faults files.new)) }
     ensures unread { TellsUnread result (F.failures files.old) (F.failures files.new) }
     ensures kept { F.held files.new ≡ F.held files.old }
 {
@@ -314,8 +361,10 @@ fn woven<'a, F: Files>(
 
 /// The answer of a trial, which reads no file.
 fn tried<'a>(alloc: Global, seed: u64) -> Result<Vec<u8>, Refusal<'a>>
-    ensures answer { (held : Option (List ℕ → Option (List ℕ))) → IfOk result (λ line. IsAnswer held (asked.trial seed) line.items) }
-    ensures cause { (held : Option (List ℕ → Option (List ℕ))) (before after : ℕ) → IfErr result (HasCause (asked.trial seed) held before after) }
+    ensures answer { (held : Option (List ℕ → Option (List ℕ))) →
+        IfOk result (λ line. IsAnswer held (asked.trial seed) line.items) }
+    ensures cause { (held : Option (List ℕ → Option (List ℕ))) (before after : ℕ) →
+        IfErr result (HasCause (asked.trial seed) held before after) }
     ensures unread { (names : List (List ℕ)) → TellsUnread result names names }
 {
     match trial(alloc, seed) {
@@ -331,7 +380,8 @@ fn checked<'a, F: Files>(
     files: &mut F,
 ) -> Result<Vec<u8>, Refusal<'a>>
     ensures answer { IfOk result (λ text. IsAnswer (F.held files.old) (asked.check design.now) text.items) }
-    ensures cause { IfErr result (HasCause (asked.check design.now) (F.held files.old) (F.faults files.old) (F.faults files.new)) }
+    ensures cause { IfErr result
+        (HasCause (asked.check design.now) (F.held files.old) (F.faults files.old) (F.faults files.new)) }
     ensures unread { TellsUnread result (F.failures files.old) (F.failures files.new) }
     ensures kept { F.held files.new ≡ F.held files.old }
 {
@@ -349,7 +399,8 @@ fn shared<'a, F: Files>(
     files: &mut F,
 ) -> Result<Vec<u8>, Refusal<'a>>
     ensures answer { IfOk result (λ text. IsAnswer (F.held files.old) (asked.share design.now) text.items) }
-    ensures cause { IfErr result (HasCause (asked.share design.now) (F.held files.old) (F.faults files.old) (F.faults files.new)) }
+    ensures cause { IfErr result
+        (HasCause (asked.share design.now) (F.held files.old) (F.faults files.old) (F.faults files.new)) }
     ensures unread { TellsUnread result (F.failures files.old) (F.failures files.new) }
     ensures kept { F.held files.new ≡ F.held files.old }
 {
@@ -367,7 +418,8 @@ fn promoted<'a, F: Files>(
     files: &mut F,
 ) -> Result<Vec<u8>, Refusal<'a>>
     ensures answer { IfOk result (λ text. IsAnswer (F.held files.old) (asked.promote design.now) text.items) }
-    ensures cause { IfErr result (HasCause (asked.promote design.now) (F.held files.old) (F.faults files.old) (F.faults files.new)) }
+    ensures cause { IfErr result
+        (HasCause (asked.promote design.now) (F.held files.old) (F.faults files.old) (F.faults files.new)) }
     ensures unread { TellsUnread result (F.failures files.old) (F.failures files.new) }
     ensures kept { F.held files.new ≡ F.held files.old }
 {
@@ -385,7 +437,8 @@ fn instrumented<'a, F: Files>(
     files: &mut F,
 ) -> Result<Vec<u8>, Refusal<'a>>
     ensures answer { IfOk result (λ text. IsAnswer (F.held files.old) (asked.instrument design.now) text.items) }
-    ensures cause { IfErr result (HasCause (asked.instrument design.now) (F.held files.old) (F.faults files.old) (F.faults files.new)) }
+    ensures cause { IfErr result (HasCause (asked.instrument design.now) (F.held files.old)
+        (F.faults files.old) (F.faults files.new)) }
     ensures unread { TellsUnread result (F.failures files.old) (F.failures files.new) }
     ensures kept { F.held files.new ≡ F.held files.old }
 {
@@ -405,8 +458,10 @@ fn profiled<'a, F: Files>(
     files: &mut F,
 ) -> Result<Vec<u8>, Refusal<'a>>
     requires budget { budget ≤ BUDGET }
-    ensures answer { IfOk result (λ text. IsAnswer (F.held files.old) (asked.profile design.now json.now budget) text.items) }
-    ensures cause { IfErr result (HasCause (asked.profile design.now json.now budget) (F.held files.old) (F.faults files.old) (F.faults files.new)) }
+    ensures answer { IfOk result
+        (λ text. IsAnswer (F.held files.old) (asked.profile design.now json.now budget) text.items) }
+    ensures cause { IfErr result (HasCause (asked.profile design.now json.now budget) (F.held files.old)
+        (F.faults files.old) (F.faults files.new)) }
     ensures unread { TellsUnread result (F.failures files.old) (F.failures files.new) }
     ensures kept { F.held files.new ≡ F.held files.old }
 {
@@ -438,7 +493,8 @@ fn read<'a, F: Files>(
 ) -> Result<Vec<u8>, Refusal<'a>>
     ensures held { IfOk result (λ bytes. HoldsWithin (F.held files.old) limit file.now bytes.items) }
     ensures within { IfOk result (λ bytes. length bytes.items ≤ limit) }
-    ensures cause { IfErr result (IsOfFile (F.held files.old) (F.faults files.old) (F.faults files.new) (record { file = file.now; most = limit })) }
+    ensures cause { IfErr result (IsOfFile (F.held files.old) (F.faults files.old) (F.faults files.new)
+        (record { file = file.now; most = limit })) }
     ensures unread { TellsUnread result (F.failures files.old) (F.failures files.new) }
 
     ensures kept { F.held files.new ≡ F.held files.old }

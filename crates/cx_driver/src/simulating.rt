@@ -107,7 +107,8 @@ fn run_source(alloc: Global, source: &Source, json: &[u8], cycles: u64) -> Resul
 /// Runs a source with these words loaded.
 fn run_loaded(alloc: Global, source: &Source, loaded: Loaded, cycles: u64) -> Result<Left, Stop>
     requires fits { FitsRows (rows_of (plain_source source.now).externals) (plain_loaded loaded) }
-    ensures answer { IfOk result (λ left. RunLeaves (plain_source source.now) (plain_loaded loaded) cycles (plain_left left)) }
+    ensures answer { IfOk result
+        (λ left. RunLeaves (plain_source source.now) (plain_loaded loaded) cycles (plain_left left)) }
     ensures ready { IfOk result CanDump }
     ensures cause { IfErr result (StopsRun (plain_source source.now) (plain_loaded loaded) cycles) }
 {
@@ -128,7 +129,8 @@ fn end(
     requires source { ran.now.source ≡ source.now }
     requires run { SimRun (plain_source source.now) (words_loaded (plain_loaded loaded)) cycles ran.now.outcome }
     requires fits { FitsRows (rows_of (plain_source source.now).externals) (plain_loaded loaded) }
-    ensures answer { IfOk result (λ left. RunLeaves (plain_source source.now) (plain_loaded loaded) cycles (plain_left left)) }
+    ensures answer { IfOk result
+        (λ left. RunLeaves (plain_source source.now) (plain_loaded loaded) cycles (plain_left left)) }
     ensures ready { IfOk result CanDump }
     ensures cause { IfErr result (StopsRun (plain_source source.now) (plain_loaded loaded) cycles) }
 {
@@ -160,7 +162,8 @@ fn finished(source: &Source, ran: &SimRan<'_>, mut loaded: Loaded, cycle: u64) -
 fn looped(alloc: Global, source: &Source, instance: u32, net: u32) -> Stop
     requires instance { instance < length (instances_of (plain_source source.now)) }
     requires net { net < length (nets_at (instances_of (plain_source source.now)) instance) }
-    ensures { (result ≡ stops.Memory) ⊎ (result ≡ stops.Loop (path_of (instances_of (plain_source source.now)) instance net)) }
+    ensures { (result ≡ stops.Memory) ⊎
+        (result ≡ stops.Loop (path_of (instances_of (plain_source source.now)) instance net)) }
 {
     match loop_path(source, instance, net, alloc) {
         Ok(path) => Stop::Loop(path),

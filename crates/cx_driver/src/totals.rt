@@ -22,7 +22,9 @@ pub(crate) fn totals(
     table: &InstanceTable,
     counts: &Counts,
 ) -> Result<Vec<u64>, Memory>
-    ensures value { IfOk result (λ all. all.items ≡ map (λ g. total_in table.now.rows.items table.now.children.items (plain_counts counts.now) (standing_at (plain_instances places.now) g.instance g.group)) groups.now) }
+    ensures value { IfOk result (λ all. all.items ≡
+        map (λ g. total_in table.now.rows.items table.now.children.items (plain_counts counts.now)
+        (standing_at (plain_instances places.now) g.instance g.group)) groups.now) }
 {
     let mut all = Vec::new(alloc);
     for group in groups {
@@ -47,7 +49,8 @@ fn places_of(places: &[InstancePlaces], instance: u32, group: u32) -> &[FlatPlac
 
 /// What is counted of some groups together, in 64 bits.
 fn total(table: &InstanceTable, counts: &Counts, places: &[FlatPlace]) -> u64
-    ensures value { result ≡ total_in table.now.rows.items table.now.children.items (plain_counts counts.now) (plain_places places.now) }
+    ensures value { result ≡ total_in table.now.rows.items table.now.children.items
+        (plain_counts counts.now) (plain_places places.now) }
 {
     let mut total = 0u64;
     for place in places {

@@ -29,17 +29,20 @@ use std::alloc::Global;
 const ZEROS: &[u8] =
     b"{\"mem\":{\"data\":[0,0,0,0,0,0,0,0,0,0,0,0,0,0,0,0],\"format\":{\"numeric_type\":\"bitnum\",\"is_signed\":false,\"width\":32}}}";
 
-/// Tries the design of a seed: it is checked and interpreted on zeros, compiled, and its text is read back and simulated. Answers the line that
-/// tells the turns of its run, and the sum of the words in which this leaves the memory.
+/// Tries the design of a seed: it is checked and interpreted on zeros, compiled, and its text is read back and
+/// simulated. Answers the line that tells the turns of its run, and the sum of the words in which this leaves the
+/// memory.
 pub fn trial(alloc: Global, seed: u64) -> Result<Vec<u8>, Stop>
     ensures answer { IfOk result (λ line. Tries seed (Ok line.items)) }
     ensures cause { IfErr result (IsTrialStop seed) }
 
     // Where the design has a line it is the answer, unless memory is wanting.
-    ensures all_answers { (line : List ℕ) → Tries seed (Ok line) → MatchResult result (λ own. own.items ≡ line) (λ stop. stop ≡ stops.Memory) }
+    ensures all_answers { (line : List ℕ) → Tries seed (Ok line) →
+        MatchResult result (λ own. own.items ≡ line) (λ stop. stop ≡ stops.Memory) }
 
     // What stops an accepted design is told, unless memory is wanting.
-    ensures all_stops { (why : StopValue) → StopsTrial seed why → MatchResult result (λ _. ⊥) (λ stop. (stop ≡ stops.Memory) ⊎ (stop ≡ why)) }
+    ensures all_stops { (why : StopValue) → StopsTrial seed why →
+        MatchResult result (λ _. ⊥) (λ stop. (stop ≡ stops.Memory) ⊎ (stop ≡ why)) }
 
     // A rule that the design breaks is told, with its place and name, unless memory is wanting.
     ensures all_refusals { (told : DiagnosticValue) → TreeBreak (tree_of.trial_tree seed) told
@@ -61,7 +64,8 @@ fn try_design(alloc: Global, design: &Checked, seed: u64) -> Result<Vec<u8>, Sto
     requires rules { KeepsRulesWithin (plain_design design.now) }
     requires net { EmitsWithin (plain_design design.now) }
     ensures answer { IfOk result (λ line. try_result seed (plain_design design.now) ≡ Ok line.items) }
-    ensures cause { IfErr result (λ stop. (stop ≡ stops.Memory) ⊎ (try_result seed (plain_design design.now) ≡ Err stop)) }
+    ensures cause { IfErr result
+        (λ stop. (stop ≡ stops.Memory) ⊎ (try_result seed (plain_design design.now) ≡ Err stop)) }
 {
     match run_design(alloc, design, ZEROS, BUDGET) {
         Ok(_) => try_text(alloc, design, seed),
@@ -76,7 +80,8 @@ fn try_text(alloc: Global, design: &Checked, seed: u64) -> Result<Vec<u8>, Stop>
     requires net { EmitsWithin (plain_design design.now) }
     requires ends { EndsOnZeros (plain_design design.now) }
     ensures answer { IfOk result (λ line. try_result seed (plain_design design.now) ≡ Ok line.items) }
-    ensures cause { IfErr result (λ stop. (stop ≡ stops.Memory) ⊎ (try_result seed (plain_design design.now) ≡ Err stop)) }
+    ensures cause { IfErr result
+        (λ stop. (stop ≡ stops.Memory) ⊎ (try_result seed (plain_design design.now) ≡ Err stop)) }
 {
     match compile_design(alloc, design) {
         Ok(verilog) => match simulate(alloc, &verilog, ZEROS, BUDGET) {

@@ -117,7 +117,8 @@ fn weave_loaded(
     requires flat { IsFlat (plain_design design.now) }
     requires fits { FitsRows (external_rows (plain_design design.now)) (plain_loaded loaded) }
     requires some { 0 < length list.now }
-    ensures answer { IfOk result (λ told. IsRunWoven (plain_design design.now) list.now (plain_loaded loaded) steps told.items) }
+    ensures answer { IfOk result
+        (λ told. IsRunWoven (plain_design design.now) list.now (plain_loaded loaded) steps told.items) }
     ensures cause { IfErr result (StopsRunWoven (plain_design design.now) list.now (plain_loaded loaded) steps) }
 {
     let mut loaded = loaded;

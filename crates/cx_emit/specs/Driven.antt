@@ -20,7 +20,9 @@ pub record PlainDriven : Type 0 where
   pub done : PlainAssign
 
 abbrev pub port_driven : List PlainNetDriver → ℕ → ℕ → PlainPort → Option PlainAssign
-port_driven ds c p port = if port.output then None else Some (assign (cell_port_name c p) (chain_to (ToPort (ports.Cell c p)) (literal port.width 0) ds))
+port_driven ds c p port =
+    if port.output then None
+    else Some (assign (cell_port_name c p) (chain_to (ToPort (ports.Cell c p)) (literal port.width 0) ds))
 
 abbrev pub cell_driven : List PlainNetDriver → ℕ → PlainCellPorts → List (Option PlainAssign)
 cell_driven ds c cell = with_numbers (port_driven ds c) cell.ports
@@ -48,7 +50,8 @@ abbrev pub driver_before : PlainNetDriver → PlainAssign → PlainAssign
 driver_before d a = assign a.name (before d a.value)
 
 abbrev pub port_before : PortRef → PlainNetDriver → PlainDriven → PlainDriven
-port_before (ports.Cell c p) d s = record s { cells = changed_at c (changed_at p (option_map (driver_before d))) s.cells }
+port_before (ports.Cell c p) d s =
+    record s { cells = changed_at c (changed_at p (option_map (driver_before d))) s.cells }
 port_before (ports.Output n) d s = record s { outputs = changed_at n (driver_before d) s.outputs }
 port_before (ports.Input n) d s = s
 port_before (ports.Done g) d s = s
@@ -69,4 +72,6 @@ present (Some a ∷ rest) = a ∷ present rest
 
 -- the edge of registers of these widths and these assigns
 abbrev pub edge_with : List ℕ → List PlainAssign → Option PlainEdge
-edge_with widths driven = if length widths == 0 then None else Some (record { reset = with_numbers register_reset widths; step = map SetTo driven })
+edge_with widths driven =
+    if length widths == 0 then None
+    else Some (record { reset = with_numbers register_reset widths; step = map SetTo driven })

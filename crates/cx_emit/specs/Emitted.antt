@@ -16,7 +16,9 @@ use Rattle.cx_emit.specs.Signatures.{PlainCellPorts}
 -- WHICH NETS ARE EMITTED: those that fit, whose drivers drive what is there, without holes, and within what the Verilog subset bounds
 pub record CanBeEmitted (net : PlainNet) : Type 0 where
   pub fits : IsFit net
-  pub targets : (k : ℕ) → k < length net.components → (n : ℕ) (d : PlainNetDriver) → slice_get (net_component_at net k).drivers n ≡ Some d → IsSome (target_width net (net_component_at net k) d.target)
+  pub targets : (k : ℕ) → k < length net.components → (n : ℕ) (d : PlainNetDriver)
+      → slice_get (net_component_at net k).drivers n ≡ Some d
+      → IsSome (target_width net (net_component_at net k) d.target)
   pub no_holes : HasNoHoles net
   pub writable : IsWritable net
 
@@ -68,4 +70,5 @@ pub record HasWords (cell : PlainCell) : Type 0 where
   pub few_bits : first_number (numbers_of cell.kind) ≤ 64
 
 abbrev pub ExternalsHaveWords : List PlainCell → Type 0
-ExternalsHaveWords cells = (c : ℕ) (cell : PlainCell) → slice_get cells c ≡ Some cell → cell.external ≡ true → HasWords cell
+ExternalsHaveWords cells =
+    (c : ℕ) (cell : PlainCell) → slice_get cells c ≡ Some cell → cell.external ≡ true → HasWords cell

@@ -9,4 +9,6 @@ use Rattle.cx_vtree.specs.Sound.{has_name}
 
 -- the set has just the names of the modules
 abbrev pub AreFound : BTreeSet (List ℕ) → List PlainModule → Type 0
-AreFound found modules = (name : List ℕ) → sorted.contains_by (slice_cmp nat_cmp name) found ≡ has_name (map (λ m. m.name) modules) name
+AreFound found modules =
+    (name : List ℕ)
+    → sorted.contains_by (slice_cmp nat_cmp name) found ≡ has_name (map (λ m. m.name) modules) name

@@ -12,7 +12,8 @@ use Rattle.cx_emit.specs.Names.{input_name, output_name, cell_port_name, wire_na
 abbrev pub part_number : PlainSource → ℕ → ℕ → List PlainInstance → ℕ → ℕ
 part_number source holder n [] s = n
 part_number source holder n (x ∷ xs) zero = n
-part_number source holder n (x ∷ xs) (suc s) = part_number source holder (n + length (tree_from (reverse source.modules) x holder n)) xs s
+part_number source holder n (x ∷ xs) (suc s) =
+    part_number source holder (n + length (tree_from (reverse source.modules) x holder n)) xs s
 
 abbrev pub parts_at : PlainSource → ℕ → List PlainInstance
 parts_at source i = option_map_or (λ p. p.part.instances) (slice_get (instances_of source) i) []

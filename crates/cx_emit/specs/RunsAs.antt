@@ -25,17 +25,21 @@ use Rattle.cx_emit.specs.States.{StatesStand}
 -- stand for each other and go is the same
 abbrev pub ValuesCarry : PlainNet → Type 0
 ValuesCarry net =
-    (go : Bool) (s : NetState) (now : Moment) (path : Path) (h w : ℕ) (node : Node) (v : BitVector) → StatesStand net net.main 0 s now.state → now.go ≡ (if go then 1 else 0)
+    (go : Bool) (s : NetState) (now : Moment) (path : Path) (h w : ℕ) (node : Node) (v : BitVector)
+    → StatesStand net net.main 0 s now.state → now.go ≡ (if go then 1 else 0)
     → LeadsTo net net.main path h → node_width net (net_component_at net h) node ≡ Some w
-    → NetHas (net_tree net) go s path node v → HasValue (instances_of (source_of net)) now (number_at (source_of net) 0 path) (node_name node) v
+    → NetHas (net_tree net) go s path node v
+    → HasValue (instances_of (source_of net)) now (number_at (source_of net) 0 path) (node_name node) v
 
 -- where states stand for each other they do so after an edge, with reset or without, by whole looks on both sides
 abbrev pub EdgesCarry : PlainNet → Type 0
 EdgesCarry net =
-    (with_reset go : Bool) (s : NetState) (now : Moment) (look : NetLook) (text : Look) → StatesStand net net.main 0 s now.state
+    (with_reset go : Bool) (s : NetState) (now : Moment) (look : NetLook) (text : Look)
+    → StatesStand net net.main 0 s now.state
     → now.go ≡ (if go then 1 else 0) → now.reset ≡ (if with_reset then 1 else 0)
     → IsWholeLook (net_tree net) go s look → IsWhole (instances_of (source_of net)) now text
-    → StatesStand net net.main 0 (net_after (net_tree net) with_reset go s look) (state_after (instances_of (source_of net)) now text)
+    → StatesStand net net.main 0 (net_after (net_tree net) with_reset go s look)
+    (state_after (instances_of (source_of net)) now text)
 
 -- what the net comes to, with words that fit the external memories, the source comes to
 abbrev pub Runs : PlainNet → Type 0

@@ -54,8 +54,8 @@ registers_in (WireOf n w ∷ ds) = registers_in ds
 registers_in (RegisterOf n w ∷ ds) = 1 + registers_in ds
 registers_in (ArrayOf n w k ∷ ds) = registers_in ds
 
--- what an instance in the module of a component is for: a cell, or the timer of an island or that of a `static repeat`, each the statement of
--- this number among the component's, in pre-order
+-- what an instance in the module of a component is for: a cell, or the timer of an island or that of a `static
+-- repeat`, each the statement of this number among the component's, in pre-order
 pub data Use : Type 0 where
   ForCell : (cell : ℕ) → Use
   ForIsland : (statement : ℕ) → Use
@@ -64,12 +64,17 @@ pub data Use : Type 0 where
 -- a timer of this kind is for this: an island has one of its own length, a `static repeat` one of the length of a round
 abbrev pub IsTimerOf : PlainComponent → PlainKind → Use → Type 0
 IsTimerOf part kind (ForCell c) = ⊥
-IsTimerOf part kind (ForIsland n) = (v : Visited) × (slice_get (statements_in part) n ≡ Some v) × (is_island part v ≡ true) × (kind ≡ timer_kind (form_length part v.form))
-IsTimerOf part kind (ForRepeat n) = (v : Visited) × (slice_get (statements_in part) n ≡ Some v) × ((cycles : ℕ) × (round_of part v.form ≡ Some cycles) × (kind ≡ timer_kind cycles))
+IsTimerOf part kind (ForIsland n) =
+    (v : Visited) × (slice_get (statements_in part) n ≡ Some v) × (is_island part v ≡ true)
+    × (kind ≡ timer_kind (form_length part v.form))
+IsTimerOf part kind (ForRepeat n) =
+    (v : Visited) × (slice_get (statements_in part) n ≡ Some v)
+    × ((cycles : ℕ) × (round_of part v.form ≡ Some cycles) × (kind ≡ timer_kind cycles))
 
 -- the module of an instance, of component k, is of the kind that its use wants
 abbrev pub IsUse : PlainDesign → ℕ → PlainKind → Use → Type 0
-IsUse d k kind (ForCell c) = (cell : PlainCell) × (slice_get (component_at d k).cells c ≡ Some cell) × (kind ≡ cell.kind)
+IsUse d k kind (ForCell c) =
+    (cell : PlainCell) × (slice_get (component_at d k).cells c ≡ Some cell) × (kind ≡ cell.kind)
 IsUse d k kind (ForIsland n) = IsTimerOf (component_at d k) kind (ForIsland n)
 IsUse d k kind (ForRepeat n) = IsTimerOf (component_at d k) kind (ForRepeat n)
 
@@ -92,7 +97,8 @@ IsOfKind d kind (OfComponent k) m = IsPartModule d kind k m
 pub record IsShaped (d : PlainDesign) (source : PlainSource) : Type 0 where
   pub kind : List ℕ → PlainKind
   pub modules : All (λ m. IsOfKind d kind (kind m.name) m) source.modules
-  pub one_each : (p : PrimitiveRow) (i j : ℕ) (m n : PlainModule) → slice_get source.modules i ≡ Some m → slice_get source.modules j ≡ Some n
+  pub one_each : (p : PrimitiveRow) (i j : ℕ) (m n : PlainModule) → slice_get source.modules i ≡ Some m
+      → slice_get source.modules j ≡ Some n
       → kind m.name ≡ OfPrimitive p → kind n.name ≡ OfPrimitive p → i ≡ j
   pub main : kind (codes "main") ≡ OfComponent d.main
 

@@ -41,7 +41,8 @@ primitive_module p = module_of p (primitive_name p)
 
 abbrev pub kind_ports : PlainNet → PlainKind → PlainCellPorts
 kind_ports net (OfPrimitive p) = record { kind = primitive_name p; ports = drop 2 (primitive_module p).ports }
-kind_ports net (OfComponent j) = record { kind = module_name net.main j; ports = signature_at (slice_get net.components j) }
+kind_ports net (OfComponent j) =
+    record { kind = module_name net.main j; ports = signature_at (slice_get net.components j) }
 
 -- of a cell
 abbrev pub cell_ports : PlainNet → PlainCell → PlainCellPorts

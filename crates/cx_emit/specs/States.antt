@@ -18,8 +18,10 @@ use Rattle.cx_emit.specs.Fits.{stand_for}
 -- below instance i, which is of component k: registers have the net's values, which fit their widths, and the module of each
 -- primitive cell holds what stands for the cell's state, which is one of its row
 pub record StatesStand (net : PlainNet) (k i : ℕ) (s : NetState) (kept : State) : Type 0 where
-  pub registers : (path : Path) (h n w : ℕ) → LeadsTo net k path h → slice_get (net_component_at net h).registers n ≡ Some w
-      → (kept.register (number_at (source_of net) i path) (register_name n) ≡ s.register path n) × (s.register path n < 2 ^ w)
+  pub registers : (path : Path) (h n w : ℕ) → LeadsTo net k path h
+      → slice_get (net_component_at net h).registers n ≡ Some w
+      → (kept.register (number_at (source_of net) i path) (register_name n) ≡ s.register path n)
+      × (s.register path n < 2 ^ w)
   pub cells : (path : Path) (h c : ℕ) (cell : PlainCell) (primitive : PrimitiveRow) → LeadsTo net k path h
       → slice_get (net_component_at net h).cells c ≡ Some cell → cell.kind ≡ OfPrimitive primitive
       → stand_for primitive (kept_at kept (number_at (source_of net) i (path ++ c ∷ []))) (s.cell (path ++ c ∷ []))

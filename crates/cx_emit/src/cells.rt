@@ -21,7 +21,8 @@ fn add_port_decls(
     cell: usize,
     ports: &[ModulePort],
 ) -> Result<(), Memory>
-    ensures value { OnOk result (map plain_decl decls.new.items ≡ map plain_decl decls.old.items ++ with_numbers (plain.port_decl cell) (map plain_port ports.now)) }
+    ensures value { OnOk result (map plain_decl decls.new.items ≡
+        map plain_decl decls.old.items ++ with_numbers (plain.port_decl cell) (map plain_port ports.now)) }
 {
     for (number, port) in ports.iter().enumerate() {
         decls.push(Decl::Wire {
@@ -38,7 +39,8 @@ pub fn add_cell_decls(
     decls: &mut Vec<Decl>,
     cells: &[CellPorts],
 ) -> Result<(), Memory>
-    ensures value { OnOk result (map plain_decl decls.new.items ≡ map plain_decl decls.old.items ++ lists_from plain.cell_decls 0 (map plain_cell_ports cells.now)) }
+    ensures value { OnOk result (map plain_decl decls.new.items ≡
+        map plain_decl decls.old.items ++ lists_from plain.cell_decls 0 (map plain_cell_ports cells.now)) }
 {
     for (number, cell) in cells.iter().enumerate() {
         add_port_decls(alloc, decls, number, &cell.ports)?;
@@ -51,7 +53,8 @@ fn add_port_assigns(
     assigns: &mut Vec<NetAssign>,
     driven: Vec<Option<NetAssign>>,
 ) -> Result<(), Memory>
-    ensures value { OnOk result (map plain_assign assigns.new.items ≡ map plain_assign assigns.old.items ++ present (map plain_port_driven driven.items)) }
+    ensures value { OnOk result (map plain_assign assigns.new.items ≡
+        map plain_assign assigns.old.items ++ present (map plain_port_driven driven.items)) }
 {
     for port in driven {
         if let Some(assign) = port {
@@ -66,7 +69,8 @@ pub fn add_cell_assigns(
     assigns: &mut Vec<NetAssign>,
     driven: Vec<Vec<Option<NetAssign>>>,
 ) -> Result<(), Memory>
-    ensures value { OnOk result (map plain_assign assigns.new.items ≡ map plain_assign assigns.old.items ++ flat_map present (map plain_ports_driven driven.items)) }
+    ensures value { OnOk result (map plain_assign assigns.new.items ≡
+        map plain_assign assigns.old.items ++ flat_map present (map plain_ports_driven driven.items)) }
 {
     for own in driven {
         add_port_assigns(assigns, own)?;
@@ -91,7 +95,8 @@ fn add_conns(
     cell: usize,
     ports: &[ModulePort],
 ) -> Result<(), Memory>
-    ensures value { OnOk result (map plain_conn conns.new.items ≡ map plain_conn conns.old.items ++ with_numbers (plain.port_conn cell) (map plain_port ports.now)) }
+    ensures value { OnOk result (map plain_conn conns.new.items ≡
+        map plain_conn conns.old.items ++ with_numbers (plain.port_conn cell) (map plain_port ports.now)) }
 {
     for (number, port) in ports.iter().enumerate() {
         conns.push(Conn {
@@ -104,7 +109,8 @@ fn add_conns(
 
 /// The instance of a cell.
 fn instance(alloc: Global, number: usize, cell: &CellPorts) -> Result<Instance, Memory>
-    ensures value { IfOk result (λ instance. plain_instance instance ≡ plain.cell_instance number (plain_cell_ports cell.now)) }
+    ensures value { IfOk result
+        (λ instance. plain_instance instance ≡ plain.cell_instance number (plain_cell_ports cell.now)) }
 {
     let mut conns = Vec::with_capacity(alloc, 8)?;
     conns.push(same_conn(alloc, "clk")?)?;
@@ -119,7 +125,9 @@ fn instance(alloc: Global, number: usize, cell: &CellPorts) -> Result<Instance, 
 
 /// The instances of cells.
 pub fn instances(alloc: Global, cells: &[CellPorts]) -> Result<Vec<Instance>, Memory>
-    ensures value { IfOk result (λ instances. map plain_instance instances.items ≡ with_numbers plain.cell_instance (map plain_cell_ports cells.now)) }
+    ensures value { IfOk result (λ instances.
+        map plain_instance instances.items ≡
+        with_numbers plain.cell_instance (map plain_cell_ports cells.now)) }
 {
     let mut instances = Vec::with_capacity(alloc, cells.len())?;
     for (number, cell) in cells.iter().enumerate() {

@@ -21,7 +21,8 @@ use std::alloc::Global;
 
 /// Adds the wires.
 fn add_wires(alloc: Global, decls: &mut Vec<Decl>, widths: &[u8]) -> Result<(), Memory>
-    ensures value { OnOk result (map plain_decl decls.new.items ≡ map plain_decl decls.old.items ++ with_numbers plain.wire_decl widths.now) }
+    ensures value { OnOk result (map plain_decl decls.new.items ≡
+        map plain_decl decls.old.items ++ with_numbers plain.wire_decl widths.now) }
 {
     for (number, width) in widths.iter().enumerate() {
         decls.push(Decl::Wire {
@@ -34,7 +35,8 @@ fn add_wires(alloc: Global, decls: &mut Vec<Decl>, widths: &[u8]) -> Result<(), 
 
 /// The declarations of a component, whose cells have these ports.
 fn decls(alloc: Global, part: &NetComponent, cells: &[CellPorts]) -> Result<Vec<Decl>, Memory>
-    ensures value { IfOk result (λ decls. map plain_decl decls.items ≡ plain.decls_with (plain_net_component part.now) (map plain_cell_ports cells.now)) }
+    ensures value { IfOk result (λ decls. map plain_decl decls.items ≡
+        plain.decls_with (plain_net_component part.now) (map plain_cell_ports cells.now)) }
 {
     let mut decls = Vec::new(alloc);
     add_cell_decls(alloc, &mut decls, cells)?;
@@ -45,7 +47,8 @@ fn decls(alloc: Global, part: &NetComponent, cells: &[CellPorts]) -> Result<Vec<
 
 /// Adds assigns to others.
 fn add_assigns(assigns: &mut Vec<NetAssign>, more: Vec<NetAssign>) -> Result<(), Memory>
-    ensures value { OnOk result (map plain_assign assigns.new.items ≡ map plain_assign assigns.old.items ++ map plain_assign more.items) }
+    ensures value { OnOk result (map plain_assign assigns.new.items ≡
+        map plain_assign assigns.old.items ++ map plain_assign more.items) }
 {
     for assign in more {
         assigns.push(assign)?;
@@ -61,7 +64,8 @@ fn module(
     cells: &[CellPorts],
 ) -> Result<Module, Memory>
     requires fits { PartFits (plain_net_component part.now) (map plain_cell_ports cells.now) }
-    ensures value { IfOk result (λ made. plain_module made ≡ plain.module_with name (plain_net_component part.now) (map plain_cell_ports cells.now)) }
+    ensures value { IfOk result (λ made. plain_module made ≡
+        plain.module_with name (plain_net_component part.now) (map plain_cell_ports cells.now)) }
 {
     let driven = Driven::of(alloc, part, cells)?;
     let mut assigns = Vec::new(alloc);
@@ -88,7 +92,8 @@ pub fn component_module(
 ) -> Result<Module, Memory>
     requires net { CanBeEmitted (plain_net net.now) }
     requires part { slice_get (plain_net net.now).components number ≡ Some (plain_net_component part.now) }
-    ensures value { IfOk result (λ made. plain_module made ≡ plain.component_module (plain_net net.now) number (plain_net_component part.now)) }
+    ensures value { IfOk result (λ made.
+        plain_module made ≡ plain.component_module (plain_net net.now) number (plain_net_component part.now)) }
 {
     let cells = all_cell_ports(alloc, net, &part.cells)?;
     let name = module_name(alloc, net.main(), number)?;

@@ -44,7 +44,8 @@ fn undriven_port(
     port: &ModulePort,
 ) -> Result<Option<NetAssign>, Memory>
     requires wide { IsWidth (plain_port port.now).width }
-    ensures value { IfOk result (λ driven. plain_port_driven driven ≡ port_driven [] cell number (plain_port port.now)) }
+    ensures value { IfOk result
+        (λ driven. plain_port_driven driven ≡ port_driven [] cell number (plain_port port.now)) }
 {
     if port.output {
         return Ok(None);
@@ -62,7 +63,8 @@ fn undriven_ports(
     ports: &[ModulePort],
 ) -> Result<Vec<Option<NetAssign>>, Memory>
     requires wide { All (λ p. IsWidth p.width) (map plain_port ports.now) }
-    ensures value { IfOk result (λ driven. map plain_port_driven driven.items ≡ with_numbers (port_driven [] cell) (map plain_port ports.now)) }
+    ensures value { IfOk result (λ driven.
+        map plain_port_driven driven.items ≡ with_numbers (port_driven [] cell) (map plain_port ports.now)) }
 {
     let mut driven = Vec::with_capacity(alloc, ports.len())?;
     for (number, port) in ports.iter().enumerate() {
@@ -74,7 +76,8 @@ fn undriven_ports(
 /// The same of all cells.
 fn undriven_cells(alloc: Global, cells: &[CellPorts]) -> Result<Vec<Vec<Option<NetAssign>>>, Memory>
     requires wide { All PortsAreWide (map plain_cell_ports cells.now) }
-    ensures value { IfOk result (λ driven. map plain_ports_driven driven.items ≡ with_numbers (cell_driven []) (map plain_cell_ports cells.now)) }
+    ensures value { IfOk result (λ driven.
+        map plain_ports_driven driven.items ≡ with_numbers (cell_driven []) (map plain_cell_ports cells.now)) }
 {
     let mut driven = Vec::with_capacity(alloc, cells.len())?;
     for (number, cell) in cells.iter().enumerate() {
@@ -86,7 +89,8 @@ fn undriven_cells(alloc: Global, cells: &[CellPorts]) -> Result<Vec<Vec<Option<N
 /// An output of the signature is 0 where no driver drives it.
 fn undriven_outputs(alloc: Global, outputs: &[PortDecl]) -> Result<Vec<NetAssign>, Memory>
     requires wide { All (λ d. IsWidth d.width) outputs.now }
-    ensures value { IfOk result (λ driven. map plain_assign driven.items ≡ with_numbers (output_assign []) outputs.now) }
+    ensures value { IfOk result
+        (λ driven. map plain_assign driven.items ≡ with_numbers (output_assign []) outputs.now) }
 {
     let mut driven = Vec::with_capacity(alloc, outputs.len())?;
     for (number, output) in outputs.iter().enumerate() {
@@ -115,7 +119,8 @@ fn undriven_wires(alloc: Global, widths: &[u8]) -> Result<Vec<NetAssign>, Memory
 
 /// A register stays where no driver drives it.
 fn undriven_register(alloc: Global, number: usize) -> Result<NetAssign, Memory>
-    ensures value { IfOk result (λ driven. plain_assign driven ≡ assign (plain_name.register_name number) (Named (plain_name.register_name number))) }
+    ensures value { IfOk result (λ driven. plain_assign driven ≡
+        assign (plain_name.register_name number) (Named (plain_name.register_name number))) }
 {
     Ok(NetAssign {
         name: register_name(alloc, number)?,
@@ -125,7 +130,8 @@ fn undriven_register(alloc: Global, number: usize) -> Result<NetAssign, Memory>
 
 /// The same of all registers.
 fn undriven_registers(alloc: Global, widths: &[u8]) -> Result<Vec<NetAssign>, Memory>
-    ensures value { IfOk result (λ driven. map plain_assign driven.items ≡ with_numbers (register_assign []) widths.now) }
+    ensures value { IfOk result
+        (λ driven. map plain_assign driven.items ≡ with_numbers (register_assign []) widths.now) }
 {
     let mut driven = Vec::with_capacity(alloc, widths.len())?;
     for number in 0..widths.len() {
@@ -157,7 +163,8 @@ fn is_one(guard: &NetExpr) -> bool
 /// A driver before a chain.
 fn before(alloc: Global, driver: &NetDriver, rest: Expr) -> Result<Expr, Memory>
     requires fits { DriverFits (plain_net_driver driver.now) }
-    ensures value { IfOk result (λ chain. plain_expr chain ≡ plain.before (plain_net_driver driver.now) (plain_expr rest)) }
+    ensures value { IfOk result
+        (λ chain. plain_expr chain ≡ plain.before (plain_net_driver driver.now) (plain_expr rest)) }
 {
     let source = expr(alloc, &driver.source)?;
     if is_one(&driver.guard) {
@@ -171,7 +178,8 @@ fn before(alloc: Global, driver: &NetDriver, rest: Expr) -> Result<Expr, Memory>
 /// Puts a driver before the chain of a target.
 fn put(alloc: Global, driven: &mut NetAssign, driver: &NetDriver) -> Result<(), Memory>
     requires fits { DriverFits (plain_net_driver driver.now) }
-    ensures value { OnOk result (plain_assign driven.new ≡ driver_before (plain_net_driver driver.now) (plain_assign driven.old)) }
+    ensures value { OnOk result
+        (plain_assign driven.new ≡ driver_before (plain_net_driver driver.now) (plain_assign driven.old)) }
 {
     let rest = mem::replace(&mut driven.value, zero(1));
     driven.value = before(alloc, driver, rest)?;
@@ -186,7 +194,8 @@ fn put_at(
     driver: &NetDriver,
 ) -> Result<(), Memory>
     requires fits { DriverFits (plain_net_driver driver.now) }
-    ensures value { OnOk result (map plain_assign driven.new ≡ changed_at number (driver_before (plain_net_driver driver.now)) (map plain_assign driven.old)) }
+    ensures value { OnOk result (map plain_assign driven.new ≡
+        changed_at number (driver_before (plain_net_driver driver.now)) (map plain_assign driven.old)) }
 {
     let at = number as usize;
     if at < driven.len() {
@@ -198,7 +207,8 @@ fn put_at(
 /// Puts a driver before the chain of a port, unless it is an output.
 fn put_port(alloc: Global, driven: &mut Option<NetAssign>, driver: &NetDriver) -> Result<(), Memory>
     requires fits { DriverFits (plain_net_driver driver.now) }
-    ensures value { OnOk result (plain_port_driven driven.new ≡ option_map (driver_before (plain_net_driver driver.now)) (plain_port_driven driven.old)) }
+    ensures value { OnOk result (plain_port_driven driven.new ≡
+        option_map (driver_before (plain_net_driver driver.now)) (plain_port_driven driven.old)) }
 {
     match driven {
         Some(driven) => put(alloc, driven, driver),
@@ -214,7 +224,9 @@ fn put_port_at(
     driver: &NetDriver,
 ) -> Result<(), Memory>
     requires fits { DriverFits (plain_net_driver driver.now) }
-    ensures value { OnOk result (map plain_port_driven driven.new.items ≡ changed_at port (option_map (driver_before (plain_net_driver driver.now))) (map plain_port_driven driven.old.items)) }
+    ensures value { OnOk result (map plain_port_driven driven.new.items ≡
+        changed_at port (option_map (driver_before (plain_net_driver driver.now)))
+        (map plain_port_driven driven.old.items)) }
 {
     let at = port as usize;
     if at < driven.len() {
@@ -232,7 +244,9 @@ fn put_cell_at(
     driver: &NetDriver,
 ) -> Result<(), Memory>
     requires fits { DriverFits (plain_net_driver driver.now) }
-    ensures value { OnOk result (map plain_ports_driven driven.new.items ≡ changed_at cell (changed_at port (option_map (driver_before (plain_net_driver driver.now)))) (map plain_ports_driven driven.old.items)) }
+    ensures value { OnOk result (map plain_ports_driven driven.new.items ≡
+        changed_at cell (changed_at port (option_map (driver_before (plain_net_driver driver.now))))
+        (map plain_ports_driven driven.old.items)) }
 {
     let at = cell as usize;
     if at < driven.len() {
@@ -245,7 +259,8 @@ impl Driven {
     /// What drives the targets where no driver does.
     fn undriven(alloc: Global, part: &NetComponent, cells: &[CellPorts]) -> Result<Driven, Memory>
         requires fits { PartFits (plain_net_component part.now) (map plain_cell_ports cells.now) }
-        ensures value { IfOk result (λ driven. plain_driven driven ≡ driven_by (plain_net_component part.now) (map plain_cell_ports cells.now) []) }
+        ensures value { IfOk result (λ driven. plain_driven driven ≡
+            driven_by (plain_net_component part.now) (map plain_cell_ports cells.now) []) }
     {
         Ok(Driven {
             cells: undriven_cells(alloc, cells)?,
@@ -264,7 +279,8 @@ impl Driven {
         driver: &NetDriver,
     ) -> Result<(), Memory>
         requires fits { DriverFits (plain_net_driver driver.now) }
-        ensures value { OnOk result (plain_driven self.new ≡ port_before port (plain_net_driver driver.now) (plain_driven self.old)) }
+        ensures value { OnOk result
+            (plain_driven self.new ≡ port_before port (plain_net_driver driver.now) (plain_driven self.old)) }
     {
         match port {
             PortRef::Cell(cell, port) => put_cell_at(alloc, &mut self.cells, cell, port, driver),
@@ -276,7 +292,9 @@ impl Driven {
     /// Puts a driver before the chain of its target. Nothing looks at a hole.
     fn put_driver(&mut self, alloc: Global, driver: &NetDriver) -> Result<(), Memory>
         requires fits { DriverFits (plain_net_driver driver.now) }
-        ensures value { OnOk result (plain_driven self.new ≡ target_before (plain_net_driver driver.now).target (plain_net_driver driver.now) (plain_driven self.old)) }
+        ensures value { OnOk result (plain_driven self.new ≡
+            target_before (plain_net_driver driver.now).target (plain_net_driver driver.now)
+            (plain_driven self.old)) }
     {
         match driver.target {
             NetTarget::Port(port) => self.put_at_port(alloc, port, driver),
@@ -290,7 +308,9 @@ impl Driven {
     /// What drives the targets of a component, whose cells have these ports.
     pub fn of(alloc: Global, part: &NetComponent, cells: &[CellPorts]) -> Result<Driven, Memory>
         requires fits { PartFits (plain_net_component part.now) (map plain_cell_ports cells.now) }
-        ensures value { IfOk result (λ driven. plain_driven driven ≡ driven_by (plain_net_component part.now) (map plain_cell_ports cells.now) (plain_net_component part.now).drivers) }
+        ensures value { IfOk result (λ driven. plain_driven driven ≡
+            driven_by (plain_net_component part.now) (map plain_cell_ports cells.now)
+            (plain_net_component part.now).drivers) }
     {
         let mut driven = Driven::undriven(alloc, part, cells)?;
         let mut left = part.drivers.len();

@@ -23,7 +23,9 @@ use std::alloc::Global;
 /// Adds the modules of the components in order.
 fn add_components(alloc: Global, net: &Net, modules: &mut Vec<Module>) -> Result<(), Memory>
     requires net { CanBeEmitted (plain_net net.now) }
-    ensures value { OnOk result (plain_modules modules.new.items ≡ plain_modules modules.old.items ++ with_numbers (plain.component_module (plain_net net.now)) (plain_net net.now).components) }
+    ensures value { OnOk result (plain_modules modules.new.items ≡
+        plain_modules modules.old.items
+        ++ with_numbers (plain.component_module (plain_net net.now)) (plain_net net.now).components) }
 {
     for (number, part) in net.components().iter().enumerate() {
         modules.push(component_module(alloc, net, number, part)?)?;
@@ -34,7 +36,8 @@ fn add_components(alloc: Global, net: &Net, modules: &mut Vec<Module>) -> Result
 /// The modules of the primitives, and behind them those of the components.
 fn modules(alloc: Global, net: &Net) -> Result<Vec<Module>, Memory>
     requires net { CanBeEmitted (plain_net net.now) }
-    ensures value { IfOk result (λ modules. plain_modules modules.items ≡ (plain.source_of (plain_net net.now)).modules) }
+    ensures value { IfOk result
+        (λ modules. plain_modules modules.items ≡ (plain.source_of (plain_net net.now)).modules) }
 {
     let mut modules = primitive_modules(alloc, net)?;
     add_components(alloc, net, &mut modules)?;
@@ -45,7 +48,8 @@ fn modules(alloc: Global, net: &Net) -> Result<Vec<Module>, Memory>
 pub fn emit(alloc: Global, net: &Net) -> Result<Source, Memory>
     requires net { CanBeEmitted (plain_net net.now) }
     ensures value { IfOk result (λ source. plain_source source ≡ plain.source_of (plain_net net.now)) }
-    ensures rows { IfOk result (λ source. text.rows_of (plain_source source).externals ≡ rows_of (net_component_at (plain_net net.now) (plain_net net.now).main).cells) }
+    ensures rows { IfOk result (λ source. text.rows_of (plain_source source).externals ≡
+        rows_of (net_component_at (plain_net net.now) (plain_net net.now).main).cells) }
     ensures runs { IfOk result (λ source. RunsAs (plain_net net.now) (plain_source source)) }
 {
     let modules = modules(alloc, net)?;

@@ -111,14 +111,16 @@ fn undeclared_expr(alloc: Global) -> Result<Expr, Memory>
 
 /// Whether all parts are 1.
 fn all(alloc: Global, parts: Vec<Expr>) -> Result<Expr, Memory>
-    ensures value { IfOk result (λ e. plain_expr e ≡ plain.folded Operator.And (plain.literal 1 1) (map plain_expr parts.items)) }
+    ensures value { IfOk result
+        (λ e. plain_expr e ≡ plain.folded Operator.And (plain.literal 1 1) (map plain_expr parts.items)) }
 {
     folded(alloc, Operator::And, literal(1, 1), parts)
 }
 
 /// Whether a part is 1.
 fn any(alloc: Global, parts: Vec<Expr>) -> Result<Expr, Memory>
-    ensures value { IfOk result (λ e. plain_expr e ≡ plain.folded Operator.Or (plain.literal 1 0) (map plain_expr parts.items)) }
+    ensures value { IfOk result
+        (λ e. plain_expr e ≡ plain.folded Operator.Or (plain.literal 1 0) (map plain_expr parts.items)) }
 {
     folded(alloc, Operator::Or, zero(1), parts)
 }
@@ -127,7 +129,8 @@ fn any(alloc: Global, parts: Vec<Expr>) -> Result<Expr, Memory>
 #[cycle(expr)]
 fn exprs(alloc: Global, parts: &[NetExpr]) -> Result<Vec<Expr>, Memory>
     requires fits { AllLiteralsFit (exprs_of (map plain_net_expr parts.now)) }
-    ensures value { IfOk result (λ es. map plain_expr es.items ≡ plain.exprs_to (exprs_of (map plain_net_expr parts.now))) }
+    ensures value { IfOk result
+        (λ es. map plain_expr es.items ≡ plain.exprs_to (exprs_of (map plain_net_expr parts.now))) }
 {
     let mut made = Vec::with_capacity(alloc, parts.len())?;
     for part in parts {

@@ -48,7 +48,8 @@ fn external(alloc: Global, number: usize, cell: &Cell) -> Result<External, Memor
 /// The external cells among cells, in cell order.
 fn external_cells(alloc: Global, cells: &[Cell]) -> Result<Vec<External>, Memory>
     requires words { ExternalsHaveWords (map plain_cell cells.now) }
-    ensures value { IfOk result (λ externals. plain_externals externals.items ≡ lists_from plain.cell_externals 0 (map plain_cell cells.now)) }
+    ensures value { IfOk result (λ externals.
+        plain_externals externals.items ≡ lists_from plain.cell_externals 0 (map plain_cell cells.now)) }
 {
     let mut externals = Vec::new(alloc);
     for (number, cell) in cells.iter().enumerate() {
@@ -62,7 +63,8 @@ fn external_cells(alloc: Global, cells: &[Cell]) -> Result<Vec<External>, Memory
 /// The external cells of `main`.
 pub fn externals(alloc: Global, net: &Net) -> Result<Vec<External>, Memory>
     requires net { CanBeEmitted (plain_net net.now) }
-    ensures value { IfOk result (λ externals. plain_externals externals.items ≡ (plain.source_of (plain_net net.now)).externals) }
+    ensures value { IfOk result
+        (λ externals. plain_externals externals.items ≡ (plain.source_of (plain_net net.now)).externals) }
 {
     match net.components().get(net.main() as usize) {
         Some(main) => external_cells(alloc, &main.cells),

@@ -22,7 +22,8 @@ pub fn binary(alloc: Global, operator: Operator, left: Expr, right: Expr) -> Res
 
 /// Neighbours under an operator.
 fn paired(alloc: Global, operator: Operator, parts: Vec<Expr>) -> Result<Vec<Expr>, Memory>
-    ensures value { IfOk result (λ pairs. map plain_expr pairs.items ≡ plain.paired operator (map plain_expr parts.items)) }
+    ensures value { IfOk result
+        (λ pairs. map plain_expr pairs.items ≡ plain.paired operator (map plain_expr parts.items)) }
 {
     let mut pairs = Vec::with_capacity(alloc, parts.len())?;
     let mut waiting = None;
@@ -48,7 +49,8 @@ fn joined(
     none: Expr,
     mut parts: Vec<Expr>,
 ) -> Result<Expr, Memory>
-    ensures value { IfOk result (λ e. plain_expr e ≡ plain.joined operator (plain_expr none) (map plain_expr parts.items)) }
+    ensures value { IfOk result
+        (λ e. plain_expr e ≡ plain.joined operator (plain_expr none) (map plain_expr parts.items)) }
 {
     let Some(mut whole) = parts.pop() else {
         return Ok(none);
@@ -61,7 +63,9 @@ fn joined(
 
 /// A round: neighbours under an operator, where there is more than one part.
 fn round(alloc: Global, operator: Operator, parts: Vec<Expr>) -> Result<Vec<Expr>, Memory>
-    ensures value { IfOk result (λ pairs. map plain_expr pairs.items ≡ (if nat_lt 1 (length parts.items) then plain.paired operator (map plain_expr parts.items) else map plain_expr parts.items)) }
+    ensures value { IfOk result (λ pairs. map plain_expr pairs.items ≡
+        (if nat_lt 1 (length parts.items) then plain.paired operator (map plain_expr parts.items)
+        else map plain_expr parts.items)) }
 {
     if parts.len() > 1 {
         return paired(alloc, operator, parts);
@@ -76,7 +80,8 @@ fn paired_often(
     operator: Operator,
     mut parts: Vec<Expr>,
 ) -> Result<Vec<Expr>, Memory>
-    ensures value { IfOk result (λ pairs. map plain_expr pairs.items ≡ plain.paired_often plain.rounds operator (map plain_expr parts.items)) }
+    ensures value { IfOk result (λ pairs.
+        map plain_expr pairs.items ≡ plain.paired_often plain.rounds operator (map plain_expr parts.items)) }
 {
     for _ in 0..ROUNDS {
         parts = round(alloc, operator, parts)?;
@@ -91,7 +96,8 @@ pub fn folded(
     none: Expr,
     parts: Vec<Expr>,
 ) -> Result<Expr, Memory>
-    ensures value { IfOk result (λ e. plain_expr e ≡ plain.folded operator (plain_expr none) (map plain_expr parts.items)) }
+    ensures value { IfOk result
+        (λ e. plain_expr e ≡ plain.folded operator (plain_expr none) (map plain_expr parts.items)) }
 {
     let parts = paired_often(alloc, operator, parts)?;
     joined(alloc, operator, none, parts)

@@ -16,7 +16,8 @@ use std::alloc::Global;
 
 /// Adds the declarations of registers.
 pub fn add_registers(alloc: Global, decls: &mut Vec<Decl>, widths: &[u8]) -> Result<(), Memory>
-    ensures value { OnOk result (map plain_decl decls.new.items ≡ map plain_decl decls.old.items ++ with_numbers register_decl widths.now) }
+    ensures value { OnOk result (map plain_decl decls.new.items ≡
+        map plain_decl decls.old.items ++ with_numbers register_decl widths.now) }
 {
     for (number, width) in widths.iter().enumerate() {
         decls.push(Decl::Register {
@@ -56,7 +57,8 @@ fn step(alloc: Global, driven: Vec<NetAssign>) -> Result<Vec<EdgeItem>, Memory>
 /// The edge of a module with registers of these widths, and what drives them.
 pub fn edge(alloc: Global, widths: &[u8], driven: Vec<NetAssign>) -> Result<Option<Edge>, Memory>
     requires wide { All IsWidth widths.now }
-    ensures value { IfOk result (λ edge. option_map plain_edge edge ≡ edge_with widths.now (map plain_assign driven.items)) }
+    ensures value { IfOk result
+        (λ edge. option_map plain_edge edge ≡ edge_with widths.now (map plain_assign driven.items)) }
 {
     if widths.is_empty() {
         return Ok(None);

@@ -32,7 +32,8 @@ pub fn edges_carry()
 /// So the source of a net runs as the net.
 #[tactic(auto, using(crate::proofs::RunLemmas::source_runs_as))]
 pub fn source_runs_as()
-    ensures { (net : PlainNet) → IsFit net → HasNoHoles net → is_sound (source_of net) ≡ true → RunsAs net (source_of net) }
+    ensures { (net : PlainNet) → IsFit net → HasNoHoles net → is_sound (source_of net) ≡ true →
+        RunsAs net (source_of net) }
 {}
 
 /// The source of a net that can be written keeps every rule of a source.

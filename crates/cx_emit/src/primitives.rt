@@ -27,7 +27,8 @@ fn add_primitive(
 ) -> Result<(), Memory>
     requires found { AreFound found.old (plain_modules modules.old.items) }
     ensures found { OnOk result (AreFound found.new (plain_modules modules.new.items)) }
-    ensures value { OnOk result (plain_modules modules.new.items ≡ plain.with_primitives (plain_modules modules.old.items) (primitive.now ∷ [])) }
+    ensures value { OnOk result (plain_modules modules.new.items ≡
+        plain.with_primitives (plain_modules modules.old.items) (primitive.now ∷ [])) }
 {
     let name = primitive_name(alloc, primitive)?;
     if !found.contains(&name) {
@@ -46,7 +47,9 @@ fn add_cells(
 ) -> Result<(), Memory>
     requires found { AreFound found.old (plain_modules modules.old.items) }
     ensures found { OnOk result (AreFound found.new (plain_modules modules.new.items)) }
-    ensures value { OnOk result (plain_modules modules.new.items ≡ plain.with_primitives (plain_modules modules.old.items) (plain.primitives_in (map plain_cell cells.now))) }
+    ensures value { OnOk result (plain_modules modules.new.items ≡
+        plain.with_primitives (plain_modules modules.old.items)
+        (plain.primitives_in (map plain_cell cells.now))) }
 {
     for cell in cells {
         if let CellKind::Prim(primitive) = &cell.kind {
@@ -64,7 +67,9 @@ fn add_components(
     components: &[NetComponent],
 ) -> Result<(), Memory>
     requires found { AreFound found.old (plain_modules modules.old.items) }
-    ensures value { OnOk result (plain_modules modules.new.items ≡ plain.with_primitives (plain_modules modules.old.items) (plain.primitives_among (map plain_net_component components.now))) }
+    ensures value { OnOk result (plain_modules modules.new.items ≡
+        plain.with_primitives (plain_modules modules.old.items)
+        (plain.primitives_among (map plain_net_component components.now))) }
 {
     for part in components {
         add_cells(alloc, found, modules, &part.cells)?;

@@ -35,20 +35,23 @@ pub data HasAnswer (runs : ℕ → Outcome → Type 0) (last : ℕ) : Type 0 whe
 -- THE RUNS ARE THOSE OF MAIN from a state of the design, for all budgets
 pub record RunsAsMain (d : PlainDesign) (s : instances.State) (runs : ℕ → Outcome → Type 0) : Type 0 where
   -- where main ends after some turns, `done` is 1 for the first time in the cycle of that number, with the words of that end
-  pub ends : (budget turns : ℕ) (after : instances.State) → run_from d s budget ≡ End after turns → runs budget (DoneAt turns (words_of (tree_of d) after))
+  pub ends : (budget turns : ℕ) (after : instances.State) → run_from d s budget ≡ End after turns
+      → runs budget (DoneAt turns (words_of (tree_of d) after))
   -- where `done` comes in a cycle, main with as many turns has ended or has a fault
-  pub ends_only : (budget cycle : ℕ) (left : List (List ℕ)) → runs budget (DoneAt cycle left) → run_from d s cycle ≢ More
+  pub ends_only : (budget cycle : ℕ) (left : List (List ℕ)) → runs budget (DoneAt cycle left)
+      → run_from d s cycle ≢ More
   pub never_stuck : (budget : ℕ) → HasAnswer runs budget
 
 -- BEHIND A SCRIPT from a first state: the external memories hold the words of the design's state, and the next run is main from it
-pub record IsAt (d : PlainDesign) (source : PlainSource) (first : State) (stays : List Stay) (s : instances.State) : Type 0 where
+pub record IsAt (d : PlainDesign) (source : PlainSource) (first : State) (stays : List Stay)
+    (s : instances.State) : Type 0 where
   pub now : State
   pub passes : Passes (SourceCycle source) first stays now
   pub words : text.words_of source now ≡ words_of (tree_of d) s
   pub runs : RunsAsMain d s (λ last o. RunsFrom source now 0 last o)
 
--- A SOURCE REALISES A DESIGN ALWAYS: from any power-up state, whatever go is and whatever stands on the nets in the cycle of the edge with reset, it passes
--- every script that the design passes, and is then where the design is
+-- A SOURCE REALISES A DESIGN ALWAYS: from any power-up state, whatever go is and whatever stands on the nets in the
+-- cycle of the edge with reset, it passes every script that the design passes, and is then where the design is
 abbrev pub RealisesAlways : PlainDesign → PlainSource → Type 0
 RealisesAlways d source =
     (memories : List PlainMemory) → FitsRows (external_rows d) memories

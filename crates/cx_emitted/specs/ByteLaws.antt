@@ -42,14 +42,19 @@ PrimitivesAreSmall = (p : PrimitiveRow) (name : List ℕ) → HasRow p → is_na
 
 -- no part of a guard is Always, which stands for an assignment without a guard
 abbrev pub HasGuards : PlainDesign → Type 0
-HasGuards d = (k : ℕ) → k < length d.components → (o : Owned) → In (source_order (component_at d k)) o → HasParts o.assign.guard
+HasGuards d =
+    (k : ℕ) → k < length d.components → (o : Owned) → In (source_order (component_at d k)) o
+    → HasParts o.assign.guard
 
 -- FEW BYTES: 4,096 for each unit of the design's size and 256 for each unit of its weight
 abbrev pub HasFewBytes : PlainDesign → PlainSource → Type 0
 HasFewBytes d source = length (text_of source) ≤ 4096 * design_size d + 256 * weight_of d
 
--- the source that the passes make of an accepted design within the size has few bytes where it is sound, if its guards have such parts and no
--- statement stands within more than 64 static ifs
+-- the source that the passes make of an accepted design within the size has few bytes where it is sound, if its
+-- guards have such parts and no statement stands within more than 64 static ifs
 abbrev pub TextsAreSmall : Type 0
-TextsAreSmall = (d : PlainDesign) → IsDesign d → IsFlat d → IsAccepted d → design_size d ≤ COMPILE_SIZE → HasGuards d → IsShallow d
-    → is_sound (source_of (inlined (net_of (lowered_of d)))) ≡ true → HasFewBytes d (source_of (inlined (net_of (lowered_of d))))
+TextsAreSmall =
+    (d : PlainDesign) → IsDesign d → IsFlat d → IsAccepted d → design_size d ≤ COMPILE_SIZE → HasGuards d
+    → IsShallow d
+    → is_sound (source_of (inlined (net_of (lowered_of d)))) ≡ true
+    → HasFewBytes d (source_of (inlined (net_of (lowered_of d))))

@@ -10,7 +10,8 @@ use Rattle.cx_emitted.specs.Resets.{IsReset}
 -- A POWER-UP STATE: the external memories have the loaded words, and all other arrays zeros. Of registers nothing is said.
 abbrev pub HasPower : PlainSource → List (List ℕ) → State → Type 0
 HasPower source loaded power =
-    (i : ℕ) (name : List ℕ) (index : ℕ) → power.word i name index ≡ loaded_word (instances_of source) source.externals loaded i name index
+    (i : ℕ) (name : List ℕ) (index : ℕ)
+    → power.word i name index ≡ loaded_word (instances_of source) source.externals loaded i name index
 
 -- a cycle of the edge with reset
 abbrev pub held_in_reset : ℕ → State → Moment
@@ -30,10 +31,14 @@ IsNoLoop o = (i k : ℕ) → o ≢ LoopAt i k
 
 -- POWER IS FORGOTTEN: each power-up state leads to what zeros lead to
 abbrev pub PowerIsForgotten : Type 0
-PowerIsForgotten = (source : PlainSource) (loaded : List (List ℕ)) (last : ℕ) (o : Outcome) → IsReset source → SimRun source loaded last o → IsNoLoop o
+PowerIsForgotten =
+    (source : PlainSource) (loaded : List (List ℕ)) (last : ℕ) (o : Outcome) → IsReset source
+    → SimRun source loaded last o → IsNoLoop o
     → (power : State) → HasPower source loaded power → PowerRun source power last o
 
 -- and behind an edge with reset it is a power-up state again
 abbrev pub PowerStays : Type 0
-PowerStays = (source : PlainSource) (loaded : List (List ℕ)) (power : State) (go : ℕ) (look : Look) → HasPower source loaded power
+PowerStays =
+    (source : PlainSource) (loaded : List (List ℕ)) (power : State) (go : ℕ) (look : Look)
+    → HasPower source loaded power
     → HasPower source loaded (after_power source go look power)

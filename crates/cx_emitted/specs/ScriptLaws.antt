@@ -13,5 +13,7 @@ use Rattle.cx_emitted.specs.Always.{RealisesAlways}
 
 -- where it is sound, it realises the design always
 abbrev pub SourcesRealiseAlways : Type 0
-SourcesRealiseAlways = (d : PlainDesign) → IsDesign d → IsFlat d → IsAccepted d → is_sound (source_of (inlined (net_of (lowered_of d)))) ≡ true
+SourcesRealiseAlways =
+    (d : PlainDesign) → IsDesign d → IsFlat d → IsAccepted d
+    → is_sound (source_of (inlined (net_of (lowered_of d)))) ≡ true
     → RealisesAlways d (source_of (inlined (net_of (lowered_of d))))

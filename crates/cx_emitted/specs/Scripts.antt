@@ -15,5 +15,7 @@ pub data Undone {S : Type 0} (cycle : Bool → S → Bool → S → Type 0) : S 
 -- THE CYCLES OF A SCRIPT: done is 0 in each that waits, and of each run it is 1 in the last cycle and in no other
 pub data Passes {S : Type 0} (cycle : Bool → S → Bool → S → Type 0) : S → List Stay → S → Type 0 where
   over : {s : S} → Passes cycle s [] s
-  waits : {s t u : S} {later : List Stay} → cycle false s false t → Passes cycle t later u → Passes cycle s (Wait ∷ later) u
-  runs : {s last t u : S} {turns : ℕ} {later : List Stay} → Undone cycle s turns last → cycle true last true t → Passes cycle t later u → Passes cycle s (Run turns ∷ later) u
+  waits : {s t u : S} {later : List Stay} → cycle false s false t → Passes cycle t later u
+      → Passes cycle s (Wait ∷ later) u
+  runs : {s last t u : S} {turns : ℕ} {later : List Stay} → Undone cycle s turns last
+      → cycle true last true t → Passes cycle t later u → Passes cycle s (Run turns ∷ later) u

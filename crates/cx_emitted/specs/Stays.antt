@@ -16,4 +16,6 @@ run_from d s n = run_control (tree_of d) unheld s n
 pub data Stays (d : PlainDesign) : State → List Stay → State → Type 0 where
   at_once : {s : State} → Stays d s [] s
   after_wait : {s after : State} {later : List Stay} → Stays d s later after → Stays d s (Wait ∷ later) after
-  after_run : {s middle after : State} {turns : ℕ} {later : List Stay} (budget : ℕ) → run_from d s budget ≡ End middle turns → Stays d middle later after → Stays d s (Run turns ∷ later) after
+  after_run : {s middle after : State} {turns : ℕ} {later : List Stay} (budget : ℕ)
+      → run_from d s budget ≡ End middle turns → Stays d middle later after
+      → Stays d s (Run turns ∷ later) after

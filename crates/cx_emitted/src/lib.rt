@@ -1,4 +1,5 @@
-//! What holds of the Verilog that the passes emit of a design: its runs from any power-up state, scripts of waiting and running, and its bytes.
+//! What holds of the Verilog that the passes emit of a design: its runs from any power-up state, scripts of waiting
+//! and running, and its bytes.
 #![tactic(auto)]
 
 pub mod byte_laws;

@@ -4,8 +4,9 @@ ghost use Rattle.cx_emitted.specs.ScriptLaws.{SourcesRealiseAlways};
 
 use cx_control::laws::instances_keep_rules;
 
-/// From any power-up state the source of an accepted design without static components passes every script of waiting and running that the design
-/// passes, and behind it holds the words of the design's state and runs as `main` from there.
+/// From any power-up state the source of an accepted design without static components passes every script of waiting
+/// and running that the design passes, and behind it holds the words of the design's state and runs as `main` from
+/// there.
 pub fn sources_realise_always()
     ensures { SourcesRealiseAlways }
 {

@@ -13,7 +13,9 @@ use Rattle.cx_eval_cycle.specs.Steps.{AreGathered, HoldFitting, after_room}
 
 -- the first fault among the listed cells of the asked instance, by what its ports are seen as; where there is none, the rooms of
 -- these cells have what stands at their ports
-pub record IsFirst (a : Asked) (cells : List PlainCell) (kept : List (Option SteppingCell)) (held : List (Option CellState)) (listed : List ℕ) (rooms : List CellRoom) (first : Option CellFault) : Type 0 where
+pub record IsFirst (a : Asked) (cells : List PlainCell) (kept : List (Option SteppingCell))
+    (held : List (Option CellState)) (listed : List ℕ) (rooms : List CellRoom)
+    (first : Option CellFault) : Type 0 where
   pub value : first ≡ first_among (fault_of (seen_at a a.instance) cells held) listed
   pub gathered : first ≡ None → AreGathered (listed_in listed) (seen_at a a.instance) kept held rooms
 
@@ -22,7 +24,8 @@ abbrev pub with_cells : List PlainInstance → ℕ → List (Option CellState) �
 with_cells rows n cells = set rows n (record { cells = cells; held = (instance_state rows n).held })
 
 -- they have made their steps with what stands in their rooms
-pub record HaveStepped (kept : List (Option SteppingCell)) (rooms : List CellRoom) (n : ℕ) (listed : Set) (old new : List PlainInstance) : Type 0 where
+pub record HaveStepped (kept : List (Option SteppingCell)) (rooms : List CellRoom) (n : ℕ) (listed : Set)
+    (old new : List PlainInstance) : Type 0 where
   pub cells : List (Option CellState)
   pub rows : new ≡ with_cells old n cells
   pub steps : AreStepped listed (after_room kept rooms) (instance_state old n).cells cells

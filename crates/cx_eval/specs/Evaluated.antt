@@ -38,7 +38,8 @@ IsPort d n port = (path : Path) → IsNumber d n path → IsThere (instance_at (
 abbrev pub IsSeen : PlainDesign → List PlainInstance → ℕ → Active → PortRef → Seen → Type 0
 IsSeen d rows n active port x =
     (path : Path) (s : State) → IsNumber d n path → StandsFor (tree_of d) rows s
-    → x ≡ seen (instance_at (tree_of d) path) (inputs_held rows n) (plain_active (instance_at (tree_of d) path) active) (under_path path s) port
+    → x ≡ seen (instance_at (tree_of d) path) (inputs_held rows n)
+    (plain_active (instance_at (tree_of d) path) active) (under_path path s) port
 
 -- a fault of the instance at a path, from main on
 abbrev pub fault_along : Path → Fault → Fault
@@ -49,16 +50,21 @@ abbrev pub HeldAlike : List PlainInstance → List PlainInstance → Type 0
 HeldAlike old new = (n input : ℕ) → inputs_held new n input ≡ inputs_held old n input
 
 -- a cycle that goes on leaves its state at the path, and nothing else changes; a fault is told, and leaves the rows
-abbrev pub EndsAs : PlainDesign → Path → State → List PlainInstance → List PlainInstance → Result (Unit {0}) PortFault → Ended → Type 0
+abbrev pub EndsAs : PlainDesign → Path → State → List PlainInstance → List PlainInstance
+    → Result (Unit {0}) PortFault → Ended → Type 0
 EndsAs d path s old new result (Goes after) =
     ((told : PortFault) → result ≡ Err told → ⊥) × StandsFor (tree_of d) new (put_path path after s) × HeldAlike old new
-EndsAs d path s old new result (Faults fault) = (told : PortFault) × (result ≡ Err told) × TellsFault (tree_of d) (fault_along path fault) told × (new ≡ old)
+EndsAs d path s old new result (Faults fault) =
+    (told : PortFault) × (result ≡ Err told) × TellsFault (tree_of d) (fault_along path fault) told
+    × (new ≡ old)
 
 -- A CYCLE OF AN INSTANCE, in every state that the rows stand for
-abbrev pub Cycled : PlainDesign → List PlainInstance → List PlainInstance → ℕ → Active → Set → Result (Unit {0}) PortFault → Type 0
+abbrev pub Cycled : PlainDesign → List PlainInstance → List PlainInstance → ℕ → Active → Set
+    → Result (Unit {0}) PortFault → Type 0
 Cycled d old new n active listed result =
     (path : Path) (s : State) → IsNumber d n path → StandsFor (tree_of d) old s
-    → EndsAs d path s old new result (cycle_of (instance_at (tree_of d) path) (inputs_held old n) (plain_active (instance_at (tree_of d) path) active) listed (under_path path s))
+    → EndsAs d path s old new result (cycle_of (instance_at (tree_of d) path) (inputs_held old n)
+    (plain_active (instance_at (tree_of d) path) active) listed (under_path path s))
 
 -- A TURN OF A GROUP: its done hole is seen as something else than 0 under the group, and nothing changes
 pub record IsSeenAlone (d : PlainDesign) (old new : List PlainInstance) (n group : ℕ) (hole : Seen) : Type 0 where
@@ -67,7 +73,8 @@ pub record IsSeenAlone (d : PlainDesign) (old new : List PlainInstance) (n group
   pub same : new ≡ old
 
 -- or it is seen as 0, and the listed cells have a cycle under the group
-pub record HasCycled (d : PlainDesign) (old new : List PlainInstance) (n group : ℕ) (listed : Set) (result : Result (Unit {0}) PortFault) : Type 0 where
+pub record HasCycled (d : PlainDesign) (old new : List PlainInstance) (n group : ℕ) (listed : Set)
+    (result : Result (Unit {0}) PortFault) : Type 0 where
   pub hole : Seen
   pub seen : IsSeen d old n (Group group) (ports.Done group) hole
   pub zero : truth_of hole ≡ Zero

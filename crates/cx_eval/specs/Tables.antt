@@ -29,7 +29,8 @@ design_of t = plain_design t.design.now
 -- the cells of each component that can step
 pub record AreSteppingParts (d : PlainDesign) (parts : List SteppingCells) : Type 0 where
   pub count : length parts ≡ length d.components
-  pub each : (k : ℕ) (part : SteppingCells) → slice_get parts k ≡ Some part → AreSteppingCells (component_at d k).cells part
+  pub each : (k : ℕ) (part : SteppingCells) → slice_get parts k ≡ Some part
+      → AreSteppingCells (component_at d k).cells part
 
 -- the tables are those of an accepted design without static components
 pub record AreTables (t : Tables) : Type 0 where
@@ -53,7 +54,8 @@ abbrev pub AreMarksOf : Tables → List NodeMark → Type 0
 AreMarksOf t marks = length marks ≡ node_count (design_of t) t.table.rows.items
 
 -- and all that is known is right where an instance is asked
-pub record AreReady (t : Tables) (rows : List PlainInstance) (n : ℕ) (active : Active) (marks : List NodeMark) : Type 0 where
+pub record AreReady (t : Tables) (rows : List PlainInstance) (n : ℕ) (active : Active)
+    (marks : List NodeMark) : Type 0 where
   pub count : AreMarksOf t marks
   pub ready : Ready (value_in t rows n active) marks
 
@@ -72,7 +74,8 @@ kept_of t n = kept_in (slice_get t.parts.items (row_at t.table.rows.items n).com
 -- room for a look at each cell of each component that can step
 pub record HaveAllRooms (parts : List SteppingCells) (rooms : List (List CellRoom)) : Type 0 where
   pub count : length rooms ≡ length parts
-  pub each : (k : ℕ) (part : SteppingCells) (own : List CellRoom) → slice_get parts k ≡ Some part → slice_get rooms k ≡ Some own → HaveRooms part.cells.items own
+  pub each : (k : ℕ) (part : SteppingCells) (own : List CellRoom) → slice_get parts k ≡ Some part
+      → slice_get rooms k ≡ Some own → HaveRooms part.cells.items own
 
 abbrev pub AreRooms : {A : Type 0} → Tables → List (Vec CellRoom A) → Type 0
 AreRooms t rooms = HaveAllRooms t.parts.items (map (λ own. own.items) rooms)

@@ -36,7 +36,9 @@ fn fault_in(
     requires active { CanAct (design_of tables.now) instance active.now }
     requires ready { AreReady tables.now (plain_state state.now) instance active.now marks.old }
     requires rooms { HaveRooms (kept_of tables.now instance) rooms.old }
-    ensures first { IsFirst (asked_in tables.now (plain_state state.now) instance active.now) (cells_at tables.now instance) (kept_of tables.now instance) (instance_state (plain_state state.now) instance).cells listed.now rooms.new result }
+    ensures first { IsFirst (asked_in tables.now (plain_state state.now) instance active.now)
+        (cells_at tables.now instance) (kept_of tables.now instance)
+        (instance_state (plain_state state.now) instance).cells listed.now rooms.new result }
     ensures rooms { HaveRooms (kept_of tables.now instance) rooms.new }
     ensures count { AreMarksOf tables.now marks.new }
 {
@@ -49,7 +51,8 @@ fn fault_in(
 /// The fault of a cell of an instance, as it is told.
 fn told(fault: CellFault, instance: usize) -> PortFault
     requires few { instance < 2 ^ 32 }
-    ensures value { result ≡ record { kind = fault.stop.kind; instance = instance; port = Cell fault.cell fault.stop.port } }
+    ensures value { result ≡
+        record { kind = fault.stop.kind; instance = instance; port = Cell fault.cell fault.stop.port } }
 {
     PortFault {
         kind: fault.stop.kind,
@@ -75,7 +78,8 @@ fn cycle_in(
     requires ready { AreReady tables.now (plain_state state.old) instance active.now marks.old }
     requires rooms { HaveRooms (kept_of tables.now instance) rooms.old }
     requires ascending { IsAscending listed.now }
-    ensures value { Cycled (design_of tables.now) (plain_state state.old) (plain_state state.new) instance active.now (listed_in listed.now) result }
+    ensures value { Cycled (design_of tables.now) (plain_state state.old)
+        (plain_state state.new) instance active.now (listed_in listed.now) result }
     ensures fits { IsStateOf (design_of tables.now) (plain_state state.new) }
     ensures rooms { HaveRooms (kept_of tables.now instance) rooms.new }
     ensures count { AreMarksOf tables.now marks.new }
@@ -104,7 +108,8 @@ pub(crate) fn cycle_listed(
     requires ready { AreReady tables.now (plain_state state.old) instance active.now marks.old }
     requires rooms { AreRooms tables.now rooms.old }
     requires ascending { IsAscending listed.now }
-    ensures value { Cycled (design_of tables.now) (plain_state state.old) (plain_state state.new) instance active.now (listed_in listed.now) result }
+    ensures value { Cycled (design_of tables.now) (plain_state state.old)
+        (plain_state state.new) instance active.now (listed_in listed.now) result }
     ensures fits { IsStateOf (design_of tables.now) (plain_state state.new) }
     ensures rooms { AreRooms tables.now rooms.new }
     ensures count { AreMarksOf tables.now marks.new }
@@ -160,7 +165,8 @@ pub(crate) fn cycle_anew(
     requires ready { AreReady tables.now (plain_state state.old) instance active.now marks.old }
     requires rooms { AreRooms tables.now rooms.old }
     requires ascending { IsAscending listed.now }
-    ensures value { Cycled (design_of tables.now) (plain_state state.old) (plain_state state.new) instance active.now (listed_in listed.now) result }
+    ensures value { Cycled (design_of tables.now) (plain_state state.old)
+        (plain_state state.new) instance active.now (listed_in listed.now) result }
     ensures fits { IsStateOf (design_of tables.now) (plain_state state.new) }
     ensures rooms { AreRooms tables.now rooms.new }
     ensures count { AreMarksOf tables.now marks.new }
@@ -186,7 +192,8 @@ pub(crate) fn cycle_all(
     requires active { CanAct (design_of tables.now) instance active.now }
     requires ready { AreReady tables.now (plain_state state.old) instance active.now marks.old }
     requires rooms { AreRooms tables.now rooms.old }
-    ensures value { Cycled (design_of tables.now) (plain_state state.old) (plain_state state.new) instance active.now every_cell result }
+    ensures value { Cycled (design_of tables.now) (plain_state state.old)
+        (plain_state state.new) instance active.now every_cell result }
     ensures fits { IsStateOf (design_of tables.now) (plain_state state.new) }
     ensures rooms { AreRooms tables.now rooms.new }
     ensures count { AreMarksOf tables.now marks.new }

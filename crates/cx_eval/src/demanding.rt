@@ -29,7 +29,8 @@ pub fn demand_port(
     port: PortRef,
 ) -> Seen
     requires can { IsAsking asking.now }
-    requires own { ArePortsOf (plain_design asking.now.design.now) asking.now.table.now.rows.items asking.now.instance ports }
+    requires own { ArePortsOf
+        (plain_design asking.now.design.now) asking.now.table.now.rows.items asking.now.instance ports }
     requires ready { CanDemand asking.now marks.old }
     requires port { IsPort (plain_design asking.now.design.now) asking.now.instance port }
     ensures value { result ≡ seen_look asking.now port }

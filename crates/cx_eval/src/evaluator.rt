@@ -88,7 +88,8 @@ impl<'a> Evaluator<'a> {
         requires state { IsStateOf (plain_design self.old) (plain_state state.old) }
         requires instance { instance < length (paths_of (tree_of (plain_design self.old))) }
         requires active { CanAct (plain_design self.old) instance active.now }
-        ensures value { Cycled (plain_design self.old) (plain_state state.old) (plain_state state.new) instance active.now every_cell result }
+        ensures value { Cycled (plain_design self.old) (plain_state state.old)
+            (plain_state state.new) instance active.now every_cell result }
         ensures fits { IsStateOf (plain_design self.old) (plain_state state.new) }
         ensures same { self.new ≡ self.old }
     {
@@ -115,7 +116,8 @@ impl<'a> Evaluator<'a> {
         requires instance { instance < length (paths_of (tree_of (plain_design self.old))) }
         requires active { CanAct (plain_design self.old) instance active.now }
         requires ascending { IsAscending cells.now }
-        ensures value { Cycled (plain_design self.old) (plain_state state.old) (plain_state state.new) instance active.now (listed_in cells.now) result }
+        ensures value { Cycled (plain_design self.old) (plain_state state.old)
+            (plain_state state.new) instance active.now (listed_in cells.now) result }
         ensures fits { IsStateOf (plain_design self.old) (plain_state state.new) }
         ensures same { self.new ≡ self.old }
     {
@@ -145,7 +147,8 @@ impl<'a> Evaluator<'a> {
         requires active { CanAct (plain_design self.old) instance (Group group) }
         requires port { IsPort (plain_design self.old) instance (Done group) }
         requires ascending { IsAscending cells.now }
-        ensures value { Turned (plain_design self.old) (plain_state state.old) (plain_state state.new) instance group (listed_in cells.now) result }
+        ensures value { Turned (plain_design self.old) (plain_state state.old)
+            (plain_state state.new) instance group (listed_in cells.now) result }
         ensures fits { IsStateOf (plain_design self.old) (plain_state state.new) }
         ensures same { self.new ≡ self.old }
     {

@@ -47,15 +47,18 @@ fn fault_of(
     cell: usize,
 ) -> Option<CellFault>
     requires can { IsAsking asking.now }
-    requires own { ArePortsOf (plain_design asking.now.design.now) asking.now.table.now.rows.items asking.now.instance ports }
+    requires own { ArePortsOf
+        (plain_design asking.now.design.now) asking.now.table.now.rows.items asking.now.instance ports }
     requires ready { CanDemand asking.now marks.old }
     requires cells { AreStepping (own_cells asking.now) cells.now }
     requires rooms { HaveRooms cells.now rooms.old }
     requires held { held.now ≡ looked.own_held asking.now }
-    ensures value { result ≡ passes.fault_of (seen_look asking.now) (own_cells asking.now) (looked.own_held asking.now) cell }
+    ensures value { result ≡
+        passes.fault_of (seen_look asking.now) (own_cells asking.now) (looked.own_held asking.now) cell }
     ensures ready { CanDemand asking.now marks.new }
     ensures rooms { HaveRooms cells.now rooms.new }
-    ensures gathered { IfNone result (IsGatheredAt (seen_look asking.now) cells.now (looked.own_held asking.now) rooms.new cell) }
+    ensures gathered { IfNone result
+        (IsGatheredAt (seen_look asking.now) cells.now (looked.own_held asking.now) rooms.new cell) }
     ensures others { (c : ℕ) → c ≢ cell → inputs_at rooms.new c ≡ inputs_at rooms.old c }
 {
     let Some(stepping) = stepping_at(cells, cell) else {
@@ -90,14 +93,17 @@ pub fn first_fault(
     listed: &[u32],
 ) -> Option<CellFault>
     requires can { IsAsking asking.now }
-    requires own { ArePortsOf (plain_design asking.now.design.now) asking.now.table.now.rows.items asking.now.instance ports }
+    requires own { ArePortsOf
+        (plain_design asking.now.design.now) asking.now.table.now.rows.items asking.now.instance ports }
     requires ready { CanDemand asking.now marks.old }
     requires cells { AreStepping (own_cells asking.now) cells.now }
     requires rooms { HaveRooms cells.now rooms.old }
-    ensures value { result ≡ first_among (passes.fault_of (seen_look asking.now) (own_cells asking.now) (looked.own_held asking.now)) listed.now }
+    ensures value { result ≡ first_among (passes.fault_of (seen_look asking.now) (own_cells asking.now)
+        (looked.own_held asking.now)) listed.now }
     ensures ready { CanDemand asking.now marks.new }
     ensures rooms { HaveRooms cells.now rooms.new }
-    ensures gathered { IfNone result (AreGathered (listed_in listed.now) (seen_look asking.now) cells.now (looked.own_held asking.now) rooms.new) }
+    ensures gathered { IfNone result (AreGathered (listed_in listed.now) (seen_look asking.now) cells.now
+        (looked.own_held asking.now) rooms.new) }
 {
     let held = own_held(asking);
     for number in 0..listed.len() {

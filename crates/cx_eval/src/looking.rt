@@ -30,8 +30,10 @@ use cx_prim::Cycle;
 /// The node of the first port of a cell, from which on those of its ports stand; 0 for a cell that has no port.
 fn first_node(asking: &Asking<'_>, ports: InstancePorts<'_>, cell: u32) -> usize
     requires can { IsAsking asking.now }
-    requires own { ArePortsOf (plain_design asking.now.design.now) asking.now.table.now.rows.items asking.now.instance ports }
-    ensures value { (p : PrimitiveRow) → kind_at (own_cells asking.now) cell ≡ Some (OfPrimitive p) → StandFrom asking.now cell (row_of p).ports result }
+    requires own { ArePortsOf
+        (plain_design asking.now.design.now) asking.now.table.now.rows.items asking.now.instance ports }
+    ensures value { (p : PrimitiveRow) → kind_at (own_cells asking.now) cell ≡ Some (OfPrimitive p) →
+        StandFrom asking.now cell (row_of p).ports result }
 {
     seen_ports_are_wide();
     match ports.node(PortRef::Cell(cell, 0)) {
@@ -57,7 +59,8 @@ fn demand_at(
     ensures stands { IfOk result (StandsAs (seen_from asking.now first) inputs.new port) }
     ensures lacks { IfErr result (IsLack (seen_from asking.now first) port) }
     ensures kept { KeepStanding (seen_from asking.now first) inputs.old inputs.new }
-    ensures fits { (ports : List PortRow) → AreWide (seen_from asking.now first) ports → FitsPorts ports inputs.old → FitsPorts ports inputs.new }
+    ensures fits { (ports : List PortRow) → AreWide (seen_from asking.now first) ports →
+        FitsPorts ports inputs.old → FitsPorts ports inputs.new }
     ensures ready { CanDemand asking.now marks.new }
 {
     let number = port as u32;
@@ -84,9 +87,12 @@ fn demand_enabling(
     requires nodes { HaveNodes asking.now (row_of stepping.now.primitive.now).ports first }
     requires stepping { IsStepping stepping.now.primitive.now stepping.now }
     requires fits { FitsPorts (row_of stepping.now.primitive.now).ports inputs.old }
-    ensures stand { OnOk result (AllStand (seen_from asking.now first) (enables (row_of stepping.now.primitive.now)) (length (row_of stepping.now.primitive.now).ports) inputs.new) }
+    ensures stand { OnOk result (AllStand (seen_from asking.now first)
+        (enables (row_of stepping.now.primitive.now))
+        (length (row_of stepping.now.primitive.now).ports) inputs.new) }
     ensures quiet { IfOk result (λ quiet. quiet ≡ true → IsQuiet (row_of stepping.now.primitive.now) inputs.new) }
-    ensures stops { IfErr result (StopsAt (seen_from asking.now first) (enables (row_of stepping.now.primitive.now)) (length (row_of stepping.now.primitive.now).ports)) }
+    ensures stops { IfErr result (StopsAt (seen_from asking.now first)
+        (enables (row_of stepping.now.primitive.now)) (length (row_of stepping.now.primitive.now).ports)) }
     ensures fits { FitsPorts (row_of stepping.now.primitive.now).ports inputs.new }
     ensures ready { CanDemand asking.now marks.new }
 {
@@ -115,9 +121,11 @@ fn demand_asked(
     requires state { IsState (row_of stepping.now.primitive.now).shape state.now }
     requires within { port < length (row_of stepping.now.primitive.now).ports }
     requires fits { FitsPorts (row_of stepping.now.primitive.now).ports inputs.old }
-    ensures stands { OnOk result ((row_of stepping.now.primitive.now).demands state.now inputs.old port ≡ true → Stands (seen_from asking.now first) inputs.new port) }
+    ensures stands { OnOk result ((row_of stepping.now.primitive.now).demands state.now inputs.old port ≡
+        true → Stands (seen_from asking.now first) inputs.new port) }
     ensures lacks { IfErr result (IsLack (seen_from asking.now first) port) }
-    ensures asked { IfErr result (λ stop. (row_of stepping.now.primitive.now).demands state.now inputs.old port ≡ true) }
+    ensures asked { IfErr result
+        (λ stop. (row_of stepping.now.primitive.now).demands state.now inputs.old port ≡ true) }
     ensures kept { KeepStanding (seen_from asking.now first) inputs.old inputs.new }
     ensures fits { FitsPorts (row_of stepping.now.primitive.now).ports inputs.new }
     ensures ready { CanDemand asking.now marks.new }
@@ -143,9 +151,15 @@ fn demand_plain(
     requires stepping { IsStepping stepping.now.primitive.now stepping.now }
     requires state { IsState (row_of stepping.now.primitive.now).shape state.now }
     requires fits { FitsPorts (row_of stepping.now.primitive.now).ports inputs.old }
-    requires enabling { AllStand (seen_from asking.now first) (enables (row_of stepping.now.primitive.now)) (length (row_of stepping.now.primitive.now).ports) inputs.old }
-    ensures stand { OnOk result (AllStand (seen_from asking.now first) (looks_at (row_of stepping.now.primitive.now) state.now inputs.old) (length (row_of stepping.now.primitive.now).ports) inputs.new) }
-    ensures stops { IfErr result (StopsAt (seen_from asking.now first) (looks_at (row_of stepping.now.primitive.now) state.now inputs.old) (length (row_of stepping.now.primitive.now).ports)) }
+    requires enabling { AllStand (seen_from asking.now first)
+        (enables (row_of stepping.now.primitive.now))
+        (length (row_of stepping.now.primitive.now).ports) inputs.old }
+    ensures stand { OnOk result (AllStand (seen_from asking.now first)
+        (looks_at (row_of stepping.now.primitive.now) state.now inputs.old)
+        (length (row_of stepping.now.primitive.now).ports) inputs.new) }
+    ensures stops { IfErr result (StopsAt (seen_from asking.now first)
+        (looks_at (row_of stepping.now.primitive.now) state.now inputs.old)
+        (length (row_of stepping.now.primitive.now).ports)) }
     ensures fits { FitsPorts (row_of stepping.now.primitive.now).ports inputs.new }
     ensures ready { CanDemand asking.now marks.new }
 {
@@ -168,13 +182,15 @@ fn look_at(
     inputs: &mut [Option<Bits>],
 ) -> Result<(), CellStop>
     requires can { IsAsking asking.now }
-    requires own { ArePortsOf (plain_design asking.now.design.now) asking.now.table.now.rows.items asking.now.instance ports }
+    requires own { ArePortsOf
+        (plain_design asking.now.design.now) asking.now.table.now.rows.items asking.now.instance ports }
     requires ready { CanDemand asking.now marks.old }
     requires cell { kind_at (own_cells asking.now) cell ≡ Some (OfPrimitive stepping.now.primitive.now) }
     requires stepping { IsStepping stepping.now.primitive.now stepping.now }
     requires state { IsState (row_of stepping.now.primitive.now).shape state.now }
     requires fits { FitsPorts (row_of stepping.now.primitive.now).ports inputs.old }
-    ensures value { told (row_of stepping.now.primitive.now) state.now result inputs.new ≡ cell_outcome (seen_look asking.now) cell (row_of stepping.now.primitive.now) state.now }
+    ensures value { told (row_of stepping.now.primitive.now) state.now result inputs.new ≡
+        cell_outcome (seen_look asking.now) cell (row_of stepping.now.primitive.now) state.now }
     ensures looked_at { OnOk result (IsLookedAt (row_of stepping.now.primitive.now) state.now inputs.new) }
     ensures fits { FitsPorts (row_of stepping.now.primitive.now).ports inputs.new }
     ensures ready { CanDemand asking.now marks.new }
@@ -205,13 +221,15 @@ pub fn look_in(
     room: &mut CellRoom,
 ) -> Result<(), CellStop>
     requires can { IsAsking asking.now }
-    requires own { ArePortsOf (plain_design asking.now.design.now) asking.now.table.now.rows.items asking.now.instance ports }
+    requires own { ArePortsOf
+        (plain_design asking.now.design.now) asking.now.table.now.rows.items asking.now.instance ports }
     requires ready { CanDemand asking.now marks.old }
     requires cell { kind_at (own_cells asking.now) cell ≡ Some (OfPrimitive stepping.now.primitive.now) }
     requires stepping { IsStepping stepping.now.primitive.now stepping.now }
     requires state { IsState (row_of stepping.now.primitive.now).shape state.now }
     requires room { HasRoom (row_of stepping.now.primitive.now).ports room.old }
-    ensures value { told (row_of stepping.now.primitive.now) state.now result room.new.inputs.items ≡ cell_outcome (seen_look asking.now) cell (row_of stepping.now.primitive.now) state.now }
+    ensures value { told (row_of stepping.now.primitive.now) state.now result room.new.inputs.items ≡
+        cell_outcome (seen_look asking.now) cell (row_of stepping.now.primitive.now) state.now }
     ensures looked_at { OnOk result (IsLookedAt (row_of stepping.now.primitive.now) state.now room.new.inputs.items) }
     ensures ready { CanDemand asking.now marks.new }
     ensures room { HasRoom (row_of stepping.now.primitive.now).ports room.new }

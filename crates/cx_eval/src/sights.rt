@@ -18,7 +18,8 @@ use cx_state::State;
 /// The ports of the asked instance.
 pub(crate) fn own_ports<'b>(asking: &Asking<'b>) -> InstancePorts<'b>
     requires can { IsAsking asking.now }
-    ensures own { ArePortsOf (plain_design asking.now.design.now) asking.now.table.now.rows.items asking.now.instance result }
+    ensures own { ArePortsOf
+        (plain_design asking.now.design.now) asking.now.table.now.rows.items asking.now.instance result }
 {
     asking
         .nodes

@@ -26,8 +26,11 @@ pub(crate) fn step_in(
     requires instance { instance < length (paths_of (tree_of (design_of tables.now))) }
     requires rooms { HaveRooms (kept_of tables.now instance) rooms.now }
     requires ascending { IsAscending listed.now }
-    requires can { (c : ℕ) → listed_in listed.now c ≡ true → CanStepAt (kept_of tables.now instance) rooms.now c (cell_held (instance_state (plain_state state.old) instance).cells c) }
-    ensures stepped { HaveStepped (kept_of tables.now instance) rooms.now instance (listed_in listed.now) (plain_state state.old) (plain_state state.new) }
+    requires can { (c : ℕ) → listed_in listed.now c ≡ true →
+        CanStepAt (kept_of tables.now instance) rooms.now c
+        (cell_held (instance_state (plain_state state.old) instance).cells c) }
+    ensures stepped { HaveStepped (kept_of tables.now instance) rooms.now instance (listed_in listed.now)
+        (plain_state state.old) (plain_state state.new) }
 {
     let stepping = stepping_of(tables, instance);
     let own = &mut state.instances[instance];

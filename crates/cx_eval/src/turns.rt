@@ -55,7 +55,8 @@ pub(crate) fn turn_in(
     requires ready { AreReady tables.now (plain_state state.old) instance (Group group) marks.old }
     requires rooms { AreRooms tables.now rooms.old }
     requires ascending { IsAscending cells.now }
-    ensures value { Turned (design_of tables.now) (plain_state state.old) (plain_state state.new) instance group (listed_in cells.now) result }
+    ensures value { Turned (design_of tables.now) (plain_state state.old)
+        (plain_state state.new) instance group (listed_in cells.now) result }
     ensures fits { IsStateOf (design_of tables.now) (plain_state state.new) }
     ensures rooms { AreRooms tables.now rooms.new }
     ensures sized { AreMarksOf tables.now marks.new }

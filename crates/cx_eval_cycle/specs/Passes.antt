@@ -28,7 +28,9 @@ after_kind look c (Some (OfPrimitive p)) (Some d) = Some (stepped d (cell_outcom
 after_kind look c _ h = h
 
 abbrev pub fault_of : Look → List PlainCell → List (Option CellState) → ℕ → Option CellFault
-fault_of look cells held c = option_map (λ stop. record { cell = c; stop = stop }) (stop_of_kind look c (kind_at cells c) (cell_held held c))
+fault_of look cells held c =
+    option_map (λ stop. record { cell = c; stop = stop })
+    (stop_of_kind look c (kind_at cells c) (cell_held held c))
 
 abbrev pub after_of : Look → List PlainCell → ℕ → Option CellState → Option CellState
 after_of look cells c held = after_kind look c (kind_at cells c) held
@@ -47,8 +49,10 @@ listed_in [] c = false
 listed_in (x ∷ xs) c = nat_eq x c || listed_in xs c
 
 -- each cell of the set holds what it comes to, by what it held, and each other one what it held
-abbrev pub AreStepped : Set → (ℕ → Option CellState → Option CellState) → List (Option CellState) → List (Option CellState) → Type 0
-AreStepped listed after old new = (c : ℕ) → cell_held new c ≡ (if listed c then after c (cell_held old c) else cell_held old c)
+abbrev pub AreStepped : Set → (ℕ → Option CellState → Option CellState) → List (Option CellState)
+    → List (Option CellState) → Type 0
+AreStepped listed after old new =
+    (c : ℕ) → cell_held new c ≡ (if listed c then after c (cell_held old c) else cell_held old c)
 
 -- each number is greater than the one before
 abbrev pub IsAscending : List ℕ → Type 0
@@ -56,13 +60,17 @@ IsAscending cells = (k m n : ℕ) → slice_get cells k ≡ Some m → slice_get
 
 -- each primitive holds what a state says
 abbrev pub HeldAt : List PlainCell → List (Option CellState) → State → Type 0
-HeldAt cells held s = (c : ℕ) (p : PrimitiveRow) → kind_at cells c ≡ Some (OfPrimitive p) → cell_held held c ≡ Some (s (c ∷ []))
+HeldAt cells held s =
+    (c : ℕ) (p : PrimitiveRow) → kind_at cells c ≡ Some (OfPrimitive p)
+    → cell_held held c ≡ Some (s (c ∷ []))
 
 abbrev pub told_fault : CellFault → Fault
 told_fault f = fault_at f.stop.kind (Cell f.cell f.stop.port)
 
--- a cycle of cells that hold what a state says ends as it does in cx_meaning: the cells hold the next state, or its fault is told and nothing changes
-abbrev pub EndsSo : List PlainCell → List (Option CellState) → List (Option CellState) → Result (Unit {0}) CellFault → Ended → Type 0
+-- a cycle of cells that hold what a state says ends as it does in cx_meaning: the cells hold the next state, or its
+-- fault is told and nothing changes
+abbrev pub EndsSo : List PlainCell → List (Option CellState) → List (Option CellState)
+    → Result (Unit {0}) CellFault → Ended → Type 0
 EndsSo cells old new (Ok done) (Goes after) = HeldAt cells new after
 EndsSo cells old new (Ok done) (Faults fault) = ⊥
 EndsSo cells old new (Err told) (Goes after) = ⊥

@@ -26,7 +26,8 @@ enable_of _ = 0
 -- the numbers are the width, the sizes, and the address widths
 abbrev pub out_by : ℕ → ℕ → List ℕ → Inputs → Option ℕ
 out_by dimensions enable [] inputs = None
-out_by dimensions enable (width ∷ rest) inputs = if is_on inputs enable then first_beyond (take dimensions rest) 0 inputs else None
+out_by dimensions enable (width ∷ rest) inputs =
+    if is_on inputs enable then first_beyond (take dimensions rest) 0 inputs else None
 
 -- the first of some addresses that is out of range, where they are compared
 abbrev pub beyond_of : Addresses → Inputs → Option ℕ

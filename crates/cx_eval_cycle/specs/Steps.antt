@@ -34,11 +34,15 @@ abbrev pub CanStep : Row → Inputs → Option CellState → Type 0
 CanStep row inputs held = (d : CellState) → held ≡ Some d → StepsWith row inputs d
 
 abbrev pub CanStepAt : List (Option SteppingCell) → List CellRoom → ℕ → Option CellState → Type 0
-CanStepAt kept rooms c held = (stepping : SteppingCell) → kept_at kept c ≡ Some stepping → CanStep (row_of stepping.primitive.now) (inputs_at rooms c) held
+CanStepAt kept rooms c held =
+    (stepping : SteppingCell) → kept_at kept c ≡ Some stepping
+    → CanStep (row_of stepping.primitive.now) (inputs_at rooms c) held
 
 -- cells that can step hold states of their rows
 abbrev pub HoldFitting : List (Option SteppingCell) → List (Option CellState) → Type 0
-HoldFitting kept held = (c : ℕ) (stepping : SteppingCell) (d : CellState) → kept_at kept c ≡ Some stepping → cell_held held c ≡ Some d → IsState (row_of stepping.primitive.now).shape d
+HoldFitting kept held =
+    (c : ℕ) (stepping : SteppingCell) (d : CellState) → kept_at kept c ≡ Some stepping
+    → cell_held held c ≡ Some d → IsState (row_of stepping.primitive.now).shape d
 
 -- WHAT WAS GATHERED over a look at the ports of a cell that nothing stops: it comes to the step that its row makes with it
 pub record IsGathered (look : Look) (c : ℕ) (row : Row) (state : CellState) (inputs : Inputs) : Type 0 where
@@ -48,7 +52,8 @@ pub record IsGathered (look : Look) (c : ℕ) (row : Row) (state : CellState) (i
 
 abbrev pub IsGatheredAt : Look → List (Option SteppingCell) → List (Option CellState) → List CellRoom → ℕ → Type 0
 IsGatheredAt look kept held rooms c =
-    (stepping : SteppingCell) (d : CellState) → kept_at kept c ≡ Some stepping → cell_held held c ≡ Some d → IsGathered look c (row_of stepping.primitive.now) d (inputs_at rooms c)
+    (stepping : SteppingCell) (d : CellState) → kept_at kept c ≡ Some stepping → cell_held held c ≡ Some d
+    → IsGathered look c (row_of stepping.primitive.now) d (inputs_at rooms c)
 
 -- of each cell of a set
 abbrev pub AreGathered : Set → Look → List (Option SteppingCell) → List (Option CellState) → List CellRoom → Type 0

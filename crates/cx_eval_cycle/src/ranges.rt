@@ -72,7 +72,8 @@ fn first_beyond(sizes: &[u64], inputs: &[Option<Bits>]) -> Option<usize>
 
 /// The addresses of a memory of so many dimensions, by its numbers.
 fn addresses_by(dimensions: usize, enable: usize, numbers: &[u64]) -> Addresses<'_>
-    ensures value { (inputs : Inputs) → ranges.beyond_of result inputs ≡ ranges.out_by dimensions enable numbers.now inputs }
+    ensures value { (inputs : Inputs) →
+        ranges.beyond_of result inputs ≡ ranges.out_by dimensions enable numbers.now inputs }
 {
     let sizes = match numbers.split_first() {
         Some((_, rest)) => front(rest, dimensions),

@@ -30,7 +30,8 @@ fn has_side(primitive: &Primitive, side: Side, port: usize) -> bool
 
 /// The numbers of the ports of a primitive that are on a side, ascending.
 pub fn ports_on(alloc: Global, primitive: &Primitive, side: Side) -> Result<Vec<usize>, Memory>
-    ensures value { IfOk result (λ numbers. AreNumbered (on_side side (row_of primitive.now)) (length (row_of primitive.now).ports) numbers.items) }
+    ensures value { IfOk result (λ numbers.
+        AreNumbered (on_side side (row_of primitive.now)) (length (row_of primitive.now).ports) numbers.items) }
 {
     let mut numbers = Vec::new(alloc);
     for port in 0..primitive.port_count() {

@@ -12,7 +12,9 @@ use Rattle.cx_design.specs.PlainActives.{plain_entry}
 
 -- static groups that a statement has active together in some cycle, by some values of its samples
 abbrev pub AreTogether : PlainComponent → List Entry → Type 0
-AreTogether part entries = (v : Visited) × (h : History) × (t : ℕ) × In (statements_in part) v × (entries ≡ active_in h t (form_flat part v.form 0 []))
+AreTogether part entries =
+    (v : Visited) × (h : History) × (t : ℕ) × In (statements_in part) v
+    × (entries ≡ active_in h t (form_flat part v.form 0 []))
 
 -- a group that is there, or static groups that are active together
 abbrev pub CanBeActive : Instance → Active → Type 0

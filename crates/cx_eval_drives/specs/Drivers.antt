@@ -30,7 +30,8 @@ parts_of parts = map (λ ports. lists_of ports.items) parts
 -- the first components have their drivers
 pub record HaveDrivers (d : PlainDesign) (count : ℕ) (parts : List (List (List OwnedAssign))) : Type 0 where
   pub sized : length parts ≡ count
-  pub each : (k : ℕ) → k < count → ArePartDrivers (component_of d k) (source_order (component_at d k)) (get_or parts k [])
+  pub each : (k : ℕ) → k < count
+      → ArePartDrivers (component_of d k) (source_order (component_at d k)) (get_or parts k [])
 
 -- what the drivers of a design keep
 abbrev pub AreDrivers : PlainDesign → Drivers → Type 0

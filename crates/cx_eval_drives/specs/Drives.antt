@@ -51,7 +51,8 @@ with_driver truths.Undefined source rest = drives.Stopped Undefined
 
 abbrev pub with_assign : Look → Option ℕ → Owned → Drive → Drive
 with_assign look None a rest = rest
-with_assign look (Some offset) a rest = with_driver (guard_truth look offset a.assign.guard) (look a.assign.source.port) rest
+with_assign look (Some offset) a rest =
+    with_driver (guard_truth look offset a.assign.guard) (look a.assign.source.port) rest
 
 abbrev pub drive_of : Look → (Option ℕ → Option ℕ) → List Owned → Drive
 drive_of look offset [] = drives.Nothing

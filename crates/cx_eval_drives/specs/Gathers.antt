@@ -25,7 +25,11 @@ entry_of true Undefined = Err Undefined
 
 -- values are as wide as their ports, all of them or the wanted ones
 abbrev pub AreWide : (ℕ → Seen) → List PortRow → Type 0
-AreWide look ports = (n : ℕ) (port : PortRow) (b : BitVector) → slice_get ports n ≡ Some port → look n ≡ Value b → b.width ≡ port.width
+AreWide look ports =
+    (n : ℕ) (port : PortRow) (b : BitVector) → slice_get ports n ≡ Some port → look n ≡ Value b
+    → b.width ≡ port.width
 
 abbrev pub WantedAreWide : (ℕ → Bool) → (ℕ → Seen) → List PortRow → Type 0
-WantedAreWide wanted look ports = (n : ℕ) (port : PortRow) (b : BitVector) → slice_get ports n ≡ Some port → wanted n ≡ true → look n ≡ Value b → b.width ≡ port.width
+WantedAreWide wanted look ports =
+    (n : ℕ) (port : PortRow) (b : BitVector) → slice_get ports n ≡ Some port → wanted n ≡ true
+    → look n ≡ Value b → b.width ≡ port.width

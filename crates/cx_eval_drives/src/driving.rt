@@ -37,7 +37,8 @@ impl<'a> Drivers<'a> {
 
     /// The assignments of a component whose target is a port, by its number there, in source order.
     pub fn assigns_of(&self, component: usize, port: usize) -> &[OwnedAssign<'a>]
-        ensures value { (d : PlainDesign) (p : PortRef) → AreDrivers d self.now → component < length d.components → node_of (component_of d component) p ≡ Some port
+        ensures value { (d : PlainDesign) (p : PortRef) → AreDrivers d self.now →
+            component < length d.components → node_of (component_of d component) p ≡ Some port
             → map plain_owned result.now ≡ owned_for p (active.source_order (component_at d component)) }
     {
         let Some(ports) = self.parts.get(component) else {
@@ -70,7 +71,8 @@ fn part_drivers<'a>(
     number: usize,
 ) -> Result<Vec<Vec<OwnedAssign<'a>>>, Memory>
     requires within { number < length design.now.components.items }
-    ensures value { IfOk result (λ ports. ArePartDrivers (component_of (plain_design design.now) number) (active.source_order (component_at (plain_design design.now) number)) (lists_of ports.items)) }
+    ensures value { IfOk result (λ ports. ArePartDrivers (component_of (plain_design design.now) number)
+        (active.source_order (component_at (plain_design design.now) number)) (lists_of ports.items)) }
 {
     let numbers = Nodes::new(alloc, design, number)?;
     let assigns = source_order(alloc, component(design, number))?;
@@ -94,7 +96,8 @@ fn add<'a>(
     owned: OwnedAssign<'a>,
 ) -> Result<(), Memory>
     requires within { port < length ports.old.items }
-    ensures value { OnOk result (lists_of ports.new.items ≡ set (lists_of ports.old.items) port (assigns_at (lists_of ports.old.items) port ++ owned.entry ∷ [])) }
+    ensures value { OnOk result (lists_of ports.new.items ≡
+        set (lists_of ports.old.items) port (assigns_at (lists_of ports.old.items) port ++ owned.entry ∷ [])) }
 {
     ports[port].push(owned)?;
     Ok(())

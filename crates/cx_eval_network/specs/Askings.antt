@@ -20,7 +20,9 @@ use Rattle.cx_eval_network.specs.Asked.{CanAsk, asked}
 use Rattle.cx_eval_network.specs.declared.asking.Asking.{Asking}
 
 abbrev pub asked_of : Asking → Asked
-asked_of a = asked (plain_design a.design.now) a.table.now.rows.items a.table.now.children.items (plain_state a.state.now) a.instance a.active.now
+asked_of a =
+    asked (plain_design a.design.now) a.table.now.rows.items a.table.now.children.items
+    (plain_state a.state.now) a.instance a.active.now
 
 -- what can be asked, with the empty active set for the instances below
 pub record IsAsking (a : Asking) : Type 0 where
@@ -50,4 +52,6 @@ OwnSeen a found own = AreSeen (part_at a.design a.rows found.instance) (seen_at 
 
 abbrev pub LookedOwn : Asked → NodePort → List NodeMark → Found → Type 0
 LookedOwn a found own result =
-    Looked (numbers_of (part_at a.design a.rows found.instance) (lead_ports (instance_of a found.instance) (active_at a found.instance) found.port)) (seen_at a found.instance found.port) own result
+    Looked (numbers_of (part_at a.design a.rows found.instance)
+    (lead_ports (instance_of a found.instance) (active_at a found.instance) found.port))
+    (seen_at a found.instance found.port) own result

@@ -13,7 +13,9 @@ PartStands i c part = (child : Instance) × (cell_at (cells_of i) c ≡ OfInstan
 
 -- one that has an output
 abbrev pub HasOutput : Instance → ℕ → ℕ → Type 0
-HasOutput i c output = (child : Instance) × (cell_at (cells_of i) c ≡ OfInstance child) × (output < length (part_of child).outputs)
+HasOutput i c output =
+    (child : Instance) × (cell_at (cells_of i) c ≡ OfInstance child)
+    × (output < length (part_of child).outputs)
 
 -- what that output is seen as
 abbrev pub child_seen : Asked → ℕ → ℕ → ℕ → Seen

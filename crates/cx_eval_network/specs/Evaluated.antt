@@ -26,7 +26,8 @@ use Rattle.cx_eval_network.specs.Planned.{NumberedGuard, NumberedGuards, Always,
 
 -- what is known of the ports of an instance is what they are seen as
 abbrev pub AreSeen : Instance → Look → List NodeMark → Type 0
-AreSeen i look own = (q : PortRef) (n : ℕ) (x : Seen) → node_of i q ≡ Some n → slice_get own n ≡ Some (Known x) → x ≡ look q
+AreSeen i look own =
+    (q : PortRef) (n : ℕ) (x : Seen) → node_of i q ≡ Some n → slice_get own n ≡ Some (Known x) → x ≡ look q
 
 -- and one that has no number is a literal
 pub record Agree (i : Instance) (look : Look) (own : List NodeMark) : Type 0 where
@@ -96,15 +97,20 @@ module _ (own : List NodeMark) where
   -- the first so many inputs of a primitive, from the number of the first: all are given, one is no value, or nothing is known of one
   abbrev pub IsGathered : ℕ → ℕ → (ℕ → Seen) → List (Option BitVector) → Option Found → Type 0
   IsGathered first reads look inputs None = Given inputs ≡ gather_all look (λ q. nat_lt q reads) 0 (length inputs)
-  IsGathered first reads look inputs (Some (Worth x)) = (p : ℕ) × (Lacks p x ≡ gather_all look (λ q. nat_lt q reads) 0 (length inputs))
-  IsGathered first reads look inputs (Some (Waits n)) = (q : ℕ) × (q < reads) × (n ≡ first + q) × (known_at own n ≡ false)
+  IsGathered first reads look inputs (Some (Worth x)) =
+      (p : ℕ) × (Lacks p x ≡ gather_all look (λ q. nat_lt q reads) 0 (length inputs))
+  IsGathered first reads look inputs (Some (Waits n)) =
+      (q : ℕ) × (q < reads) × (n ≡ first + q) × (known_at own n ≡ false)
 
   -- what is known of them is what they are seen as, and as wide as they are
   abbrev pub InputsAgree : ℕ → ℕ → (ℕ → Seen) → Type 0
-  InputsAgree first reads look = (q : ℕ) (x : Seen) → q < reads → slice_get own (first + q) ≡ Some (Known x) → x ≡ look q
+  InputsAgree first reads look =
+      (q : ℕ) (x : Seen) → q < reads → slice_get own (first + q) ≡ Some (Known x) → x ≡ look q
 
   abbrev pub InputsFit : ℕ → ℕ → List PortRow → Type 0
-  InputsFit first reads ports = (q : ℕ) (port : PortRow) (b : BitVector) → slice_get ports q ≡ Some port → q < reads → slice_get own (first + q) ≡ Some (Known (Value b)) → b.width ≡ port.width
+  InputsFit first reads ports =
+      (q : ℕ) (port : PortRow) (b : BitVector) → slice_get ports q ≡ Some port → q < reads
+      → slice_get own (first + q) ≡ Some (Known (Value b)) → b.width ≡ port.width
 
   -- what an output is seen as, or one of these inputs that is not known
   abbrev pub IsOutput : ℕ → ℕ → Seen → Found → Type 0

@@ -38,10 +38,13 @@ ActsAs active other = (owner : Option ℕ) → is_some (offset_by other owner) �
 abbrev pub IsOnly : List ActiveEntry → ℕ → Type 0
 IsOnly entries group = (owner : ℕ) → is_some (offset_among entries owner) ≡ is_some (only_at group owner)
 
--- A SOURCE of a port under all that act as an active set: where it is known, the port is seen as it is. Only ports that assignments drive have one
+-- A SOURCE of a port under all that act as an active set: where it is known, the port is seen as it is. Only ports
+-- that assignments drive have one
 abbrev pub IsSeenAs : Active → DrivenPlan → PlannedPort → Type 0
 IsSeenAs active plan source =
-    (other : Active) → ActsAs active other → (i : Instance) (owned : List Owned) (look : Look) (own : List NodeMark) → StandFor i plan.assigns.items owned → Agree i look own
+    (other : Active) → ActsAs active other
+    → (i : Instance) (owned : List Owned) (look : Look) (own : List NodeMark)
+    → StandFor i plan.assigns.items owned → Agree i look own
     → Gives (target_seen plan.undriven look (acting_of (offset_by other) owned)) (port_found own source)
 
 abbrev pub IsSource : Active → PortPlan → PlannedPort → Type 0
@@ -49,7 +52,8 @@ IsSource active (plans.Driven plan) source = IsSeenAs active plan source
 IsSource active (plans.Output reads) source = ⊥
 IsSource active plans.Apart source = ⊥
 
--- how a port is found: as another one, or as a value, which is a source of it; by the state of its cell, where it is an output that reads no input; or by a look
+-- how a port is found: as another one, or as a value, which is a source of it; by the state of its cell, where it is
+-- an output that reads no input; or by a look
 abbrev pub IsFoundBy : Active → PortRef → PortPlan → FoundBy → Type 0
 IsFoundBy active port plan (by.Port number) = IsSource active plan (Numbered number)
 IsFoundBy active port plan (by.Fixed seen) = IsSource active plan (Fixed seen)
@@ -63,7 +67,8 @@ IsSole own (soles.Source source) drive = (x : Seen) × (drive ≡ drives.Gives x
 IsSole own soles.Others drive = Unit {0}
 
 -- A LISTED PORT stands at its number with its plan, and is found by that
-pub record IsListed (ports : List PortRef) (plans : List PortPlan) (active : Active) (listed : ListedPort) : Type 0 where
+pub record IsListed (ports : List PortRef) (plans : List PortPlan) (active : Active)
+    (listed : ListedPort) : Type 0 where
   pub port : PortRef
   pub stands : slice_get ports listed.number ≡ Some port
   pub plan : PortPlan
@@ -71,17 +76,22 @@ pub record IsListed (ports : List PortRef) (plans : List PortPlan) (active : Act
   pub found_by : IsFoundBy active port plan listed.found_by
 
 abbrev pub AreListed : List PortRef → List PortPlan → Active → List ListedPort → Type 0
-AreListed ports plans active list = (j : ℕ) (listed : ListedPort) → slice_get list j ≡ Some listed → IsListed ports plans active listed
+AreListed ports plans active list =
+    (j : ℕ) (listed : ListedPort) → slice_get list j ≡ Some listed → IsListed ports plans active listed
 
 -- those of a group, of each group of a component while that group is active, and of each component
-pub record AreGroupPorts (ports : List PortRef) (plans : List PortPlan) (active : Active) (group : GroupPorts) : Type 0 where
+pub record AreGroupPorts (ports : List PortRef) (plans : List PortPlan) (active : Active)
+    (group : GroupPorts) : Type 0 where
   pub hole : AreListed ports plans active group.hole.items
   pub others : AreListed ports plans active group.others.items
 
 abbrev pub ArePartLists : List PortRef → List PortPlan → PartLists → Type 0
-ArePartLists ports plans own = (g : ℕ) (group : GroupPorts) → slice_get own.groups.items g ≡ Some group → AreGroupPorts ports plans (Group g) group
+ArePartLists ports plans own =
+    (g : ℕ) (group : GroupPorts) → slice_get own.groups.items g ≡ Some group
+    → AreGroupPorts ports plans (Group g) group
 
 abbrev pub HaveLists : List PartNodes → List PartPlans → List PartLists → Type 0
 HaveLists parts plans lists =
-    (k : ℕ) (part : PartNodes) (planned : PartPlans) (own : PartLists) → slice_get parts k ≡ Some part → slice_get plans k ≡ Some planned → slice_get lists k ≡ Some own
+    (k : ℕ) (part : PartNodes) (planned : PartPlans) (own : PartLists) → slice_get parts k ≡ Some part
+    → slice_get plans k ≡ Some planned → slice_get lists k ≡ Some own
     → ArePartLists part.ports.items planned.ports.items own

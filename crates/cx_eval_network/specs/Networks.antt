@@ -49,7 +49,9 @@ module _ (a : Asked) where
 
   -- THE VALUE of a port of an instance is what it is seen as
   abbrev pub seen_at : ℕ → PortRef → Seen
-  seen_at n p = seen (instance_of n) (held_at n) (active_at n) (under_path (path_at a.design n) (state_in (tree_of a.design) a.state)) p
+  seen_at n p =
+      seen (instance_of n) (held_at n) (active_at n)
+      (under_path (path_at a.design n) (state_in (tree_of a.design) a.state)) p
 
   -- what a port of an instance LEADS to: the ports of the instance that it depends on at once, and for an output of a
   -- component's cell that output of the instance there
@@ -60,7 +62,8 @@ module _ (a : Asked) where
   abbrev pub output_node : ℕ → ℕ → PartPort → List ℕ
   output_node n c Go = []
   output_node n c (AnInput k) = []
-  output_node n c (AnOutput k) = option_to_list (node_at a.design a.rows (child_of a.rows a.children n c) (ports.Output k))
+  output_node n c (AnOutput k) =
+      option_to_list (node_at a.design a.rows (child_of a.rows a.children n c) (ports.Output k))
   output_node n c ItsDone = []
 
   abbrev pub child_node : ℕ → ℕ → ℕ → At → List ℕ
@@ -90,7 +93,10 @@ module _ (a : Asked) where
 
   abbrev pub leads_of : Option NodePort → List ℕ
   leads_of None = []
-  leads_of (Some found) = nodes_of found.instance (lead_ports (instance_of found.instance) (active_at found.instance) found.port) ++ below_nodes found.instance found.port
+  leads_of (Some found) =
+      nodes_of found.instance
+      (lead_ports (instance_of found.instance) (active_at found.instance) found.port)
+      ++ below_nodes found.instance found.port
 
   abbrev pub value_at : Nodes → ℕ → Seen
   value_at nodes node = value_of (asked_port (found_at nodes node))
@@ -117,5 +123,6 @@ pub record IsNetwork (a : Asked) (nodes : Nodes) : Type 0 where
   pub numbered : IsNodesOf a.design a.rows nodes
   pub acyclic : (n : ℕ) → IsAcyclic (instance_of a n) (active_at a n)
   pub below : (n : ℕ) → AcyclicBelow (cells_of (instance_of a n))
-  pub literals : (n w v : ℕ) (p : PortRef) → n < length a.rows → Leads (instance_of a n) (active_at a n) p (ports.Literal w v) → keeps_literal w v ≡ true
+  pub literals : (n w v : ℕ) (p : PortRef) → n < length a.rows
+      → Leads (instance_of a n) (active_at a n) p (ports.Literal w v) → keeps_literal w v ≡ true
   pub design : IsDesign a.design

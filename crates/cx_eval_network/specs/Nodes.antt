@@ -63,22 +63,26 @@ pub record HaveParts (d : PlainDesign) (parts : List PartNodes) : Type 0 where
   pub each : (k : ℕ) (nodes : PartNodes) → slice_get parts k ≡ Some nodes → IsPartOf (component_of d k) nodes
 
 -- one of the ports of an instance that stand from a node on
-pub record StandsBehind (instance component : ℕ) (ports : List PortRef) (start node : ℕ) (found : NodePort) : Type 0 where
+pub record StandsBehind (instance component : ℕ) (ports : List PortRef) (start node : ℕ)
+    (found : NodePort) : Type 0 where
   pub instance_is : found.instance ≡ instance
   pub component_is : found.component ≡ component
   pub port : slice_get ports found.number ≡ Some found.port
   pub is : start + found.number ≡ node
 
 -- the first ports of an instance stand behind what stood before
-pub record StandBehind (instance component : ℕ) (ports : List PortRef) (count : ℕ) (before after : List NodePort) : Type 0 where
+pub record StandBehind (instance component : ℕ) (ports : List PortRef) (count : ℕ)
+    (before after : List NodePort) : Type 0 where
   pub sized : length after ≡ length before + count
   pub each : (node : ℕ) (found : NodePort) → slice_get after node ≡ Some found
       → (slice_get before node ≡ Some found) ⊎ StandsBehind instance component ports (length before) node found
 
 -- the first instances are placed: each has its component and its first node, and each of their nodes its port
-pub record ArePlaced (d : PlainDesign) (rows : List InstanceRow) (count : ℕ) (instances : List InstanceNodes) (ports : List NodePort) : Type 0 where
+pub record ArePlaced (d : PlainDesign) (rows : List InstanceRow) (count : ℕ)
+    (instances : List InstanceNodes) (ports : List NodePort) : Type 0 where
   pub sized : length instances ≡ count
-  pub components : (n : ℕ) (i : InstanceNodes) → slice_get instances n ≡ Some i → i.component ≡ (row_at rows n).component
+  pub components : (n : ℕ) (i : InstanceNodes) → slice_get instances n ≡ Some i
+      → i.component ≡ (row_at rows n).component
   pub firsts : (n : ℕ) (i : InstanceNodes) → slice_get instances n ≡ Some i → i.first ≡ first_node d rows n
   pub nodes : length ports ≡ first_node d rows count
   pub each : (node : ℕ) (found : NodePort) → slice_get ports node ≡ Some found → IsAt d rows node found
@@ -111,6 +115,8 @@ pub record IsPlaceOf (d : PlainDesign) (rows : List InstanceRow) (n : ℕ) (plac
   pub first : place.first ≡ first_node d rows n
 
 -- A LIST of an instance under an active set: where that stands, and ports of its component
-pub record IsListOf (d : PlainDesign) (rows : List InstanceRow) (n : ℕ) (active : Active) (list : InstanceList) : Type 0 where
+pub record IsListOf (d : PlainDesign) (rows : List InstanceRow) (n : ℕ) (active : Active)
+    (list : InstanceList) : Type 0 where
   pub place : IsPlaceOf d rows n list.place
-  pub each : (j : ℕ) (listed : ListedPort) → slice_get list.ports.now j ≡ Some listed → IsInList (part_at d rows n) active listed
+  pub each : (j : ℕ) (listed : ListedPort) → slice_get list.ports.now j ≡ Some listed
+      → IsInList (part_at d rows n) active listed

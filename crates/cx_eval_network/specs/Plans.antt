@@ -71,12 +71,14 @@ IsPlanOf i p plan = planned plan ≡ decides i p
 -- the plan of each port of a component, by its number
 pub record ArePlans (i : Instance) (plans : List PortPlan) : Type 0 where
   pub sized : length plans ≡ node_count i
-  pub each : (m : ℕ) (p : PortRef) (plan : PortPlan) → slice_get plans m ≡ Some plan → node_of i p ≡ Some m → IsPlanOf i p plan
+  pub each : (m : ℕ) (p : PortRef) (plan : PortPlan) → slice_get plans m ≡ Some plan
+      → node_of i p ≡ Some m → IsPlanOf i p plan
 
 -- those of each component
 pub record HavePlans (d : PlainDesign) (parts : List PartPlans) : Type 0 where
   pub count : length parts ≡ length d.components
-  pub each : (k : ℕ) (plans : PartPlans) → slice_get parts k ≡ Some plans → ArePlans (component_of d k) plans.ports.items
+  pub each : (k : ℕ) (plans : PartPlans) → slice_get parts k ≡ Some plans
+      → ArePlans (component_of d k) plans.ports.items
 
 -- a component of a design with its numbers and the drivers of the design
 abbrev pub instance_of : PlannedPart → Instance

@@ -18,7 +18,8 @@ pub record AreTouched (nodes : List ℕ) (count : ℕ) (marks : List NodeMark) :
   pub long : length nodes ≡ length marks
   pub room : count + unseen marks ≤ length marks
   pub within : (j : ℕ) → j < count → get_or nodes j 0 < length marks
-  pub listed : (n : ℕ) (m : NodeMark) → slice_get marks n ≡ Some m → m ≢ Unseen → (j : ℕ) × (j < count) × (get_or nodes j 0 ≡ n)
+  pub listed : (n : ℕ) (m : NodeMark) → slice_get marks n ≡ Some m → m ≢ Unseen
+      → (j : ℕ) × (j < count) × (get_or nodes j 0 ≡ n)
 
 -- marks with the room that demands need
 pub record HaveRoom (marks : List NodeMark) (stack nodes : List ℕ) (count : ℕ) : Type 0 where

@@ -28,7 +28,8 @@ pub fn apart_found(asking: &Asking<'_>, marks: &[NodeMark], found: NodePort) -> 
     requires found { IsFound (asked_of asking.now) found }
     requires apart { decided_by (asked_of asking.now) found ≡ Apart }
     requires right { IsRight (value_at (asked_of asking.now) asking.now.nodes.now) marks.now }
-    ensures found { Looked (leads_of (asked_of asking.now) (Some found)) (value_of (asked_of asking.now) (Some found)) marks.now result }
+    ensures found { Looked (leads_of (asked_of asking.now) (Some found))
+        (value_of (asked_of asking.now) (Some found)) marks.now result }
 {
     match found.port {
         PortRef::Input(input) => Found::Worth(held_seen(held_of(asking, found.instance), input)),
@@ -60,7 +61,8 @@ fn cell_found(
     requires port { found.port ≡ Cell cell port }
     requires apart { decided_by (asked_of asking.now) found ≡ Apart }
     requires right { IsRight (value_at (asked_of asking.now) asking.now.nodes.now) marks.now }
-    ensures found { Looked (leads_of (asked_of asking.now) (Some found)) (value_of (asked_of asking.now) (Some found)) marks.now result }
+    ensures found { Looked (leads_of (asked_of asking.now) (Some found))
+        (value_of (asked_of asking.now) (Some found)) marks.now result }
 {
     match stands_at(asking.design, found.component as usize, cell) {
         At::Part(part) => part_found(asking, marks, found, cell, port, part),
@@ -81,10 +83,13 @@ fn part_found(
     requires can { IsAsking asking.now }
     requires found { IsFound (asked_of asking.now) found }
     requires port { found.port ≡ Cell cell port }
-    requires part { PartStands (part_at (asked_of asking.now).design (asked_of asking.now).rows found.instance) cell (plain_component part.now) }
+    requires part { PartStands
+        (part_at (asked_of asking.now).design (asked_of asking.now).rows found.instance) cell
+        (plain_component part.now) }
     requires apart { decided_by (asked_of asking.now) found ≡ Apart }
     requires right { IsRight (value_at (asked_of asking.now) asking.now.nodes.now) marks.now }
-    ensures found { Looked (leads_of (asked_of asking.now) (Some found)) (value_of (asked_of asking.now) (Some found)) marks.now result }
+    ensures found { Looked (leads_of (asked_of asking.now) (Some found))
+        (value_of (asked_of asking.now) (Some found)) marks.now result }
 {
     match part_port(part, port) {
         PartPort::Output(output) => child_found(asking, marks, found.instance, cell, output),
@@ -106,7 +111,8 @@ fn child_found(
     requires within { instance < length (asked_of asking.now).rows }
     requires output { HasOutput (instance_of (asked_of asking.now) instance) cell output }
     requires right { IsRight (value_at (asked_of asking.now) asking.now.nodes.now) marks.now }
-    ensures found { Looked (output_node (asked_of asking.now) instance cell (sights.AnOutput output)) (child_seen (asked_of asking.now) instance cell output) marks.now result }
+    ensures found { Looked (output_node (asked_of asking.now) instance cell (sights.AnOutput output))
+        (child_seen (asked_of asking.now) instance cell output) marks.now result }
 {
     match child_in(asking.table, instance, cell) {
         Some(child) => match asking.nodes.node(child, PortRef::Output(output)) {

@@ -26,7 +26,8 @@ pub fn called(design: &Design, number: usize, group: u32) -> Option<u32>
 /// The group of a number, where the component has it.
 fn group_of(component: &Component, number: u32) -> Option<&Group>
     ensures none { IfNone result (slice_get (plain_component component.now).groups number ≡ None) }
-    ensures some { IfSome result (λ group. slice_get (plain_component component.now).groups number ≡ Some (plain_group group.now)) }
+    ensures some { IfSome result
+        (λ group. slice_get (plain_component component.now).groups number ≡ Some (plain_group group.now)) }
 {
     component.groups.as_slice().get(number as usize)
 }
@@ -34,7 +35,8 @@ fn group_of(component: &Component, number: u32) -> Option<&Group>
 /// The component cell of the first target that is a port of one.
 fn called_in(design: &Design, number: usize, assigns: &[Assign]) -> Option<u32>
     requires within { number < length design.now.components.items }
-    ensures value { result ≡ calls.called_in (cells_of (component_of (plain_design design.now) number)) (plain_assigns assigns.now) }
+    ensures value { result ≡ calls.called_in (cells_of (component_of (plain_design design.now) number))
+        (plain_assigns assigns.now) }
 {
     let mut called = None;
     let mut left = assigns.len();

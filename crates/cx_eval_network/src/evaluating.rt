@@ -93,7 +93,8 @@ fn add_driver(
     source: PlannedPort,
 ) -> Option<usize>
     ensures waits { IfSome result (λ number. (source ≡ Numbered number) × (known_at own.now number ≡ false)) }
-    ensures value { IfNone result ((x : Seen) → Gives x (port_found own.now source) → drive.new ≡ with_driver (plain_truth guard) x drive.old) }
+    ensures value { IfNone result ((x : Seen) → Gives x (port_found own.now source) →
+        drive.new ≡ with_driver (plain_truth guard) x drive.old) }
 {
     match guard {
         Truth::One => match source_found(own, source) {
@@ -115,8 +116,12 @@ fn add_assign(
     active: &Active,
     assign: &PlannedAssign,
 ) -> Option<usize>
-    ensures waits { IfSome result (λ number. (i : Instance) (a : Owned) → numbered_assign assign.now ≡ assign_plan i a → IsLacking own.now i (offset_by active.now) (a ∷ []) number) }
-    ensures value { IfNone result ((i : Instance) (a : Owned) (look : Look) → numbered_assign assign.now ≡ assign_plan i a → Agree i look own.now → drive.new ≡ with_assign look (offset_by active.now a.owner) a drive.old) }
+    ensures waits { IfSome result (λ number.
+        (i : Instance) (a : Owned) → numbered_assign assign.now ≡ assign_plan i a
+        → IsLacking own.now i (offset_by active.now) (a ∷ []) number) }
+    ensures value { IfNone result ((i : Instance) (a : Owned) (look : Look) →
+        numbered_assign assign.now ≡ assign_plan i a → Agree i look own.now →
+        drive.new ≡ with_assign look (offset_by active.now a.owner) a drive.old) }
 {
     let offset = offset_of(active, assign.owner)?;
     match unknown_number(own, assign.named.as_slice()) {
@@ -130,8 +135,11 @@ fn add_assign(
 
 /// What a driven port is seen as, or the number of a port that it needs and that is not known. It takes no memory.
 pub fn driven_found(own: &[NodeMark], active: &Active, plan: &DrivenPlan) -> Found
-    ensures value { (i : Instance) (owned : List Owned) (look : Look) → StandFor i plan.now.assigns.items owned → Agree i look own.now
-        → Looked (numbers_of i (named_by (acting_of (offset_by active.now) owned))) (sights.target_seen plan.now.undriven look (acting_of (offset_by active.now) owned)) own.now result }
+    ensures value { (i : Instance) (owned : List Owned) (look : Look) →
+        StandFor i plan.now.assigns.items owned → Agree i look own.now
+        → Looked (numbers_of i (named_by (acting_of (offset_by active.now) owned)))
+        (sights.target_seen plan.now.undriven look (acting_of (offset_by active.now) owned)) own.now
+        result }
 {
     let mut drive = Drive::Nothing;
     let mut left = plan.assigns.len();

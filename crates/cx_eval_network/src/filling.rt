@@ -53,7 +53,8 @@ pub fn fill(
     list: InstanceList<'_>,
 )
     requires can { IsAsking asking.now }
-    requires list { IsListOf (plain_design asking.now.design.now) asking.now.table.now.rows.items asking.now.instance asking.now.active.now list }
+    requires list { IsListOf (plain_design asking.now.design.now) asking.now.table.now.rows.items
+        asking.now.instance asking.now.active.now list }
     requires touched { AreTouched touched.old.nodes.items touched.old.count marks.old }
     requires ready { Ready (value_at (asked_of asking.now) asking.now.nodes.now) marks.old }
     ensures ready { Ready (value_at (asked_of asking.now) asking.now.nodes.now) marks.new }
@@ -77,7 +78,8 @@ fn fill_port(
 )
     requires can { IsAsking asking.now }
     requires place { IsPlaceOf (asked_of asking.now).design (asked_of asking.now).rows asking.now.instance place }
-    requires port { IsInList (part_at (asked_of asking.now).design (asked_of asking.now).rows asking.now.instance) asking.now.active.now port.now }
+    requires port { IsInList (part_at (asked_of asking.now).design
+        (asked_of asking.now).rows asking.now.instance) asking.now.active.now port.now }
     requires touched { AreTouched touched.old.nodes.items touched.old.count marks.old }
     requires ready { Ready (value_at (asked_of asking.now) asking.now.nodes.now) marks.old }
     ensures ready { Ready (value_at (asked_of asking.now) asking.now.nodes.now) marks.new }
@@ -104,7 +106,8 @@ fn listed_found(
 ) -> Found
     requires can { IsAsking asking.now }
     requires place { IsPlaceOf (asked_of asking.now).design (asked_of asking.now).rows asking.now.instance place }
-    requires port { IsInList (part_at (asked_of asking.now).design (asked_of asking.now).rows asking.now.instance) asking.now.active.now port.now }
+    requires port { IsInList (part_at (asked_of asking.now).design
+        (asked_of asking.now).rows asking.now.instance) asking.now.active.now port.now }
     requires node { node ≡ place.first + port.now.number }
     requires right { IsRight (value_at (asked_of asking.now) asking.now.nodes.now) marks.now }
     ensures value { Gives (value_at (asked_of asking.now) asking.now.nodes.now node) result }

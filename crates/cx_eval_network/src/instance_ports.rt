@@ -19,7 +19,8 @@ pub struct InstancePorts<'a> {
 impl<'a> InstancePorts<'a> {
     /// The node of a port. A literal has none, nor has a port that is not there.
     pub fn node(&self, port: PortRef) -> Option<usize>
-        ensures value { (d : PlainDesign) (rows : List InstanceRow) (n : ℕ) → ArePortsOf d rows n self.now → result ≡ node_at d rows n port }
+        ensures value { (d : PlainDesign) (rows : List InstanceRow) (n : ℕ) →
+            ArePortsOf d rows n self.now → result ≡ node_at d rows n port }
     {
         let number = self.numbers.node(port)?;
         self.first.checked_add(number as usize)

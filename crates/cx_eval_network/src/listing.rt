@@ -130,7 +130,8 @@ fn add_listed(
     active: &Active,
     number: usize,
 ) -> Result<(), Memory>
-    ensures value { OnOk result (AreListed part.now.ports.items plans.now active.now listed.old.items → AreListed part.now.ports.items plans.now active.now listed.new.items) }
+    ensures value { OnOk result (AreListed part.now.ports.items plans.now active.now listed.old.items →
+        AreListed part.now.ports.items plans.now active.now listed.new.items) }
 {
     if let Some(port) = port_of(part, number) {
         if let Some(plan) = port_plan(plans, number) {
@@ -227,7 +228,8 @@ fn places_of(alloc: Global, ports: &[usize], some: &[usize]) -> Result<Vec<u32>,
 
 /// Adds the place of a port among those that are listed, where it is there.
 fn add_place(places: &mut Vec<u32>, ports: &[usize], port: usize) -> Result<(), Memory>
-    ensures value { OnOk result (Bounded (length ports.now) places.old.items → Bounded (length ports.now) places.new.items) }
+    ensures value { OnOk result
+        (Bounded (length ports.now) places.old.items → Bounded (length ports.now) places.new.items) }
 {
     match ports.binary_search(&port) {
         Ok(place) => {

@@ -23,7 +23,8 @@ use cx_design::Seen;
 pub fn look_at_node(asking: &Asking<'_>, marks: &[NodeMark], node: usize) -> Found
     requires can { IsAsking asking.now }
     requires right { IsRight (value_at (asked_of asking.now) asking.now.nodes.now) marks.now }
-    ensures found { Looked (leads_at (asked_of asking.now) asking.now.nodes.now node) (value_at (asked_of asking.now) asking.now.nodes.now node) marks.now result }
+    ensures found { Looked (leads_at (asked_of asking.now) asking.now.nodes.now node)
+        (value_at (asked_of asking.now) asking.now.nodes.now node) marks.now result }
 {
     match asked_port(asking, node) {
         Some(found) => look_at_port(asking, marks, node, found),
@@ -35,9 +36,11 @@ pub fn look_at_node(asking: &Asking<'_>, marks: &[NodeMark], node: usize) -> Fou
 fn look_at_port(asking: &Asking<'_>, marks: &[NodeMark], node: usize, found: NodePort) -> Found
     requires can { IsAsking asking.now }
     requires found { IsFound (asked_of asking.now) found }
-    requires node { first_node (asked_of asking.now).design (asked_of asking.now).rows found.instance + found.number ≡ node }
+    requires node { first_node (asked_of asking.now).design (asked_of asking.now).rows found.instance +
+        found.number ≡ node }
     requires right { IsRight (value_at (asked_of asking.now) asking.now.nodes.now) marks.now }
-    ensures found { Looked (leads_of (asked_of asking.now) (Some found)) (value_of (asked_of asking.now) (Some found)) marks.now result }
+    ensures found { Looked (leads_of (asked_of asking.now) (Some found))
+        (value_of (asked_of asking.now) (Some found)) marks.now result }
 {
     let first = node - found.number;
     match found_plan(asking, found) {
@@ -68,7 +71,8 @@ fn from_first(first: usize, found: Found) -> Found
 fn found_plan<'b>(asking: &Asking<'b>, found: NodePort) -> &'b PortPlan
     requires can { IsAsking asking.now }
     requires found { IsFound (asked_of asking.now) found }
-    ensures value { IsPlanOf (part_at (asked_of asking.now).design (asked_of asking.now).rows found.instance) found.port result.now }
+    ensures value { IsPlanOf (part_at (asked_of asking.now).design
+        (asked_of asking.now).rows found.instance) found.port result.now }
 {
     match asking.nodes.plan(found.component, found.number) {
         Some(plan) => plan,

@@ -29,20 +29,24 @@ use cx_eval_drives::active_is_acyclic;
 
 /// The ports of the list are those that a port depends on at once, in each component of a design.
 pub fn lead_ports_lead()
-    ensures { (d : PlainDesign) (k : ℕ) (act : Active) (p q : PortRef) → (In (lead_ports (component_of d k) act p) q ↔ Leads (component_of d k) act p q) }
+    ensures { (d : PlainDesign) (k : ℕ) (act : Active) (p q : PortRef) →
+        (In (lead_ports (component_of d k) act p) q ↔ Leads (component_of d k) act p q) }
 {}
 
 /// The numbered ports of an accepted design are a network under what can be active in the asked instance.
 pub fn accepted_designs_are_networks()
-    ensures { (a : Asked) (nodes : Nodes) (active : actives.Active) → IsDesign a.design → IsAccepted a.design → IsTable a.design a.rows a.children → IsNodesOf a.design a.rows nodes
-        → a.active ≡ plain_active (instance_of a a.instance) active → CanBeActive (instance_of a a.instance) active → IsNetwork a nodes }
+    ensures { (a : Asked) (nodes : Nodes) (active : actives.Active) → IsDesign a.design →
+        IsAccepted a.design → IsTable a.design a.rows a.children → IsNodesOf a.design a.rows nodes
+        → a.active ≡ plain_active (instance_of a a.instance) active
+        → CanBeActive (instance_of a a.instance) active → IsNetwork a nodes }
 {
     active_is_acyclic();
 }
 
 /// Nodes lead to nodes.
 pub fn networks_stay_within()
-    ensures { (a : Asked) (nodes : Nodes) → IsNetwork a nodes → StaysWithin (leads_at a nodes) (node_count a.design a.rows) }
+    ensures { (a : Asked) (nodes : Nodes) → IsNetwork a nodes →
+        StaysWithin (leads_at a nodes) (node_count a.design a.rows) }
 {}
 
 /// No node leads back to itself.
@@ -54,6 +58,8 @@ pub fn networks_are_grounded()
 pub fn known_nodes_decide()
     ensures { (a : Asked) (nodes : Nodes) → IsNetwork a nodes → (marks : List NodeMark) (node : ℕ) (found : NodePort)
         → asked_port a (found_at nodes node) ≡ Some found → AreKnown (value_at a nodes) marks (leads_at a nodes node)
-        → step (instance_of a found.instance) (held_at a found.instance) (active_at a found.instance) (under_path (path_at a.design found.instance) (state_in (tree_of a.design) a.state)) (look_at a marks found.instance) (below_at a marks found.instance) found.port
+        → step (instance_of a found.instance) (held_at a found.instance) (active_at a found.instance)
+        (under_path (path_at a.design found.instance) (state_in (tree_of a.design) a.state))
+        (look_at a marks found.instance) (below_at a marks found.instance) found.port
         ≡ value_at a nodes node }
 {}

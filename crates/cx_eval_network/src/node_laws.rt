@@ -10,7 +10,8 @@ ghost use Rattle.cx_eval_network.specs.Nodes.{node_at, node_count, part_at};
 
 /// Each node is below their count.
 pub fn nodes_are_within()
-    ensures { (d : PlainDesign) (rows : List InstanceRow) (n : ℕ) (p : PortRef) (node : ℕ) → n < length rows → node_at d rows n p ≡ Some node → node < node_count d rows }
+    ensures { (d : PlainDesign) (rows : List InstanceRow) (n : ℕ) (p : PortRef) (node : ℕ) →
+        n < length rows → node_at d rows n p ≡ Some node → node < node_count d rows }
 {}
 
 /// Two ports, or the ports of two instances, have two nodes.

@@ -83,14 +83,16 @@ impl Nodes {
 
     /// How many nodes there are.
     pub fn count(&self) -> usize
-        ensures value { (d : PlainDesign) (rows : List InstanceRow) → IsNodesOf d rows self.now → result ≡ node_count d rows }
+        ensures value { (d : PlainDesign) (rows : List InstanceRow) → IsNodesOf d rows self.now →
+            result ≡ node_count d rows }
     {
         self.ports.len()
     }
 
     /// The node of a port of an instance. A literal has none, nor has a port that is not there.
     pub fn node(&self, instance: usize, port: PortRef) -> Option<usize>
-        ensures value { (d : PlainDesign) (rows : List InstanceRow) → IsNodesOf d rows self.now → instance < length rows → result ≡ node_at d rows instance port }
+        ensures value { (d : PlainDesign) (rows : List InstanceRow) → IsNodesOf d rows self.now →
+            instance < length rows → result ≡ node_at d rows instance port }
     {
         let place = instance_nodes(self.instances.as_slice(), instance)?;
         let part = part_nodes(self.parts.as_slice(), place.component)?;
@@ -122,14 +124,16 @@ impl Nodes {
     /// What stands at a node, where it is one.
     pub fn port(&self, node: usize) -> Option<NodePort>
         ensures found { result ≡ found_at self.now node }
-        ensures value { (d : PlainDesign) (rows : List InstanceRow) → IsNodesOf d rows self.now → IsPortOf d rows node result }
+        ensures value { (d : PlainDesign) (rows : List InstanceRow) → IsNodesOf d rows self.now →
+            IsPortOf d rows node result }
     {
         self.ports.get(node).copied()
     }
 
     /// Listed ports of a group of an instance.
     pub fn listed(&self, instance: usize, group: u32, list: GroupList) -> InstanceList<'_>
-        ensures value { (d : PlainDesign) (rows : List InstanceRow) → IsNodesOf d rows self.now → instance < length rows → IsListOf d rows instance (Group group) result }
+        ensures value { (d : PlainDesign) (rows : List InstanceRow) → IsNodesOf d rows self.now →
+            instance < length rows → IsListOf d rows instance (Group group) result }
     {
         match instance_nodes(self.instances.as_slice(), instance) {
             Some(place) => InstanceList {
@@ -149,8 +153,13 @@ impl Nodes {
 
     /// What is known of a port of a component before any run, by its number there.
     pub fn plan(&self, component: u32, number: usize) -> Option<&PortPlan>
-        ensures none { IfNone result ((d : PlainDesign) (rows : List InstanceRow) (p : refs.PortRef) → IsNodesOf d rows self.now → component < length d.components → node_of (component_of d component) p ≡ Some number → ⊥) }
-        ensures some { IfSome result (λ plan. (d : PlainDesign) (rows : List InstanceRow) (p : refs.PortRef) → IsNodesOf d rows self.now → node_of (component_of d component) p ≡ Some number → IsPlanOf (component_of d component) p plan.now) }
+        ensures none { IfNone result ((d : PlainDesign) (rows : List InstanceRow) (p : refs.PortRef) →
+            IsNodesOf d rows self.now → component < length d.components →
+            node_of (component_of d component) p ≡ Some number → ⊥) }
+        ensures some { IfSome result (λ plan. (d : PlainDesign) (rows : List InstanceRow)
+            (p : refs.PortRef) → IsNodesOf d rows self.now
+            → node_of (component_of d component) p ≡ Some number
+            → IsPlanOf (component_of d component) p plan.now) }
     {
         match part_plans(self.plans.as_slice(), component) {
             Some(part) => match port_plan(part.ports.as_slice(), number) {
@@ -198,7 +207,9 @@ fn unlisted() -> InstanceList<'static> {
 
 /// Listed ports of a group of a component; none where they are not there.
 fn group_ports(lists: &[PartLists], component: u32, group: u32, list: GroupList) -> &[ListedPort]
-    ensures value { (parts : List PartNodes) (plans : List PartPlans) (part : PartNodes) (planned : PartPlans) → HaveLists parts plans lists.now → slice_get parts component ≡ Some part → slice_get plans component ≡ Some planned
+    ensures value { (parts : List PartNodes) (plans : List PartPlans) (part : PartNodes)
+        (planned : PartPlans) → HaveLists parts plans lists.now → slice_get parts component ≡ Some part →
+        slice_get plans component ≡ Some planned
         → AreListed part.ports.items planned.ports.items (Group group) result.now }
 {
     match lists.get(component as usize) {
@@ -212,7 +223,8 @@ fn group_ports(lists: &[PartLists], component: u32, group: u32, list: GroupList)
 
 /// The ports of one of the lists of a group.
 fn ports_in(group: &GroupPorts, list: GroupList) -> &[ListedPort]
-    ensures value { (ports : List refs.PortRef) (plans : List PortPlan) (active : Active) → AreGroupPorts ports plans active group.now → AreListed ports plans active result.now }
+    ensures value { (ports : List refs.PortRef) (plans : List PortPlan) (active : Active) →
+        AreGroupPorts ports plans active group.now → AreListed ports plans active result.now }
 {
     match list {
         GroupList::Hole => group.hole.as_slice(),
@@ -230,7 +242,9 @@ fn placed(
     nothing: Vec<Option<Bits>>,
 ) -> Result<Nodes, Memory>
     requires within { (n : ℕ) → n < length rows.now → (row_at rows.now n).component < length parts.items }
-    ensures value { IfOk result (λ nodes. (d : PlainDesign) → HaveParts d parts.items → HavePlans d plans.items → HaveLists parts.items plans.items lists.items → nothing.items ≡ replicate 9 None → IsNodesOf d rows.now nodes) }
+    ensures value { IfOk result (λ nodes. (d : PlainDesign) → HaveParts d parts.items
+        → HavePlans d plans.items → HaveLists parts.items plans.items lists.items
+        → nothing.items ≡ replicate 9 None → IsNodesOf d rows.now nodes) }
 {
     let mut instances = Vec::new(alloc);
     let mut ports = Vec::new(alloc);
@@ -260,7 +274,8 @@ fn stand(
     component: u32,
     ports: &[PortRef],
 ) -> Result<(), Memory>
-    ensures value { OnOk result (StandBehind instance component ports.now (length ports.now) nodes.old.items nodes.new.items) }
+    ensures value { OnOk result
+        (StandBehind instance component ports.now (length ports.now) nodes.old.items nodes.new.items) }
 {
     for (number, port) in ports.iter().enumerate() {
         nodes.push(NodePort {

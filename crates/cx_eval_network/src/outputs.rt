@@ -64,7 +64,8 @@ pub fn state_seen(
     requires can { IsAsking asking.now }
     requires found { IsCellPort (asked_of asking.now) instance cell port }
     requires component { component ≡ (row_at (asked_of asking.now).rows instance).component }
-    requires reads { decides (part_at (asked_of asking.now).design (asked_of asking.now).rows instance) (Cell cell port) ≡ Inputs 0 }
+    requires reads { decides (part_at (asked_of asking.now).design (asked_of asking.now).rows instance)
+        (Cell cell port) ≡ Inputs 0 }
     ensures value { result ≡ seen_at (asked_of asking.now) instance (Cell cell port) }
 {
     match stands_at(asking.design, component as usize, cell) {
@@ -83,8 +84,12 @@ fn primitive_state(
 ) -> Seen
     requires can { IsAsking asking.now }
     requires found { IsCellPort (asked_of asking.now) instance cell port }
-    requires row { cell_at (cells_of (part_at (asked_of asking.now).design (asked_of asking.now).rows instance)) cell ≡ OfRow (row_of primitive.now) }
-    requires reads { side_decides (part_at (asked_of asking.now).design (asked_of asking.now).rows instance) (Cell cell port) (row_of primitive.now) (side_of (row_of primitive.now) port) ≡ Inputs 0 }
+    requires row { cell_at
+        (cells_of (part_at (asked_of asking.now).design (asked_of asking.now).rows instance)) cell ≡
+        OfRow (row_of primitive.now) }
+    requires reads { side_decides
+        (part_at (asked_of asking.now).design (asked_of asking.now).rows instance) (Cell cell port)
+        (row_of primitive.now) (side_of (row_of primitive.now) port) ≡ Inputs 0 }
     ensures value { result ≡ seen_at (asked_of asking.now) instance (Cell cell port) }
 {
     rows_stand();
@@ -100,7 +105,9 @@ fn held_output(asking: &Asking<'_>, primitive: &Primitive, state: &PrimState, po
     requires can { IsAsking asking.now }
     requires state { IsState (row_of primitive.now).shape state.now }
     requires output { HasSide (row_of primitive.now) port is_output_side }
-    ensures value { (look : ℕ → views.Seen) → result ≡ sights.output_seen (λ given. (row_of primitive.now).output state.now given port) (sights.gather look (λ q. nat_lt q 0) 0 (row_of primitive.now).ports) }
+    ensures value { (look : ℕ → views.Seen) →
+        result ≡ sights.output_seen (λ given. (row_of primitive.now).output state.now given port)
+        (sights.gather look (λ q. nat_lt q 0) 0 (row_of primitive.now).ports) }
 {
     let inputs = &asking.nodes.nothing()[..primitive.port_count()];
     seen_of(primitive.output(state, inputs, port))
@@ -144,8 +151,12 @@ fn primitive_output(
     requires found { IsFound (asked_of asking.now) found }
     requires seen { OwnSeen (asked_of asking.now) found own.now }
     requires port { found.port ≡ Cell cell port }
-    requires row { cell_at (cells_of (part_at (asked_of asking.now).design (asked_of asking.now).rows found.instance)) cell ≡ OfRow (row_of primitive.now) }
-    requires reads { side_decides (part_at (asked_of asking.now).design (asked_of asking.now).rows found.instance) found.port (row_of primitive.now) (side_of (row_of primitive.now) port) ≡ Inputs reads }
+    requires row { cell_at
+        (cells_of (part_at (asked_of asking.now).design (asked_of asking.now).rows found.instance)) cell ≡
+        OfRow (row_of primitive.now) }
+    requires reads { side_decides
+        (part_at (asked_of asking.now).design (asked_of asking.now).rows found.instance) found.port
+        (row_of primitive.now) (side_of (row_of primitive.now) port) ≡ Inputs reads }
     ensures found { LookedOwn (asked_of asking.now) found own.now result }
 {
     rows_stand();
@@ -188,7 +199,9 @@ fn output_by(
     requires fits { first + length (row_of primitive.now).ports < 2 ^ 64 }
     requires widths { InputsFit own.now first reads (row_of primitive.now).ports }
     ensures value { (look : ℕ → views.Seen) → InputsAgree own.now first reads look
-        → IsOutput own.now first reads (sights.output_seen (λ given. (row_of primitive.now).output state.now given port) (sights.gather look (λ q. nat_lt q reads) 0 (row_of primitive.now).ports)) result }
+        → IsOutput own.now first reads (sights.output_seen
+        (λ given. (row_of primitive.now).output state.now given port)
+        (sights.gather look (λ q. nat_lt q reads) 0 (row_of primitive.now).ports)) result }
 {
     let mut room = [None; ROOM];
     let count = primitive.port_count();
@@ -210,7 +223,8 @@ fn gather_known(
     requires bare { (n : ℕ) → get_or inputs.old n None ≡ None }
     requires reads { reads ≤ length inputs.old }
     requires fits { first + length inputs.old < 2 ^ 64 }
-    ensures value { (look : ℕ → views.Seen) → InputsAgree own.now first reads look → IsGathered own.now first reads look inputs.new result }
+    ensures value { (look : ℕ → views.Seen) → InputsAgree own.now first reads look →
+        IsGathered own.now first reads look inputs.new result }
     ensures sized { length inputs.new ≡ length inputs.old }
 {
     for port in 0..reads {

@@ -42,7 +42,8 @@ fn part_ports(
 ) -> Result<Vec<PortRef>, Memory>
     requires within { number < length design.now.components.items }
     requires numbers { IsNodesOf (component_of (plain_design design.now) number) numbers.now }
-    ensures value { IfOk result (λ ports. let i = component_of (plain_design design.now) number in ArePorts i (node_count i) ports.items) }
+    ensures value { IfOk result (λ ports.
+        let i = component_of (plain_design design.now) number in ArePorts i (node_count i) ports.items) }
 {
     let mut ports = Vec::new(alloc);
     for cell in 0..component(design, number).cells.len() {
@@ -57,7 +58,9 @@ fn part_ports(
 
 /// Adds a port and those of its kind behind it, as many as there are.
 fn add_ports(ports: &mut Vec<PortRef>, numbers: &PartNumbers, first: PortRef) -> Result<(), Memory>
-    ensures value { OnOk result ((i : Instance) (count start : ℕ) → IsNodesOf i numbers.now → HaveSpan i first count start → ArePorts i start ports.old.items → ArePorts i (start + count) ports.new.items) }
+    ensures value { OnOk result ((i : Instance) (count start : ℕ) → IsNodesOf i numbers.now →
+        HaveSpan i first count start → ArePorts i start ports.old.items →
+        ArePorts i (start + count) ports.new.items) }
 {
     for number in 0..u32::MAX {
         let port = numbered(first, number);

@@ -44,7 +44,8 @@ fn planned_guard(
     guard: &Guard,
 ) -> Result<PlannedGuard, Memory>
     requires part { IsPlannedPart part.now }
-    ensures value { IfOk result (λ planned. numbered_guard planned ≡ guard_plan (instance_of part.now) (plain_guard guard.now)) }
+    ensures value { IfOk result
+        (λ planned. numbered_guard planned ≡ guard_plan (instance_of part.now) (plain_guard guard.now)) }
 {
     match guard {
         Guard::True => Ok(PlannedGuard::True),
@@ -72,7 +73,9 @@ fn planned_guards(
     guards: &[Guard],
 ) -> Result<Vec<PlannedGuard>, Memory>
     requires part { IsPlannedPart part.now }
-    ensures value { IfOk result (λ planned. guards_of (map numbered_guard planned.items) ≡ guard_plans (instance_of part.now) (plain.guards_of (map plain_guard guards.now))) }
+    ensures value { IfOk result (λ planned.
+        guards_of (map numbered_guard planned.items) ≡
+        guard_plans (instance_of part.now) (plain.guards_of (map plain_guard guards.now))) }
 {
     let mut planned = Vec::with_capacity(alloc, guards.len())?;
     for guard in guards {
@@ -88,7 +91,8 @@ fn named_numbers(
     guard: &Guard,
 ) -> Result<Vec<u32>, Memory>
     requires part { IsPlannedPart part.now }
-    ensures value { IfOk result (λ found. found.items ≡ numbers_of (instance_of part.now) (map (λ q. q.port) (operands_of (plain_guard guard.now)))) }
+    ensures value { IfOk result (λ found. found.items ≡
+        numbers_of (instance_of part.now) (map (λ q. q.port) (operands_of (plain_guard guard.now)))) }
 {
     let ports = operands(alloc, guard)?;
     let mut found = Vec::new(alloc);
@@ -103,7 +107,8 @@ fn add_numbers(
     ports: &[PlacedPort],
 ) -> Result<(), Memory>
     requires part { IsPlannedPart part.now }
-    ensures value { OnOk result (found.new.items ≡ found.old.items ++ numbers_of (instance_of part.now) (map (λ q. q.port) ports.now)) }
+    ensures value { OnOk result (found.new.items ≡
+        found.old.items ++ numbers_of (instance_of part.now) (map (λ q. q.port) ports.now)) }
 {
     for port in ports {
         add_number(found, part, port.port)?;
@@ -114,7 +119,8 @@ fn add_numbers(
 /// Adds the number of a port, where it has one.
 fn add_number(found: &mut Vec<u32>, part: &PlannedPart<'_, '_>, port: PortRef) -> Result<(), Memory>
     requires part { IsPlannedPart part.now }
-    ensures value { OnOk result (found.new.items ≡ found.old.items ++ option_to_list (node_of (instance_of part.now) port)) }
+    ensures value { OnOk result
+        (found.new.items ≡ found.old.items ++ option_to_list (node_of (instance_of part.now) port)) }
 {
     match number_of(part, port) {
         Some(number) => {
@@ -132,7 +138,8 @@ fn planned_assign(
     owned: &OwnedAssign<'_>,
 ) -> Result<PlannedAssign, Memory>
     requires part { IsPlannedPart part.now }
-    ensures value { IfOk result (λ planned. numbered_assign planned ≡ assign_plan (instance_of part.now) (plain_owned owned.now)) }
+    ensures value { IfOk result
+        (λ planned. numbered_assign planned ≡ assign_plan (instance_of part.now) (plain_owned owned.now)) }
 {
     let named = named_numbers(alloc, part, &owned.assign.guard)?;
     let guard = planned_guard(alloc, part, &owned.assign.guard)?;
@@ -151,7 +158,8 @@ pub fn planned_assigns(
     assigns: &[OwnedAssign<'_>],
 ) -> Result<Vec<PlannedAssign>, Memory>
     requires part { IsPlannedPart part.now }
-    ensures value { IfOk result (λ planned. StandFor (instance_of part.now) planned.items (map plain_owned assigns.now)) }
+    ensures value { IfOk result
+        (λ planned. StandFor (instance_of part.now) planned.items (map plain_owned assigns.now)) }
 {
     let mut planned = Vec::new(alloc);
     for owned in assigns {

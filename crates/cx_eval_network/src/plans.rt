@@ -134,7 +134,9 @@ fn primitive_plan(
 ) -> Result<PortPlan, Memory>
     requires part { IsPlannedPart part.now }
     requires number { node_of (instance_of part.now) (Cell cell port) ≡ Some number }
-    ensures value { IfOk result (λ plan. planned plan ≡ side_decides (instance_of part.now) (Cell cell port) (row_of primitive.now) (side_of (row_of primitive.now) port)) }
+    ensures value { IfOk result (λ plan. planned plan ≡
+        side_decides (instance_of part.now) (Cell cell port) (row_of primitive.now)
+        (side_of (row_of primitive.now) port)) }
 {
     let own = PortRef::Cell(cell, port);
     match side(primitive, port) {
@@ -156,7 +158,8 @@ fn component_plan(
 ) -> Result<PortPlan, Memory>
     requires part { IsPlannedPart part.now }
     requires number { node_of (instance_of part.now) (Cell cell port) ≡ Some number }
-    ensures value { IfOk result (λ plan. planned plan ≡ part_decides (instance_of part.now) (Cell cell port) (plain_part_port kind)) }
+    ensures value { IfOk result
+        (λ plan. planned plan ≡ part_decides (instance_of part.now) (Cell cell port) (plain_part_port kind)) }
 {
     let own = PortRef::Cell(cell, port);
     match kind {

@@ -48,7 +48,8 @@ pub fn found_by(active: &Active, port: PortRef, plan: &PortPlan) -> FoundBy
 
 /// How a port is found that is seen as a source.
 fn by_source(source: PlannedPort) -> FoundBy
-    ensures value { (active : actives.Active) (port : refs.PortRef) (plan : planned.PortPlan) → IsSource active plan source → IsFoundBy active port plan result }
+    ensures value { (active : actives.Active) (port : refs.PortRef) (plan : planned.PortPlan) →
+        IsSource active plan source → IsFoundBy active port plan result }
 {
     match source {
         PlannedPort::Numbered(number) => FoundBy::Port(number),
@@ -83,7 +84,9 @@ fn driven_source(active: &Active, plan: &DrivenPlan) -> Option<PlannedPort>
 
 /// What of some assignments is active, where they are few.
 fn sole_of(active: &Active, assigns: &[PlannedAssign]) -> Sole
-    ensures value { (other : actives.Active) → ActsAs active.now other → (i : Instance) (owned : List Owned) (look : Look) (own : List NodeMark) → StandFor i assigns.now owned → Agree i look own
+    ensures value { (other : actives.Active) → ActsAs active.now other →
+        (i : Instance) (owned : List Owned) (look : Look) (own : List NodeMark) →
+        StandFor i assigns.now owned → Agree i look own
         → IsSole own result (drive_of look (offset_by other) owned) }
 {
     if assigns.len() > FEW {
@@ -100,7 +103,9 @@ fn sole_of(active: &Active, assigns: &[PlannedAssign]) -> Sole
 
 /// The same with one more before them.
 fn sole_with(active: &Active, assign: &PlannedAssign, rest: Sole) -> Sole
-    ensures value { (other : actives.Active) → ActsAs active.now other → (i : Instance) (a : Owned) (look : Look) (own : List NodeMark) (drive : Drive) → numbered_assign assign.now ≡ assign_plan i a → Agree i look own → IsSole own rest drive
+    ensures value { (other : actives.Active) → ActsAs active.now other →
+        (i : Instance) (a : Owned) (look : Look) (own : List NodeMark) (drive : Drive) →
+        numbered_assign assign.now ≡ assign_plan i a → Agree i look own → IsSole own rest drive
         → IsSole own result (with_assign look (offset_by other a.owner) a drive) }
 {
     match offset_of(active, assign.owner) {
@@ -111,7 +116,8 @@ fn sole_with(active: &Active, assign: &PlannedAssign, rest: Sole) -> Sole
 
 /// The same of one that is active.
 fn acting_sole(assign: &PlannedAssign, rest: Sole) -> Sole
-    ensures value { (i : Instance) (a : Owned) (look : Look) (own : List NodeMark) (drive : Drive) (offset : ℕ) → numbered_assign assign.now ≡ assign_plan i a → Agree i look own → IsSole own rest drive
+    ensures value { (i : Instance) (a : Owned) (look : Look) (own : List NodeMark) (drive : Drive)
+        (offset : ℕ) → numbered_assign assign.now ≡ assign_plan i a → Agree i look own → IsSole own rest drive
         → IsSole own result (with_assign look (Some offset) a drive) }
 {
     if !is_true(&assign.guard) {

@@ -56,6 +56,7 @@ module _ (kids : Kids) (part : PlainComponent) (below : ℕ → List Standing) w
   component_places = own_places (length part.groups) ∷ cell_places 0 part.cells
 
 -- the places of the first so many components of an order are listed
-pub record ArePlacesTo (d : PlainDesign) (order : List ℕ) (i : ℕ) (lists : List (Vec InstancePlaces Global)) : Type 0 where
+pub record ArePlacesTo (d : PlainDesign) (order : List ℕ) (i : ℕ)
+    (lists : List (Vec InstancePlaces Global)) : Type 0 where
   pub sized : length lists ≡ length d.components
   pub known : (j : ℕ) → In (take i order) j → listed lists j ≡ places_in (component_of d j)

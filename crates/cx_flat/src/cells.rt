@@ -19,7 +19,8 @@ pub(crate) fn cells_again(
     table: &[Option<Component>],
     cells: &[Cell],
 ) -> Result<Vec<Cell>, Memory>
-    ensures value { IfOk result (λ all. map plain_cell all.items ≡ flat_cells (kids_of (plain_table table.now) (map plain_cell cells.now)) (map plain_cell cells.now)) }
+    ensures value { IfOk result (λ all. map plain_cell all.items ≡
+        flat_cells (kids_of (plain_table table.now) (map plain_cell cells.now)) (map plain_cell cells.now)) }
 {
     let kept = kept_cells(alloc, table, cells)?;
     with_blocks(alloc, kept, table, cells)
@@ -31,7 +32,8 @@ fn kept_cells(
     table: &[Option<Component>],
     cells: &[Cell],
 ) -> Result<Vec<Cell>, Memory>
-    ensures value { IfOk result (λ all. map plain_cell all.items ≡ kept (kids_of (plain_table table.now) (map plain_cell cells.now)) (map plain_cell cells.now)) }
+    ensures value { IfOk result (λ all. map plain_cell all.items ≡
+        kept (kids_of (plain_table table.now) (map plain_cell cells.now)) (map plain_cell cells.now)) }
 {
     let mut all = Vec::with_capacity(alloc, cells.len())?;
     for cell in cells {
@@ -49,7 +51,9 @@ fn with_blocks(
     table: &[Option<Component>],
     cells: &[Cell],
 ) -> Result<Vec<Cell>, Memory>
-    ensures value { IfOk result (λ all. map plain_cell all.items ≡ map plain_cell front.items ++ blocks (kids_of (plain_table table.now) (map plain_cell cells.now)) (map plain_cell cells.now)) }
+    ensures value { IfOk result (λ all. map plain_cell all.items ≡
+        map plain_cell front.items
+        ++ blocks (kids_of (plain_table table.now) (map plain_cell cells.now)) (map plain_cell cells.now)) }
 {
     let mut all = front;
     for cell in cells {
@@ -65,7 +69,9 @@ fn with_block(
     kid: Option<&Component>,
     cell: &Cell,
 ) -> Result<Vec<Cell>, Memory>
-    ensures value { IfOk result (λ all. map plain_cell all.items ≡ map plain_cell front.items ++ block (option_map (λ k. plain_component k.now) kid.entry) (plain_cell cell.now)) }
+    ensures value { IfOk result (λ all. map plain_cell all.items ≡
+        map plain_cell front.items
+        ++ block (option_map (λ k. plain_component k.now) kid.entry) (plain_cell cell.now)) }
 {
     match kid {
         None => Ok(front),
@@ -83,7 +89,8 @@ fn with_inner_cells(
     cell: &Cell,
     inner: &[Cell],
 ) -> Result<Vec<Cell>, Memory>
-    ensures value { IfOk result (λ all. map plain_cell all.items ≡ map plain_cell front.items ++ map (inner_cell (plain_cell cell.now)) (map plain_cell inner.now)) }
+    ensures value { IfOk result (λ all. map plain_cell all.items ≡
+        map plain_cell front.items ++ map (inner_cell (plain_cell cell.now)) (map plain_cell inner.now)) }
 {
     let mut all = front;
     for one in inner {
@@ -111,7 +118,8 @@ fn with_wires(
     cell: &Cell,
     outputs: &[PortDecl],
 ) -> Result<Vec<Cell>, Memory>
-    ensures value { IfOk result (λ all. map plain_cell all.items ≡ map plain_cell front.items ++ map (wire_of (plain_cell cell.now)) outputs.now) }
+    ensures value { IfOk result (λ all. map plain_cell all.items ≡
+        map plain_cell front.items ++ map (wire_of (plain_cell cell.now)) outputs.now) }
 {
     let mut all = front;
     for output in outputs {

@@ -25,7 +25,9 @@ pub(crate) fn component_again(
     table: &[Option<Component>],
     part: &Component,
 ) -> Result<Component, Memory>
-    ensures value { IfOk result (λ flat. plain_component flat ≡ flat_component (kids_of (plain_table table.now) (plain_component part.now).cells) (plain_component part.now)) }
+    ensures value { IfOk result (λ flat. plain_component flat ≡
+        flat_component (kids_of (plain_table table.now) (plain_component part.now).cells)
+        (plain_component part.now)) }
 {
     let stands = stands(alloc, table, &part.cells)?;
     let caller = Caller {
@@ -39,7 +41,8 @@ pub(crate) fn component_again(
 /// The flat component of a caller.
 fn flat_component_again(alloc: Global, caller: Caller<'_>) -> Result<Component, Memory>
     requires caller { IsCaller caller }
-    ensures value { IfOk result (λ flat. plain_component flat ≡ flat_component (kids_in caller.entry) (part_of caller.entry)) }
+    ensures value { IfOk result
+        (λ flat. plain_component flat ≡ flat_component (kids_in caller.entry) (part_of caller.entry)) }
 {
     let part = caller.part;
     let all = groups_again(alloc, caller)?;
@@ -61,7 +64,8 @@ fn flat_component_again(alloc: Global, caller: Caller<'_>) -> Result<Component, 
 fn control_again(alloc: Global, caller: Caller<'_>, firsts: &[u32]) -> Result<Statement, Memory>
     requires caller { IsCaller caller }
     requires firsts { AreFirsts caller firsts.now }
-    ensures value { IfOk result (λ s. plain_statement s ≡ flat_statement (kids_in caller.entry) (part_of caller.entry) (part_of caller.entry).control) }
+    ensures value { IfOk result (λ s. plain_statement s ≡
+        flat_statement (kids_in caller.entry) (part_of caller.entry) (part_of caller.entry).control) }
 {
     flat_statement_again(alloc, caller, firsts, &caller.part.control)
 }
@@ -69,7 +73,10 @@ fn control_again(alloc: Global, caller: Caller<'_>, firsts: &[u32]) -> Result<St
 /// The continuous assignments of the flat component: its own, and those of its static children.
 fn always_again(alloc: Global, caller: Caller<'_>) -> Result<Vec<Assign>, Memory>
     requires caller { IsCaller caller }
-    ensures value { IfOk result (λ all. plain_assigns all.items ≡ map (moved_assign (own_port (kids_in caller.entry) (part_of caller.entry))) (part_of caller.entry).always ++ always_from (kids_in caller.entry) (part_of caller.entry) 0 (kids_in caller.entry)) }
+    ensures value { IfOk result (λ all. plain_assigns all.items ≡
+        map (moved_assign (own_port (kids_in caller.entry) (part_of caller.entry)))
+        (part_of caller.entry).always
+        ++ always_from (kids_in caller.entry) (part_of caller.entry) 0 (kids_in caller.entry)) }
 {
     let own = PortMap::Own(caller.stands);
     let all = with_moved_assigns(alloc, Vec::new(alloc), &own, &caller.part.always)?;
@@ -83,7 +90,9 @@ fn with_inner_always(
     caller: Caller<'_>,
 ) -> Result<Vec<Assign>, Memory>
     requires caller { IsCaller caller }
-    ensures value { IfOk result (λ all. plain_assigns all.items ≡ plain_assigns front.items ++ always_from (kids_in caller.entry) (part_of caller.entry) 0 (kids_in caller.entry)) }
+    ensures value { IfOk result (λ all. plain_assigns all.items ≡
+        plain_assigns front.items
+        ++ always_from (kids_in caller.entry) (part_of caller.entry) 0 (kids_in caller.entry)) }
 {
     let mut all = front;
     for number in 0..caller.part.cells.len() {
@@ -101,7 +110,9 @@ fn with_cell_always(
 ) -> Result<Vec<Assign>, Memory>
     requires caller { IsCaller caller }
     requires there { number < length (part_of caller).cells }
-    ensures value { IfOk result (λ all. plain_assigns all.items ≡ plain_assigns front.items ++ always_if (kids_in caller.entry) (part_of caller.entry) (kid_at (kids_in caller.entry) number) number) }
+    ensures value { IfOk result (λ all. plain_assigns all.items ≡
+        plain_assigns front.items ++ always_if (kids_in caller.entry) (part_of caller.entry)
+        (kid_at (kids_in caller.entry) number) number) }
 {
     let cell = &caller.part.cells[number];
     match (kid(caller.table, &cell.kind), caller.stands.get(number)) {

@@ -24,7 +24,9 @@ pub(crate) fn flat_statement_again(
 ) -> Result<Statement, Memory>
     requires caller { IsCaller caller }
     requires firsts { AreFirsts caller firsts.now }
-    ensures value { IfOk result (λ s. plain_statement s ≡ statement_by (own_by caller.entry.stands.now) (inlined_at (kids_in caller.entry) (part_of caller.entry)) (plain_statement statement.now)) }
+    ensures value { IfOk result (λ s. plain_statement s ≡
+        statement_by (own_by caller.entry.stands.now)
+        (inlined_at (kids_in caller.entry) (part_of caller.entry)) (plain_statement statement.now)) }
 {
     let form = flat_form_again(alloc, caller, firsts, &statement.form)?;
     let place = statement.place;
@@ -41,7 +43,9 @@ fn flat_form_again(
 ) -> Result<Form, Memory>
     requires caller { IsCaller caller }
     requires firsts { AreFirsts caller firsts.now }
-    ensures value { IfOk result (λ f. plain_form f ≡ form_by (own_by caller.entry.stands.now) (inlined_at (kids_in caller.entry) (part_of caller.entry)) (plain_form form.now)) }
+    ensures value { IfOk result (λ f. plain_form f ≡
+        form_by (own_by caller.entry.stands.now) (inlined_at (kids_in caller.entry) (part_of caller.entry))
+        (plain_form form.now)) }
 {
     match form {
         Form::Empty => Ok(Form::Empty),
@@ -112,7 +116,9 @@ fn flat_box_again(
 ) -> Result<Box<Statement>, Memory>
     requires caller { IsCaller caller }
     requires firsts { AreFirsts caller firsts.now }
-    ensures value { IfOk result (λ s. plain_statement s.value ≡ statement_by (own_by caller.entry.stands.now) (inlined_at (kids_in caller.entry) (part_of caller.entry)) (plain_statement statement.now)) }
+    ensures value { IfOk result (λ s. plain_statement s.value ≡
+        statement_by (own_by caller.entry.stands.now)
+        (inlined_at (kids_in caller.entry) (part_of caller.entry)) (plain_statement statement.now)) }
 {
     let statement = flat_statement_again(alloc, caller, firsts, statement)?;
     Ok(Box::new(alloc, statement)?)
@@ -128,7 +134,9 @@ fn flat_parts_again(
 ) -> Result<Vec<Statement>, Memory>
     requires caller { IsCaller caller }
     requires firsts { AreFirsts caller firsts.now }
-    ensures value { IfOk result (λ all. plain_statements all.items ≡ statements_by (own_by caller.entry.stands.now) (inlined_at (kids_in caller.entry) (part_of caller.entry)) (plain_statements parts.now)) }
+    ensures value { IfOk result (λ all. plain_statements all.items ≡
+        statements_by (own_by caller.entry.stands.now)
+        (inlined_at (kids_in caller.entry) (part_of caller.entry)) (plain_statements parts.now)) }
 {
     let mut all = Vec::with_capacity(alloc, parts.len())?;
     for statement in parts {

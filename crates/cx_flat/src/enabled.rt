@@ -22,7 +22,8 @@ pub(crate) struct Enabled {
 
 /// How many of the groups that a statement enables are below each number.
 pub(crate) fn enabled_counts(alloc: Global, control: &Statement) -> Result<Enabled, Memory>
-    ensures value { IfOk result (λ e. (g : ℕ) → below_by e.below.items e.count g ≡ enabled_below (groups_of (plain_statement control.now)) g) }
+    ensures value { IfOk result (λ e. (g : ℕ)
+        → below_by e.below.items e.count g ≡ enabled_below (groups_of (plain_statement control.now)) g) }
 {
     let groups = groups_enabled(alloc, control)?;
     let bound = bound(&groups)?;

@@ -29,7 +29,8 @@ pub(crate) struct FlatGroups {
 /// The groups of the flat component, and where the copies for each invoke begin.
 pub(crate) fn groups_again(alloc: Global, caller: Caller<'_>) -> Result<FlatGroups, Memory>
     requires caller { IsCaller caller }
-    ensures groups { IfOk result (λ g. map plain_group g.groups.items ≡ flat_groups (kids_in caller.entry) (part_of caller.entry)) }
+    ensures groups { IfOk result
+        (λ g. map plain_group g.groups.items ≡ flat_groups (kids_in caller.entry) (part_of caller.entry)) }
     ensures firsts { IfOk result (λ g. AreFirsts caller.entry g.firsts.items) }
 {
     let mut groups = own_groups(alloc, caller)?;
@@ -44,7 +45,9 @@ pub(crate) fn groups_again(alloc: Global, caller: Caller<'_>) -> Result<FlatGrou
 /// The own groups.
 fn own_groups(alloc: Global, caller: Caller<'_>) -> Result<Vec<Group>, Memory>
     requires caller { IsCaller caller }
-    ensures value { IfOk result (λ all. map plain_group all.items ≡ map (moved_group (own_port (kids_in caller.entry) (part_of caller.entry))) (part_of caller.entry).groups) }
+    ensures value { IfOk result (λ all. map plain_group all.items ≡
+        map (moved_group (own_port (kids_in caller.entry) (part_of caller.entry)))
+        (part_of caller.entry).groups) }
 {
     moved_groups(alloc, &PortMap::Own(caller.stands), &caller.part.groups)
 }
@@ -57,7 +60,9 @@ fn with_copies(
     invoke: &StaticInvoke,
 ) -> Result<Vec<Group>, Memory>
     requires caller { IsCaller caller }
-    ensures value { IfOk result (λ all. map plain_group all.items ≡ map plain_group front.items ++ copies (kids_in caller.entry) (part_of caller.entry) (plain_invoke invoke.now)) }
+    ensures value { IfOk result (λ all. map plain_group all.items ≡
+        map plain_group front.items
+        ++ copies (kids_in caller.entry) (part_of caller.entry) (plain_invoke invoke.now)) }
 {
     match kid_at_cell(caller.table, &caller.part.cells, invoke.cell) {
         Some(child) => {
@@ -75,7 +80,9 @@ fn with_child_copies(
     moves: PortMap<'_>,
     child: &Component,
 ) -> Result<Vec<Group>, Memory>
-    ensures value { IfOk result (λ all. map plain_group all.items ≡ map plain_group front.items ++ map (copied_group (map_by moves.entry)) (enabled_groups (groups_of (plain_component child.now).control) 0 (plain_component child.now).groups)) }
+    ensures value { IfOk result (λ all. map plain_group all.items ≡
+        map plain_group front.items ++ map (copied_group (map_by moves.entry))
+        (enabled_groups (groups_of (plain_component child.now).control) 0 (plain_component child.now).groups)) }
 {
     let used = groups_enabled(alloc, &child.control)?;
     with_enabled_copies(alloc, front, moves, &used, &child.groups)
@@ -89,7 +96,9 @@ fn with_enabled_copies(
     used: &[u32],
     groups: &[Group],
 ) -> Result<Vec<Group>, Memory>
-    ensures value { IfOk result (λ all. map plain_group all.items ≡ map plain_group front.items ++ map (copied_group (map_by moves.entry)) (enabled_groups used.now 0 (map plain_group groups.now))) }
+    ensures value { IfOk result (λ all. map plain_group all.items ≡
+        map plain_group front.items
+        ++ map (copied_group (map_by moves.entry)) (enabled_groups used.now 0 (map plain_group groups.now))) }
 {
     let mut all = front;
     let mut number = 0u32;

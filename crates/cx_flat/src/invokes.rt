@@ -46,7 +46,10 @@ fn inlined_invoke(
     invoke: &StaticInvoke,
 ) -> Result<Form, Memory>
     requires caller { IsCaller caller }
-    ensures value { IfOk result (λ f. (k : ℕ) → first ≡ first_copy (kids_in caller.entry) (part_of caller.entry) k → plain_form f ≡ inlined (kids_in caller.entry) (part_of caller.entry) (kid_at (kids_in caller.entry) invoke.now.cell) k (plain_invoke invoke.now)) }
+    ensures value { IfOk result (λ f. (k : ℕ)
+        → first ≡ first_copy (kids_in caller.entry) (part_of caller.entry) k
+        → plain_form f ≡ inlined (kids_in caller.entry) (part_of caller.entry)
+        (kid_at (kids_in caller.entry) invoke.now.cell) k (plain_invoke invoke.now)) }
 {
     match kid_at_cell(caller.table, &caller.part.cells, invoke.cell) {
         Some(child) => {
@@ -74,7 +77,11 @@ fn copied_control(
 ) -> Result<Statement, Memory>
     requires caller { IsCaller caller }
     requires child { kid_at (kids_in caller) invoke.now.cell ≡ Some (plain_component child.now) }
-    ensures value { IfOk result (λ s. plain_statement s ≡ statement_copied (invoke_port (kids_in caller.entry) (part_of caller.entry) (plain_component child.now) (plain_invoke invoke.now)) (λ g. first + enabled_below (groups_of (plain_component child.now).control) g) (plain_component child.now).control) }
+    ensures value { IfOk result (λ s. plain_statement s ≡
+        statement_copied (invoke_port (kids_in caller.entry) (part_of caller.entry)
+        (plain_component child.now) (plain_invoke invoke.now))
+        (λ g. first + enabled_below (groups_of (plain_component child.now).control) g)
+        (plain_component child.now).control) }
 {
     let enabled = enabled_counts(alloc, &child.control)?;
     let moves = invoked(caller, invoke)?;
@@ -91,7 +98,10 @@ pub(crate) fn invoked<'a>(
     invoke: &'a StaticInvoke,
 ) -> Result<PortMap<'a>, Memory>
     requires caller { IsCaller caller }
-    ensures value { IfOk result (λ moves. (child : PlainComponent) → kid_at (kids_in caller.entry) invoke.now.cell ≡ Some child → map_by moves ≡ invoke_port (kids_in caller.entry) (part_of caller.entry) child (plain_invoke invoke.now)) }
+    ensures value { IfOk result (λ moves. (child : PlainComponent)
+        → kid_at (kids_in caller.entry) invoke.now.cell ≡ Some child
+        → map_by moves ≡
+        invoke_port (kids_in caller.entry) (part_of caller.entry) child (plain_invoke invoke.now)) }
 {
     match caller.stands.get(invoke.cell as usize) {
         Some(Stand::Inlined(block)) => Ok(PortMap::Invoked(*block, caller.stands, invoke)),

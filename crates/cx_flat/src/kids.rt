@@ -9,7 +9,8 @@ use cx_design::{Cell, CellKind, Component};
 
 /// The flat component of a static child, by the kind of its cell. The table has it by the number of the component.
 pub(crate) fn kid<'a>(table: &'a [Option<Component>], kind: &CellKind) -> Option<&'a Component>
-    ensures value { option_map (λ kid. plain_component kid.now) result ≡ kid_by (plain_table table.now) (plain_kind kind.now) }
+    ensures value { option_map (λ kid. plain_component kid.now) result ≡
+        kid_by (plain_table table.now) (plain_kind kind.now) }
 {
     match kind {
         CellKind::Prim(_) => None,
@@ -33,7 +34,8 @@ pub(crate) fn kid_at_cell<'a>(
     cells: &[Cell],
     number: u32,
 ) -> Option<&'a Component>
-    ensures value { option_map (λ kid. plain_component kid.now) result ≡ kid_at (kids_of (plain_table table.now) (map plain_cell cells.now)) number }
+    ensures value { option_map (λ kid. plain_component kid.now) result ≡
+        kid_at (kids_of (plain_table table.now) (map plain_cell cells.now)) number }
 {
     match cells.get(number as usize) {
         Some(cell) => kid(table, &cell.kind),

@@ -58,7 +58,8 @@ pub(crate) fn placing_at(
 ) -> Result<Placing, Memory>
     requires caller { IsCaller caller }
     requires firsts { AreFirsts caller firsts.now }
-    ensures value { IfOk result (λ p. placed_by p ≡ placed_entry (kids_in caller.entry) (part_of caller.entry) cell (kid_at (kids_in caller.entry) cell)) }
+    ensures value { IfOk result (λ p. placed_by p ≡
+        placed_entry (kids_in caller.entry) (part_of caller.entry) cell (kid_at (kids_in caller.entry) cell)) }
 {
     match (
         kid_at_cell(caller.table, &caller.part.cells, cell),
@@ -86,9 +87,13 @@ fn inlining_at(
 ) -> Result<Inlining, Memory>
     requires firsts { AreFirsts caller firsts.now }
     ensures cells { IfOk result (λ i. i.cells ≡ cells) }
-    ensures firsts { IfOk result (λ i. i.firsts.items ≡ map (first_copy (kids_in caller.entry) (part_of caller.entry)) (invokes_of cell 0 (part_of caller.entry).invokes)) }
+    ensures firsts { IfOk result (λ i. i.firsts.items ≡
+        map (first_copy (kids_in caller.entry) (part_of caller.entry))
+        (invokes_of cell 0 (part_of caller.entry).invokes)) }
     ensures used { IfOk result (λ i. i.used.items ≡ groups_of (plain_component child.now).control) }
-    ensures enabled { IfOk result (λ i. (g : ℕ) → below_by i.enabled.below.items i.enabled.count g ≡ enabled_below (groups_of (plain_component child.now).control) g) }
+    ensures enabled { IfOk result (λ i. (g : ℕ)
+        → below_by i.enabled.below.items i.enabled.count g ≡
+        enabled_below (groups_of (plain_component child.now).control) g) }
 {
     Ok(Inlining {
         cells,
@@ -106,7 +111,9 @@ fn firsts_of(
     cell: u32,
 ) -> Result<Vec<u32>, Memory>
     requires firsts { AreFirsts caller firsts.now }
-    ensures value { IfOk result (λ all. all.items ≡ map (first_copy (kids_in caller.entry) (part_of caller.entry)) (invokes_of cell 0 (part_of caller.entry).invokes)) }
+    ensures value { IfOk result (λ all. all.items ≡
+        map (first_copy (kids_in caller.entry) (part_of caller.entry))
+        (invokes_of cell 0 (part_of caller.entry).invokes)) }
 {
     let mut all = Vec::new(alloc);
     let mut number = 0u32;
@@ -136,7 +143,8 @@ pub(crate) fn placed(
     placing: &Placing,
     places: &[FlatPlace],
 ) -> Result<Vec<FlatPlace>, Memory>
-    ensures value { IfOk result (λ all. plain_places all.items ≡ placed_list (placed_by placing.now) (plain_places places.now)) }
+    ensures value { IfOk result
+        (λ all. plain_places all.items ≡ placed_list (placed_by placing.now) (plain_places places.now)) }
 {
     let mut all = Vec::with_capacity(alloc, places.len())?;
     for place in places {
@@ -152,7 +160,8 @@ fn with_placed(
     placing: &Placing,
     place: &FlatPlace,
 ) -> Result<Vec<FlatPlace>, Memory>
-    ensures value { IfOk result (λ all. plain_places all.items ≡ plain_places front.items ++ placed_by placing.now place.now.path.items place.now.group) }
+    ensures value { IfOk result (λ all. plain_places all.items ≡
+        plain_places front.items ++ placed_by placing.now place.now.path.items place.now.group) }
 {
     match placing {
         Placing::Kept(cell) => with_place(alloc, front, *cell, &place.path, place.group),
@@ -168,7 +177,8 @@ fn with_inlined(
     path: &[u32],
     group: u32,
 ) -> Result<Vec<FlatPlace>, Memory>
-    ensures value { IfOk result (λ all. plain_places all.items ≡ plain_places front.items ++ inlined_by child.now path.now group) }
+    ensures value { IfOk result
+        (λ all. plain_places all.items ≡ plain_places front.items ++ inlined_by child.now path.now group) }
 {
     match path.split_first() {
         None => with_copies(alloc, front, child, group),
@@ -183,7 +193,8 @@ fn with_copies(
     child: &Inlining,
     group: u32,
 ) -> Result<Vec<FlatPlace>, Memory>
-    ensures value { IfOk result (λ all. plain_places all.items ≡ plain_places front.items ++ copies_by child.now group) }
+    ensures value { IfOk result
+        (λ all. plain_places all.items ≡ plain_places front.items ++ copies_by child.now group) }
 {
     if is_enabled(&child.used, group) {
         with_each_copy(alloc, front, child, group)
@@ -199,7 +210,8 @@ fn with_each_copy(
     child: &Inlining,
     group: u32,
 ) -> Result<Vec<FlatPlace>, Memory>
-    ensures value { IfOk result (λ all. plain_places all.items ≡ plain_places front.items ++ copies_at child.now.enabled group child.now.firsts.items) }
+    ensures value { IfOk result (λ all. plain_places all.items ≡
+        plain_places front.items ++ copies_at child.now.enabled group child.now.firsts.items) }
 {
     let mut all = front;
     for first in &child.firsts {
@@ -219,7 +231,8 @@ fn with_place(
     path: &[u32],
     group: u32,
 ) -> Result<Vec<FlatPlace>, Memory>
-    ensures value { IfOk result (λ all. plain_places all.items ≡ plain_places front.items ++ entry_at (cell ∷ path.now) group ∷ []) }
+    ensures value { IfOk result
+        (λ all. plain_places all.items ≡ plain_places front.items ++ entry_at (cell ∷ path.now) group ∷ []) }
 {
     let path = path_below(alloc, cell, path)?;
     let mut all = front;

@@ -101,7 +101,8 @@ fn invoked_port(
 
 /// The source of an input.
 fn source(invoke: &StaticInvoke, input: u32) -> Result<PortRef, Memory>
-    ensures value { IfOk result (λ source. source ≡ source_to invoke.now.cell (plain_assigns invoke.now.inputs.items) input) }
+    ensures value { IfOk result
+        (λ source. source ≡ source_to invoke.now.cell (plain_assigns invoke.now.inputs.items) input) }
 {
     let number = sum(input, 1)?;
     Ok(bound(&invoke.inputs, PortRef::Cell(invoke.cell, number)))

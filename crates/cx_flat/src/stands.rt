@@ -45,7 +45,9 @@ pub(crate) fn stands(
     table: &[Option<Component>],
     cells: &[Cell],
 ) -> Result<Vec<Stand>, Memory>
-    ensures value { IfOk result (λ all. all.items ≡ definitions.stands_of (kids_of (plain_table table.now) (map plain_cell cells.now)) (map plain_cell cells.now)) }
+    ensures value { IfOk result (λ all. all.items ≡
+        definitions.stands_of (kids_of (plain_table table.now) (map plain_cell cells.now))
+        (map plain_cell cells.now)) }
 {
     let mut all = Vec::with_capacity(alloc, cells.len())?;
     let mut next = Next {
@@ -62,7 +64,8 @@ pub(crate) fn stands(
 
 /// How many cells are kept.
 fn kept_count(table: &[Option<Component>], cells: &[Cell]) -> Result<u32, Memory>
-    ensures value { IfOk result (λ count. count ≡ length (kept (kids_of (plain_table table.now) (map plain_cell cells.now)) (map plain_cell cells.now))) }
+    ensures value { IfOk result (λ count. count ≡
+        length (kept (kids_of (plain_table table.now) (map plain_cell cells.now)) (map plain_cell cells.now))) }
 {
     let mut count = 0u32;
     for cell in cells {
@@ -75,7 +78,8 @@ fn kept_count(table: &[Option<Component>], cells: &[Cell]) -> Result<u32, Memory
 
 /// Where the next cell stands.
 fn next_stand(next: Next, kid: Option<&Component>) -> Result<Stand, Memory>
-    ensures value { IfOk result (λ stand. stand ≡ definitions.stand_of (option_map (λ k. plain_component k.now) kid.entry) next.kept next.block) }
+    ensures value { IfOk result (λ stand.
+        stand ≡ definitions.stand_of (option_map (λ k. plain_component k.now) kid.entry) next.kept next.block) }
 {
     match kid {
         None => Ok(Stand::Kept(next.kept)),
@@ -89,8 +93,10 @@ fn next_stand(next: Next, kid: Option<&Component>) -> Result<Stand, Memory>
 
 /// Where what comes behind the next cell stands.
 fn after(next: Next, kid: Option<&Component>) -> Result<Next, Memory>
-    ensures kept { IfOk result (λ after. after.kept ≡ behind (option_map (λ k. plain_component k.now) kid.entry) next.kept) }
-    ensures block { IfOk result (λ after. after.block ≡ next.block + block_size (option_map (λ k. plain_component k.now) kid.entry)) }
+    ensures kept { IfOk result
+        (λ after. after.kept ≡ behind (option_map (λ k. plain_component k.now) kid.entry) next.kept) }
+    ensures block { IfOk result
+        (λ after. after.block ≡ next.block + block_size (option_map (λ k. plain_component k.now) kid.entry)) }
 {
     match kid {
         None => Ok(Next {

@@ -26,7 +26,8 @@ pub record IsOf (part : PlainComponent) (c j : ℕ) : Type 0 where
   pub there : j < length part.invokes
   pub cell : (the_invoke part j).cell ≡ c
 
-module _ (kids : Kids) (part : PlainComponent) (c : ℕ) (child : PlainComponent) (deeds : List Deed) (inner more : Active) where
+module _ (kids : Kids) (part : PlainComponent) (c : ℕ) (child : PlainComponent) (deeds : List Deed)
+    (inner more : Active) where
   -- a static child that is not fed: nothing of it acts, and no copy for it
   pub record IsIdle : Type 0 where
     pub unfed : fed_by c deeds ≡ None
@@ -41,17 +42,21 @@ module _ (kids : Kids) (part : PlainComponent) (c : ℕ) (child : PlainComponent
     pub fed : fed_by c deeds ≡ Some (the_invoke part invoke).inputs
     pub used : (g : ℕ) → IsUsed child g → more.offset (copy_of kids part child invoke g) ≡ inner.offset g
     pub unused : (g : ℕ) → is_one_of g (groups_of child.control) ≡ false → inner.offset g ≡ None
-    pub others : (j g : ℕ) → IsOf part c j → j ≢ invoke → IsUsed child g → more.offset (copy_of kids part child j g) ≡ None
+    pub others : (j g : ℕ) → IsOf part c j → j ≢ invoke → IsUsed child g
+        → more.offset (copy_of kids part child j g) ≡ None
 
 -- WHAT ACTS: the groups of the instance as they do, and the copies for each static child as what it does
 abbrev mutual
   pub ActsAs : Instance → Active → List Deed → Active → Type 0
-  ActsAs (Node part cells) act deeds more = ((g : ℕ) → g < length part.groups → more.offset g ≡ act.offset g) × AllActAs (flat_kids cells) part cells 0 deeds more
+  ActsAs (Node part cells) act deeds more =
+      ((g : ℕ) → g < length part.groups → more.offset g ≡ act.offset g)
+      × AllActAs (flat_kids cells) part cells 0 deeds more
 
   pub AllActAs : Kids → PlainComponent → Cells → ℕ → List Deed → Active → Type 0
   AllActAs kids part no_cells c deeds more = Unit {0}
   AllActAs kids part (a_primitive row rest) c deeds more = AllActAs kids part rest (suc c) deeds more
   AllActAs kids part (an_instance child rest) c deeds more =
-      (is_static child ≡ true → (inner : Active) × (inner.done_cell ≡ None) × ActsAs child (entries (own_entries (deeds_below c deeds))) (deeds_below c deeds) inner
+      (is_static child ≡ true → (inner : Active) × (inner.done_cell ≡ None)
+      × ActsAs child (entries (own_entries (deeds_below c deeds))) (deeds_below c deeds) inner
       × (IsIdle kids part c (flat_part child) deeds inner more ⊎ IsFed kids part c (flat_part child) deeds inner more))
       × AllActAs kids part rest (suc c) deeds more

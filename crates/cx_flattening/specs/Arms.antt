@@ -10,11 +10,15 @@ use Rattle.cx_flattening.specs.Flattened.{kid_at, kept_at, start_of, flat_kids, 
 abbrev pub flat_of : Instance → PlainStatement → PlainStatement
 flat_of i = flat_statement (flat_kids (cells_of i)) (part_of i)
 
--- the flat statement drives a cell that is kept where the statement drives it, and no cell of a static child that the statement does not drive
+-- the flat statement drives a cell that is kept where the statement drives it, and no cell of a static child that the
+-- statement does not drive
 pub record DrivesAlike (i flat : Instance) (s : PlainStatement) : Type 0 where
-  pub kept : (c : ℕ) → c < length (part_of i).cells → kid_at (flat_kids (cells_of i)) c ≡ None → drives (part_of flat) (flat_of i s) (kept_at (flat_kids (cells_of i)) c) ≡ drives_all (part_of i) s c
-  pub block : (c e : ℕ) (child : PlainComponent) → c < length (part_of i).cells → kid_at (flat_kids (cells_of i)) c ≡ Some child → e < length child.cells
-      → drives_all (part_of i) s c ≡ false → drives (part_of flat) (flat_of i s) (start_of (flat_kids (cells_of i)) (part_of i) c + e) ≡ false
+  pub kept : (c : ℕ) → c < length (part_of i).cells → kid_at (flat_kids (cells_of i)) c ≡ None
+      → drives (part_of flat) (flat_of i s) (kept_at (flat_kids (cells_of i)) c) ≡ drives_all (part_of i) s c
+  pub block : (c e : ℕ) (child : PlainComponent) → c < length (part_of i).cells
+      → kid_at (flat_kids (cells_of i)) c ≡ Some child → e < length child.cells
+      → drives_all (part_of i) s c ≡ false
+      → drives (part_of flat) (flat_of i s) (start_of (flat_kids (cells_of i)) (part_of i) c + e) ≡ false
 
 -- no arm drives the cell
 abbrev pub NoneDrive : PlainComponent → ℕ → PlainStatements → Type 0

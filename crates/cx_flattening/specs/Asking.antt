@@ -66,7 +66,9 @@ module _ (i flat : Instance) where
     FormAsks (StaticPar length arms) = IsIsland i flat (StaticPar length arms)
     FormAsks (StaticIf length test a b) = IsIsland i flat (StaticIf length test a b)
     FormAsks (StaticRepeat length count a) = IsIsland i flat (StaticRepeat length count a)
-    FormAsks (Timed k) = IsIsland i flat (Timed k) × IsStaticForm (part_of flat) (flat_form (flat_kids (cells_of i)) (part_of i) (Timed k))
+    FormAsks (Timed k) =
+        IsIsland i flat (Timed k)
+        × IsStaticForm (part_of flat) (flat_form (flat_kids (cells_of i)) (part_of i) (Timed k))
 
     pub Asks : PlainStatement → Type 0
     Asks (Placed form place) = FormAsks form
@@ -86,7 +88,8 @@ pub record RunAsks (i flat : Instance) : Type 0 where
   pub fair : AllFair i
   pub idle : AllRows KeepsIdle flat
   pub lawful : (c : ℕ) (row : Row) → cell_at (cells_of flat) c ≡ OfRow row → IsLawful row
-  pub bare : (o : Owned) → In (source_order (part_of flat)) o → o.owner ≡ None → is_primitive_enable flat o.assign.target ≡ false
+  pub bare : (o : Owned) → In (source_order (part_of flat)) o → o.owner ≡ None
+      → is_primitive_enable flat o.assign.target ≡ false
   pub control : Asks i flat (part_of i).control
 
 -- WHAT IS ASKED of a tree, and of the flat instances of its dynamic children
@@ -98,5 +101,6 @@ abbrev mutual
   ChildrenAsk no_cells cells c flat = Unit {0}
   ChildrenAsk (a_primitive row rest) cells c flat = ChildrenAsk rest cells (suc c) flat
   ChildrenAsk (an_instance child rest) cells c flat =
-      (is_static child ≡ false → (twin : Instance) → cell_at (cells_of flat) (kept_at (flat_kids cells) c) ≡ OfInstance twin → TreeAsks child twin)
+      (is_static child ≡ false → (twin : Instance) →
+      cell_at (cells_of flat) (kept_at (flat_kids cells) c) ≡ OfInstance twin → TreeAsks child twin)
       × ChildrenAsk rest cells (suc c) flat

@@ -16,7 +16,8 @@ kept_done kids (Some c) = Some (kept_at kids c)
 
 -- the cell of a call whose done is 1 is one that is kept
 abbrev pub IsKeptDone : Instance → Option ℕ → Type 0
-IsKeptDone i done = (c : ℕ) → done ≡ Some c → (c < length (part_of i).cells) × (kid_at (flat_kids (cells_of i)) c ≡ None)
+IsKeptDone i done =
+    (c : ℕ) → done ≡ Some c → (c < length (part_of i).cells) × (kid_at (flat_kids (cells_of i)) c ≡ None)
 
 -- WHAT IS ASKED of a tree and its flat instance: flat acts under `more` as the tree does under act and the deeds
 pub record IsBeside (i flat : Instance) (act more : Active) (deeds : List Deed) (s z : State) : Type 0 where

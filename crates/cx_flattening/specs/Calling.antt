@@ -19,4 +19,6 @@ pub record IsCallBeside (i flat : Instance) (g c : ℕ) (child : Instance) : Typ
 
 -- the control of a child runs in the flat instance as in the tree
 abbrev pub RunsAs : Instance → ℕ → ℕ → Children → Children → Type 0
-RunsAs child c e children others = (held : Held) (s z : State) (n : ℕ) → Stands child 0 s z → AnswerAs child (children c held s n) (others e held z n)
+RunsAs child c e children others =
+    (held : Held) (s z : State) (n : ℕ) → Stands child 0 s z
+    → AnswerAs child (children c held s n) (others e held z n)

@@ -21,12 +21,14 @@ module _ (move : PortRef → PortRef) (copy : ℕ → ℕ) where
     copied_form (Enable g) = Enable (copy g)
     copied_form (Seq parts) = Seq (copied_statements parts)
     copied_form (Par arms) = Par (copied_statements arms)
-    copied_form (If test comb a b) = If (moved_port move test) (copied_comb copy comb) (copied_statement a) (copied_statement b)
+    copied_form (If test comb a b) =
+        If (moved_port move test) (copied_comb copy comb) (copied_statement a) (copied_statement b)
     copied_form (While test comb a) = While (moved_port move test) (copied_comb copy comb) (copied_statement a)
     copied_form (Repeat count a) = Repeat count (copied_statement a)
     copied_form (StaticSeq length parts) = StaticSeq length (copied_statements parts)
     copied_form (StaticPar length arms) = StaticPar length (copied_statements arms)
-    copied_form (StaticIf length test a b) = StaticIf length (moved_port move test) (copied_statement a) (copied_statement b)
+    copied_form (StaticIf length test a b) =
+        StaticIf length (moved_port move test) (copied_statement a) (copied_statement b)
     copied_form (StaticRepeat length count a) = StaticRepeat length count (copied_statement a)
     copied_form (Timed k) = Timed k
 

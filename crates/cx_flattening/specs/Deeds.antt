@@ -1,4 +1,5 @@
--- What is done in one cycle of an island, by the samples taken so far: the groups that act, and the cells of static components that are fed.
+-- What is done in one cycle of an island, by the samples taken so far: the groups that act, and the cells of static
+-- components that are fed.
 use Rattle.std.specs.Prelude.{ℕ, ◌-◌, Bool, true, false, ◌&&◌, nat_lt, nat_le, nat_eq, List, [], ◌∷◌, Option, Some, None, if◌then◌else◌}
 use Rattle.cx_meaning.specs.Designs.{PlainAssign}
 use Rattle.cx_meaning.specs.Instances.{Path}
@@ -34,8 +35,11 @@ is_now h t from to conditions = nat_le from t && nat_lt t to && hold h condition
 
 abbrev pub deeds_in : History → ℕ → List Event → List Deed
 deeds_in h t [] = []
-deeds_in h t (Runs at g from to conditions ∷ rest) = deed_if (is_now h t from to conditions) (Acts at (record { group = g; offset = t - from })) (deeds_in h t rest)
-deeds_in h t (Feeds at c inputs from to conditions ∷ rest) = deed_if (is_now h t from to conditions) (Fed at c inputs) (deeds_in h t rest)
+deeds_in h t (Runs at g from to conditions ∷ rest) =
+    deed_if (is_now h t from to conditions) (Acts at (record { group = g; offset = t - from }))
+    (deeds_in h t rest)
+deeds_in h t (Feeds at c inputs from to conditions ∷ rest) =
+    deed_if (is_now h t from to conditions) (Fed at c inputs) (deeds_in h t rest)
 deeds_in h t (Looks x at conditions ∷ rest) = deeds_in h t rest
 
 abbrev pub spot_if : Bool → Spot → List Spot → List Spot
@@ -71,7 +75,8 @@ held_if false a b n = b n
 abbrev pub held_below : Look → ℕ → List Deed → Held
 held_below look c [] n = unheld n
 held_below look c (Acts at e ∷ rest) n = held_below look c rest n
-held_below look c (Fed [] d inputs ∷ rest) n = held_if (nat_eq d c) (λ m. look (source_to c inputs m)) (held_below look c rest) n
+held_below look c (Fed [] d inputs ∷ rest) n =
+    held_if (nat_eq d c) (λ m. look (source_to c inputs m)) (held_below look c rest) n
 held_below look c (Fed (d ∷ at) e inputs ∷ rest) n = held_below look c rest n
 
 -- the samples taken before, and those of cycle t by what is seen now
@@ -89,4 +94,5 @@ or_later (Some f) later = Some f
 -- the first of the ports that is no value
 abbrev pub first_unclear : (Path → Look) → List Spot → Option Fault
 first_unclear look [] = None
-first_unclear look (x ∷ rest) = or_later (fault_in x.at (fault_of x.port (look x.at x.port) None)) (first_unclear look rest)
+first_unclear look (x ∷ rest) =
+    or_later (fault_in x.at (fault_of x.port (look x.at x.port) None)) (first_unclear look rest)

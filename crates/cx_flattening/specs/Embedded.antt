@@ -34,16 +34,22 @@ abbrev mutual
 
   pub AreEmbedded : Kids → PlainComponent → Cells → ℕ → ℕ → Cells → Type 0
   AreEmbedded kids part no_cells c first host = Unit {0}
-  AreEmbedded kids part (a_primitive row rest) c first host = (cell_at host (first + kept_at kids c) ≡ OfRow row) × AreEmbedded kids part rest (suc c) first host
+  AreEmbedded kids part (a_primitive row rest) c first host =
+      (cell_at host (first + kept_at kids c) ≡ OfRow row) × AreEmbedded kids part rest (suc c) first host
   AreEmbedded kids part (an_instance child rest) c first host =
-      (is_static child ≡ true → IsEmbedded child (first + start_of kids part c) host × HasWires (part_of child).outputs (first + wire_at kids part (flat_part child) c 0) host)
-      × (is_static child ≡ false → (twin : Instance) × (cell_at host (first + kept_at kids c) ≡ OfInstance twin) × IsLike (part_of twin) (flat_part child) × IsEmbedded child 0 (cells_of twin)
+      (is_static child ≡ true → IsEmbedded child (first + start_of kids part c) host
+      × HasWires (part_of child).outputs (first + wire_at kids part (flat_part child) c 0) host)
+      × (is_static child ≡ false → (twin : Instance)
+      × (cell_at host (first + kept_at kids c) ≡ OfInstance twin)
+      × IsLike (part_of twin) (flat_part child) × IsEmbedded child 0 (cells_of twin)
       × (cell_count (cells_of twin) ≡ length (flat_part child).cells))
       × AreEmbedded kids part rest (suc c) first host
 
 -- THE FLAT INSTANCE of an instance
 abbrev pub IsFlattened : Instance → Instance → Type 0
-IsFlattened i flat = IsLike (part_of flat) (flat_part i) × IsEmbedded i 0 (cells_of flat) × (cell_count (cells_of flat) ≡ length (flat_part i).cells)
+IsFlattened i flat =
+    IsLike (part_of flat) (flat_part i) × IsEmbedded i 0 (cells_of flat)
+    × (cell_count (cells_of flat) ≡ length (flat_part i).cells)
 
 -- THE SAME STATE of all its cells, in a state of the host
 abbrev mutual
@@ -52,7 +58,8 @@ abbrev mutual
 
   pub AllStand : Kids → PlainComponent → Cells → ℕ → ℕ → State → State → Type 0
   AllStand kids part no_cells c first s z = Unit {0}
-  AllStand kids part (a_primitive row rest) c first s z = (z ((first + kept_at kids c) ∷ []) ≡ s (c ∷ [])) × AllStand kids part rest (suc c) first s z
+  AllStand kids part (a_primitive row rest) c first s z =
+      (z ((first + kept_at kids c) ∷ []) ≡ s (c ∷ [])) × AllStand kids part rest (suc c) first s z
   AllStand kids part (an_instance child rest) c first s z =
       (is_static child ≡ true → Stands child (first + start_of kids part c) (under c s) z)
       × (is_static child ≡ false → Stands child 0 (under c s) (under (first + kept_at kids c) z))

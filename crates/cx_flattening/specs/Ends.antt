@@ -27,9 +27,12 @@ is_static_done i (ports.Literal w v) = false
 
 -- nothing of a component looks at one
 pub record NamesNoDone (i : Instance) : Type 0 where
-  pub assigns : (a : PlainAssign) (q : PortRef) → IsAssignOf (part_of i) a → AssignNames a q → is_static_done i q ≡ false
-  pub inputs : (v : PlainInvoke) (a : PlainAssign) → In (part_of i).invokes v → In v.inputs a → is_static_done i a.source.port ≡ false
-  pub tests : (v : Visited) (p : PlacedPort) → In (statements_in (part_of i)) v → test_in v.form ≡ Some p → is_static_done i p.port ≡ false
+  pub assigns : (a : PlainAssign) (q : PortRef) → IsAssignOf (part_of i) a → AssignNames a q
+      → is_static_done i q ≡ false
+  pub inputs : (v : PlainInvoke) (a : PlainAssign) → In (part_of i).invokes v → In v.inputs a
+      → is_static_done i a.source.port ≡ false
+  pub tests : (v : Visited) (p : PlacedPort) → In (statements_in (part_of i)) v → test_in v.form ≡ Some p
+      → is_static_done i p.port ≡ false
 
 -- NO COMPONENT OF A DESIGN looks at one, as in the design of a text
 abbrev pub NoneNamesDone : PlainDesign → Type 0

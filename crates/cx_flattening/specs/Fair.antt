@@ -41,14 +41,21 @@ pub record IsFair (i : Instance) : Type 0 where
   pub within : (c : ℕ) → (cell_at (cells_of i) c ≡ Nothing → ⊥) → c < length (part_of i).cells
   pub targets : HasTargets (flat_kids (cells_of i)) (part_of i)
   pub names : (a : PlainAssign) (q : PortRef) → IsAssignOf (part_of i) a → AssignNames a q → IsNamed i q
-  pub sources : (j n : ℕ) (child : Instance) → j < length (part_of i).invokes → cell_at (cells_of i) (the_invoke (part_of i) j).cell ≡ OfInstance child → n < length (part_of child).inputs
+  pub sources : (j n : ℕ) (child : Instance) → j < length (part_of i).invokes
+      → cell_at (cells_of i) (the_invoke (part_of i) j).cell ≡ OfInstance child
+      → n < length (part_of child).inputs
       → IsNamed i (source_to (the_invoke (part_of i) j).cell (the_invoke (part_of i) j).inputs n)
-  pub kept : is_static i ≡ true → (a : PlainAssign) (n : ℕ) → In (part_of i).always a → AssignNames a (ports.Input n) → ⊥
+  pub kept : is_static i ≡ true → (a : PlainAssign) (n : ℕ) → In (part_of i).always a
+      → AssignNames a (ports.Input n) → ⊥
   pub not_source : (a : PlainAssign) → IsAssignOf (part_of i) a → is_source_only i a.target ≡ false
-  pub reads : (c p m : ℕ) (row : Row) → cell_at (cells_of i) c ≡ OfRow row → row.reads p m ≡ true → (side_of row m ≡ sides.Enable) ⊎ (side_of row m ≡ sides.Plain)
-  pub outputs_rest : (n : ℕ) (a : PlainAssign) (q : PortRef) → In (part_of i).always a → a.target ≡ ports.Output n → AssignNames a q → IsAtRest i q
-  pub outputs_lead : (n : ℕ) (a : PlainAssign) (q : PortRef) → In (part_of i).always a → a.target ≡ ports.Output n → AssignNames a q → LeadsToInput i q → ⊥
-  pub outputs_outside : (x : PlainGroup) (a : PlainAssign) (n : ℕ) → In (part_of i).groups x → In x.assigns a → a.target ≡ ports.Output n → ⊥
+  pub reads : (c p m : ℕ) (row : Row) → cell_at (cells_of i) c ≡ OfRow row → row.reads p m ≡ true
+      → (side_of row m ≡ sides.Enable) ⊎ (side_of row m ≡ sides.Plain)
+  pub outputs_rest : (n : ℕ) (a : PlainAssign) (q : PortRef) → In (part_of i).always a
+      → a.target ≡ ports.Output n → AssignNames a q → IsAtRest i q
+  pub outputs_lead : (n : ℕ) (a : PlainAssign) (q : PortRef) → In (part_of i).always a
+      → a.target ≡ ports.Output n → AssignNames a q → LeadsToInput i q → ⊥
+  pub outputs_outside : (x : PlainGroup) (a : PlainAssign) (n : ℕ) → In (part_of i).groups x
+      → In x.assigns a → a.target ≡ ports.Output n → ⊥
 
 abbrev mutual
   pub AllFair : Instance → Type 0

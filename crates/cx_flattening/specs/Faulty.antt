@@ -16,4 +16,6 @@ IsFaulty static i (ports.Literal w v) = static ≡ false
 
 abbrev pub FaultAt : Bool → Instance → Path → PortRef → Type 0
 FaultAt static i [] p = IsFaulty static i p
-FaultAt static i (c ∷ path) p = (child : Instance) × (cell_at (cells_of i) c ≡ OfInstance child) × FaultAt (is_static child) child path p
+FaultAt static i (c ∷ path) p =
+    (child : Instance) × (cell_at (cells_of i) c ≡ OfInstance child)
+    × FaultAt (is_static child) child path p

@@ -22,4 +22,5 @@ abbrev mutual
   pub FedOnceBelow : Cells → ℕ → List Deed → Type 0
   FedOnceBelow no_cells c deeds = Unit {0}
   FedOnceBelow (a_primitive row rest) c deeds = FedOnceBelow rest (suc c) deeds
-  FedOnceBelow (an_instance child rest) c deeds = (is_static child ≡ true → FedOnce child (deeds_below c deeds)) × FedOnceBelow rest (suc c) deeds
+  FedOnceBelow (an_instance child rest) c deeds =
+      (is_static child ≡ true → FedOnce child (deeds_below c deeds)) × FedOnceBelow rest (suc c) deeds

@@ -8,5 +8,7 @@ use Rattle.cx_rules.specs.Wellformed.{IsForm}
 -- each design of a text has it, whatever its size
 pub record HasForms (d : PlainDesign) : Type 0 where
   pub main : d.main < length d.components
-  pub forms : (k : ℕ) (v : Visited) → k < length d.components → In (statements_in (component_at d k)) v → IsForm (component_at d k) v.form
-  pub kinds : (k j : ℕ) (cell : PlainCell) → k < length d.components → In (component_at d k).cells cell → cell.kind ≡ OfComponent j → j < length d.components
+  pub forms : (k : ℕ) (v : Visited) → k < length d.components → In (statements_in (component_at d k)) v
+      → IsForm (component_at d k) v.form
+  pub kinds : (k j : ℕ) (cell : PlainCell) → k < length d.components → In (component_at d k).cells cell
+      → cell.kind ≡ OfComponent j → j < length d.components

@@ -22,7 +22,9 @@ pub record IsStaticOf (i : Instance) (form : PlainForm) : Type 0 where
 
 -- what the island of a statement does
 abbrev pub island_events : Instance → PlainForm → List Event
-island_events i form = form_events (part_of i) (events_below (cells_of i)) form (record { at = []; bound = spot []; from = 0; conditions = [] })
+island_events i form =
+    form_events (part_of i) (events_below (cells_of i)) form
+    (record { at = []; bound = spot []; from = 0; conditions = [] })
 
 -- WHAT IS ASKED of an island of a tree and of its flat instance: no static child is fed twice, and nothing leads in a circle
 pub record IsIsland (i flat : Instance) (form : PlainForm) : Type 0 where
@@ -31,5 +33,6 @@ pub record IsIsland (i flat : Instance) (form : PlainForm) : Type 0 where
   pub controlled : AllControlled i
   pub static : IsStaticOf i form
   pub once : (h : History) (t : ℕ) → FedOnce i (deeds_in h t (island_events i form))
-  pub no_circle : (h : History) (t : ℕ) → NoCircle i (entries (own_entries (deeds_in h t (island_events i form)))) (deeds_in h t (island_events i form))
+  pub no_circle : (h : History) (t : ℕ) → NoCircle i
+      (entries (own_entries (deeds_in h t (island_events i form)))) (deeds_in h t (island_events i form))
   pub still : NoCircle i nothing []

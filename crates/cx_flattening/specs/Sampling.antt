@@ -32,12 +32,16 @@ module _ (R : Spot → PortRef → Type 0) where
   abbrev mutual
     pub AllSpots : Instance → ℕ → Path → Type 0
     AllSpots (Node part cells) first at =
-        ((p : PortRef) → IsNamed (Node part cells) p → IsOwn p → R (spot at p) (placed first (own_port (flat_kids cells) part p))) × SpotsBelow (flat_kids cells) part cells 0 first at
+        ((p : PortRef) → IsNamed (Node part cells) p → IsOwn p →
+        R (spot at p) (placed first (own_port (flat_kids cells) part p)))
+        × SpotsBelow (flat_kids cells) part cells 0 first at
 
     pub SpotsBelow : Kids → PlainComponent → Cells → ℕ → ℕ → Path → Type 0
     SpotsBelow kids part no_cells c first at = Unit {0}
     SpotsBelow kids part (a_primitive row rest) c first at = SpotsBelow kids part rest (suc c) first at
-    SpotsBelow kids part (an_instance child rest) c first at = (is_static child ≡ true → AllSpots child (first + start_of kids part c) (at ++ (c ∷ []))) × SpotsBelow kids part rest (suc c) first at
+    SpotsBelow kids part (an_instance child rest) c first at =
+        (is_static child ≡ true → AllSpots child (first + start_of kids part c) (at ++ (c ∷ [])))
+        × SpotsBelow kids part rest (suc c) first at
 
 -- THE SAMPLES AGREE
 abbrev pub SampledAlike : History → islands.History → Spot → PortRef → Type 0

@@ -14,14 +14,18 @@ use Rattle.cx_flattening.specs.Flattened.{Kids, flat_kids, kept_at, start_of}
 -- with each input as its source is seen in the instance
 abbrev mutual
   pub CellsSeen : Look → Instance → ℕ → Held → Active → List Deed → State → Type 0
-  CellsSeen there (Node part cells) first held act deeds s = AllSeen there (flat_kids cells) part cells 0 first (seen (Node part cells) held act s) deeds s
+  CellsSeen there (Node part cells) first held act deeds s =
+      AllSeen there (flat_kids cells) part cells 0 first (seen (Node part cells) held act s) deeds s
 
   pub AllSeen : Look → Kids → PlainComponent → Cells → ℕ → ℕ → Look → List Deed → State → Type 0
   AllSeen there kids part no_cells c first look deeds s = Unit {0}
   AllSeen there kids part (a_primitive row rest) c first look deeds s =
-      ((p : ℕ) → there (ports.Cell (first + kept_at kids c) p) ≡ look (ports.Cell c p)) × AllSeen there kids part rest (suc c) first look deeds s
+      ((p : ℕ) → there (ports.Cell (first + kept_at kids c) p) ≡ look (ports.Cell c p))
+      × AllSeen there kids part rest (suc c) first look deeds s
   AllSeen there kids part (an_instance child rest) c first look deeds s =
-      (is_static child ≡ true → CellsSeen there child (first + start_of kids part c) (held_below look c deeds) (entries (own_entries (deeds_below c deeds))) (deeds_below c deeds) (under c s))
+      (is_static child ≡ true → CellsSeen there child (first + start_of kids part c)
+      (held_below look c deeds) (entries (own_entries (deeds_below c deeds))) (deeds_below c deeds)
+      (under c s))
       × AllSeen there kids part rest (suc c) first look deeds s
 
 -- nothing leads in a circle under what is done, in the instance and in its static children
@@ -33,4 +37,6 @@ abbrev mutual
   NoneBelow no_cells c deeds = Unit {0}
   NoneBelow (a_primitive row rest) c deeds = NoneBelow rest (suc c) deeds
   NoneBelow (an_instance child rest) c deeds =
-      (is_static child ≡ true → NoCircle child (entries (own_entries (deeds_below c deeds))) (deeds_below c deeds)) × NoneBelow rest (suc c) deeds
+      (is_static child ≡ true →
+      NoCircle child (entries (own_entries (deeds_below c deeds))) (deeds_below c deeds))
+      × NoneBelow rest (suc c) deeds

@@ -28,7 +28,8 @@ BlockTarget child (ports.Literal w v) = ⊥
 -- the assignments of the used ones of the groups from g on have this property
 abbrev pub AllUsed : (PlainAssign → Type 0) → List ℕ → ℕ → List PlainGroup → Type 0
 AllUsed P used g [] = Unit {0}
-AllUsed P used g (x ∷ xs) = (is_one_of g used ≡ true → (a : PlainAssign) → In x.assigns a → P a) × AllUsed P used (suc g) xs
+AllUsed P used g (x ∷ xs) =
+    (is_one_of g used ≡ true → (a : PlainAssign) → In x.assigns a → P a) × AllUsed P used (suc g) xs
 
 -- a static child, flat: what it drives is there, no continuous assignment names an input, and the groups that it enables are there
 pub record IsBlock (child : PlainComponent) : Type 0 where

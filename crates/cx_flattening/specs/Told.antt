@@ -24,4 +24,5 @@ told d answers.More = GoesOn
 -- THE THEOREM of flattening
 pub record KeepsRuns (d : PlainDesign) : Type 0 where
   pub rows : external_rows (flat_design d) ≡ external_rows d
-  pub runs : (words : List (List ℕ)) (budget : ℕ) → told (flat_design d) (run_main (flat_design d) words budget) ≡ told d (whole_main d words budget)
+  pub runs : (words : List (List ℕ)) (budget : ℕ)
+      → told (flat_design d) (run_main (flat_design d) words budget) ≡ told d (whole_main d words budget)

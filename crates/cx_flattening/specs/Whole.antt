@@ -44,7 +44,8 @@ abbrev mutual
   cycles_below (a_primitive row rest) c look deeds s before = cycles_below rest (suc c) look deeds s before
   cycles_below (an_instance child rest) c look deeds s before =
       cycles_below rest (suc c) look deeds s
-      (child_if (is_static child) c before (whole_cycle child (held_below look c deeds) (entries (own_entries (deeds_below c deeds))) (deeds_below c deeds) (under c s)))
+      (child_if (is_static child) c before (whole_cycle child (held_below look c deeds)
+      (entries (own_entries (deeds_below c deeds))) (deeds_below c deeds) (under c s)))
 
 -- what the ports of an instance and of those below it are seen as under the continuous assignments alone. No continuous assignment of
 -- a static component names an input
@@ -76,19 +77,23 @@ whole_from i held list (suc left) t before s (suc n) =
 -- AN ISLAND, with the static invokes in it, or a static invoke in dynamic control
 abbrev pub whole_island : Instance → Held → PlainForm → Meaning State Fault
 whole_island i held form s n =
-    whole_from i held (form_events (part_of i) (events_below (cells_of i)) form (record { at = []; bound = spot []; from = 0; conditions = [] }))
+    whole_from i held (form_events (part_of i) (events_below (cells_of i)) form
+    (record { at = []; bound = spot []; from = 0; conditions = [] }))
     (form_lasts (part_of i) form) 0 no_history s n
 
 abbrev pub after_child : Instance → Held → ℕ → ℕ → Bool → Meaning State Fault
-after_child i held g c true s n = one_turn (idle i) (λ s1. turn_of (whole_cycle i held (capture g c) [] s1)) (idle_turn (idle i)) s n
+after_child i held g c true s n =
+    one_turn (idle i) (λ s1. turn_of (whole_cycle i held (capture g c) [] s1)) (idle_turn (idle i)) s n
 after_child i held g c false s n = idle_turn (idle i) s n
 
 abbrev pub call : Instance → Children → Held → ℕ → ℕ → Meaning State Fault
 call i child held g c s n =
-    then_do (lift_answer c s (child c (inputs_of_call i held g c s) (under c s) n)) n (after_child i held g c (captures i g))
+    then_do (lift_answer c s (child c (inputs_of_call i held g c s) (under c s) n)) n
+    (after_child i held g c (captures i g))
 
 abbrev pub group_turn : Instance → Held → ℕ → State → Turn State Fault
-group_turn i held g s = hole_turn g (whole_cycle i held (group g) [] s) (truth_of (seen i held (group g) s (ports.Done g)))
+group_turn i held g s =
+    hole_turn g (whole_cycle i held (group g) [] s) (truth_of (seen i held (group g) s (ports.Done g)))
 
 abbrev pub call_or_turns : Instance → Children → Held → ℕ → Option ℕ → Meaning State Fault
 call_or_turns i child held g (Some c) s n = call i child held g c s n
@@ -117,7 +122,8 @@ whole_leaves i children held = record {
 -- RUN of the control of an instance, with its inputs held
 abbrev mutual
   pub whole_control : Instance → Held → Meaning State Fault
-  whole_control (Node part cells) held s n = run (whole_leaves (Node part cells) (whole_below cells) held) part.control s n
+  whole_control (Node part cells) held s n =
+      run (whole_leaves (Node part cells) (whole_below cells) held) part.control s n
 
   pub whole_below : Cells → Children
   whole_below no_cells c held s n = More

@@ -65,7 +65,8 @@ pub fn means_the_same_without()
 
 /// So does one in which what statements and cells name is there, as in that of each text, whatever its size.
 pub fn forms_mean_the_same_without()
-    ensures { (d : PlainDesign) (words : List (List ℕ)) (n : ℕ) → HasForms d → IsFlat d → whole_main d words n ≡ run_main d words n }
+    ensures { (d : PlainDesign) (words : List (List ℕ)) (n : ℕ) → HasForms d → IsFlat d →
+        whole_main d words n ≡ run_main d words n }
 {}
 
 /// Each output of an instance is seen, wherever its flat component stands and whatever acts there, as in the instance.
@@ -89,7 +90,8 @@ pub fn flat_cycles_are_those_of_the_tree()
 /// act as what the tree does, by samples that agree, where no static child is fed twice at once.
 pub fn flat_lists_are_those_of_the_tree()
     ensures length { (i : Instance) (form : PlainForm) → AllFair i → AllControlled i → IsStaticOf i form
-        → form_length (flat_part i) (flat_form (flat_kids (cells_of i)) (part_of i) form) ≡ form_lasts (part_of i) form }
+        → form_length (flat_part i) (flat_form (flat_kids (cells_of i)) (part_of i) form) ≡
+        form_lasts (part_of i) form }
     ensures acts { (i : Instance) (form : PlainForm) (h : History) (k : islands.History) (t : ℕ)
         → AllFair i → AllControlled i → IsStaticOf i form → AgreesAt h k i 0 []
         → ((n u : ℕ) → k (Input n) u ≡ h (spot [] (Input n)) u) → FedOnce i (deeds_in h t (island_events i form))
@@ -101,10 +103,12 @@ pub fn flat_lists_are_those_of_the_tree()
 /// a group acts, static children rest.
 pub fn flat_turns_are_those_of_the_tree()
     ensures turn { (i flat : Instance) (held : Held) (g : ℕ) (s z : State)
-        → IsGroupBeside i flat (Some g) → Stands i 0 s z → TurnAs i (group_turn i held g s) (calls.group_turn flat held g z) }
+        → IsGroupBeside i flat (Some g) → Stands i 0 s z
+        → TurnAs i (group_turn i held g s) (calls.group_turn flat held g z) }
     ensures group { (i flat : Instance) (held : Held) (g n : ℕ) (s z : State)
         → IsGroupBeside i flat (Some g) → Stands i 0 s z
-        → AnswerAs i (turns_of (idle i) (group_turn i held g) s n) (turns_of (idle flat) (calls.group_turn flat held g) z n) }
+        → AnswerAs i (turns_of (idle i) (group_turn i held g) s n)
+        (turns_of (idle flat) (calls.group_turn flat held g) z n) }
     ensures test { (i flat : Instance) (held : Held) (p : PortRef) (with_group : Option ℕ) (s z : State)
         → IsGroupBeside i flat with_group → IsKnown i p → Stands i 0 s z
         → TestAs i (calls.test i held p with_group s) (calls.test flat held (own_of i p) with_group z) }
@@ -115,14 +119,16 @@ pub fn flat_turns_are_those_of_the_tree()
 pub fn flat_islands_are_those_of_the_tree()
     ensures { (i flat : Instance) (form : PlainForm) (held : Held) (s z : State) (n : ℕ)
         → IsIsland i flat form → Stands i 0 s z
-        → AnswerAs i (whole_island i held form s n) (islands.island flat held (flat_form (flat_kids (cells_of i)) (part_of i) form) z n) }
+        → AnswerAs i (whole_island i held form s n)
+        (islands.island flat held (flat_form (flat_kids (cells_of i)) (part_of i) form) z n) }
 {}
 
 /// A call of a dynamic child in the flat instance is that in the tree, where the control of the child runs alike: its inputs are
 /// seen alike, its state and its fault stand where the child stands, and the group captures alike in the turn after it.
 pub fn flat_calls_are_those_of_the_tree()
     ensures { (i flat child : Instance) (held : Held) (g c : ℕ) (children others : Children) (s z : State) (n : ℕ)
-        → IsCallBeside i flat g c child → RunsAs child c (kept_at (flat_kids (cells_of i)) c) children others → Stands i 0 s z
+        → IsCallBeside i flat g c child
+        → RunsAs child c (kept_at (flat_kids (cells_of i)) c) children others → Stands i 0 s z
         → AnswerAs i (call i children held g c s n)
         (calls.call flat others held g (kept_at (flat_kids (cells_of i)) c) z n) }
 {}
@@ -212,15 +218,18 @@ pub fn flat_designs_keep_limits()
 /// The flat design of an accepted design, in which nothing looks at the done of a static component's cell, weighs what is counted of the
 /// design with its static components written out, and is no larger than what is counted: it exceeds no limit.
 pub fn flat_designs_keep_weights()
-    ensures counted { (d : PlainDesign) → IsDesign d → IsAccepted d → NoneNamesDone d → weight_of (flat_design d) ≡ counted_weight (tree_of d) }
+    ensures counted { (d : PlainDesign) → IsDesign d → IsAccepted d → NoneNamesDone d →
+        weight_of (flat_design d) ≡ counted_weight (tree_of d) }
     ensures weight { (d : PlainDesign) (at : Spot) (place : Place) (name : List ℕ)
         → IsDesign d → IsAccepted d → NoneNamesDone d
         → BreaksWeight (flat_design d) at place name → ⊥ }
     ensures statements { (d : PlainDesign) (at : Spot) (place : Place) (name : List ℕ)
         → IsDesign d → IsAccepted d → NoneNamesDone d
         → OnStatement BreaksStatement (flat_design d) at place name → ⊥ }
-    ensures size { (d : PlainDesign) → IsDesign d → IsAccepted d → NoneNamesDone d → design_size (flat_design d) ≤ counted_design_size d }
-    ensures limits { (d : PlainDesign) → IsDesign d → IsAccepted d → NoneNamesDone d → flat_rules.KeepsStage 7 (flat_design d) }
+    ensures size { (d : PlainDesign) → IsDesign d → IsAccepted d → NoneNamesDone d →
+        design_size (flat_design d) ≤ counted_design_size d }
+    ensures limits { (d : PlainDesign) → IsDesign d → IsAccepted d → NoneNamesDone d →
+        flat_rules.KeepsStage 7 (flat_design d) }
 {}
 
 /// Each component of the flat design is the flat one of a component that the flat main reaches; and the flat design of an accepted
@@ -253,9 +262,11 @@ pub fn flat_designs_keep_rules()
         → IsDesign d → IsAccepted d → NoneNamesDone d
         → OnStatement BreaksLength (flat_design d) at place name → ⊥ }
     ensures parts { (d : PlainDesign) (at : Spot) (place : Place) (name : List ℕ)
-        → OnStatement BreaksInvokeLength (flat_design d) at place name ⊎ BreaksPartLength (flat_design d) at place name → ⊥ }
+        → OnStatement BreaksInvokeLength (flat_design d) at place name
+        ⊎ BreaksPartLength (flat_design d) at place name → ⊥ }
     ensures invokes { (d : PlainDesign) (at : Spot) (place : Place) (name : List ℕ)
-        → OnAssign BreaksStaticCell (flat_design d) at place name ⊎ OnStatement BreaksInvoke (flat_design d) at place name → ⊥ }
+        → OnAssign BreaksStaticCell (flat_design d) at place name
+        ⊎ OnStatement BreaksInvoke (flat_design d) at place name → ⊥ }
     ensures kept { (d : PlainDesign) (at : Spot) (place : Place) (name : List ℕ)
         → OnAssign BreaksKept (flat_design d) at place name → ⊥ }
 {}
@@ -294,6 +305,7 @@ pub fn flat_designs_are_without_races()
 /// The flat design of an accepted design, in which nothing looks at the done of a static component's cell, is accepted: it breaks no rule
 /// of any stage, neither as the rules are nor as they come to in a design without static components.
 pub fn flat_designs_are_accepted()
-    ensures flat { (d : PlainDesign) → IsDesign d → IsAccepted d → NoneNamesDone d → flat_rules.IsAccepted (flat_design d) }
+    ensures flat { (d : PlainDesign) → IsDesign d → IsAccepted d → NoneNamesDone d →
+        flat_rules.IsAccepted (flat_design d) }
     ensures whole { (d : PlainDesign) → IsDesign d → IsAccepted d → NoneNamesDone d → IsAccepted (flat_design d) }
 {}

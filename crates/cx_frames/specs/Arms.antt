@@ -15,4 +15,5 @@ all_drive part (s ∷ ss) c = drives part s c || all_drive part ss c
 
 -- what these arms of a par mean, each from the same state
 abbrev pub arms_run : Instance → Held → List PlainStatement → Meaning State Fault
-arms_run (Node part cells) held arms s n = run_arms (leaves (Node part cells) (control_below cells) held) (statements_of arms) s n
+arms_run (Node part cells) held arms s n =
+    run_arms (leaves (Node part cells) (control_below cells) held) (statements_of arms) s n

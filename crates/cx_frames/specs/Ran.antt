@@ -18,7 +18,8 @@ AnswersAs after (answers.Fault f t) o = o ≡ Faulted f t
 AnswersAs after More o = o ≡ Unfinished
 
 -- what a run leaves: a settled state in which only driven cells differ, whether it ended or not, and its answer
-pub record Ran (i : Instance) (driven : Set) (meaning : Meaning State Fault) (s : State) (n : ℕ) (after : State) (outcome : Outcome) : Type 0 where
+pub record Ran (i : Instance) (driven : Set) (meaning : Meaning State Fault) (s : State) (n : ℕ)
+    (after : State) (outcome : Outcome) : Type 0 where
   pub settled : IsSettled i after
   pub top : after [] ≡ s []
   pub others : (c : ℕ) (below : Path) → driven c ≡ false → after (c ∷ below) ≡ s (c ∷ below)

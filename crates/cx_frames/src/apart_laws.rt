@@ -31,12 +31,14 @@ pub fn cycles_keep_the_rest()
     ensures idles { (d : PlainDesign) (path : Path) (held : Held) (act : Active) (s : State) (c : ℕ) (row : Row)
         → IsAccepted d → IsUndriven (part_of (instance_at (tree_of d) path)) act c
         → cell_at (cells_of (instance_at (tree_of d) path)) c ≡ OfRow row
-        → cell_outcome (seen (instance_at (tree_of d) path) held act s) c row (s (c ∷ [])) ≡ Next (row.idle (s (c ∷ []))) }
+        → cell_outcome (seen (instance_at (tree_of d) path) held act s) c row (s (c ∷ [])) ≡
+        Next (row.idle (s (c ∷ []))) }
     ensures kept { (d : PlainDesign) (path : Path) (held : Held) (act : Active) (listed : Set) (s after : State) (c : ℕ)
         → IsAccepted d → IsUndriven (part_of (instance_at (tree_of d) path)) act c
         → IsSettledAt (instance_at (tree_of d) path) s c
         → cycle_of (instance_at (tree_of d) path) held act listed s ≡ Goes after → IsKeptAt s after c }
-    ensures elsewhere { (d : PlainDesign) (path : Path) (held : Held) (act : Active) (listed : Set) (s : State) (c p : ℕ) (fault : Fault)
+    ensures elsewhere { (d : PlainDesign) (path : Path) (held : Held) (act : Active) (listed : Set)
+        (s : State) (c p : ℕ) (fault : Fault)
         → IsAccepted d → IsUndriven (part_of (instance_at (tree_of d) path)) act c
         → cycle_of (instance_at (tree_of d) path) held act listed s ≡ Faults fault → fault.port ≡ Cell c p → ⊥ }
     ensures children { (i child : Instance) (held : Held) (act : Active) (listed : Set) (s after : State) (c : ℕ)
@@ -52,7 +54,8 @@ pub fn listed_cells_suffice()
         → IsAccepted d
         → ((c : ℕ) → listed c ≡ false → IsUndriven (part_of (instance_at (tree_of d) path)) act c)
         → ((c : ℕ) → listed c ≡ false → IsSettledAt (instance_at (tree_of d) path) s c)
-        → cycle_of (instance_at (tree_of d) path) held act listed s ≡ cycle_of (instance_at (tree_of d) path) held act every_cell s }
+        → cycle_of (instance_at (tree_of d) path) held act listed s ≡
+        cycle_of (instance_at (tree_of d) path) held act every_cell s }
 {}
 
 /// An idle turn changes no more than the listed cells and what is below them, where every other cell is settled.
@@ -75,16 +78,20 @@ pub fn active_groups_within()
     ensures capture { (part : PlainComponent) (s : PlainStatement) (g called c : ℕ)
         → In (groups_of s) g → drives part s c ≡ false → IsUndriven part (capture g called) c }
     ensures island { (part : PlainComponent) (form : PlainForm) (place : Place) (h : History) (t c : ℕ)
-        → drives part (Placed form place) c ≡ false → IsUndriven part (entries (active_in h t (form_flat part form 0 []))) c }
+        → drives part (Placed form place) c ≡ false
+        → IsUndriven part (entries (active_in h t (form_flat part form 0 []))) c }
 {}
 
 /// In an accepted design a run of a statement leaves every cell that the statement does not drive as it was, where the cell was
 /// settled: in every instance of its tree, for every statement.
 pub fn runs_keep_the_rest()
-    ensures kept { (d : PlainDesign) (path : Path) (held : Held) (statement : PlainStatement) (s after : State) (n t c : ℕ)
+    ensures kept { (d : PlainDesign) (path : Path) (held : Held) (statement : PlainStatement)
+        (s after : State) (n t c : ℕ)
         → IsAccepted d → run_statement (instance_at (tree_of d) path) held statement s n ≡ End after t
         → drives (part_of (instance_at (tree_of d) path)) statement c ≡ false
         → IsSettledAt (instance_at (tree_of d) path) s c → IsKeptAt s after c }
-    ensures root { (d : PlainDesign) (path : Path) (held : Held) (statement : PlainStatement) (s after : State) (n t : ℕ)
-        → IsAccepted d → run_statement (instance_at (tree_of d) path) held statement s n ≡ End after t → after [] ≡ s [] }
+    ensures root { (d : PlainDesign) (path : Path) (held : Held) (statement : PlainStatement)
+        (s after : State) (n t : ℕ)
+        → IsAccepted d → run_statement (instance_at (tree_of d) path) held statement s n ≡ End after t
+        → after [] ≡ s [] }
 {}

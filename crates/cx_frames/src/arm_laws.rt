@@ -69,13 +69,15 @@ pub fn next_arm()
 
 /// When all arms of a `par` have run, the `par` has; without arms it is an idle turn.
 pub fn whole_par()
-    ensures arms { (i : Instance) (held : Held) (arms : PlainStatements) (place : Place) (first : PlainStatement) (rest : List PlainStatement)
+    ensures arms { (i : Instance) (held : Held) (arms : PlainStatements) (place : Place)
+        (first : PlainStatement) (rest : List PlainStatement)
         (s after : State) (n : ℕ) (o : Outcome)
         → list_of arms ≡ first ∷ rest
         → Ran i (all_drive (part_of i) (list_of arms)) (arms_run i held (list_of arms)) s n after o
         → Ran i (drives (part_of i) (Placed (Par arms) place))
         (run_statement i held (Placed (Par arms) place)) s n after o }
-    ensures listed { (i : Instance) (held : Held) (list : List PlainStatement) (place : Place) (s after : State) (n : ℕ) (o : Outcome)
+    ensures listed { (i : Instance) (held : Held) (list : List PlainStatement) (place : Place)
+        (s after : State) (n : ℕ) (o : Outcome)
         → 1 ≤ length list
         → Ran i (all_drive (part_of i) list) (arms_run i held list) s n after o
         → Ran i (drives (part_of i) (Placed (Par (statements_of list)) place))

@@ -25,6 +25,7 @@ pub record IsLowered (lowered : PlainLowereds) : Type 0 where
 pub record IsNetFor (d : PlainDesign) (net : PlainNet) : Type 0 where
   pub realises : RealisesInNet d (net_tree net)
   pub fits : IsFit net
-  pub targets : (k : ℕ) → k < length net.components → (m : ℕ) (driver : PlainNetDriver) → slice_get (net_component_at net k).drivers m ≡ Some driver
+  pub targets : (k : ℕ) → k < length net.components → (m : ℕ) (driver : PlainNetDriver)
+      → slice_get (net_component_at net k).drivers m ≡ Some driver
       → IsSome (target_width net (net_component_at net k) driver.target)
   pub rows : rows_of (net_component_at net net.main).cells ≡ external_rows d

@@ -11,7 +11,8 @@ use Rattle.cx_fsm.specs.PlainStands.{past}
 
 -- what follows a statement of this form in its region
 abbrev pub behind_form : List PlainIsland → PlainForm → Stand → Stand
-behind_form islands form x = past x (suc (suc (form_wires form))) (length (form_registers islands form)) (form_positions form)
+behind_form islands form x =
+    past x (suc (suc (form_wires form))) (length (form_registers islands form)) (form_positions form)
 
 -- how many registers the samples of an island have
 abbrev pub samples_of : List PlainIsland → ℕ → ℕ
@@ -38,7 +39,8 @@ arm_ended own positions = either (equals (OfRegister own.region) positions) (end
 abbrev pub arm_made : ℕ → List PlainIsland → Stand → Stand → PlainStatement → List PlainNetDriver
 arm_made groups islands par own s =
     drive (ToRegister own.region) (end_of par.wire) (word 0)
-    ∷ (drivers_of groups islands own s ++ drive (ToRegister own.region) (end_of own.wire) (word (own.position + positions_of s)) ∷ [])
+    ∷ (drivers_of groups islands own s ++
+    drive (ToRegister own.region) (end_of own.wire) (word (own.position + positions_of s)) ∷ [])
 
 -- the rounds of a repeat whose body has this first wire are counted, up to the last one
 abbrev pub counted_rounds : Stand → ℕ → ℕ → List PlainNetDriver

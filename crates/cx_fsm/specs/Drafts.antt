@@ -24,4 +24,5 @@ pub record Keeps (before after : Draft) : Type 0 where
 -- those that are made, and what is left, are all
 pub record AddsRest (before after : Draft) (rest all : List PlainNetDriver) : Type 0 where
   pub whole : IfWhole after (IsWhole before)
-  pub driven : IfWhole after (plain_net_drivers after.drivers.items ++ rest ≡ plain_net_drivers before.drivers.items ++ all)
+  pub driven : IfWhole after
+      (plain_net_drivers after.drivers.items ++ rest ≡ plain_net_drivers before.drivers.items ++ all)

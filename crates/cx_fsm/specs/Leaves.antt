@@ -27,7 +27,8 @@ left l ds = gathered (plain_net_target l.target) (plain_net_drivers l.drivers.it
 -- these drivers are made, and wires of these widths, so that this wire is the next, where nothing is wanting
 pub record Grows (before after : Trees) (made : List PlainNetDriver) (wide : List ℕ) (free : ℕ) : Type 0 where
   pub whole : IfWhole after.draft (IsWhole before.draft)
-  pub drivers : IfWhole after.draft (plain_net_drivers after.draft.drivers.items ≡ plain_net_drivers before.draft.drivers.items ++ made)
+  pub drivers : IfWhole after.draft
+      (plain_net_drivers after.draft.drivers.items ≡ plain_net_drivers before.draft.drivers.items ++ made)
   pub widths : IfWhole after.draft (after.widths.items ≡ before.widths.items ++ wide)
   pub next : IfWhole after.draft (after.next ≡ free)
 

@@ -70,8 +70,10 @@ fn target(port: PortRef) -> NetTarget
 
 /// An assignment that drives whether its group goes or not: a continuous one, or that of a done.
 fn open(draft: &mut Draft, wire: u32, offset: Option<u32>, assign: &Assign) -> u32
-    ensures behind { IfWhole draft.new (result ≡ wire + wired.looking_wires (LooksAlways (offset_of offset)) (plain_guard assign.now.guard)) }
-    ensures driven { Adds draft.old draft.new (wired.looking_drivers 0 (LooksAlways (offset_of offset)) wire (plain_assign assign.now)) }
+    ensures behind { IfWhole draft.new (result ≡
+        wire + wired.looking_wires (LooksAlways (offset_of offset)) (plain_guard assign.now.guard)) }
+    ensures driven { Adds draft.old draft.new
+        (wired.looking_drivers 0 (LooksAlways (offset_of offset)) wire (plain_assign assign.now)) }
 {
     let guard = guard_expr(draft, offset, wire, &assign.guard);
     let source = NetExpr::Port(assign.source.port);
@@ -81,8 +83,10 @@ fn open(draft: &mut Draft, wire: u32, offset: Option<u32>, assign: &Assign) -> u
 
 /// An assignment that drives where its group goes, and its guard, where it has one, is 1.
 fn gated(draft: &mut Draft, groups: u32, wire: u32, group: u32, assign: &Assign) -> u32
-    ensures behind { IfWhole draft.new (result ≡ wire + wired.looking_wires (LooksIn group) (plain_guard assign.now.guard)) }
-    ensures driven { Adds draft.old draft.new (wired.looking_drivers groups (LooksIn group) wire (plain_assign assign.now)) }
+    ensures behind { IfWhole draft.new
+        (result ≡ wire + wired.looking_wires (LooksIn group) (plain_guard assign.now.guard)) }
+    ensures driven { Adds draft.old draft.new
+        (wired.looking_drivers groups (LooksIn group) wire (plain_assign assign.now)) }
 {
     let go = draft.beyond(groups, group);
     let port = assign.source.port;
@@ -119,7 +123,8 @@ pub(crate) fn driven_assigns<'a>(
     alloc: Global,
     component: &'a LoweredComponent,
 ) -> Result<Vec<OwnedAssign<'a>>, Memory>
-    ensures value { IfOk result (λ list. map plain_owned list.items ≡ wired.driven_assigns (plain_lowered component.now)) }
+    ensures value { IfOk result
+        (λ list. map plain_owned list.items ≡ wired.driven_assigns (plain_lowered component.now)) }
 {
     let marks = occurring(alloc, component.part.groups.len(), &component.islands)?;
     let mut list = Vec::new(alloc);
@@ -145,7 +150,9 @@ fn occurring(alloc: Global, groups: usize, islands: &[Island]) -> Result<Vec<boo
 /// Marks the groups of occurrences.
 fn mark(marks: &mut Vec<bool>, occurrences: &[Occurrence])
     ensures count { length marks.new.items ≡ length marks.old.items }
-    ensures value { (g : ℕ) → g < length marks.old.items → get_or marks.new.items g false ≡ (get_or marks.old.items g false || wired.occurs_among g (map plain_occurrence occurrences.now)) }
+    ensures value { (g : ℕ) → g < length marks.old.items →
+        get_or marks.new.items g false ≡
+        (get_or marks.old.items g false || wired.occurs_among g (map plain_occurrence occurrences.now)) }
 {
     for occurrence in occurrences {
         let group = occurrence.group as usize;
@@ -157,7 +164,8 @@ fn mark(marks: &mut Vec<bool>, occurrences: &[Occurrence])
 
 /// Whether the assignments of an owner are driven: a static group only where an island has it.
 fn is_driven(component: &LoweredComponent, marks: &[bool], owner: Option<usize>) -> bool
-    requires { MarkGroups marks.now (length component.now.part.groups.items) (map plain_island component.now.islands.items) }
+    requires { MarkGroups marks.now (length component.now.part.groups.items)
+        (map plain_island component.now.islands.items) }
     ensures value { result ≡ wired.owner_drives (plain_lowered component.now) owner }
 {
     let Some(group) = owner else {

@@ -29,12 +29,14 @@ pub fn build(alloc: Global, design: &Lowered) -> Result<Net, Memory>
     requires lowered { IsLowered (plain_lowereds design.now) }
     ensures value { IfOk result (λ net. plain_net net ≡ net_of (plain_lowereds design.now)) }
 
-    // The net of what an accepted design without static components is lowered to does what that design means, from reset and for all words and budgets.
+    // The net of what an accepted design without static components is lowered to does what that design means, from
+    // reset and for all words and budgets.
     ensures meaning { (d : PlainDesign) → IsDesign d → IsFlat d → IsAccepted d → plain_lowereds design.now ≡ lowered_of d
         → IfOk result (λ net. IsNetFor d (plain_net net)) }
 
     // It can be written, where the design is within the size that is compiled.
-    ensures writable { (d : PlainDesign) → IsDesign d → IsFlat d → IsAccepted d → plain_lowereds design.now ≡ lowered_of d → CanBeWritten d
+    ensures writable { (d : PlainDesign) → IsDesign d → IsFlat d → IsAccepted d →
+        plain_lowereds design.now ≡ lowered_of d → CanBeWritten d
         → IfOk result (λ net. IsWritable (plain_net net)) }
 {
     design_is_realised();
@@ -59,7 +61,9 @@ fn net_components(
     order: &[u32],
 ) -> Result<Vec<NetComponent>, Memory>
     requires { order.now ≡ reached.order (plain_lowereds design.now) }
-    ensures value { IfOk result (λ parts. map plain_net_component parts.items ≡ map (net_component (plain_lowereds design.now)) (filter_map (slice_get (plain_lowereds design.now).components) order.now)) }
+    ensures value { IfOk result (λ parts. map plain_net_component parts.items ≡
+        map (net_component (plain_lowereds design.now))
+        (filter_map (slice_get (plain_lowereds design.now).components) order.now)) }
 {
     let components = design.components();
     let mut parts = Vec::with_capacity(alloc, order.len())?;

@@ -31,7 +31,8 @@ pub(crate) fn net_component(
     component: &LoweredComponent,
 ) -> Result<NetComponent, Memory>
     requires { numbers.now ≡ order (plain_lowereds design.now) }
-    ensures value { IfOk result (λ c. plain_net_component c ≡ wired.net_component (plain_lowereds design.now) (plain_lowered component.now)) }
+    ensures value { IfOk result (λ c.
+        plain_net_component c ≡ wired.net_component (plain_lowereds design.now) (plain_lowered component.now)) }
 {
     let holes = holes_of(component)?;
     let registers = control_registers(alloc, &component.islands, &component.part.control)?;
@@ -63,7 +64,8 @@ fn face_of(alloc: Global, numbers: &[u32], part: &Component) -> Result<Face, Mem
     ensures name { IfOk result (λ face. face.name ≡ part.now.name) }
     ensures inputs { IfOk result (λ face. face.inputs.items ≡ part.now.inputs.items) }
     ensures outputs { IfOk result (λ face. face.outputs.items ≡ part.now.outputs.items) }
-    ensures cells { IfOk result (λ face. map plain_cell face.cells.items ≡ map (wired.cell_in numbers.now) (map plain_cell part.now.cells.items)) }
+    ensures cells { IfOk result (λ face. map plain_cell face.cells.items ≡
+        map (wired.cell_in numbers.now) (map plain_cell part.now.cells.items)) }
 {
     Ok(Face {
         name: copied_name(alloc, &part.name)?,
@@ -75,7 +77,8 @@ fn face_of(alloc: Global, numbers: &[u32], part: &Component) -> Result<Face, Mem
 
 /// How many holes a component has: two for each group.
 fn holes_of(component: &LoweredComponent) -> Result<u32, Memory>
-    ensures value { IfOk result (λ holes. holes ≡ wired.groups (plain_lowered component.now) + wired.groups (plain_lowered component.now)) }
+    ensures value { IfOk result (λ holes.
+        holes ≡ wired.groups (plain_lowered component.now) + wired.groups (plain_lowered component.now)) }
 {
     let groups = number_of(component.part.groups.len())?;
     beyond(groups, groups)
@@ -89,10 +92,13 @@ fn wires_and_drivers(
     registers: &[u8],
 ) -> Result<(Vec<u8>, Vec<NetDriver>), Memory>
     requires { registers.now ≡ wired.component_registers (plain_lowered component.now) }
-    ensures wires { let lowered = plain_lowered component.now in let widths = wired.target_width (plain_lowereds design.now) lowered in
-        IfOk result (λ r. r.0.items ≡ wired.plain_wires lowered ++ tree_widths widths (wired.component_driven lowered)) }
+    ensures wires { let lowered = plain_lowered component.now in
+        let widths = wired.target_width (plain_lowereds design.now) lowered in
+        IfOk result (λ r.
+        r.0.items ≡ wired.plain_wires lowered ++ tree_widths widths (wired.component_driven lowered)) }
     ensures drivers { let lowered = plain_lowered component.now in
-        IfOk result (λ r. plain_net_drivers r.1.items ≡ trees (length (wired.plain_wires lowered)) (wired.component_driven lowered)) }
+        IfOk result (λ r. plain_net_drivers r.1.items ≡
+        trees (length (wired.plain_wires lowered)) (wired.component_driven lowered)) }
 {
     let (drivers, first) = plain_drivers(alloc, component)?;
     let drivers = by_target(drivers)?;

@@ -28,7 +28,9 @@ use cx_net::{NetExpr, NetTarget};
 pub(crate) fn control_drivers(draft: &mut Draft, plan: &Plan<'_>, control: &Statement) -> u32
     requires { HasFirsts plan.now }
     ensures behind { IfWhole draft.new (result ≡ plan.now.control + wires_of (plain_statement control.now)) }
-    ensures driven { Adds draft.old draft.new (wired.control_drivers plan.now.groups (islands_of plan.now) plan.now.control (plain_statement control.now)) }
+    ensures driven { Adds draft.old draft.new
+        (wired.control_drivers plan.now.groups (islands_of plan.now) plan.now.control
+        (plain_statement control.now)) }
 {
     let whole = Stand {
         wire: plan.control,
@@ -64,8 +66,11 @@ fn statement_drivers(
     statement: &Statement,
 ) -> Stand
     requires { HasFirsts plan.now }
-    ensures behind { IfWhole draft.new (plain_stand result ≡ behind (islands_of plan.now) (plain_statement statement.now) (plain_stand stand)) }
-    ensures driven { Adds draft.old draft.new (wired.drivers_of plan.now.groups (islands_of plan.now) (plain_stand stand) (plain_statement statement.now)) }
+    ensures behind { IfWhole draft.new (plain_stand result ≡
+        behind (islands_of plan.now) (plain_statement statement.now) (plain_stand stand)) }
+    ensures driven { Adds draft.old draft.new
+        (wired.drivers_of plan.now.groups (islands_of plan.now) (plain_stand stand)
+        (plain_statement statement.now)) }
 {
     match &statement.form {
         Form::Empty
@@ -110,7 +115,8 @@ fn one_turn(draft: &mut Draft, stand: Stand) -> Stand
 /// An enable: the group goes until its hole says that it is done.
 fn enable(draft: &mut Draft, plan: &Plan<'_>, stand: Stand, group: u32) -> Stand
     ensures behind { IfWhole draft.new (plain_stand result ≡ past (plain_stand stand) 2 0 1) }
-    ensures driven { Adds draft.old draft.new (wired.enabled plan.now.groups (islands_of plan.now) (plain_stand stand) group) }
+    ensures driven { Adds draft.old draft.new
+        (wired.enabled plan.now.groups (islands_of plan.now) (plain_stand stand) group) }
 {
     stands(draft, stand);
     let end = both(draft, stand.at(), NetExpr::Hole(group));
@@ -125,8 +131,10 @@ fn enable(draft: &mut Draft, plan: &Plan<'_>, stand: Stand, group: u32) -> Stand
 /// An island at its position.
 fn timed(draft: &mut Draft, plan: &Plan<'_>, stand: Stand, island: u32) -> Stand
     requires { HasFirsts plan.now }
-    ensures behind { IfWhole draft.new (plain_stand result ≡ past (plain_stand stand) 2 (samples_of (islands_of plan.now) island) 1) }
-    ensures driven { Adds draft.old draft.new (wired.form_drivers plan.now.groups (islands_of plan.now) (plain_stand stand) (plain.Timed island)) }
+    ensures behind { IfWhole draft.new
+        (plain_stand result ≡ past (plain_stand stand) 2 (samples_of (islands_of plan.now) island) 1) }
+    ensures driven { Adds draft.old draft.new
+        (wired.form_drivers plan.now.groups (islands_of plan.now) (plain_stand stand) (plain.Timed island)) }
 {
     stands(draft, stand);
     let samples = timed_drivers(draft, plan, stand, island);
@@ -137,8 +145,11 @@ fn timed(draft: &mut Draft, plan: &Plan<'_>, stand: Stand, island: u32) -> Stand
 #[cycle(control)]
 fn seq(draft: &mut Draft, plan: &Plan<'_>, stand: Stand, parts: &[Statement]) -> Stand
     requires { HasFirsts plan.now }
-    ensures behind { IfWhole draft.new (plain_stand result ≡ behind_form (islands_of plan.now) (plain.Seq (plain_statements parts.now)) (plain_stand stand)) }
-    ensures driven { Adds draft.old draft.new (wired.form_drivers plan.now.groups (islands_of plan.now) (plain_stand stand) (plain.Seq (plain_statements parts.now))) }
+    ensures behind { IfWhole draft.new (plain_stand result ≡
+        behind_form (islands_of plan.now) (plain.Seq (plain_statements parts.now)) (plain_stand stand)) }
+    ensures driven { Adds draft.old draft.new
+        (wired.form_drivers plan.now.groups (islands_of plan.now) (plain_stand stand)
+        (plain.Seq (plain_statements parts.now))) }
 {
     let mut next = stand.inside(draft);
     let mut last = None;
@@ -171,8 +182,11 @@ fn leads(draft: &mut Draft, next: Stand, last: Option<u32>)
 #[cycle(control)]
 fn par(draft: &mut Draft, plan: &Plan<'_>, stand: Stand, arms: &[Statement]) -> Stand
     requires { HasFirsts plan.now }
-    ensures behind { IfWhole draft.new (plain_stand result ≡ behind_form (islands_of plan.now) (plain.Par (plain_statements arms.now)) (plain_stand stand)) }
-    ensures driven { Adds draft.old draft.new (wired.form_drivers plan.now.groups (islands_of plan.now) (plain_stand stand) (plain.Par (plain_statements arms.now))) }
+    ensures behind { IfWhole draft.new (plain_stand result ≡
+        behind_form (islands_of plan.now) (plain.Par (plain_statements arms.now)) (plain_stand stand)) }
+    ensures driven { Adds draft.old draft.new
+        (wired.form_drivers plan.now.groups (islands_of plan.now) (plain_stand stand)
+        (plain.Par (plain_statements arms.now))) }
 {
     stands(draft, stand);
     let mut over = Vec::new(draft.alloc);
@@ -198,8 +212,11 @@ fn par(draft: &mut Draft, plan: &Plan<'_>, stand: Stand, arms: &[Statement]) -> 
 #[cycle(control)]
 fn arm(draft: &mut Draft, plan: &Plan<'_>, par: Stand, own: Stand, statement: &Statement) -> Stand
     requires { HasFirsts plan.now }
-    ensures behind { IfWhole draft.new (plain_stand result ≡ behind (islands_of plan.now) (plain_statement statement.now) (plain_stand own)) }
-    ensures driven { Adds draft.old draft.new (arm_made plan.now.groups (islands_of plan.now) (plain_stand par) (plain_stand own) (plain_statement statement.now)) }
+    ensures behind { IfWhole draft.new (plain_stand result ≡
+        behind (islands_of plan.now) (plain_statement statement.now) (plain_stand own)) }
+    ensures driven { Adds draft.old draft.new
+        (arm_made plan.now.groups (islands_of plan.now) (plain_stand par) (plain_stand own)
+        (plain_statement statement.now)) }
 {
     let region = NetTarget::Register(own.region);
     let joined = end_of(draft, par.wire);
@@ -222,7 +239,9 @@ fn arm_over(draft: &mut Draft, own: Stand, positions: u32) -> NetExpr
 
 /// The turn of a test, in which its comb group goes.
 fn test_turn(draft: &mut Draft, plan: &Plan<'_>, stand: Stand, comb: Option<u32>)
-    ensures driven { Adds draft.old draft.new (standing.stands (plain_stand stand) ∷ wired.comb_goes plan.now.groups (islands_of plan.now) (plain_stand stand) comb) }
+    ensures driven { Adds draft.old draft.new
+        (standing.stands (plain_stand stand) ∷
+        wired.comb_goes plan.now.groups (islands_of plan.now) (plain_stand stand) comb) }
 {
     stands(draft, stand);
     if let Some(group) = comb {
@@ -233,7 +252,8 @@ fn test_turn(draft: &mut Draft, plan: &Plan<'_>, stand: Stand, comb: Option<u32>
 
 /// Control goes to a position at a test whose port is 1.
 fn goes_at_one(draft: &mut Draft, stand: Stand, port: PortRef, position: u32)
-    ensures driven { Adds draft.old draft.new (standing.goes (plain_stand stand) (wired.found_one (plain_stand stand) port) position ∷ []) }
+    ensures driven { Adds draft.old draft.new
+        (standing.goes (plain_stand stand) (wired.found_one (plain_stand stand) port) position ∷ []) }
 {
     let found = both(draft, stand.at(), NetExpr::Port(port));
     goes(draft, stand, found, position);
@@ -241,7 +261,8 @@ fn goes_at_one(draft: &mut Draft, stand: Stand, port: PortRef, position: u32)
 
 /// Control goes to a position at a test whose port is 0.
 fn goes_at_zero(draft: &mut Draft, stand: Stand, port: PortRef, position: u32)
-    ensures driven { Adds draft.old draft.new (standing.goes (plain_stand stand) (wired.found_zero (plain_stand stand) port) position ∷ []) }
+    ensures driven { Adds draft.old draft.new
+        (standing.goes (plain_stand stand) (wired.found_zero (plain_stand stand) port) position ∷ []) }
 {
     let found = found_zero(draft, stand, port);
     goes(draft, stand, found, position);
@@ -258,7 +279,8 @@ fn found_zero(draft: &mut Draft, stand: Stand, port: PortRef) -> NetExpr
 
 /// An `if` ends with one of its branches, which have these first wires.
 fn branches_end(draft: &mut Draft, stand: Stand, one: u32, other: u32)
-    ensures driven { Adds draft.old draft.new (standing.ends (plain_stand stand) (parts.either (standing.end_of one) (standing.end_of other)) ∷ []) }
+    ensures driven { Adds draft.old draft.new
+        (standing.ends (plain_stand stand) (parts.either (standing.end_of one) (standing.end_of other)) ∷ []) }
 {
     let one = end_of(draft, one);
     let other = end_of(draft, other);
@@ -277,8 +299,12 @@ fn rounds(
     body: &Statement,
 ) -> Stand
     requires { HasFirsts plan.now }
-    ensures behind { IfWhole draft.new (plain_stand result ≡ behind_form (islands_of plan.now) (plain.While test comb (plain_statement body.now)) (plain_stand stand)) }
-    ensures driven { Adds draft.old draft.new (wired.form_drivers plan.now.groups (islands_of plan.now) (plain_stand stand) (plain.While test comb (plain_statement body.now))) }
+    ensures behind { IfWhole draft.new (plain_stand result ≡
+        behind_form (islands_of plan.now) (plain.While test comb (plain_statement body.now))
+        (plain_stand stand)) }
+    ensures driven { Adds draft.old draft.new
+        (wired.form_drivers plan.now.groups (islands_of plan.now) (plain_stand stand)
+        (plain.While test comb (plain_statement body.now))) }
 {
     let first = stand.past_test(draft);
     test_turn(draft, plan, stand, comb);
@@ -295,8 +321,11 @@ fn rounds(
 #[cycle(control)]
 fn counted(draft: &mut Draft, plan: &Plan<'_>, stand: Stand, count: u64, body: &Statement) -> Stand
     requires { HasFirsts plan.now }
-    ensures behind { IfWhole draft.new (plain_stand result ≡ behind_form (islands_of plan.now) (plain.Repeat count (plain_statement body.now)) (plain_stand stand)) }
-    ensures driven { Adds draft.old draft.new (wired.form_drivers plan.now.groups (islands_of plan.now) (plain_stand stand) (plain.Repeat count (plain_statement body.now))) }
+    ensures behind { IfWhole draft.new (plain_stand result ≡
+        behind_form (islands_of plan.now) (plain.Repeat count (plain_statement body.now)) (plain_stand stand)) }
+    ensures driven { Adds draft.old draft.new
+        (wired.form_drivers plan.now.groups (islands_of plan.now) (plain_stand stand)
+        (plain.Repeat count (plain_statement body.now))) }
 {
     let Some(last) = count.checked_sub(1) else {
         return one_turn(draft, stand);

@@ -16,7 +16,8 @@ pub(crate) fn ordered_cells(
     order: &[u32],
     cells: &[Cell],
 ) -> Result<Vec<Cell>, Memory>
-    ensures value { IfOk result (λ copies. map plain_cell copies.items ≡ map (cell_in order.now) (map plain_cell cells.now)) }
+    ensures value { IfOk result
+        (λ copies. map plain_cell copies.items ≡ map (cell_in order.now) (map plain_cell cells.now)) }
 {
     let mut copies = Vec::with_capacity(alloc, cells.len())?;
     for cell in cells {

@@ -47,7 +47,8 @@ impl Draft {
 
     /// One more driver.
     pub fn drive(&mut self, target: NetTarget, guard: NetExpr, source: NetExpr)
-        ensures driven { Adds self.old self.new (parts.drive (plain_net_target target) (plain_net_expr guard) (plain_net_expr source) ∷ []) }
+        ensures driven { Adds self.old self.new
+            (parts.drive (plain_net_target target) (plain_net_expr guard) (plain_net_expr source) ∷ []) }
     {
         let driver = NetDriver {
             target,

@@ -57,7 +57,8 @@ fn wanting(draft: &mut Draft) -> NetExpr
 /// 1 where both are 1.
 pub(crate) fn both(draft: &mut Draft, one: NetExpr, other: NetExpr) -> NetExpr
     ensures kept { Keeps draft.old draft.new }
-    ensures value { IfWhole draft.new (plain_net_expr result ≡ AllOf (exprs_of (plain_net_expr one ∷ plain_net_expr other ∷ []))) }
+    ensures value { IfWhole draft.new
+        (plain_net_expr result ≡ AllOf (exprs_of (plain_net_expr one ∷ plain_net_expr other ∷ []))) }
 {
     match Vec::from_array(draft.alloc, [one, other]) {
         Ok(parts) => NetExpr::And(parts),
@@ -68,7 +69,8 @@ pub(crate) fn both(draft: &mut Draft, one: NetExpr, other: NetExpr) -> NetExpr
 /// 1 where one of two is 1.
 pub(crate) fn either(draft: &mut Draft, one: NetExpr, other: NetExpr) -> NetExpr
     ensures kept { Keeps draft.old draft.new }
-    ensures value { IfWhole draft.new (plain_net_expr result ≡ AnyOf (exprs_of (plain_net_expr one ∷ plain_net_expr other ∷ []))) }
+    ensures value { IfWhole draft.new
+        (plain_net_expr result ≡ AnyOf (exprs_of (plain_net_expr one ∷ plain_net_expr other ∷ []))) }
 {
     match Vec::from_array(draft.alloc, [one, other]) {
         Ok(parts) => NetExpr::Or(parts),
@@ -115,7 +117,8 @@ pub(crate) fn compare(
     other: NetExpr,
 ) -> NetExpr
     ensures kept { Keeps draft.old draft.new }
-    ensures value { IfWhole draft.new (plain_net_expr result ≡ Compares comparison (plain_net_expr one) (plain_net_expr other)) }
+    ensures value { IfWhole draft.new
+        (plain_net_expr result ≡ Compares comparison (plain_net_expr one) (plain_net_expr other)) }
 {
     match boxes(draft.alloc, one, other) {
         Ok((one, other)) => NetExpr::Compare(comparison, one, other),

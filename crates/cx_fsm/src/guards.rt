@@ -27,7 +27,8 @@ pub(crate) struct Guarded {
 /// A guard over its parts, which have wires from this one on.
 #[cycle(guard)]
 pub(crate) fn guard_expr(draft: &mut Draft, offset: Offset, wire: u32, guard: &Guard) -> Guarded
-    ensures expr { IfWhole draft.new (plain_net_expr result.expr ≡ wired.guard_expr (offset_of offset) wire (plain_guard guard.now)) }
+    ensures expr { IfWhole draft.new
+        (plain_net_expr result.expr ≡ wired.guard_expr (offset_of offset) wire (plain_guard guard.now)) }
     ensures behind { IfWhole draft.new (result.behind ≡ wire + wired.guard_wires (plain_guard guard.now)) }
     ensures driven { Adds draft.old draft.new (wired.guard_drivers (offset_of offset) wire (plain_guard guard.now)) }
 {
@@ -71,9 +72,11 @@ fn alone(expr: NetExpr, wire: u32) -> Guarded
 /// The parts of a guard, with the first of their wires; and the first wire behind these.
 #[cycle(guard)]
 fn parts(draft: &mut Draft, offset: Offset, first: u32, guards: &[Guard]) -> (Vec<NetExpr>, u32)
-    ensures exprs { IfWhole draft.new (exprs_of (map plain_net_expr result.0.items) ≡ wired.parts_exprs first (guards_of (map plain_guard guards.now))) }
+    ensures exprs { IfWhole draft.new (exprs_of (map plain_net_expr result.0.items) ≡
+        wired.parts_exprs first (guards_of (map plain_guard guards.now))) }
     ensures behind { IfWhole draft.new (result.1 ≡ first + wired.parts_wires (guards_of (map plain_guard guards.now))) }
-    ensures driven { Adds draft.old draft.new (wired.parts_drivers (offset_of offset) first (guards_of (map plain_guard guards.now))) }
+    ensures driven { Adds draft.old draft.new
+        (wired.parts_drivers (offset_of offset) first (guards_of (map plain_guard guards.now))) }
 {
     let mut exprs = Vec::new(draft.alloc);
     let mut wire = first;

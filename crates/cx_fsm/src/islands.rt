@@ -81,7 +81,9 @@ impl Place<'_> {
 pub(crate) fn timed_drivers(draft: &mut Draft, plan: &Plan<'_>, stand: Stand, number: u32) -> u32
     requires { HasFirsts plan.now }
     ensures samples { IfWhole draft.new (result ≡ samples_of (islands_of plan.now) number) }
-    ensures driven { Adds draft.old draft.new (control.timed_drivers plan.now.groups (islands_of plan.now) (plain_stand stand) number (slice_get (islands_of plan.now) number)) }
+    ensures driven { Adds draft.old draft.new
+        (control.timed_drivers plan.now.groups (islands_of plan.now) (plain_stand stand) number
+        (slice_get (islands_of plan.now) number)) }
 {
     let Some(island) = plan.islands.get(number as usize) else {
         return 0;
@@ -109,7 +111,8 @@ fn island_drivers(draft: &mut Draft, place: &Place<'_>)
 
 /// The timers of an island.
 fn timers(draft: &mut Draft, place: &Place<'_>)
-    ensures driven { Adds draft.old draft.new (at_place wired.timer_drivers place.now 0 place.now.island.now.timers.items) }
+    ensures driven { Adds draft.old draft.new
+        (at_place wired.timer_drivers place.now 0 place.now.island.now.timers.items) }
 {
     for (number, timer) in place.island.timers.as_slice().iter().enumerate() {
         timer_drivers(draft, place, number, timer);
@@ -118,7 +121,8 @@ fn timers(draft: &mut Draft, place: &Place<'_>)
 
 /// The `static if`s of an island.
 fn points(draft: &mut Draft, place: &Place<'_>)
-    ensures driven { Adds draft.old draft.new (at_place wired.point_drivers place.now 0 (map plain_point place.now.island.now.points.items)) }
+    ensures driven { Adds draft.old draft.new
+        (at_place wired.point_drivers place.now 0 (map plain_point place.now.island.now.points.items)) }
 {
     for (number, point) in place.island.points.as_slice().iter().enumerate() {
         point_drivers(draft, place, number, point);
@@ -127,7 +131,9 @@ fn points(draft: &mut Draft, place: &Place<'_>)
 
 /// The enables of an island.
 fn occurrences(draft: &mut Draft, place: &Place<'_>)
-    ensures driven { Adds draft.old draft.new (at_place wired.occurrence_drivers place.now 0 (map plain_occurrence place.now.island.now.occurrences.items)) }
+    ensures driven { Adds draft.old draft.new
+        (at_place wired.occurrence_drivers place.now 0
+        (map plain_occurrence place.now.island.now.occurrences.items)) }
 {
     for (number, occurrence) in place.island.occurrences.as_slice().iter().enumerate() {
         occurrence_drivers(draft, place, number, occurrence);
@@ -137,7 +143,8 @@ fn occurrences(draft: &mut Draft, place: &Place<'_>)
 /// Whether a timer runs and has a count from the first to before the second, as parts of a conjunction.
 fn in_range(draft: &mut Draft, place: &Place<'_>, timer: u32, from: u64, to: u64) -> Vec<NetExpr>
     ensures kept { Keeps draft.old draft.new }
-    ensures value { IfWhole draft.new (map plain_net_expr result.items ≡ at_place wired.in_range place.now timer from to) }
+    ensures value { IfWhole draft.new
+        (map plain_net_expr result.items ≡ at_place wired.in_range place.now timer from to) }
 {
     let mut parts = Vec::new(draft.alloc);
     let runs = place.runs(draft, timer);
@@ -154,7 +161,8 @@ fn in_range(draft: &mut Draft, place: &Place<'_>, timer: u32, from: u64, to: u64
 /// The first timer runs while control is at the island and it is not done, another one in its range of the timer around it.
 fn timer_runs(draft: &mut Draft, place: &Place<'_>, timer: &IslandTimer) -> NetExpr
     ensures kept { Keeps draft.old draft.new }
-    ensures value { IfWhole draft.new (plain_net_expr result ≡ at_place wired.timer_runs place.now timer.now.cell timer.now.outer timer.now.from timer.now.to) }
+    ensures value { IfWhole draft.new (plain_net_expr result ≡
+        at_place wired.timer_runs place.now timer.now.cell timer.now.outer timer.now.from timer.now.to) }
 {
     match timer.outer {
         None => {
@@ -180,7 +188,8 @@ fn timer_drivers(draft: &mut Draft, place: &Place<'_>, number: usize, timer: &Is
 /// A `static if` begins, and those around it go to it.
 fn begins(draft: &mut Draft, place: &Place<'_>, point: &SamplePoint) -> NetExpr
     ensures kept { Keeps draft.old draft.new }
-    ensures value { IfWhole draft.new (plain_net_expr result ≡ at_place wired.begins place.now (plain_point point.now)) }
+    ensures value { IfWhole draft.new
+        (plain_net_expr result ≡ at_place wired.begins place.now (plain_point point.now)) }
 {
     let mut parts = Vec::new(draft.alloc);
     let runs = place.runs(draft, point.timer);
@@ -204,7 +213,8 @@ fn in_last_cycle(draft: &mut Draft, place: &Place<'_>) -> NetExpr
 /// A `static if`: its sample is its port where it begins, and then what the register has kept of it. The register forgets it in
 /// the last active cycle of the island.
 fn point_drivers(draft: &mut Draft, place: &Place<'_>, number: usize, point: &SamplePoint)
-    ensures driven { Adds draft.old draft.new (at_place wired.point_drivers place.now number (plain_point point.now ∷ [])) }
+    ensures driven { Adds draft.old draft.new
+        (at_place wired.point_drivers place.now number (plain_point point.now ∷ [])) }
 {
     let at = draft.number_of(number);
     let sample = place.sample_wire(draft, at);
@@ -239,7 +249,9 @@ fn where_wanted(
     samples: &[Sample],
 ) -> NetExpr
     ensures kept { Keeps draft.old draft.new }
-    ensures value { IfWhole draft.new (plain_net_expr result ≡ AllOf (exprs_of (map plain_net_expr parts.items ++ map (at_place wired.as_wanted place.now) samples.now))) }
+    ensures value { IfWhole draft.new (plain_net_expr result ≡
+        AllOf
+        (exprs_of (map plain_net_expr parts.items ++ map (at_place wired.as_wanted place.now) samples.now))) }
 {
     for sample in samples {
         let wanted = as_wanted(draft, place, *sample);
@@ -251,7 +263,8 @@ fn where_wanted(
 /// A group is active in the range of its timer where the samples are as wanted.
 fn is_active(draft: &mut Draft, place: &Place<'_>, occurrence: &Occurrence) -> NetExpr
     ensures kept { Keeps draft.old draft.new }
-    ensures value { IfWhole draft.new (plain_net_expr result ≡ at_place wired.is_active place.now (plain_occurrence occurrence.now)) }
+    ensures value { IfWhole draft.new
+        (plain_net_expr result ≡ at_place wired.is_active place.now (plain_occurrence occurrence.now)) }
 {
     let parts = in_range(
         draft,
@@ -266,7 +279,8 @@ fn is_active(draft: &mut Draft, place: &Place<'_>, occurrence: &Occurrence) -> N
 /// The offset of a group, which is counted from the begin of its range.
 fn offset_from(draft: &mut Draft, place: &Place<'_>, occurrence: &Occurrence) -> NetExpr
     ensures kept { Keeps draft.old draft.new }
-    ensures value { IfWhole draft.new (plain_net_expr result ≡ at_place wired.offset_from place.now (plain_occurrence occurrence.now)) }
+    ensures value { IfWhole draft.new
+        (plain_net_expr result ≡ at_place wired.offset_from place.now (plain_occurrence occurrence.now)) }
 {
     let back = word(draft.cycles(occurrence.from).wrapping_neg());
     sum(draft, place.timer_port(occurrence.timer, 1), back)
@@ -274,7 +288,8 @@ fn offset_from(draft: &mut Draft, place: &Place<'_>, occurrence: &Occurrence) ->
 
 /// An enable.
 fn occurrence_drivers(draft: &mut Draft, place: &Place<'_>, number: usize, occurrence: &Occurrence)
-    ensures driven { Adds draft.old draft.new (at_place wired.occurrence_drivers place.now number (plain_occurrence occurrence.now ∷ [])) }
+    ensures driven { Adds draft.old draft.new
+        (at_place wired.occurrence_drivers place.now number (plain_occurrence occurrence.now ∷ [])) }
 {
     let at = draft.number_of(number);
     let wire = place.active_wire(draft, at);

@@ -35,7 +35,8 @@ fn add_height(
     heights: &[u32],
     height: u32,
 ) -> Result<(), Memory>
-    ensures value { OnOk result (list.new.items ≡ list.old.items ++ filter (λ k. nat_eq (get_or heights.now k 0) height) reached.now) }
+    ensures value { OnOk result (list.new.items ≡
+        list.old.items ++ filter (λ k. nat_eq (get_or heights.now k 0) height) reached.now) }
 {
     for component in reached {
         if height_in(heights, *component) == height {
@@ -71,7 +72,8 @@ fn reached(alloc: Global, design: &Lowered) -> Result<Vec<u32>, Memory>
 
 /// For each component whether `main` reaches it. In each round one level more is marked.
 fn marks(alloc: Global, design: &Lowered) -> Result<Vec<bool>, Memory>
-    ensures value { IfOk result (λ marks. MarksReached (plain_lowereds design.now) (wired.count (plain_lowereds design.now)) marks.items) }
+    ensures value { IfOk result (λ marks.
+        MarksReached (plain_lowereds design.now) (wired.count (plain_lowereds design.now)) marks.items) }
 {
     let count = design.components().len();
     let mut marks = vec![in alloc; false; count]?;
@@ -102,7 +104,9 @@ fn spread(alloc: Global, design: &Lowered, marks: &[bool]) -> Result<Vec<bool>, 
 /// Marks the components of the cells of a component.
 fn mark_below(design: &Lowered, component: usize, marks: &mut Vec<bool>)
     ensures count { length marks.new.items ≡ length marks.old.items }
-    ensures value { (k : ℕ) → k < length marks.old.items → get_or marks.new.items k false ≡ (get_or marks.old.items k false || wired.has_number k (wired.below (plain_lowereds design.now) component)) }
+    ensures value { (k : ℕ) → k < length marks.old.items →
+        get_or marks.new.items k false ≡ (get_or marks.old.items k false ||
+        wired.has_number k (wired.below (plain_lowereds design.now) component)) }
 {
     if let Some(found) = design.components().get(component) {
         mark_cells(&found.part.cells, marks);
@@ -112,7 +116,9 @@ fn mark_below(design: &Lowered, component: usize, marks: &mut Vec<bool>)
 /// Marks the components of cells.
 fn mark_cells(cells: &[Cell], marks: &mut Vec<bool>)
     ensures count { length marks.new.items ≡ length marks.old.items }
-    ensures value { (k : ℕ) → k < length marks.old.items → get_or marks.new.items k false ≡ (get_or marks.old.items k false || wired.has_number k (wired.components_of (map plain_cell cells.now))) }
+    ensures value { (k : ℕ) → k < length marks.old.items →
+        get_or marks.new.items k false ≡ (get_or marks.old.items k false ||
+        wired.has_number k (wired.components_of (map plain_cell cells.now))) }
 {
     for cell in cells {
         if let CellKind::Part(part) = &cell.kind {
@@ -124,7 +130,8 @@ fn mark_cells(cells: &[Cell], marks: &mut Vec<bool>)
 /// Marks a component, where it is there.
 fn mark(marks: &mut Vec<bool>, component: u32)
     ensures count { length marks.new.items ≡ length marks.old.items }
-    ensures value { (k : ℕ) → k < length marks.old.items → get_or marks.new.items k false ≡ (get_or marks.old.items k false || nat_eq k component) }
+    ensures value { (k : ℕ) → k < length marks.old.items →
+        get_or marks.new.items k false ≡ (get_or marks.old.items k false || nat_eq k component) }
 {
     let place = component as usize;
     if place < marks.len() {
@@ -135,7 +142,8 @@ fn mark(marks: &mut Vec<bool>, component: u32)
 /// The heights of the components, and a number that none is above. In each round the components are raised above those of
 /// their cells.
 fn heights(alloc: Global, design: &Lowered) -> Result<(Vec<u32>, u32), Memory>
-    ensures value { IfOk result (λ r. HasHeights (plain_lowereds design.now) (wired.count (plain_lowereds design.now)) r.0.items) }
+    ensures value { IfOk result
+        (λ r. HasHeights (plain_lowereds design.now) (wired.count (plain_lowereds design.now)) r.0.items) }
     ensures few { IfOk result (λ r. r.1 ≤ wired.count (plain_lowereds design.now)) }
     ensures within { IfOk result (λ r. (k : ℕ) → wired.height (plain_lowereds design.now) k ≤ r.1) }
 {
@@ -164,7 +172,8 @@ fn raised(alloc: Global, design: &Lowered, heights: &[u32]) -> Result<Vec<u32>, 
 
 /// The height above the components of cells.
 fn height_above(cells: &[Cell], heights: &[u32]) -> Result<u32, Memory>
-    ensures value { IfOk result (λ height. (d : PlainLowereds) → height ≡ rounds.height_above d heights.now (map plain_cell cells.now)) }
+    ensures value { IfOk result (λ height.
+        (d : PlainLowereds) → height ≡ rounds.height_above d heights.now (map plain_cell cells.now)) }
 {
     let mut height = 0u32;
     for cell in cells {

@@ -27,7 +27,8 @@ impl Plan<'_> {
     /// The first wire of an island.
     pub fn first_of(&self, island: u32) -> u32
         requires { HasFirsts self.now }
-        ensures value { island < length self.now.islands.now → result ≡ wired.first_of_island self.now.groups (islands_of self.now) island }
+        ensures value { island < length self.now.islands.now →
+            result ≡ wired.first_of_island self.now.groups (islands_of self.now) island }
     {
         match self.firsts.get(island as usize) {
             Some(first) => *first,
@@ -41,7 +42,9 @@ pub(crate) fn plan_of(alloc: Global, component: &LoweredComponent) -> Result<Pla
     ensures groups { IfOk result (λ plan. plan.groups ≡ length component.now.part.groups.items) }
     ensures islands { IfOk result (λ plan. plan.islands.now ≡ component.now.islands.items) }
     ensures firsts { IfOk result HasFirsts }
-    ensures control { IfOk result (λ plan. plan.control ≡ length component.now.part.groups.items + wired.island_wires (map plain_island component.now.islands.items)) }
+    ensures control { IfOk result (λ plan. plan.control ≡
+        length component.now.part.groups.items
+        + wired.island_wires (map plain_island component.now.islands.items)) }
 {
     let groups = number_of(component.part.groups.len())?;
     let islands = component.islands.as_slice();

@@ -17,7 +17,9 @@ pub(crate) fn control_registers(
     islands: &[Island],
     control: &Statement,
 ) -> Result<Vec<u8>, Memory>
-    ensures value { IfOk result (λ registers. registers.items ≡ 32 ∷ wired.registers_of (map plain_island islands.now) (plain_statement control.now)) }
+    ensures value { IfOk result (λ registers.
+        registers.items ≡
+        32 ∷ wired.registers_of (map plain_island islands.now) (plain_statement control.now)) }
 {
     let mut registers = Vec::new(alloc);
     registers.push(32)?;
@@ -32,7 +34,9 @@ fn statement_registers(
     registers: &mut Vec<u8>,
     statement: &Statement,
 ) -> Result<(), Memory>
-    ensures value { OnOk result (registers.new.items ≡ registers.old.items ++ wired.registers_of (map plain_island islands.now) (plain_statement statement.now)) }
+    ensures value { OnOk result (registers.new.items ≡
+        registers.old.items
+        ++ wired.registers_of (map plain_island islands.now) (plain_statement statement.now)) }
 {
     match &statement.form {
         Form::Empty
@@ -63,7 +67,9 @@ fn counted_registers(
     count: u64,
     body: &Statement,
 ) -> Result<(), Memory>
-    ensures value { OnOk result (registers.new.items ≡ registers.old.items ++ wired.form_registers (map plain_island islands.now) (Repeat count (plain_statement body.now))) }
+    ensures value { OnOk result (registers.new.items ≡
+        registers.old.items
+        ++ wired.form_registers (map plain_island islands.now) (Repeat count (plain_statement body.now))) }
 {
     if count == 0 {
         return Ok(());
@@ -79,7 +85,8 @@ fn parts_registers(
     registers: &mut Vec<u8>,
     parts: &[Statement],
 ) -> Result<(), Memory>
-    ensures value { OnOk result (registers.new.items ≡ registers.old.items ++ wired.registers_in (map plain_island islands.now) (plain_statements parts.now)) }
+    ensures value { OnOk result (registers.new.items ≡
+        registers.old.items ++ wired.registers_in (map plain_island islands.now) (plain_statements parts.now)) }
 {
     for part in parts {
         statement_registers(islands, registers, part)?;
@@ -94,7 +101,9 @@ fn arms_registers(
     registers: &mut Vec<u8>,
     arms: &[Statement],
 ) -> Result<(), Memory>
-    ensures value { OnOk result (registers.new.items ≡ registers.old.items ++ wired.arms_registers (map plain_island islands.now) (plain_statements arms.now)) }
+    ensures value { OnOk result (registers.new.items ≡
+        registers.old.items
+        ++ wired.arms_registers (map plain_island islands.now) (plain_statements arms.now)) }
 {
     for arm in arms {
         registers.push(32)?;
@@ -105,7 +114,8 @@ fn arms_registers(
 
 /// Those of an island: one for each sample.
 fn sample_registers(islands: &[Island], registers: &mut Vec<u8>, island: u32) -> Result<(), Memory>
-    ensures value { OnOk result (registers.new.items ≡ registers.old.items ++ wired.sample_registers (slice_get (map plain_island islands.now) island)) }
+    ensures value { OnOk result (registers.new.items ≡
+        registers.old.items ++ wired.sample_registers (slice_get (map plain_island islands.now) island)) }
 {
     match islands.get(island as usize) {
         None => Ok(()),

@@ -66,8 +66,13 @@ impl Trees {
 /// Adds drivers, which stand by their targets, those of each target as a tree.
 pub(crate) fn add_trees(trees: &mut Trees, widths: &Widths<'_>, drivers: Vec<NetDriver>)
     requires { KnowsWidths widths.now }
-    ensures drivers { IfWhole trees.new.draft (plain_net_drivers trees.new.draft.drivers.items ≡ plain_net_drivers trees.old.draft.drivers.items ++ wired.trees trees.old.next (wired.driven (plain_net_drivers drivers.items))) }
-    ensures widths { IfWhole trees.new.draft (trees.new.widths.items ≡ trees.old.widths.items ++ wired.tree_widths (width_in widths.now) (wired.driven (plain_net_drivers drivers.items))) }
+    ensures drivers { IfWhole trees.new.draft
+        (plain_net_drivers trees.new.draft.drivers.items ≡
+        plain_net_drivers trees.old.draft.drivers.items
+        ++ wired.trees trees.old.next (wired.driven (plain_net_drivers drivers.items))) }
+    ensures widths { IfWhole trees.new.draft
+        (trees.new.widths.items ≡ trees.old.widths.items
+        ++ wired.tree_widths (width_in widths.now) (wired.driven (plain_net_drivers drivers.items))) }
 {
     let mut leaves = Leaves {
         target: NetTarget::Done,
@@ -82,7 +87,8 @@ pub(crate) fn add_trees(trees: &mut Trees, widths: &Widths<'_>, drivers: Vec<Net
 
 /// Drivers by their targets, those of one target as they stood.
 pub(crate) fn by_target(drivers: Vec<NetDriver>) -> Result<Vec<NetDriver>, Memory>
-    ensures value { IfOk result (λ list. plain_net_drivers list.items ≡ wired.by_target (plain_net_drivers drivers.items)) }
+    ensures value { IfOk result
+        (λ list. plain_net_drivers list.items ≡ wired.by_target (plain_net_drivers drivers.items)) }
 {
     let mut list = drivers;
     list.sort_by_key(|driver| rank_of(driver.target))?;
@@ -94,8 +100,13 @@ fn leaves_of(trees: &mut Trees, widths: &Widths<'_>, leaves: Leaves, target: Net
     requires { KnowsWidths widths.now }
     ensures target { result.target ≡ target }
     ensures whole { IfWhole trees.new.draft (IsWhole trees.old.draft) }
-    ensures drivers { IfWhole trees.new.draft ((d : PlainNetDriver) (ds : List PlainNetDriver) → d.target ≡ plain_net_target target → all_drivers trees.new result (d ∷ ds) ≡ all_drivers trees.old leaves (d ∷ ds)) }
-    ensures widths { IfWhole trees.new.draft ((d : PlainNetDriver) (ds : List PlainNetDriver) → d.target ≡ plain_net_target target → all_widths (width_in widths.now) trees.new result (d ∷ ds) ≡ all_widths (width_in widths.now) trees.old leaves (d ∷ ds)) }
+    ensures drivers { IfWhole trees.new.draft
+        ((d : PlainNetDriver) (ds : List PlainNetDriver) → d.target ≡ plain_net_target target →
+        all_drivers trees.new result (d ∷ ds) ≡ all_drivers trees.old leaves (d ∷ ds)) }
+    ensures widths { IfWhole trees.new.draft
+        ((d : PlainNetDriver) (ds : List PlainNetDriver) → d.target ≡ plain_net_target target →
+        all_widths (width_in widths.now) trees.new result (d ∷ ds) ≡
+        all_widths (width_in widths.now) trees.old leaves (d ∷ ds)) }
 {
     if is_same(target, leaves.target) {
         return leaves;
@@ -118,8 +129,13 @@ fn is_same(one: NetTarget, other: NetTarget) -> bool
 fn with_leaf(trees: &mut Trees, mut leaves: Leaves, driver: NetDriver) -> Leaves
     requires { driver.target ≡ leaves.target }
     ensures whole { IfWhole trees.new.draft (IsWhole trees.old.draft) }
-    ensures drivers { IfWhole trees.new.draft ((ds : List PlainNetDriver) → all_drivers trees.new result ds ≡ all_drivers trees.old leaves (plain_net_driver driver ∷ ds)) }
-    ensures widths { IfWhole trees.new.draft ((width : PlainNetTarget → ℕ) (ds : List PlainNetDriver) → all_widths width trees.new result ds ≡ all_widths width trees.old leaves (plain_net_driver driver ∷ ds)) }
+    ensures drivers { IfWhole trees.new.draft
+        ((ds : List PlainNetDriver) →
+        all_drivers trees.new result ds ≡ all_drivers trees.old leaves (plain_net_driver driver ∷ ds)) }
+    ensures widths { IfWhole trees.new.draft
+        ((width : PlainNetTarget → ℕ) (ds : List PlainNetDriver) →
+        all_widths width trees.new result ds ≡
+        all_widths width trees.old leaves (plain_net_driver driver ∷ ds)) }
 {
     trees.draft.push(&mut leaves.drivers, driver);
     leaves
@@ -128,8 +144,10 @@ fn with_leaf(trees: &mut Trees, mut leaves: Leaves, driver: NetDriver) -> Leaves
 /// The tree of a target.
 fn add_tree(trees: &mut Trees, widths: &Widths<'_>, leaves: Leaves)
     requires { KnowsWidths widths.now }
-    ensures grows { let ds = plain_net_drivers leaves.drivers.items in let pairs = wired.pairs (length ds) in let target = plain_net_target leaves.target in
-        Grows trees.old trees.new (wired.tree target trees.old.next ds) (wired.pair_widths (width_in widths.now target) pairs) (wired.behind trees.old.next pairs) }
+    ensures grows { let ds = plain_net_drivers leaves.drivers.items in
+        let pairs = wired.pairs (length ds) in let target = plain_net_target leaves.target in
+        Grows trees.old trees.new (wired.tree target trees.old.next ds)
+        (wired.pair_widths (width_in widths.now target) pairs) (wired.behind trees.old.next pairs) }
 {
     let target = leaves.target;
     let width = widths.of(target);
@@ -145,9 +163,12 @@ fn add_tree(trees: &mut Trees, widths: &Widths<'_>, leaves: Leaves)
 
 /// The bundles of some drivers, each as a driver of a target of this width.
 fn bundled(trees: &mut Trees, width: u8, target: NetTarget, drivers: &[NetDriver]) -> Vec<NetDriver>
-    ensures heads { IfWhole trees.new.draft (plain_net_drivers result.items ≡ wired.heads (plain_net_target target) trees.old.next (wired.bundles together (plain_net_drivers drivers.now))) }
+    ensures heads { IfWhole trees.new.draft
+        (plain_net_drivers result.items ≡ wired.heads (plain_net_target target) trees.old.next
+        (wired.bundles together (plain_net_drivers drivers.now))) }
     ensures grows { let bundles = wired.bundles together (plain_net_drivers drivers.now) in
-        Grows trees.old trees.new (wired.bundle_drivers trees.old.next bundles) (wired.pair_widths width (length bundles)) (wired.behind trees.old.next (length bundles)) }
+        Grows trees.old trees.new (wired.bundle_drivers trees.old.next bundles)
+        (wired.pair_widths width (length bundles)) (wired.behind trees.old.next (length bundles)) }
 {
     let mut heads = Vec::new(trees.draft.alloc);
     for bundle in drivers.chunks(TOGETHER) {
@@ -159,9 +180,11 @@ fn bundled(trees: &mut Trees, width: u8, target: NetTarget, drivers: &[NetDriver
 
 /// A bundle as a driver of a target of this width, by two wires more.
 fn head_of(trees: &mut Trees, width: u8, target: NetTarget, bundle: &[NetDriver]) -> NetDriver
-    ensures head { IfWhole trees.new.draft (plain_net_driver result ≡ parts.drive (plain_net_target target) (OfWire trees.old.next) (OfWire (suc trees.old.next))) }
+    ensures head { IfWhole trees.new.draft (plain_net_driver result ≡
+        parts.drive (plain_net_target target) (OfWire trees.old.next) (OfWire (suc trees.old.next))) }
     ensures grows { Grows trees.old trees.new
-        (wired.switches trees.old.next (plain_net_drivers bundle.now) ++ wired.moved (ToWire (suc trees.old.next)) (plain_net_drivers bundle.now))
+        (wired.switches trees.old.next (plain_net_drivers bundle.now) ++
+        wired.moved (ToWire (suc trees.old.next)) (plain_net_drivers bundle.now))
         (1 ∷ width ∷ []) (suc (suc trees.old.next)) }
 {
     let on = trees.wire(1);

@@ -38,7 +38,8 @@ impl Widths<'_> {
     /// The width of a target that is there.
     fn known(&self, target: NetTarget) -> Option<u8>
         requires { KnowsWidths self.now }
-        ensures value { result ≡ wired.known_width (plain_lowereds self.now.design.now) (plain_lowered self.now.component.now) (plain_net_target target) }
+        ensures value { result ≡ wired.known_width (plain_lowereds self.now.design.now)
+            (plain_lowered self.now.component.now) (plain_net_target target) }
     {
         let part = &self.component.part;
         match target {
@@ -71,7 +72,8 @@ fn declared(list: &[PortDecl], number: u32) -> Option<u8>
 
 /// The width of a port of a cell.
 fn cell_width(design: &Lowered, cell: &Cell, port: u32) -> Option<u8>
-    ensures value { (lowered : PlainLowered) → result ≡ wired.kind_width (plain_lowereds design.now) lowered (plain_kind cell.now.kind) port }
+    ensures value { (lowered : PlainLowered) →
+        result ≡ wired.kind_width (plain_lowereds design.now) lowered (plain_kind cell.now.kind) port }
 {
     match &cell.kind {
         CellKind::Prim(primitive) => primitive_width(primitive, port as usize),

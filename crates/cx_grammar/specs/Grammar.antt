@@ -91,13 +91,18 @@ IsComma ts rest = (t : Token) × (ts ≡ t ∷ rest) × (is_in (terminal_of t.ki
 
 abbrev pub Commas_of : {A : Type 0} → Spelling A → A → List A → List Token → List Token → Type 0
 Commas_of spelled x [] ts rest = (mid : List Token) × spelled ts x mid × ((mid ≡ rest) ⊎ IsComma mid rest)
-Commas_of spelled x (y ∷ ys) ts rest = (mid after : List Token) × spelled ts x mid × IsComma mid after × Commas_of spelled y ys after rest
+Commas_of spelled x (y ∷ ys) ts rest =
+    (mid after : List Token) × spelled ts x mid × IsComma mid after × Commas_of spelled y ys after rest
 
 abbrev pub Spells : {A : Type 0} → ((n : Nest) → Spelling (Nested n)) → Grammar A → Spelling A
 Spells spelled (Empty x) ts y rest = (ts ≡ rest) × (x ≡ y)
-Spells spelled (One set value) ts x rest = (t : Token) × (ts ≡ t ∷ rest) × (is_in (terminal_of t.kind) set ≡ true) × (value t ≡ x)
-Spells spelled (Pair {A = A} {B = B} join g h) ts z rest = (mid : List Token) × (x : A) × (y : B) × Spells spelled g ts x mid × Spells spelled h mid y rest × (join x y ≡ z)
+Spells spelled (One set value) ts x rest =
+    (t : Token) × (ts ≡ t ∷ rest) × (is_in (terminal_of t.kind) set ≡ true) × (value t ≡ x)
+Spells spelled (Pair {A = A} {B = B} join g h) ts z rest = (mid : List Token) × (x : A) × (y : B)
+    × Spells spelled g ts x mid × Spells spelled h mid y rest × (join x y ≡ z)
 Spells spelled (Choice g h) ts x rest = Spells spelled g ts x rest ⊎ Spells spelled h ts x rest
-Spells spelled (Several {A = A} whole g) ts x rest = (xs : List A) × Several_of (Spells spelled g) ts xs rest × (whole xs ≡ x)
-Spells spelled (Commas {A = A} whole g) ts x rest = (first : A) × (more : List A) × Commas_of (Spells spelled g) first more ts rest × (whole (first ∷ more) ≡ x)
+Spells spelled (Several {A = A} whole g) ts x rest = (xs : List A)
+    × Several_of (Spells spelled g) ts xs rest × (whole xs ≡ x)
+Spells spelled (Commas {A = A} whole g) ts x rest = (first : A) × (more : List A)
+    × Commas_of (Spells spelled g) first more ts rest × (whole (first ∷ more) ≡ x)
 Spells spelled (Deeper n) ts x rest = spelled n ts x rest

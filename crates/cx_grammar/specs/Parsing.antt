@@ -24,17 +24,22 @@ pub record Begins (tokens : List Token) : Type 0 where
 -- texts with commas behind them, and then into one
 abbrev pub Commas_into : {A : Type 0} → Spelling A → (List Token → Type 0) → List A → List Token → Type 0
 Commas_into spelled into [] ts = into ts
-Commas_into spelled into (x ∷ xs) ts = (mid after : List Token) × spelled ts x mid × IsComma mid after × Commas_into spelled into xs after
+Commas_into spelled into (x ∷ xs) ts =
+    (mid after : List Token) × spelled ts x mid × IsComma mid after × Commas_into spelled into xs after
 
 -- The tokens lead through the grammar to a token that begins a level too deep, and end with it. `deep` says it of the
 -- parts that nest, and `spelled` what comes before.
-abbrev pub Leads : {A : Type 0} → ((n : Nest) → Spelling (Nested n)) → (Nest → List Token → Type 0) → Grammar A → List Token → Type 0
+abbrev pub Leads : {A : Type 0} → ((n : Nest) → Spelling (Nested n)) → (Nest → List Token → Type 0)
+    → Grammar A → List Token → Type 0
 Leads spelled deep (Empty x) ts = ⊥
 Leads spelled deep (One set value) ts = ⊥
-Leads spelled deep (Pair {A = A} join g h) ts = Leads spelled deep g ts ⊎ ((mid : List Token) × (x : A) × Spells spelled g ts x mid × Leads spelled deep h mid)
+Leads spelled deep (Pair {A = A} join g h) ts = Leads spelled deep g ts
+    ⊎ ((mid : List Token) × (x : A) × Spells spelled g ts x mid × Leads spelled deep h mid)
 Leads spelled deep (Choice g h) ts = Leads spelled deep g ts ⊎ Leads spelled deep h ts
-Leads spelled deep (Several {A = A} whole g) ts = (mid : List Token) × (xs : List A) × Several_of (Spells spelled g) ts xs mid × Leads spelled deep g mid
-Leads spelled deep (Commas {A = A} whole g) ts = (xs : List A) × Commas_into (Spells spelled g) (Leads spelled deep g) xs ts
+Leads spelled deep (Several {A = A} whole g) ts = (mid : List Token) × (xs : List A)
+    × Several_of (Spells spelled g) ts xs mid × Leads spelled deep g mid
+Leads spelled deep (Commas {A = A} whole g) ts = (xs : List A)
+    × Commas_into (Spells spelled g) (Leads spelled deep g) xs ts
 Leads spelled deep (Deeper n) ts = deep n ts
 
 -- the last of the tokens begins a level more than there may be

@@ -37,7 +37,8 @@ one_at set value (t ∷ ts) = if is_in (terminal_of t.kind) set then Ok (value t
 abbrev pub several_in : {A : Type 0} → (List Token → Reads A) → List Terminal → ℕ → List Token → Reads (List A)
 several_in read set zero ts = Ok ([], ts)
 several_in read set (suc n) ts =
-    if begins set ts then then_reads (read ts) (λ x mid. then_reads (several_in read set n mid) (λ xs rest. Ok (x ∷ xs, rest))) else Ok ([], ts)
+    if begins set ts then then_reads (read ts)
+    (λ x mid. then_reads (several_in read set n mid) (λ xs rest. Ok (x ∷ xs, rest))) else Ok ([], ts)
 
 -- each text takes a token at least
 unfoldable pub several_at : {A : Type 0} → (List Token → Reads A) → List Terminal → List Token → Reads (List A)
@@ -49,7 +50,8 @@ commas_in read set zero ts = Ok ([], ts)
 commas_in read set (suc n) [] = Ok ([], [])
 commas_in read set (suc n) (t ∷ ts) =
     if is_in (terminal_of t.kind) (Comma ∷ [])
-    then (if begins set ts then then_reads (read ts) (λ x mid. then_reads (commas_in read set n mid) (λ xs rest. Ok (x ∷ xs, rest))) else Ok ([], ts))
+    then (if begins set ts then then_reads (read ts)
+    (λ x mid. then_reads (commas_in read set n mid) (λ xs rest. Ok (x ∷ xs, rest))) else Ok ([], ts))
     else Ok ([], t ∷ ts)
 
 unfoldable pub commas_at : {A : Type 0} → (List Token → Reads A) → List Terminal → List Token → Reads (List A)
@@ -58,10 +60,14 @@ commas_at read set ts = commas_in read set (length ts) ts
 abbrev pub read : {A : Type 0} → ((n : Nest) → List Token → Reads (Nested n)) → Grammar A → List Token → Reads A
 read nested (Empty x) ts = Ok (x, ts)
 read nested (One set value) ts = one_at set value ts
-read nested (Pair join g h) ts = then_reads (read nested g ts) (λ x mid. then_reads (read nested h mid) (λ y rest. Ok (join x y, rest)))
+read nested (Pair join g h) ts =
+    then_reads (read nested g ts) (λ x mid. then_reads (read nested h mid) (λ y rest. Ok (join x y, rest)))
 read nested (Choice g h) ts = if begins (starts g) ts then read nested g ts else read nested h ts
-read nested (Several whole g) ts = then_reads (several_at (read nested g) (starts g) ts) (λ xs rest. Ok (whole xs, rest))
-read nested (Commas whole g) ts = then_reads (read nested g ts) (λ x mid. then_reads (commas_at (read nested g) (starts g) mid) (λ xs rest. Ok (whole (x ∷ xs), rest)))
+read nested (Several whole g) ts =
+    then_reads (several_at (read nested g) (starts g) ts) (λ xs rest. Ok (whole xs, rest))
+read nested (Commas whole g) ts =
+    then_reads (read nested g ts)
+    (λ x mid. then_reads (commas_at (read nested g) (starts g) mid) (λ xs rest. Ok (whole (x ∷ xs), rest)))
 read nested (Deeper n) ts = nested n ts
 
 -- no terminal is in both sets

@@ -44,8 +44,10 @@ pub record Spread (marks : List Bool) (waiting nodes : List ℕ) (after : List B
   pub known : (n : ℕ) → In now_waiting n → In waiting n ⊎ In nodes n
   pub less : length now_waiting + 2 * unmarked after ≤ length waiting + 2 * unmarked marks
 
--- the same of a list that waits, and is perhaps gone through from its front: what stands there stays, and what is newly marked comes at its end
-pub record Appends (marks : List Bool) (waiting nodes : List ℕ) (after : List Bool) (now_waiting : List ℕ) : Type 0 where
+-- the same of a list that waits, and is perhaps gone through from its front: what stands there stays, and what is
+-- newly marked comes at its end
+pub record Appends (marks : List Bool) (waiting nodes : List ℕ) (after : List Bool)
+    (now_waiting : List ℕ) : Type 0 where
   pub longer : length waiting ≤ length now_waiting
   pub spread : (next : ℕ) → next ≤ length waiting → Spread marks (drop next waiting) nodes after (drop next now_waiting)
 

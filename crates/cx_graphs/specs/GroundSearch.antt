@@ -17,7 +17,8 @@ pub record Waits (g : Edges) (marks : List Bool) (waiting : Edges) (fresh : List
 
 -- marked nodes are grounded; of the edges of a node the first so many lead to marked ones; a node is marked, or has yet to
 -- be settled, or waits
-pub record IsOnWay (g : Edges) (marks : List Bool) (known : List ℕ) (waiting : Edges) (fresh todo : List ℕ) : Type 0 where
+pub record IsOnWay (g : Edges) (marks : List Bool) (known : List ℕ) (waiting : Edges)
+    (fresh todo : List ℕ) : Type 0 where
   pub mark_count : length marks ≡ length g
   pub known_count : length known ≡ length g
   pub waiting_count : length waiting ≡ length g

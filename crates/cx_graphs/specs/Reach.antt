@@ -37,7 +37,8 @@ pub record IsUnmarked (count : ℕ) (reach : Reach) : Type 0 where
   pub none_touched : reach.touched.items ≡ []
 
 -- the nodes that were touched before a place are gone through
-pub record IsQueue (targets : Targets) (count start : ℕ) (marks : List Bool) (touched : List ℕ) (next : ℕ) : Type 0 where
+pub record IsQueue (targets : Targets) (count start : ℕ) (marks : List Bool) (touched : List ℕ)
+    (next : ℕ) : Type 0 where
   pub way : IsUnderWay targets count start marks (drop next touched)
   pub kept : IsKept marks touched
   pub place : next ≤ length touched

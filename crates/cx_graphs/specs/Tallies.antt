@@ -41,7 +41,8 @@ rooms (o ∷ os) = room o + rooms os
 
 -- what adding owners to the nodes of a list leaves: they have them, and what they had before; the owners of what is newly
 -- touched are more than before
-pub record Added (owners : List Owners) (touched nodes : List ℕ) (more : Owners) (after : List Owners) (now : List ℕ) : Type 0 where
+pub record Added (owners : List Owners) (touched nodes : List ℕ) (more : Owners) (after : List Owners)
+    (now : List ℕ) : Type 0 where
   pub same_length : length after ≡ length owners
   pub still : (n k : ℕ) → Covers (owners_at owners n) k → Covers (owners_at after n) k
   pub given : (n k : ℕ) → In nodes n → Covers more k → Covers (owners_at after n) k
@@ -49,5 +50,6 @@ pub record Added (owners : List Owners) (touched nodes : List ℕ) (more : Owner
   pub longer : now ≡ touched ++ fresh
   pub among : (n : ℕ) → In fresh n → In nodes n
   pub some : (n : ℕ) → In fresh n → (k : ℕ) × Covers (owners_at after n) k
-  pub changed : (n : ℕ) → (owners_at after n ≡ owners_at owners n) ⊎ (In nodes n × In fresh n × (owners_at after n ≡ joined (owners_at owners n) more))
+  pub changed : (n : ℕ) → (owners_at after n ≡ owners_at owners n)
+      ⊎ (In nodes n × In fresh n × (owners_at after n ≡ joined (owners_at owners n) more))
   pub less : length now + rooms after ≤ length touched + rooms owners

@@ -40,14 +40,16 @@ pub record IsKnown (count : ℕ) (marks : List Mark) (entered : List ℕ) : Type
 -- each node of a path leads to all later ones, and is none of them
 abbrev pub IsChain : Targets → List Step → Type 0
 IsChain targets [] = Unit {0}
-IsChain targets (s ∷ rest) = ((r : Step) → In rest r → Way targets s.node r.node × (s.node ≡ r.node → ⊥)) × IsChain targets rest
+IsChain targets (s ∷ rest) =
+    ((r : Step) → In rest r → Way targets s.node r.node × (s.node ≡ r.node → ⊥)) × IsChain targets rest
 
 -- the edges before a number lead to what is left
 abbrev pub AreLeft : List ℕ → List Mark → ℕ → Type 0
 AreLeft targets marks before = (k t : ℕ) → k < before → slice_get targets k ≡ Some t → Is marks t Left
 
 -- a walk that has met no circle
-pub record IsWalk (targets : Targets) (count : ℕ) (marks : List Mark) (path : List Step) (order entered : List ℕ) : Type 0 where
+pub record IsWalk (targets : Targets) (count : ℕ) (marks : List Mark) (path : List Step)
+    (order entered : List ℕ) : Type 0 where
   pub known : IsKnown count marks entered
   pub on_path : (s : Step) → In path s → Is marks s.node Entered
   pub entered_on : (n : ℕ) → Is marks n Entered → (s : Step) × In path s × (s.node ≡ n)
@@ -56,7 +58,8 @@ pub record IsWalk (targets : Targets) (count : ℕ) (marks : List Mark) (path : 
   pub left_ordered : (n : ℕ) → Is marks n Left → In order n
   pub ordered_left : (n : ℕ) → In order n → Is marks n Left
   pub once : (i j n : ℕ) → slice_get order i ≡ Some n → slice_get order j ≡ Some n → i ≡ j
-  pub earlier : (i n m : ℕ) → slice_get order i ≡ Some n → In (targets n) m → (j : ℕ) × (j < i) × (slice_get order j ≡ Some m)
+  pub earlier : (i n m : ℕ) → slice_get order i ≡ Some n → In (targets n) m
+      → (j : ℕ) × (j < i) × (slice_get order j ≡ Some m)
 
 abbrev pub IsWalkOf : Targets → ℕ → Walk → Type 0
 IsWalkOf targets count walk = IsWalk targets count walk.marks.items walk.path.items walk.order.items walk.entered.items
@@ -77,4 +80,5 @@ NoFresher marks after = (n : ℕ) → Is after n Fresh → Is marks n Fresh
 abbrev pub IsNext : List ℕ → List Mark → Next → Type 0
 IsNext targets marks next.Nothing = (t : ℕ) → In targets t → Is marks t Left
 IsNext targets marks next.Circle = (t : ℕ) × In targets t × Is marks t Entered
-IsNext targets marks (next.Fresh at target) = AreLeft targets marks at × (slice_get targets at ≡ Some target) × Is marks target Fresh
+IsNext targets marks (next.Fresh at target) =
+    AreLeft targets marks at × (slice_get targets at ≡ Some target) × Is marks target Fresh

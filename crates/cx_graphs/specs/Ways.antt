@@ -29,7 +29,8 @@ pub record IsOrder (g : Edges) (order : List ℕ) : Type 0 where
   pub within : Bounded (length g) order
   pub all : (n : ℕ) → n < length g → In order n
   pub once : (i j n : ℕ) → slice_get order i ≡ Some n → slice_get order j ≡ Some n → i ≡ j
-  pub earlier : (i n m : ℕ) → slice_get order i ≡ Some n → In (targets_of g n) m → (j : ℕ) × (j < i) × (slice_get order j ≡ Some m)
+  pub earlier : (i n m : ℕ) → slice_get order i ≡ Some n → In (targets_of g n) m
+      → (j : ℕ) × (j < i) × (slice_get order j ≡ Some m)
 
 -- the edges of two graphs together
 abbrev pub both : Edges → Edges → Targets
@@ -41,4 +42,7 @@ LeadsWithin count g = (n : ℕ) → Bounded count (targets_of g n)
 
 -- a graph with the edges of another turned round
 abbrev pub IsTurned : Edges → Edges → Type 0
-IsTurned g turned = (length turned ≡ length g) × ((m n : ℕ) → (In (targets_of turned m) n → In (targets_of g n) m) × (In (targets_of g n) m → In (targets_of turned m) n))
+IsTurned g turned =
+    (length turned ≡ length g) × ((m n : ℕ) →
+    (In (targets_of turned m) n → In (targets_of g n) m)
+    × (In (targets_of g n) m → In (targets_of turned m) n))

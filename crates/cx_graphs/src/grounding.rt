@@ -27,7 +27,8 @@ struct Search {
 pub fn grounded(alloc: Global, graph: &[Vec<usize>]) -> Result<Vec<bool>, Memory>
     requires graph { IsGraph (edges_of graph.now) }
     ensures len { IfOk result (λ marks. length marks.items ≡ length graph.now) }
-    ensures value { IfOk result (λ marks. (n : ℕ) → n < length graph.now → slice_get marks.items n ≡ Some (is_grounded (edges_of graph.now) n)) }
+    ensures value { IfOk result (λ marks.
+        (n : ℕ) → n < length graph.now → slice_get marks.items n ≡ Some (is_grounded (edges_of graph.now) n)) }
 {
     let all = numbers(alloc, graph.len())?;
     let mut search = begin(alloc, graph.len())?;
@@ -60,7 +61,8 @@ fn numbers(alloc: Global, bound: usize) -> Result<Vec<usize>, Memory>
 
 /// Nothing is marked, and nothing waits.
 fn begin(alloc: Global, nodes: usize) -> Result<Search, Memory>
-    ensures way { IfOk result (λ search. (g : Edges) (all : List ℕ) → length g ≡ nodes → Bounded nodes all → ((n : ℕ) → n < nodes → In all n) → IsSearch g search all) }
+    ensures way { IfOk result (λ search. (g : Edges) (all : List ℕ) → length g ≡ nodes → Bounded nodes all
+        → ((n : ℕ) → n < nodes → In all n) → IsSearch g search all) }
 {
     Ok(Search {
         marks: vec![in alloc; false; nodes]?,
@@ -96,7 +98,8 @@ fn settle(search: &mut Search, graph: &[Vec<usize>], node: usize) -> Result<(), 
     requires graph { IsGraph (edges_of graph.now) }
     requires within { node < length graph.now }
     requires counts { HasCounts (edges_of graph.now) search.old }
-    ensures way { OnOk result ((todo : List ℕ) → IsSearch (edges_of graph.now) search.old (node ∷ todo) → IsSearch (edges_of graph.now) search.new todo) }
+    ensures way { OnOk result ((todo : List ℕ) → IsSearch (edges_of graph.now) search.old (node ∷ todo) →
+        IsSearch (edges_of graph.now) search.new todo) }
     ensures less { OnOk result (work search.new ≤ work search.old) }
 {
     if is_marked(search.marks.as_slice(), node) {

@@ -12,7 +12,8 @@ pub fn reached(alloc: Global, graph: &[Vec<u32>], starts: &[u32]) -> Result<Vec<
     requires graph { IsGraph (edges_of graph.now) }
     requires starts { Bounded (length graph.now) starts.now }
     ensures len { IfOk result (λ marks. length marks.items ≡ length graph.now) }
-    ensures sound { IfOk result (λ marks. (n : ℕ) → Marked marks.items n → IsReached (edges_of graph.now) starts.now n) }
+    ensures sound { IfOk result
+        (λ marks. (n : ℕ) → Marked marks.items n → IsReached (edges_of graph.now) starts.now n) }
     ensures all { IfOk result (λ marks. (n : ℕ) → IsReached (edges_of graph.now) starts.now n → Marked marks.items n) }
 {
     let mut marks = no_marks(alloc, graph.len())?;
@@ -31,7 +32,8 @@ pub(crate) fn mark_all(
     nodes: &[u32],
 ) -> Result<(), Memory>
     requires within { Bounded (length marks.old.items) nodes.now }
-    ensures appends { OnOk result (Appends marks.old.items waiting.old.items nodes.now marks.new.items waiting.new.items) }
+    ensures appends { OnOk result
+        (Appends marks.old.items waiting.old.items nodes.now marks.new.items waiting.new.items) }
 {
     for node in nodes {
         mark(marks, waiting, *node)?;
@@ -42,7 +44,8 @@ pub(crate) fn mark_all(
 /// Marks a node, and puts it at the end of what waits if it was not marked before.
 pub(crate) fn mark(marks: &mut Vec<bool>, waiting: &mut Vec<u32>, node: u32) -> Result<(), Memory>
     requires within { node < length marks.old.items }
-    ensures appends { OnOk result (Appends marks.old.items waiting.old.items (node ∷ []) marks.new.items waiting.new.items) }
+    ensures appends { OnOk result
+        (Appends marks.old.items waiting.old.items (node ∷ []) marks.new.items waiting.new.items) }
 {
     if !is_marked(marks.as_slice(), node) {
         marks[node as usize] = true;

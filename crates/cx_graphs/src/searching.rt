@@ -44,7 +44,8 @@ impl Reach {
         requires same { length more.now ≡ length graph.now }
         requires start { start < length graph.now }
         ensures unmarked { OnOk result (IsUnmarked (length graph.now) self.new) }
-        ensures value { IfOk result (λ found. IsTrue found ↔ Reaches (edges_of graph.now) (edges_of more.now) start first last) }
+        ensures value { IfOk result
+            (λ found. IsTrue found ↔ Reaches (edges_of graph.now) (edges_of more.now) start first last) }
     {
         self.mark_reached(graph, more, start)?;
         let found = is_marked_between(self.marks.as_slice(), first as usize, last as usize);
@@ -65,7 +66,8 @@ impl Reach {
         requires same { length more.now ≡ length graph.now }
         requires start { start < length graph.now }
         ensures len { OnOk result (length self.new.marks.items ≡ length graph.now) }
-        ensures reached { OnOk result (AreReached (both (edges_of graph.now) (edges_of more.now)) start self.new.marks.items) }
+        ensures reached { OnOk result
+            (AreReached (both (edges_of graph.now) (edges_of more.now)) start self.new.marks.items) }
         ensures kept { OnOk result (IsKept self.new.marks.items self.new.touched.items) }
     {
         mark(&mut self.marks, &mut self.touched, start)?;
@@ -83,7 +85,8 @@ impl Reach {
     fn mark_targets(&mut self, graph: &[Vec<u32>], node: u32) -> Result<(), Memory>
         requires graph { LeadsWithin (length self.old.marks.items) (edges_of graph.now) }
         requires node { node < length graph.now }
-        ensures appends { OnOk result (Appends self.old.marks.items self.old.touched.items (targets_of (edges_of graph.now) node) self.new.marks.items self.new.touched.items) }
+        ensures appends { OnOk result (Appends self.old.marks.items self.old.touched.items
+            (targets_of (edges_of graph.now) node) self.new.marks.items self.new.touched.items) }
     {
         let targets = graph[node as usize].as_slice();
         mark_all(&mut self.marks, &mut self.touched, targets)

@@ -32,7 +32,8 @@ impl Tally {
         requires clear { IsClear (length self.old.owners.items) self.old.owners.items self.old.touched.items }
         requires within { (k : ℕ) → Bounded (length self.old.owners.items) (targets_of (edges_of lists.now) k) }
         ensures len { OnOk result (length self.new.owners.items ≡ length self.old.owners.items) }
-        ensures told { OnOk result (Tallies (Starts (targets_of (edges_of lists.now))) self.new.owners.items self.new.touched.items) }
+        ensures told { OnOk result (Tallies
+            (Starts (targets_of (edges_of lists.now))) self.new.owners.items self.new.touched.items) }
     {
         for number in 0..lists.len() {
             self.add_all(lists[number].as_slice(), Owners::Only(number))?;
@@ -55,7 +56,9 @@ impl Tally {
         requires groups_within { (k : ℕ) → Bounded (length members.now) (targets_of (edges_of group_lists.now) k) }
         requires within { (k : ℕ) → Bounded (length self.old.owners.items) (targets_of (edges_of lists.now) k) }
         ensures len { OnOk result (length self.new.owners.items ≡ length self.old.owners.items) }
-        ensures told { OnOk result (Tallies (Starts (starts_of (edges_of members.now) (edges_of group_lists.now) (edges_of lists.now))) self.new.owners.items self.new.touched.items) }
+        ensures told { OnOk result (Tallies (Starts
+            (starts_of (edges_of members.now) (edges_of group_lists.now) (edges_of lists.now)))
+            self.new.owners.items self.new.touched.items) }
         ensures groups { OnOk result (IsClear (length members.now) groups.new.owners.items groups.new.touched.items) }
     {
         self.tally(lists)?;
@@ -86,7 +89,9 @@ impl Tally {
         requires within { (k : ℕ) → Bounded (length graph.now) (targets_of (edges_of lists.now) k) }
         requires graph { IsGraph (edges_of graph.now) }
         ensures len { OnOk result (length self.new.owners.items ≡ length graph.now) }
-        ensures told { OnOk result (Tallies (Reaches (edges_of graph.now) (starts_of (edges_of members.now) (edges_of group_lists.now) (edges_of lists.now))) self.new.owners.items self.new.touched.items) }
+        ensures told { OnOk result (Tallies (Reaches (edges_of graph.now)
+            (starts_of (edges_of members.now) (edges_of group_lists.now) (edges_of lists.now)))
+            self.new.owners.items self.new.touched.items) }
         ensures groups { OnOk result (IsClear (length members.now) groups.new.owners.items groups.new.touched.items) }
     {
         self.tally_groups(groups, members, group_lists, lists)?;
@@ -139,7 +144,8 @@ impl Tally {
     /// Adds owners to the nodes of a list.
     fn add_all(&mut self, nodes: &[u32], more: Owners) -> Result<(), Memory>
         requires within { Bounded (length self.old.owners.items) nodes.now }
-        ensures added { OnOk result (Added self.old.owners.items self.old.touched.items nodes.now more self.new.owners.items self.new.touched.items) }
+        ensures added { OnOk result (Added self.old.owners.items self.old.touched.items nodes.now more
+            self.new.owners.items self.new.touched.items) }
     {
         for node in nodes {
             self.add(*node, more)?;
@@ -150,7 +156,8 @@ impl Tally {
     /// Adds owners to a node, which is touched if that changes its owners.
     fn add(&mut self, node: u32, more: Owners) -> Result<(), Memory>
         requires within { node < length self.old.owners.items }
-        ensures added { OnOk result (Added self.old.owners.items self.old.touched.items (node ∷ []) more self.new.owners.items self.new.touched.items) }
+        ensures added { OnOk result (Added self.old.owners.items self.old.touched.items
+            (node ∷ []) more self.new.owners.items self.new.touched.items) }
     {
         let before = self.owners[node as usize];
         let after = before.join(more);

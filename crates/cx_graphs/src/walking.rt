@@ -75,7 +75,8 @@ impl Walk {
         requires more { LeadsWithin (length graph.now) (edges_of more.now) }
         requires starts { Bounded (length graph.now) starts.now }
         ensures ready { OnOk result (IsReady (length graph.now) self.new) }
-        ensures value { IfOk result (λ found. IsTrue found ↔ HasCircleFrom (both (edges_of graph.now) (edges_of more.now)) starts.now) }
+        ensures value { IfOk result (λ found.
+            IsTrue found ↔ HasCircleFrom (both (edges_of graph.now) (edges_of more.now)) starts.now) }
     {
         let found = self.walk_all(graph, more, starts)?;
         self.forget();
@@ -94,8 +95,11 @@ impl Walk {
         requires more { LeadsWithin (length graph.now) (edges_of more.now) }
         requires starts { Bounded (length graph.now) starts.now }
         ensures known { OnOk result (IsKnownOf (length graph.now) self.new) }
-        ensures found { IfOk result (λ found. found ≡ true → HasCircleFrom (both (edges_of graph.now) (edges_of more.now)) starts.now) }
-        ensures walked { IfOk result (λ found. found ≡ false → IsWalk (both (edges_of graph.now) (edges_of more.now)) (length graph.now) self.new.marks.items [] self.new.order.items self.new.entered.items) }
+        ensures found { IfOk result (λ found.
+            found ≡ true → HasCircleFrom (both (edges_of graph.now) (edges_of more.now)) starts.now) }
+        ensures walked { IfOk result (λ found. found ≡ false
+            → IsWalk (both (edges_of graph.now) (edges_of more.now))
+            (length graph.now) self.new.marks.items [] self.new.order.items self.new.entered.items) }
         ensures begun { IfOk result (λ found. found ≡ false → (n : ℕ) → In starts.now n → In self.new.order.items n) }
     {
         for start in starts {
@@ -119,8 +123,10 @@ impl Walk {
         requires more { LeadsWithin (length graph.now) (edges_of more.now) }
         requires start { start < length graph.now }
         ensures known { OnOk result (IsKnownOf (length graph.now) self.new) }
-        ensures found { IfOk result (λ found. found ≡ true → HasCircleFrom (both (edges_of graph.now) (edges_of more.now)) (start ∷ [])) }
-        ensures walked { IfOk result (λ found. found ≡ false → IsWalkOf (both (edges_of graph.now) (edges_of more.now)) (length graph.now) self.new) }
+        ensures found { IfOk result (λ found.
+            found ≡ true → HasCircleFrom (both (edges_of graph.now) (edges_of more.now)) (start ∷ [])) }
+        ensures walked { IfOk result (λ found. found ≡ false
+            → IsWalkOf (both (edges_of graph.now) (edges_of more.now)) (length graph.now) self.new) }
         ensures no_path { IfOk result (λ found. found ≡ false → self.new.path.items ≡ []) }
         ensures no_fresher { OnOk result (NoFresher self.old.marks.items self.new.marks.items) }
         ensures begun { OnOk result (Is self.new.marks.items start mark.Fresh → ⊥) }
@@ -137,8 +143,10 @@ impl Walk {
     /// Begins a path at a node, if it is fresh.
     fn begin(&mut self, start: u32) -> Result<(), Memory>
         requires within { start < length self.old.marks.items }
-        ensures walk { OnOk result ((targets : Targets) (count : ℕ) → IsWalkOf targets count self.old → self.old.path.items ≡ [] → IsWalkOf targets count self.new) }
-        ensures comes { OnOk result ((targets : Targets) → self.old.path.items ≡ [] → AllCome targets (start ∷ []) self.new.path.items) }
+        ensures walk { OnOk result ((targets : Targets) (count : ℕ) → IsWalkOf targets count self.old →
+            self.old.path.items ≡ [] → IsWalkOf targets count self.new) }
+        ensures comes { OnOk result ((targets : Targets) → self.old.path.items ≡ [] →
+            AllCome targets (start ∷ []) self.new.path.items) }
         ensures no_fresher { OnOk result (NoFresher self.old.marks.items self.new.marks.items) }
         ensures begun { OnOk result (Is self.new.marks.items start mark.Fresh → ⊥) }
     {
@@ -150,15 +158,26 @@ impl Walk {
 
     /// Goes on from a step, which was the last of the path. Answers whether that meets a circle.
     fn go_on(&mut self, graph: &[Vec<u32>], more: &[Vec<u32>], step: Step) -> Result<bool, Memory>
-        requires walk { IsWalk (both (edges_of graph.now) (edges_of more.now)) (length graph.now) self.old.marks.items (self.old.path.items ++ step ∷ []) self.old.order.items self.old.entered.items }
+        requires walk { IsWalk (both (edges_of graph.now) (edges_of more.now))
+            (length graph.now) self.old.marks.items
+            (self.old.path.items ++ step ∷ []) self.old.order.items self.old.entered.items }
         requires graph { IsGraph (edges_of graph.now) }
         requires more { LeadsWithin (length graph.now) (edges_of more.now) }
         ensures known { OnOk result (IsKnownOf (length graph.now) self.new) }
-        ensures found { IfOk result (λ found. found ≡ true → (starts : List ℕ) → AllCome (both (edges_of graph.now) (edges_of more.now)) starts (self.old.path.items ++ step ∷ []) → HasCircleFrom (both (edges_of graph.now) (edges_of more.now)) starts) }
-        ensures walked { IfOk result (λ found. found ≡ false → IsWalkOf (both (edges_of graph.now) (edges_of more.now)) (length graph.now) self.new) }
-        ensures comes { IfOk result (λ found. found ≡ false → (starts : List ℕ) → AllCome (both (edges_of graph.now) (edges_of more.now)) starts (self.old.path.items ++ step ∷ []) → AllCome (both (edges_of graph.now) (edges_of more.now)) starts self.new.path.items) }
+        ensures found { IfOk result (λ found. found ≡ true → (starts : List ℕ)
+            → AllCome (both (edges_of graph.now) (edges_of more.now)) starts
+            (self.old.path.items ++ step ∷ [])
+            → HasCircleFrom (both (edges_of graph.now) (edges_of more.now)) starts) }
+        ensures walked { IfOk result (λ found. found ≡ false
+            → IsWalkOf (both (edges_of graph.now) (edges_of more.now)) (length graph.now) self.new) }
+        ensures comes { IfOk result (λ found. found ≡ false → (starts : List ℕ)
+            → AllCome (both (edges_of graph.now) (edges_of more.now)) starts
+            (self.old.path.items ++ step ∷ [])
+            → AllCome (both (edges_of graph.now) (edges_of more.now)) starts self.new.path.items) }
         ensures no_fresher { OnOk result (NoFresher self.old.marks.items self.new.marks.items) }
-        ensures less { IfOk result (λ found. found ≡ false → length self.new.path.items + 2 * fresh_count self.new.marks.items < length self.old.path.items + 1 + 2 * fresh_count self.old.marks.items) }
+        ensures less { IfOk result (λ found. found ≡ false
+            → length self.new.path.items + 2 * fresh_count self.new.marks.items <
+            length self.old.path.items + 1 + 2 * fresh_count self.old.marks.items) }
     {
         let first = edges(graph, step.node);
         let second = edges(more, step.node);
@@ -183,7 +202,8 @@ impl Walk {
     fn enter(&mut self, node: u32) -> Result<(), Memory>
         requires within { node < length self.old.marks.items }
         ensures marks { OnOk result (self.new.marks.items ≡ slice_set self.old.marks.items node mark.Entered) }
-        ensures path { OnOk result (self.new.path.items ≡ self.old.path.items ++ record { node = node; next = 0 } ∷ []) }
+        ensures path { OnOk result
+            (self.new.path.items ≡ self.old.path.items ++ record { node = node; next = 0 } ∷ []) }
         ensures order { OnOk result (self.new.order.items ≡ self.old.order.items) }
         ensures entered { OnOk result (self.new.entered.items ≡ self.old.entered.items ++ node ∷ []) }
     {
@@ -264,7 +284,8 @@ fn edges(graph: &[Vec<u32>], node: u32) -> &[u32]
 /// What comes next among the edges of a node, from a number on.
 fn next_edge(marks: &[Mark], first: &[u32], second: &[u32], from: usize) -> Next
     requires within { Bounded (length marks.now) (first.now ++ second.now) }
-    ensures value { AreLeft (first.now ++ second.now) marks.now from → IsNext (first.now ++ second.now) marks.now result }
+    ensures value { AreLeft (first.now ++ second.now) marks.now from →
+        IsNext (first.now ++ second.now) marks.now result }
 {
     for at in from..first.len() + second.len() {
         let target = edge_target(first, second, at);
@@ -301,8 +322,10 @@ fn edge_target(first: &[u32], second: &[u32], at: usize) -> u32
 /// back to itself.
 pub fn order(alloc: Global, graph: &[Vec<u32>]) -> Result<Option<Vec<u32>>, Memory>
     requires graph { IsGraph (edges_of graph.now) }
-    ensures value { IfOk result (λ found. MatchOption found (HasCircle (targets_of (edges_of graph.now))) (λ order. IsOrder (edges_of graph.now) order.items)) }
-    ensures no_circle { IfOk result (λ found. MatchOption found (Unit {0}) (λ order. HasCircle (targets_of (edges_of graph.now)) → ⊥)) }
+    ensures value { IfOk result (λ found. MatchOption found (HasCircle (targets_of (edges_of graph.now)))
+        (λ order. IsOrder (edges_of graph.now) order.items)) }
+    ensures no_circle { IfOk result
+        (λ found. MatchOption found (Unit {0}) (λ order. HasCircle (targets_of (edges_of graph.now)) → ⊥)) }
 {
     let starts = all_nodes(alloc, graph.len())?;
     let mut walk = Walk::new(alloc, graph.len())?;

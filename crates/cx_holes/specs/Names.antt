@@ -52,4 +52,6 @@ NetNames n = ComponentsName n.components
 
 -- the wires and holes of each component have numbers of 64 bits
 abbrev pub HasFewWires : PlainNet → Type 0
-HasFewWires n = (k : ℕ) → k < length n.components → length (net_component_at n k).wires + (net_component_at n k).holes < 2 ^ 64
+HasFewWires n =
+    (k : ℕ) → k < length n.components
+    → length (net_component_at n k).wires + (net_component_at n k).holes < 2 ^ 64

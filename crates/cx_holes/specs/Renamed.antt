@@ -77,9 +77,11 @@ abbrev mutual
 
 abbrev mutual
   pub AlikeAt : NetInstance → NetLook → NetLook → Type 0
-  AlikeAt (NetNode part cells) look new = Alike part (look []) (new []) × AlikeBelow cells (λ c q. look (c ∷ q)) (λ c q. new (c ∷ q))
+  AlikeAt (NetNode part cells) look new =
+      Alike part (look []) (new []) × AlikeBelow cells (λ c q. look (c ∷ q)) (λ c q. new (c ∷ q))
 
   pub AlikeBelow : NetCells → (ℕ → NetLook) → (ℕ → NetLook) → Type 0
   AlikeBelow no_net_cells look new = Unit {0}
   AlikeBelow (a_row row rest) look new = AlikeBelow rest (λ c. look (suc c)) (λ c. new (suc c))
-  AlikeBelow (a_child child rest) look new = AlikeAt child (look 0) (new 0) × AlikeBelow rest (λ c. look (suc c)) (λ c. new (suc c))
+  AlikeBelow (a_child child rest) look new =
+      AlikeAt child (look 0) (new 0) × AlikeBelow rest (λ c. look (suc c)) (λ c. new (suc c))

@@ -52,7 +52,8 @@ pub(crate) fn without_holes(alloc: Global, first: u32, expr: &NetExpr) -> Result
 /// The same expressions with wires from the first on in place of the holes.
 #[cycle(holes)]
 fn all_without_holes(alloc: Global, first: u32, exprs: &[NetExpr]) -> Result<Vec<NetExpr>, Memory>
-    ensures value { IfOk result (λ list. map plain_net_expr list.items ≡ map (inlined_expr first) (map plain_net_expr exprs.now)) }
+    ensures value { IfOk result
+        (λ list. map plain_net_expr list.items ≡ map (inlined_expr first) (map plain_net_expr exprs.now)) }
 {
     let mut list = Vec::with_capacity(alloc, exprs.len())?;
     for expr in exprs {

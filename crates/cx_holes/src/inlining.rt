@@ -17,7 +17,8 @@ pub fn inline(alloc: Global, net: Net) -> Result<Net, Memory>
     ensures value { IfOk result (λ n. plain_net n ≡ inlined (plain_net net)) }
 
     // What the net does is kept, where it fits and the target of each driver is there.
-    ensures meaning { IsFit (plain_net net) → HasTargets (plain_net net) → IfOk result (λ n. DoesWithoutHoles (plain_net net) (plain_net n)) }
+    ensures meaning { IsFit (plain_net net) → HasTargets (plain_net net) →
+        IfOk result (λ n. DoesWithoutHoles (plain_net net) (plain_net n)) }
 {
     let main = net.main();
     let components = components_without_holes(alloc, net.into_components())?;
@@ -29,7 +30,8 @@ fn components_without_holes(
     alloc: Global,
     components: Vec<NetComponent>,
 ) -> Result<Vec<NetComponent>, Memory>
-    ensures value { IfOk result (λ list. map plain_net_component list.items ≡ map inlined_component (map plain_net_component components.items)) }
+    ensures value { IfOk result (λ list.
+        map plain_net_component list.items ≡ map inlined_component (map plain_net_component components.items)) }
 {
     let mut list = Vec::with_capacity(alloc, components.len())?;
     for component in components {
@@ -69,7 +71,8 @@ fn drivers_without_holes(
     first: u32,
     drivers: &[NetDriver],
 ) -> Result<Vec<NetDriver>, Memory>
-    ensures value { IfOk result (λ list. map plain_net_driver list.items ≡ map (inlined_driver first) (map plain_net_driver drivers.now)) }
+    ensures value { IfOk result (λ list.
+        map plain_net_driver list.items ≡ map (inlined_driver first) (map plain_net_driver drivers.now)) }
 {
     let mut list = Vec::with_capacity(alloc, drivers.len())?;
     for driver in drivers {

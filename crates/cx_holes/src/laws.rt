@@ -13,12 +13,14 @@ ghost use Rattle.cx_holes.specs.Names.{HasFewWires, NetNames};
 
 /// The net without holes comes to what the net comes to, where this names wires and holes that are there.
 pub fn inlining_keeps_runs()
-    ensures { (n : PlainNet) (loaded : List (List ℕ)) (last : ℕ) (o : Outcome) → NetNames n → NetRun (net_tree n) loaded last o ↔ NetRun (net_tree (inlined n)) loaded last o }
+    ensures { (n : PlainNet) (loaded : List (List ℕ)) (last : ℕ) (o : Outcome) → NetNames n →
+        NetRun (net_tree n) loaded last o ↔ NetRun (net_tree (inlined n)) loaded last o }
 {}
 
 /// All of it has a value in each state that it comes to, where all of the net has.
 pub fn inlining_keeps_values()
-    ensures { (n : PlainNet) (d : PlainDesign) → NetNames n → IsGrounded (AreWords d) (net_tree n) → IsGrounded (AreWords d) (net_tree (inlined n)) }
+    ensures { (n : PlainNet) (d : PlainDesign) → NetNames n → IsGrounded (AreWords d) (net_tree n) →
+        IsGrounded (AreWords d) (net_tree (inlined n)) }
 {}
 
 /// It has no hole, and names wires that are there.
@@ -39,7 +41,8 @@ pub fn inlining_keeps_targets()
 
 /// It can be written where the net can, if the wires that stand for its holes have numbers and leave its nets few enough.
 pub fn inlining_keeps_limits()
-    ensures { (n : PlainNet) → NetNames n → HasFewWires n → nets_below (net_tree (inlined n)) ≤ 4194304 → IsWritable n → IsWritable (inlined n) }
+    ensures { (n : PlainNet) → NetNames n → HasFewWires n → nets_below (net_tree (inlined n)) ≤ 4194304 →
+        IsWritable n → IsWritable (inlined n) }
 {}
 
 /// A net that fits names wires and holes that are there, where the targets of its drivers are there.

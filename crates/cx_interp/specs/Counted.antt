@@ -39,17 +39,22 @@ sampled_counts form count first i held s n = sampled_count_from i held form coun
 
 -- in every settled state that the rows stand for, a table with its rows grows by what is counted in the instance
 abbrev pub GrowsBy : PlainDesign → List PlainInstance → List (List ℕ) → List (List ℕ) → ℕ → Tallying → ℕ → Type 0
-GrowsBy d rows old new n tallying budget = HasRows d old → (path : Path) (s : State) → IsNumber d n path → StandsFor (tree_of d) rows s → IsSettled (tree_of d) s
-    → Grows d old new (at_path path (tallying (instance_at (tree_of d) path) (inputs_held rows n) (under_path path s) budget))
+GrowsBy d rows old new n tallying budget =
+    HasRows d old → (path : Path) (s : State) → IsNumber d n path → StandsFor (tree_of d) rows s
+    → IsSettled (tree_of d) s
+    → Grows d old new (at_path path
+    (tallying (instance_at (tree_of d) path) (inputs_held rows n) (under_path path s) budget))
 
 -- A RUN IN INSTANCE n, from these rows, HAS COUNTED where it ends; whatever its answer, the table keeps its shape
-pub record Counted (d : PlainDesign) (rows : List PlainInstance) (old new : List (List ℕ)) (n : ℕ) (tallying : Tallying) (budget : ℕ) (answer : Answer) : Type 0 where
+pub record Counted (d : PlainDesign) (rows : List PlainInstance) (old new : List (List ℕ)) (n : ℕ)
+    (tallying : Tallying) (budget : ℕ) (answer : Answer) : Type 0 where
   pub shape : KeepsShape old new
   pub grows : (turns : ℕ) → answer ≡ End turns → GrowsBy d rows old new n tallying budget
 
 -- THE RUN OF MAIN from the start with these words HAS COUNTED, where it ends, of each group of each instance what the definition
 -- counts, modulo two to the 64; whatever its answer, the table keeps its shape
-pub record MainCounted (d : PlainDesign) (words : List (List ℕ)) (budget : ℕ) (answer : Answer) (old new : List (List ℕ)) : Type 0 where
+pub record MainCounted (d : PlainDesign) (words : List (List ℕ)) (budget : ℕ) (answer : Answer)
+    (old new : List (List ℕ)) : Type 0 where
   pub shape : KeepsShape old new
   pub grows : (turns : ℕ) → answer ≡ End turns → HasRows d old → Grows d old new (tally_of d words budget)
 

@@ -16,7 +16,9 @@ count_at table n g = get_or (get_or table n []) g 0
 
 -- each instance of a design has its row
 abbrev pub HasRows : PlainDesign → List (List ℕ) → Type 0
-HasRows d table = (n : ℕ) (path : Path) → IsNumber d n path → length (get_or table n []) ≡ length (part_of (instance_at (tree_of d) path)).groups
+HasRows d table =
+    (n : ℕ) (path : Path) → IsNumber d n path
+    → length (get_or table n []) ≡ length (part_of (instance_at (tree_of d) path)).groups
 
 -- all counts are 0
 abbrev pub IsZero : List (List ℕ) → Type 0
@@ -43,5 +45,6 @@ at_path (c ∷ path) tally = below c (at_path path tally)
 
 -- THE COUNTS GROW by a tally of the whole tree, modulo two to the 64
 abbrev pub Grows : PlainDesign → List (List ℕ) → List (List ℕ) → Tally → Type 0
-Grows d old new tally = (n g : ℕ) (path : Path) → IsNumber d n path → g < length (part_of (instance_at (tree_of d) path)).groups
+Grows d old new tally =
+    (n g : ℕ) (path : Path) → IsNumber d n path → g < length (part_of (instance_at (tree_of d) path)).groups
     → count_at new n g % 2 ^ 64 ≡ (count_at old n g + tally path g) % 2 ^ 64

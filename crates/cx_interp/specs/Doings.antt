@@ -64,7 +64,8 @@ island_does form i held s n = island i held form s n
 
 -- a test, and then one of two
 abbrev pub test_does : PortRef → Option ℕ → Doing → Doing → Doing
-test_does port comb first second i held s n = test_turn (idle i) (test i held port comb) (first i held) (second i held) s n
+test_does port comb first second i held s n =
+    test_turn (idle i) (test i held port comb) (first i held) (second i held) s n
 
 -- a loop with a test
 abbrev pub loop_does : PortRef → Option ℕ → Doing → Doing

@@ -16,7 +16,8 @@ use Rattle.cx_interp.specs.Doings.{Doing}
 -- what an answer tells of the outcome of a run in the instance at a path
 abbrev pub Tells : PlainDesign → Path → Answer → Outcome → Type 0
 Tells d path (End turns) o = o ≡ Ended turns
-Tells d path (Fault told turn) o = (fault : cycles.Fault) × TellsFault (tree_of d) (fault_along path fault) told × (o ≡ Faulted fault turn)
+Tells d path (Fault told turn) o =
+    (fault : cycles.Fault) × TellsFault (tree_of d) (fault_along path fault) told × (o ≡ Faulted fault turn)
 Tells d path More o = o ≡ Unfinished
 
 -- an end takes no more turns than the budget, and a fault comes in one of them
@@ -36,17 +37,21 @@ abbrev pub KeepsHeld : ℕ → List PlainInstance → List PlainInstance → Typ
 KeepsHeld n old new = (m input : ℕ) → m ≤ n → inputs_held new m input ≡ inputs_held old m input
 
 -- what a run leaves in every settled state that the rows stand for, and what its answer tells
-pub record Leaves (d : PlainDesign) (old new : List PlainInstance) (n : ℕ) (driving : Driving) (doing : Doing) (budget : ℕ) (answer : Answer) (path : Path) (s : State) : Type 0 where
+pub record Leaves (d : PlainDesign) (old new : List PlainInstance) (n : ℕ) (driving : Driving)
+    (doing : Doing) (budget : ℕ) (answer : Answer) (path : Path) (s : State) : Type 0 where
   pub after : State
   pub outcome : Outcome
   pub stands : StandsFor (tree_of d) new (put_path path after s)
   pub told : Tells d path answer outcome
   pub held : KeepsHeld n old new
-  pub ran : Ran (instance_at (tree_of d) path) (driving (instance_at (tree_of d) path)) (doing (instance_at (tree_of d) path) (inputs_held old n)) (under_path path s) budget after outcome
+  pub ran : Ran (instance_at (tree_of d) path) (driving (instance_at (tree_of d) path))
+      (doing (instance_at (tree_of d) path) (inputs_held old n)) (under_path path s) budget after outcome
 
 -- A RUN IN INSTANCE n, from some rows to others
-pub record Done (d : PlainDesign) (old new : List PlainInstance) (n : ℕ) (driving : Driving) (doing : Doing) (budget : ℕ) (answer : Answer) : Type 0 where
-  pub leaves : (path : Path) (s : State) → IsNumber d n path → StandsFor (tree_of d) old s → IsSettled (tree_of d) s → Leaves d old new n driving doing budget answer path s
+pub record Done (d : PlainDesign) (old new : List PlainInstance) (n : ℕ) (driving : Driving)
+    (doing : Doing) (budget : ℕ) (answer : Answer) : Type 0 where
+  pub leaves : (path : Path) (s : State) → IsNumber d n path → StandsFor (tree_of d) old s
+      → IsSettled (tree_of d) s → Leaves d old new n driving doing budget answer path s
   pub within : IsWithin budget answer
   pub fits : IsStateOf d new
 

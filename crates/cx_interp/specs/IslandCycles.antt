@@ -23,9 +23,13 @@ abbrev pub sampled_does : PlainForm → ℕ → Samples → Doing
 sampled_does form count first i held s m = sampled_from i held form count 0 first s m
 
 -- CYCLE t of an island in instance n, from samples to the next, in each state that differs from a settled one in driven cells alone
-pub record CycleTaken (d : PlainDesign) (old new : List PlainInstance) (n : ℕ) (form : PlainForm) (driving : Driving) (t : ℕ) (kept next : Samples) (turn : Turn) : Type 0 where
-  pub tells : (path : Path) (s now : State) → IsNumber d n path → IsSettled (tree_of d) s → IsBusy (driving (instance_at (tree_of d) path)) (under_path path s) now
+pub record CycleTaken (d : PlainDesign) (old new : List PlainInstance) (n : ℕ) (form : PlainForm)
+    (driving : Driving) (t : ℕ) (kept next : Samples) (turn : Turn) : Type 0 where
+  pub tells : (path : Path) (s now : State) → IsNumber d n path → IsSettled (tree_of d) s
+      → IsBusy (driving (instance_at (tree_of d) path)) (under_path path s) now
       → StandsFor (tree_of d) old (put_path path now s)
-      → (next ≡ samples_after (part_of (instance_at (tree_of d) path)) (says (seen (instance_at (tree_of d) path) (inputs_held old n) nothing now)) t form kept)
-      × TellsTurn d path s old new (driving (instance_at (tree_of d) path)) turn (sampled_turn (instance_at (tree_of d) path) (inputs_held old n) form t next now)
+      → (next ≡ samples_after (part_of (instance_at (tree_of d) path))
+      (says (seen (instance_at (tree_of d) path) (inputs_held old n) nothing now)) t form kept)
+      × TellsTurn d path s old new (driving (instance_at (tree_of d) path)) turn
+      (sampled_turn (instance_at (tree_of d) path) (inputs_held old n) form t next now)
   pub fits : IsStateOf d new

@@ -22,17 +22,21 @@ AnswersIdle i now (answers.Fault f t) o = o ≡ Faulted f t
 AnswersIdle i now More o = o ≡ Unfinished
 
 -- what turns leave before the idle turn
-pub record Pauses (d : PlainDesign) (old new : List PlainInstance) (n : ℕ) (driving : Driving) (doing : Doing) (budget : ℕ) (answer : told.Answer) (path : Path) (s : State) : Type 0 where
+pub record Pauses (d : PlainDesign) (old new : List PlainInstance) (n : ℕ) (driving : Driving)
+    (doing : Doing) (budget : ℕ) (answer : told.Answer) (path : Path) (s : State) : Type 0 where
   pub now : State
   pub outcome : Outcome
   pub stands : StandsFor (tree_of d) new (put_path path now s)
   pub busy : IsBusy (driving (instance_at (tree_of d) path)) (under_path path s) now
   pub told : Tells d path answer outcome
   pub held : HeldAlike old new
-  pub means : AnswersIdle (instance_at (tree_of d) path) now (doing (instance_at (tree_of d) path) (inputs_held old n) (under_path path s) budget) outcome
+  pub means : AnswersIdle (instance_at (tree_of d) path) now
+      (doing (instance_at (tree_of d) path) (inputs_held old n) (under_path path s) budget) outcome
 
 -- TURNS in instance n, up to the idle turn that ends them
-pub record Paused (d : PlainDesign) (old new : List PlainInstance) (n : ℕ) (driving : Driving) (doing : Doing) (budget : ℕ) (answer : told.Answer) : Type 0 where
-  pub pauses : (path : Path) (s : State) → IsNumber d n path → StandsFor (tree_of d) old s → IsSettled (tree_of d) s → Pauses d old new n driving doing budget answer path s
+pub record Paused (d : PlainDesign) (old new : List PlainInstance) (n : ℕ) (driving : Driving)
+    (doing : Doing) (budget : ℕ) (answer : told.Answer) : Type 0 where
+  pub pauses : (path : Path) (s : State) → IsNumber d n path → StandsFor (tree_of d) old s
+      → IsSettled (tree_of d) s → Pauses d old new n driving doing budget answer path s
   pub within : IsWithin budget answer
   pub fits : IsStateOf d new

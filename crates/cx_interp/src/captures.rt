@@ -47,7 +47,8 @@ fn capture_turn(
     requires row { IsGroupRow (design_of plan.now) instance group row.now }
     requires callee { row.now.callee ≡ Some cell }
     ensures machine { IsAt plan.now machine.new }
-    ensures paused { Paused (design_of plan.now) (rows_of machine.old) (rows_of machine.new) instance (group_driving group) (capture_does group cell) budget result }
+    ensures paused { Paused (design_of plan.now) (rows_of machine.old) (rows_of machine.new) instance
+        (group_driving group) (capture_does group cell) budget result }
 {
     listed_cells_suffice();
     let _ = plan;
@@ -84,7 +85,8 @@ fn capture(
     requires row { IsGroupRow (design_of plan.now) instance group row.now }
     requires callee { row.now.callee ≡ Some cell }
     ensures machine { IsAt plan.now machine.new }
-    ensures done { Done (design_of plan.now) (rows_of machine.old) (rows_of machine.new) instance (group_driving group) (capture_does group cell) budget result }
+    ensures done { Done (design_of plan.now) (rows_of machine.old) (rows_of machine.new) instance
+        (group_driving group) (capture_does group cell) budget result }
 {
     designs_keep_idle();
     idle_settles();
@@ -110,7 +112,8 @@ fn after_child(
     requires row { IsGroupRow (design_of plan.now) instance group row.now }
     requires callee { row.now.callee ≡ Some cell }
     ensures machine { IsAt plan.now machine.new }
-    ensures done { Done (design_of plan.now) (rows_of machine.old) (rows_of machine.new) instance (group_driving group) (after_does group cell) budget result }
+    ensures done { Done (design_of plan.now) (rows_of machine.old) (rows_of machine.new) instance
+        (group_driving group) (after_does group cell) budget result }
 {
     if row.captures {
         capture(plan, machine, instance, group, row, cell, budget)
@@ -138,8 +141,10 @@ pub(crate) fn end_call(
     requires callee { row.now.callee ≡ Some cell }
     requires within { IsWithin budget answer }
     ensures machine { IsAt plan.now machine.new }
-    ensures done { (old : List PlainInstance) (first : Doing) → Done (design_of plan.now) old (rows_of machine.old) instance (group_driving group) first budget answer
-        → Done (design_of plan.now) old (rows_of machine.new) instance (group_driving group) (then_does first (after_does group cell)) budget result }
+    ensures done { (old : List PlainInstance) (first : Doing) →
+        Done (design_of plan.now) old (rows_of machine.old) instance (group_driving group) first budget answer
+        → Done (design_of plan.now) old (rows_of machine.new) instance (group_driving group)
+        (then_does first (after_does group cell)) budget result }
     ensures ends { (turns : ℕ) → result ≡ Answer.End turns → (first : ℕ) × (answer ≡ Answer.End first) }
 {
     match answer {

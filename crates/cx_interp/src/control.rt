@@ -39,8 +39,11 @@ pub(crate) fn run_statement(
     requires instance { IsInstance (design_of plan.now) instance }
     requires statement { StandsIn (design_of plan.now) instance (plain_statement statement.now) }
     ensures machine { IsAt plan.now machine.new }
-    ensures done { Done (design_of plan.now) (rows_of machine.old) (rows_of machine.new) instance (statement_drives (plain_statement statement.now)) (statement_does (plain_statement statement.now)) budget result }
-    ensures counted { Counted (design_of plan.now) (rows_of machine.old) (plain_counts counts.old) (plain_counts counts.new) instance (statement_counts (plain_statement statement.now)) budget result }
+    ensures done { Done (design_of plan.now) (rows_of machine.old) (rows_of machine.new) instance
+        (statement_drives (plain_statement statement.now))
+        (statement_does (plain_statement statement.now)) budget result }
+    ensures counted { Counted (design_of plan.now) (rows_of machine.old) (plain_counts counts.old)
+        (plain_counts counts.new) instance (statement_counts (plain_statement statement.now)) budget result }
 {
     run_form(plan, machine, counts, instance, &statement.form, budget)
 }
@@ -60,8 +63,10 @@ fn run_form(
     requires instance { IsInstance (design_of plan.now) instance }
     requires form { FormStands (design_of plan.now) instance (plain_form form.now) }
     ensures machine { IsAt plan.now machine.new }
-    ensures done { Done (design_of plan.now) (rows_of machine.old) (rows_of machine.new) instance (form_drives (plain_form form.now)) (form_does (plain_form form.now)) budget result }
-    ensures counted { Counted (design_of plan.now) (rows_of machine.old) (plain_counts counts.old) (plain_counts counts.new) instance (form_counts (plain_form form.now)) budget result }
+    ensures done { Done (design_of plan.now) (rows_of machine.old) (rows_of machine.new) instance
+        (form_drives (plain_form form.now)) (form_does (plain_form form.now)) budget result }
+    ensures counted { Counted (design_of plan.now) (rows_of machine.old) (plain_counts counts.old)
+        (plain_counts counts.new) instance (form_counts (plain_form form.now)) budget result }
 {
     match form {
         Form::Empty => idle_turn(budget),
@@ -106,8 +111,12 @@ fn run_seq(
     requires instance { IsInstance (design_of plan.now) instance }
     requires parts { StandIn (design_of plan.now) instance (plain_statements parts.now) }
     ensures machine { IsAt plan.now machine.new }
-    ensures done { Done (design_of plan.now) (rows_of machine.old) (rows_of machine.new) instance (form_drives (plain.Seq (plain_statements parts.now))) (form_does (plain.Seq (plain_statements parts.now))) budget result }
-    ensures counted { Counted (design_of plan.now) (rows_of machine.old) (plain_counts counts.old) (plain_counts counts.new) instance (form_counts (plain.Seq (plain_statements parts.now))) budget result }
+    ensures done { Done (design_of plan.now) (rows_of machine.old) (rows_of machine.new) instance
+        (form_drives (plain.Seq (plain_statements parts.now)))
+        (form_does (plain.Seq (plain_statements parts.now))) budget result }
+    ensures counted { Counted (design_of plan.now) (rows_of machine.old) (plain_counts counts.old)
+        (plain_counts counts.new) instance
+        (form_counts (plain.Seq (plain_statements parts.now))) budget result }
 {
     if parts.is_empty() {
         return idle_turn(budget);
@@ -138,8 +147,12 @@ fn run_par(
     requires instance { IsInstance (design_of plan.now) instance }
     requires form { FormStands (design_of plan.now) instance (plain.Par (plain_statements arms.now)) }
     ensures machine { IsAt plan.now machine.new }
-    ensures done { Done (design_of plan.now) (rows_of machine.old) (rows_of machine.new) instance (form_drives (plain.Par (plain_statements arms.now))) (form_does (plain.Par (plain_statements arms.now))) budget result }
-    ensures counted { Counted (design_of plan.now) (rows_of machine.old) (plain_counts counts.old) (plain_counts counts.new) instance (form_counts (plain.Par (plain_statements arms.now))) budget result }
+    ensures done { Done (design_of plan.now) (rows_of machine.old) (rows_of machine.new) instance
+        (form_drives (plain.Par (plain_statements arms.now)))
+        (form_does (plain.Par (plain_statements arms.now))) budget result }
+    ensures counted { Counted (design_of plan.now) (rows_of machine.old) (plain_counts counts.old)
+        (plain_counts counts.new) instance
+        (form_counts (plain.Par (plain_statements arms.now))) budget result }
 {
     next_arm();
     arms_add_up();
@@ -172,11 +185,15 @@ fn run_if(
     requires plan { IsPlan plan.now }
     requires machine { IsAt plan.now machine.old }
     requires instance { IsInstance (design_of plan.now) instance }
-    requires form { FormStands (design_of plan.now) instance (plain.If port comb (plain_statement yes.now) (plain_statement no.now)) }
+    requires form { FormStands (design_of plan.now) instance
+        (plain.If port comb (plain_statement yes.now) (plain_statement no.now)) }
     ensures machine { IsAt plan.now machine.new }
-    ensures done { Done (design_of plan.now) (rows_of machine.old) (rows_of machine.new) instance (form_drives (plain.If port comb (plain_statement yes.now) (plain_statement no.now)))
+    ensures done { Done (design_of plan.now) (rows_of machine.old) (rows_of machine.new) instance
+        (form_drives (plain.If port comb (plain_statement yes.now) (plain_statement no.now)))
         (form_does (plain.If port comb (plain_statement yes.now) (plain_statement no.now))) budget result }
-    ensures counted { Counted (design_of plan.now) (rows_of machine.old) (plain_counts counts.old) (plain_counts counts.new) instance (form_counts (plain.If port comb (plain_statement yes.now) (plain_statement no.now))) budget result }
+    ensures counted { Counted (design_of plan.now) (rows_of machine.old) (plain_counts counts.old)
+        (plain_counts counts.new) instance
+        (form_counts (plain.If port comb (plain_statement yes.now) (plain_statement no.now))) budget result }
 {
     if budget == 0 {
         return Answer::More;
@@ -211,9 +228,12 @@ fn run_while(
     requires instance { IsInstance (design_of plan.now) instance }
     requires form { FormStands (design_of plan.now) instance (plain.While port comb (plain_statement body.now)) }
     ensures machine { IsAt plan.now machine.new }
-    ensures done { Done (design_of plan.now) (rows_of machine.old) (rows_of machine.new) instance (form_drives (plain.While port comb (plain_statement body.now)))
+    ensures done { Done (design_of plan.now) (rows_of machine.old) (rows_of machine.new) instance
+        (form_drives (plain.While port comb (plain_statement body.now)))
         (form_does (plain.While port comb (plain_statement body.now))) budget result }
-    ensures counted { Counted (design_of plan.now) (rows_of machine.old) (plain_counts counts.old) (plain_counts counts.new) instance (form_counts (plain.While port comb (plain_statement body.now))) budget result }
+    ensures counted { Counted (design_of plan.now) (rows_of machine.old) (plain_counts counts.old)
+        (plain_counts counts.new) instance
+        (form_counts (plain.While port comb (plain_statement body.now))) budget result }
 {
     let mut spent = 0;
     while spent < budget {
@@ -248,8 +268,12 @@ fn run_repeat(
     requires instance { IsInstance (design_of plan.now) instance }
     requires body { StandsIn (design_of plan.now) instance (plain_statement body.now) }
     ensures machine { IsAt plan.now machine.new }
-    ensures done { Done (design_of plan.now) (rows_of machine.old) (rows_of machine.new) instance (form_drives (plain.Repeat count (plain_statement body.now))) (form_does (plain.Repeat count (plain_statement body.now))) budget result }
-    ensures counted { Counted (design_of plan.now) (rows_of machine.old) (plain_counts counts.old) (plain_counts counts.new) instance (form_counts (plain.Repeat count (plain_statement body.now))) budget result }
+    ensures done { Done (design_of plan.now) (rows_of machine.old) (rows_of machine.new) instance
+        (form_drives (plain.Repeat count (plain_statement body.now)))
+        (form_does (plain.Repeat count (plain_statement body.now))) budget result }
+    ensures counted { Counted (design_of plan.now) (rows_of machine.old) (plain_counts counts.old)
+        (plain_counts counts.new) instance
+        (form_counts (plain.Repeat count (plain_statement body.now))) budget result }
 {
     if count == 0 {
         return idle_turn(budget);
@@ -283,8 +307,10 @@ fn run_enable(
     requires enable { plain_form form.now ≡ plain.Enable group }
     requires group { IsGroupOf (design_of plan.now) instance group }
     ensures machine { IsAt plan.now machine.new }
-    ensures done { Done (design_of plan.now) (rows_of machine.old) (rows_of machine.new) instance (form_drives (plain_form form.now)) (form_does (plain_form form.now)) budget result }
-    ensures counted { Counted (design_of plan.now) (rows_of machine.old) (plain_counts counts.old) (plain_counts counts.new) instance (form_counts (plain_form form.now)) budget result }
+    ensures done { Done (design_of plan.now) (rows_of machine.old) (rows_of machine.new) instance
+        (form_drives (plain_form form.now)) (form_does (plain_form form.now)) budget result }
+    ensures counted { Counted (design_of plan.now) (rows_of machine.old) (plain_counts counts.old)
+        (plain_counts counts.new) instance (form_counts (plain_form form.now)) budget result }
 {
     match group_length(plan, instance, group) {
         Some(_) => run_island(plan, machine, counts, instance, form, budget),
@@ -308,8 +334,10 @@ fn run_dynamic(
     requires group { IsGroupOf (design_of plan.now) instance group }
     requires dynamic { HasLength (design_of plan.now) instance group None }
     ensures machine { IsAt plan.now machine.new }
-    ensures done { Done (design_of plan.now) (rows_of machine.old) (rows_of machine.new) instance (form_drives (plain.Enable group)) (form_does (plain.Enable group)) budget result }
-    ensures counted { Counted (design_of plan.now) (rows_of machine.old) (plain_counts counts.old) (plain_counts counts.new) instance (form_counts (plain.Enable group)) budget result }
+    ensures done { Done (design_of plan.now) (rows_of machine.old) (rows_of machine.new) instance
+        (form_drives (plain.Enable group)) (form_does (plain.Enable group)) budget result }
+    ensures counted { Counted (design_of plan.now) (rows_of machine.old) (plain_counts counts.old)
+        (plain_counts counts.new) instance (form_counts (plain.Enable group)) budget result }
 {
     let row = group_row(plan, instance, group);
     match row.callee {
@@ -346,8 +374,10 @@ fn run_call(
     requires dynamic { HasLength (design_of plan.now) instance group None }
     requires callee { row.now.callee ≡ Some cell }
     ensures machine { IsAt plan.now machine.new }
-    ensures done { Done (design_of plan.now) (rows_of machine.old) (rows_of machine.new) instance (form_drives (plain.Enable group)) (form_does (plain.Enable group)) budget result }
-    ensures counted { Counted (design_of plan.now) (rows_of machine.old) (plain_counts counts.old) (plain_counts counts.new) instance (form_counts (plain.Enable group)) budget result }
+    ensures done { Done (design_of plan.now) (rows_of machine.old) (rows_of machine.new) instance
+        (form_drives (plain.Enable group)) (form_does (plain.Enable group)) budget result }
+    ensures counted { Counted (design_of plan.now) (rows_of machine.old) (plain_counts counts.old)
+        (plain_counts counts.new) instance (form_counts (plain.Enable group)) budget result }
 {
     own_inputs_suffice();
     own_inputs_suffice_for_counts();

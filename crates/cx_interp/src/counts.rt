@@ -91,7 +91,8 @@ impl Counts {
     /// Counts a cycle with one group active.
     #[inline(always)]
     pub(crate) fn add(&mut self, instance: usize, group: u32)
-        ensures { GrowsAt instance (λ g. once ((acting group).offset g)) (plain_counts self.old) (plain_counts self.new) }
+        ensures { GrowsAt instance (λ g. once ((acting group).offset g)) (plain_counts self.old)
+            (plain_counts self.new) }
     {
         if instance < self.rows.len() {
             add_one(&mut self.rows[instance], group as usize);
@@ -100,8 +101,11 @@ impl Counts {
 
     /// Counts a cycle with a group active that stands in none of the entries before it.
     fn add_new(&mut self, instance: usize, group: u32, before: &[ActiveEntry])
-        ensures known { is_some (offset_in (map plain_entry before.now) group) ≡ true → plain_counts self.new ≡ plain_counts self.old }
-        ensures unknown { is_some (offset_in (map plain_entry before.now) group) ≡ false → GrowsAt instance (λ g. once ((acting group).offset g)) (plain_counts self.old) (plain_counts self.new) }
+        ensures known { is_some (offset_in (map plain_entry before.now) group) ≡ true →
+            plain_counts self.new ≡ plain_counts self.old }
+        ensures unknown { is_some (offset_in (map plain_entry before.now) group) ≡ false →
+            GrowsAt instance (λ g. once ((acting group).offset g)) (plain_counts self.old)
+            (plain_counts self.new) }
     {
         if stands_among(before, group) {
             return;
@@ -111,7 +115,8 @@ impl Counts {
 
     /// Counts each of the groups that stand in some entries once.
     fn add_each(&mut self, instance: usize, entries: &[ActiveEntry])
-        ensures { GrowsAt instance (λ g. once (offset_in (map plain_entry entries.now) g)) (plain_counts self.old) (plain_counts self.new) }
+        ensures { GrowsAt instance (λ g. once (offset_in (map plain_entry entries.now) g))
+            (plain_counts self.old) (plain_counts self.new) }
     {
         for place in 0..entries.len() {
             self.add_new(instance, entries[place].group, &entries[..place]);
@@ -122,7 +127,8 @@ impl Counts {
     #[inline(always)]
     pub(crate) fn add_active(&mut self, instance: usize, active: &Active)
         ensures shape { KeepsShape (plain_counts self.old) (plain_counts self.new) }
-        ensures grows { (list : List Entry) → HasActive active.now list → GrowsAt instance (λ g. once (offset_in list g)) (plain_counts self.old) (plain_counts self.new) }
+        ensures grows { (list : List Entry) → HasActive active.now list →
+            GrowsAt instance (λ g. once (offset_in list g)) (plain_counts self.old) (plain_counts self.new) }
     {
         if self.rows.is_empty() {
             return;

@@ -36,8 +36,10 @@ pub(crate) fn take_turns(
     requires ascending { IsAscending cells.now }
     requires listed { ListGroup (design_of plan.now) instance group cells.now }
     ensures machine { IsAt plan.now machine.new }
-    ensures paused { Paused (design_of plan.now) (rows_of machine.old) (rows_of machine.new) instance (group_driving group) (turns_do group) budget result }
-    ensures counted { Counted (design_of plan.now) (rows_of machine.old) (plain_counts counts.old) (plain_counts counts.new) instance (turns_count_of group) budget result }
+    ensures paused { Paused (design_of plan.now) (rows_of machine.old) (rows_of machine.new) instance
+        (group_driving group) (turns_do group) budget result }
+    ensures counted { Counted (design_of plan.now) (rows_of machine.old) (plain_counts counts.old)
+        (plain_counts counts.new) instance (turns_count_of group) budget result }
 {
     for turn in 0..budget {
         match take_turn(plan, machine, instance, group, cells) {
@@ -67,8 +69,10 @@ pub(crate) fn run_group(
     requires ascending { IsAscending cells.now }
     requires listed { ListGroup (design_of plan.now) instance group cells.now }
     ensures machine { IsAt plan.now machine.new }
-    ensures done { Done (design_of plan.now) (rows_of machine.old) (rows_of machine.new) instance (group_driving group) (turns_do group) budget result }
-    ensures counted { Counted (design_of plan.now) (rows_of machine.old) (plain_counts counts.old) (plain_counts counts.new) instance (turns_count_of group) budget result }
+    ensures done { Done (design_of plan.now) (rows_of machine.old) (rows_of machine.new) instance
+        (group_driving group) (turns_do group) budget result }
+    ensures counted { Counted (design_of plan.now) (rows_of machine.old) (plain_counts counts.old)
+        (plain_counts counts.new) instance (turns_count_of group) budget result }
 {
     designs_keep_idle();
     idle_settles();

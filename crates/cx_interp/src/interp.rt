@@ -33,10 +33,15 @@ fn run_main(plan: &Plan<'_>, machine: &mut Machine<'_>, counts: &mut Counts, bud
     requires machine { IsAt plan.now machine.old }
     requires unheld { IsUnheld (rows_of machine.old) }
     ensures machine { IsAt plan.now machine.new }
-    ensures answered { (words : List (List ℕ)) → StandsFor (tree_of (design_of plan.now)) (rows_of machine.old) (start (tree_of (design_of plan.now)) words)
-        → Answered (design_of plan.now) (rows_of machine.new) result (running.run_main (design_of plan.now) words budget) }
+    ensures answered { (words : List (List ℕ)) →
+        StandsFor (tree_of (design_of plan.now)) (rows_of machine.old)
+        (start (tree_of (design_of plan.now)) words)
+        → Answered (design_of plan.now) (rows_of machine.new) result
+        (running.run_main (design_of plan.now) words budget) }
     ensures within { IsWithin budget result }
-    ensures counted { (words : List (List ℕ)) → StandsFor (tree_of (design_of plan.now)) (rows_of machine.old) (start (tree_of (design_of plan.now)) words)
+    ensures counted { (words : List (List ℕ)) →
+        StandsFor (tree_of (design_of plan.now)) (rows_of machine.old)
+        (start (tree_of (design_of plan.now)) words)
         → MainCounted (design_of plan.now) words budget result (plain_counts counts.old) (plain_counts counts.new) }
 {
     loaded_start_is_settled();
@@ -55,8 +60,10 @@ pub struct Ran<'a> {
 /// Runs main within a budget of turns, and counts beside it. It takes no memory.
 pub fn run<'a>(begun: Begun<'a>, counts: &mut Counts, budget: u64) -> Ran<'a>
     requires ready { (design : DesignValue) × (words : List (List ℕ)) × IsReady design words begun }
-    ensures run { (design : DesignValue) (words : List (List ℕ)) → IsReady design words begun.entry → HasRun design words budget result }
-    ensures counted { (design : DesignValue) (words : List (List ℕ)) → IsReady design words begun.entry → HasCounted design words budget result (plain_counts counts.old) (plain_counts counts.new) }
+    ensures run { (design : DesignValue) (words : List (List ℕ)) → IsReady design words begun.entry →
+        HasRun design words budget result }
+    ensures counted { (design : DesignValue) (words : List (List ℕ)) → IsReady design words begun.entry →
+        HasCounted design words budget result (plain_counts counts.old) (plain_counts counts.new) }
 {
     let Begun { plan, mut machine } = begun;
     let answer = run_main(&plan, &mut machine, counts, budget);
@@ -77,7 +84,8 @@ impl Ran<'_> {
 
     /// Writes the words in which the run left the external memories over those of memories that fit. It takes no memory.
     pub fn memories(&self, into: &mut Loaded)
-        requires run { (design : DesignValue) × (words : List (List ℕ)) × (budget : ℕ) × HasRun design words budget self.now }
+        requires run { (design : DesignValue) × (words : List (List ℕ)) × (budget : ℕ) ×
+            HasRun design words budget self.now }
         requires fits { FitsRows (external_rows (plain_design self.now.design.now)) (plain_loaded into.old) }
         ensures words { GetsWords self.now (plain_loaded into.old) (plain_loaded into.new) }
         ensures fits { FitsRows (external_rows (plain_design self.now.design.now)) (plain_loaded into.new) }

@@ -35,16 +35,19 @@ module _ (part : PlainComponent) (now : PortRef → Bool) where
     statement_asked (Placed form place) n j kept = form_asked form n j kept
 
     pub while_asked : PlainStatement → ℕ → ℕ → Samples → List PortRef
-    while_asked (Placed form place) n j kept = if nat_lt j (length_of part (Placed form place)) then form_asked form n j kept else []
+    while_asked (Placed form place) n j kept =
+        if nat_lt j (length_of part (Placed form place)) then form_asked form n j kept else []
 
     pub parts_asked : PlainStatements → ℕ → ℕ → Samples → List PortRef
     parts_asked no_statements n j kept = []
     parts_asked (a_statement s ss) n j kept =
-        if nat_lt j (length_of part s) then statement_asked s n j kept else parts_asked ss (n + ifs_of s) (j - length_of part s) kept
+        if nat_lt j (length_of part s) then statement_asked s n j kept
+        else parts_asked ss (n + ifs_of s) (j - length_of part s) kept
 
     pub arms_asked : PlainStatements → ℕ → ℕ → Samples → List PortRef
     arms_asked no_statements n j kept = []
-    arms_asked (a_statement s ss) n j kept = while_asked s n j kept ++ arms_asked ss (n + ifs_of s) j (while_after part now s n j kept)
+    arms_asked (a_statement s ss) n j kept =
+        while_asked s n j kept ++ arms_asked ss (n + ifs_of s) j (while_after part now s n j kept)
 
 -- the ports of all static ifs in a static statement, in source order
 abbrev mutual

@@ -18,7 +18,8 @@ use cx_text::Memory;
 /// Makes room for the active groups of any one cycle.
 pub fn reserve_entries(form: &Form, into: &mut Vec<ActiveEntry>) -> Result<(), Memory>
     ensures items { into.new.items ≡ into.old.items }
-    ensures room { IfOk result (λ _. vec_len into.new + rooms.form_groups (plain_form form.now) ≤ vec_capacity into.new) }
+    ensures room { IfOk result
+        (λ _. vec_len into.new + rooms.form_groups (plain_form form.now) ≤ vec_capacity into.new) }
     ensures grows { vec_capacity into.old ≤ vec_capacity into.new }
 {
     into.reserve(group_count(form))?;
@@ -36,7 +37,9 @@ pub fn active_entries(
     requires cycle { cycle < 2 ^ 64 - 1 }
     requires samples { form_ifs (plain_form form.now) ≤ length samples.now }
     requires room { vec_len into.old + rooms.form_groups (plain_form form.now) ≤ vec_capacity into.old }
-    ensures value { map plain_entry into.new.items ≡ map plain_entry into.old.items ++ active_by (plain_component part.now) (samples_of samples.now) cycle (plain_form form.now) }
+    ensures value { map plain_entry into.new.items ≡
+        map plain_entry into.old.items
+        ++ active_by (plain_component part.now) (samples_of samples.now) cycle (plain_form form.now) }
     ensures capacity { vec_capacity into.new ≡ vec_capacity into.old }
 {
     add_form(part, samples, 0, cycle, form, into);
@@ -55,7 +58,9 @@ fn add_form(
     requires offset { offset < 2 ^ 64 - 1 }
     requires samples { number + form_ifs (plain_form form.now) ≤ length samples.now }
     requires room { vec_len into.old + rooms.form_groups (plain_form form.now) ≤ vec_capacity into.old }
-    ensures value { map plain_entry into.new.items ≡ map plain_entry into.old.items ++ form_by (plain_component part.now) (samples_of samples.now) entry_at no_entry (plain_form form.now) number offset }
+    ensures value { map plain_entry into.new.items ≡
+        map plain_entry into.old.items ++ form_by (plain_component part.now)
+        (samples_of samples.now) entry_at no_entry (plain_form form.now) number offset }
     ensures count { vec_len into.new ≤ vec_len into.old + rooms.form_groups (plain_form form.now) }
     ensures capacity { vec_capacity into.new ≡ vec_capacity into.old }
 {
@@ -101,7 +106,9 @@ fn add_statement(
     requires offset { offset < 2 ^ 64 - 1 }
     requires samples { number + ifs_of (plain_statement statement.now) ≤ length samples.now }
     requires room { vec_len into.old + rooms.groups_of (plain_statement statement.now) ≤ vec_capacity into.old }
-    ensures value { map plain_entry into.new.items ≡ map plain_entry into.old.items ++ statement_by (plain_component part.now) (samples_of samples.now) entry_at no_entry (plain_statement statement.now) number offset }
+    ensures value { map plain_entry into.new.items ≡
+        map plain_entry into.old.items ++ statement_by (plain_component part.now)
+        (samples_of samples.now) entry_at no_entry (plain_statement statement.now) number offset }
     ensures count { vec_len into.new ≤ vec_len into.old + rooms.groups_of (plain_statement statement.now) }
     ensures capacity { vec_capacity into.new ≡ vec_capacity into.old }
 {
@@ -121,7 +128,9 @@ fn add_while(
     requires offset { offset < 2 ^ 64 - 1 }
     requires samples { number + ifs_of (plain_statement statement.now) ≤ length samples.now }
     requires room { vec_len into.old + rooms.groups_of (plain_statement statement.now) ≤ vec_capacity into.old }
-    ensures value { map plain_entry into.new.items ≡ map plain_entry into.old.items ++ while_by (plain_component part.now) (samples_of samples.now) entry_at no_entry (plain_statement statement.now) number offset }
+    ensures value { map plain_entry into.new.items ≡
+        map plain_entry into.old.items ++ while_by (plain_component part.now)
+        (samples_of samples.now) entry_at no_entry (plain_statement statement.now) number offset }
     ensures count { vec_len into.new ≤ vec_len into.old + rooms.groups_of (plain_statement statement.now) }
     ensures capacity { vec_capacity into.new ≡ vec_capacity into.old }
 {
@@ -143,7 +152,9 @@ fn add_parts(
     requires offset { offset < 2 ^ 64 - 1 }
     requires samples { number + ifs_in (plain_statements parts.now) ≤ length samples.now }
     requires room { vec_len into.old + rooms.groups_in (plain_statements parts.now) ≤ vec_capacity into.old }
-    ensures value { map plain_entry into.new.items ≡ map plain_entry into.old.items ++ parts_by (plain_component part.now) (samples_of samples.now) entry_at no_entry (plain_statements parts.now) number offset }
+    ensures value { map plain_entry into.new.items ≡
+        map plain_entry into.old.items ++ parts_by (plain_component part.now)
+        (samples_of samples.now) entry_at no_entry (plain_statements parts.now) number offset }
     ensures count { vec_len into.new ≤ vec_len into.old + rooms.groups_in (plain_statements parts.now) }
     ensures capacity { vec_capacity into.new ≡ vec_capacity into.old }
 {
@@ -171,7 +182,9 @@ fn add_arms(
     requires offset { offset < 2 ^ 64 - 1 }
     requires samples { number + ifs_in (plain_statements arms.now) ≤ length samples.now }
     requires room { vec_len into.old + rooms.groups_in (plain_statements arms.now) ≤ vec_capacity into.old }
-    ensures value { map plain_entry into.new.items ≡ map plain_entry into.old.items ++ arms_by (plain_component part.now) (samples_of samples.now) entry_at no_entry (plain_statements arms.now) number offset }
+    ensures value { map plain_entry into.new.items ≡
+        map plain_entry into.old.items ++ arms_by (plain_component part.now)
+        (samples_of samples.now) entry_at no_entry (plain_statements arms.now) number offset }
     ensures count { vec_len into.new ≤ vec_len into.old + rooms.groups_in (plain_statements arms.now) }
     ensures capacity { vec_capacity into.new ≡ vec_capacity into.old }
 {

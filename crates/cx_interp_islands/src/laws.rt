@@ -19,8 +19,8 @@ ghost use Rattle.cx_interp_islands.specs.Sampled.{AreSampled};
 
 use cx_laws::laws::{samples_are_kept, samples_give_the_cycle, timers_give_the_active_groups};
 
-/// In an accepted design without static components each island takes fewer cycles than the limit of repetitions, in each instance of its tree: its
-/// length and its offsets fit 64 bits.
+/// In an accepted design without static components each island takes fewer cycles than the limit of repetitions, in
+/// each instance of its tree: its length and its offsets fit 64 bits.
 pub fn accepted_islands_are_short()
     ensures { (d : PlainDesign) (path : Path) (v : Visited)
         → IsFlat d → IsAccepted d → In (statements_in (part_of (instance_at (tree_of d) path))) v
@@ -34,7 +34,8 @@ pub fn taken_samples_are_of_a_run()
     ensures first { (part : PlainComponent) (form : PlainForm) (look : Look) (kept : Samples)
         → AreSampled part 0 form (samples_after part (says look) 0 form kept) }
     ensures later { (part : PlainComponent) (form : PlainForm) (t : ℕ) (look : Look) (kept : Samples)
-        → AreSampled part t form kept → AreSampled part (suc t) form (samples_after part (says look) (suc t) form kept) }
+        → AreSampled part t form kept
+        → AreSampled part (suc t) form (samples_after part (says look) (suc t) form kept) }
 {
     samples_are_kept();
 }

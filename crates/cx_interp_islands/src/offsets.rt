@@ -10,7 +10,8 @@ use cx_design_sizes::length_of;
 /// Whether a statement still runs at an offset since it began.
 pub fn is_running(part: &Component, statement: &Statement, offset: u64) -> bool
     requires offset { offset < 2 ^ 64 - 1 }
-    ensures value { result ≡ nat_lt offset (plain.length_of (plain_component part.now) (plain_statement statement.now)) }
+    ensures value { result ≡
+        nat_lt offset (plain.length_of (plain_component part.now) (plain_statement statement.now)) }
 {
     offset < length_of(part, statement)
 }

@@ -26,12 +26,16 @@ pub fn take_samples<S: Sampler>(
     requires cycle { cycle < 2 ^ 64 - 1 }
     requires samples { form_ifs (plain_form form.now) ≤ length samples.old }
     requires ports { AllPorts (S.answers sampler.old) (form_tests (plain_form form.now)) }
-    ensures value { samples_of samples.new ≡ samples_after (plain_component part.now) (says (S.look sampler.old)) cycle (plain_form form.now) (samples_of samples.old) }
+    ensures value { samples_of samples.new ≡
+        samples_after (plain_component part.now) (says (S.look sampler.old)) cycle (plain_form form.now)
+        (samples_of samples.old) }
     ensures length { length samples.new ≡ length samples.old }
     ensures look { S.look sampler.new ≡ S.look sampler.old }
     ensures kept { S.kept sampler.new ≡ S.kept sampler.old }
     ensures answers { AreStill (S.answers sampler.old) (S.answers sampler.new) }
-    ensures fault { S.fault sampler.new ≡ earlier_fault (S.fault sampler.old) (first_unclear (S.look sampler.old) (begun_by (plain_component part.now) (samples_of samples.new) cycle (plain_form form.now))) }
+    ensures fault { S.fault sampler.new ≡ earlier_fault (S.fault sampler.old)
+        (first_unclear (S.look sampler.old)
+        (begun_by (plain_component part.now) (samples_of samples.new) cycle (plain_form form.now))) }
 {
     take_form(part, 0, cycle, form, samples, sampler);
 }
@@ -49,12 +53,16 @@ fn take_form<S: Sampler>(
     requires offset { offset < 2 ^ 64 - 1 }
     requires samples { number + form_ifs (plain_form form.now) ≤ length samples.old }
     requires ports { AllPorts (S.answers sampler.old) (form_tests (plain_form form.now)) }
-    ensures value { samples_of samples.new ≡ form_after (plain_component part.now) (says (S.look sampler.old)) (plain_form form.now) number offset (samples_of samples.old) }
+    ensures value { samples_of samples.new ≡
+        form_after (plain_component part.now) (says (S.look sampler.old)) (plain_form form.now) number offset
+        (samples_of samples.old) }
     ensures length { length samples.new ≡ length samples.old }
     ensures look { S.look sampler.new ≡ S.look sampler.old }
     ensures kept { S.kept sampler.new ≡ S.kept sampler.old }
     ensures answers { AreStill (S.answers sampler.old) (S.answers sampler.new) }
-    ensures fault { S.fault sampler.new ≡ earlier_fault (S.fault sampler.old) (first_unclear (S.look sampler.old) (form_asked (plain_component part.now) (says (S.look sampler.old)) (plain_form form.now) number offset (samples_of samples.old))) }
+    ensures fault { S.fault sampler.new ≡ earlier_fault (S.fault sampler.old)
+        (first_unclear (S.look sampler.old) (form_asked (plain_component part.now) (says (S.look sampler.old))
+        (plain_form form.now) number offset (samples_of samples.old))) }
 {
     match form {
         Form::StaticSeq { parts, .. } => take_parts(part, number, offset, parts, samples, sampler),
@@ -94,12 +102,14 @@ fn take_sample<S: Sampler>(
 )
     requires number { number < length samples.old }
     requires port { S.answers sampler.old port }
-    ensures value { samples_of samples.new ≡ begin number offset (says (S.look sampler.old) port) (samples_of samples.old) }
+    ensures value { samples_of samples.new ≡
+        begin number offset (says (S.look sampler.old) port) (samples_of samples.old) }
     ensures length { length samples.new ≡ length samples.old }
     ensures look { S.look sampler.new ≡ S.look sampler.old }
     ensures kept { S.kept sampler.new ≡ S.kept sampler.old }
     ensures answers { AreStill (S.answers sampler.old) (S.answers sampler.new) }
-    ensures fault { S.fault sampler.new ≡ earlier_fault (S.fault sampler.old) (first_unclear (S.look sampler.old) (port_at port offset)) }
+    ensures fault { S.fault sampler.new ≡
+        earlier_fault (S.fault sampler.old) (first_unclear (S.look sampler.old) (port_at port offset)) }
 {
     if offset == 0 {
         samples[number] = sampler.says(port);
@@ -118,12 +128,16 @@ fn take_statement<S: Sampler>(
     requires offset { offset < 2 ^ 64 - 1 }
     requires samples { number + ifs_of (plain_statement statement.now) ≤ length samples.old }
     requires ports { AllPorts (S.answers sampler.old) (tests_of (plain_statement statement.now)) }
-    ensures value { samples_of samples.new ≡ statement_after (plain_component part.now) (says (S.look sampler.old)) (plain_statement statement.now) number offset (samples_of samples.old) }
+    ensures value { samples_of samples.new ≡
+        statement_after (plain_component part.now) (says (S.look sampler.old))
+        (plain_statement statement.now) number offset (samples_of samples.old) }
     ensures length { length samples.new ≡ length samples.old }
     ensures look { S.look sampler.new ≡ S.look sampler.old }
     ensures kept { S.kept sampler.new ≡ S.kept sampler.old }
     ensures answers { AreStill (S.answers sampler.old) (S.answers sampler.new) }
-    ensures fault { S.fault sampler.new ≡ earlier_fault (S.fault sampler.old) (first_unclear (S.look sampler.old) (statement_asked (plain_component part.now) (says (S.look sampler.old)) (plain_statement statement.now) number offset (samples_of samples.old))) }
+    ensures fault { S.fault sampler.new ≡ earlier_fault (S.fault sampler.old)
+        (first_unclear (S.look sampler.old) (statement_asked (plain_component part.now)
+        (says (S.look sampler.old)) (plain_statement statement.now) number offset (samples_of samples.old))) }
 {
     take_form(part, number, offset, &statement.form, samples, sampler);
 }
@@ -141,12 +155,16 @@ fn take_while<S: Sampler>(
     requires offset { offset < 2 ^ 64 - 1 }
     requires samples { number + ifs_of (plain_statement statement.now) ≤ length samples.old }
     requires ports { AllPorts (S.answers sampler.old) (tests_of (plain_statement statement.now)) }
-    ensures value { samples_of samples.new ≡ while_after (plain_component part.now) (says (S.look sampler.old)) (plain_statement statement.now) number offset (samples_of samples.old) }
+    ensures value { samples_of samples.new ≡
+        while_after (plain_component part.now) (says (S.look sampler.old))
+        (plain_statement statement.now) number offset (samples_of samples.old) }
     ensures length { length samples.new ≡ length samples.old }
     ensures look { S.look sampler.new ≡ S.look sampler.old }
     ensures kept { S.kept sampler.new ≡ S.kept sampler.old }
     ensures answers { AreStill (S.answers sampler.old) (S.answers sampler.new) }
-    ensures fault { S.fault sampler.new ≡ earlier_fault (S.fault sampler.old) (first_unclear (S.look sampler.old) (while_asked (plain_component part.now) (says (S.look sampler.old)) (plain_statement statement.now) number offset (samples_of samples.old))) }
+    ensures fault { S.fault sampler.new ≡ earlier_fault (S.fault sampler.old)
+        (first_unclear (S.look sampler.old) (while_asked (plain_component part.now)
+        (says (S.look sampler.old)) (plain_statement statement.now) number offset (samples_of samples.old))) }
 {
     if is_running(part, statement, offset) {
         take_statement(part, number, offset, statement, samples, sampler);
@@ -166,12 +184,16 @@ fn take_parts<S: Sampler>(
     requires offset { offset < 2 ^ 64 - 1 }
     requires samples { number + ifs_in (plain_statements parts.now) ≤ length samples.old }
     requires ports { AllPorts (S.answers sampler.old) (tests_in (plain_statements parts.now)) }
-    ensures value { samples_of samples.new ≡ parts_after (plain_component part.now) (says (S.look sampler.old)) (plain_statements parts.now) number offset (samples_of samples.old) }
+    ensures value { samples_of samples.new ≡
+        parts_after (plain_component part.now) (says (S.look sampler.old))
+        (plain_statements parts.now) number offset (samples_of samples.old) }
     ensures length { length samples.new ≡ length samples.old }
     ensures look { S.look sampler.new ≡ S.look sampler.old }
     ensures kept { S.kept sampler.new ≡ S.kept sampler.old }
     ensures answers { AreStill (S.answers sampler.old) (S.answers sampler.new) }
-    ensures fault { S.fault sampler.new ≡ earlier_fault (S.fault sampler.old) (first_unclear (S.look sampler.old) (parts_asked (plain_component part.now) (says (S.look sampler.old)) (plain_statements parts.now) number offset (samples_of samples.old))) }
+    ensures fault { S.fault sampler.new ≡ earlier_fault (S.fault sampler.old)
+        (first_unclear (S.look sampler.old) (parts_asked (plain_component part.now)
+        (says (S.look sampler.old)) (plain_statements parts.now) number offset (samples_of samples.old))) }
 {
     let mut number = number;
     let mut offset = offset;
@@ -197,12 +219,16 @@ fn take_arms<S: Sampler>(
     requires offset { offset < 2 ^ 64 - 1 }
     requires samples { number + ifs_in (plain_statements arms.now) ≤ length samples.old }
     requires ports { AllPorts (S.answers sampler.old) (tests_in (plain_statements arms.now)) }
-    ensures value { samples_of samples.new ≡ arms_after (plain_component part.now) (says (S.look sampler.old)) (plain_statements arms.now) number offset (samples_of samples.old) }
+    ensures value { samples_of samples.new ≡
+        arms_after (plain_component part.now) (says (S.look sampler.old))
+        (plain_statements arms.now) number offset (samples_of samples.old) }
     ensures length { length samples.new ≡ length samples.old }
     ensures look { S.look sampler.new ≡ S.look sampler.old }
     ensures kept { S.kept sampler.new ≡ S.kept sampler.old }
     ensures answers { AreStill (S.answers sampler.old) (S.answers sampler.new) }
-    ensures fault { S.fault sampler.new ≡ earlier_fault (S.fault sampler.old) (first_unclear (S.look sampler.old) (arms_asked (plain_component part.now) (says (S.look sampler.old)) (plain_statements arms.now) number offset (samples_of samples.old))) }
+    ensures fault { S.fault sampler.new ≡ earlier_fault (S.fault sampler.old)
+        (first_unclear (S.look sampler.old) (arms_asked (plain_component part.now) (says (S.look sampler.old))
+        (plain_statements arms.now) number offset (samples_of samples.old))) }
 {
     let mut number = number;
     for statement in arms {

@@ -12,6 +12,8 @@ use Rattle.cx_rules.specs.Footprints.{AssignNames}
 -- that continuous assignments of a port of it name
 pub record IsClosed (part : PlainComponent) (s : PlainStatement) (set : ℕ → Type 0) : Type 0 where
   pub driven : (c : ℕ) → drives part s c ≡ true → set c
-  pub named : (c p g : ℕ) (a : PlainAssign) → In (groups_of s) g → In (group_at part g).assigns a → AssignNames a (Cell c p) → set c
+  pub named : (c p g : ℕ) (a : PlainAssign) → In (groups_of s) g → In (group_at part g).assigns a
+      → AssignNames a (Cell c p) → set c
   pub tested : (c p : ℕ) (test : PlacedPort) → In (tests_of s) test → test.port ≡ Cell c p → set c
-  pub through : (c p e q : ℕ) (a : PlainAssign) → set c → In part.always a → a.target ≡ Cell c p → AssignNames a (Cell e q) → set e
+  pub through : (c p e q : ℕ) (a : PlainAssign) → set c → In part.always a → a.target ≡ Cell c p
+      → AssignNames a (Cell e q) → set e

@@ -9,7 +9,8 @@ use Rattle.cx_meaning.specs.Islands.{History, form_length, length_of}
 -- what the running parts of a static statement give in cycle t, in source order. of_group gives what a group at an offset
 -- does, and of_port what the port of a static if does at the offset since the static if began. A static if goes by its port
 -- in the cycle in which it began
-module _ {A : Type 0} (part : PlainComponent) (h : History) (t : ℕ) (of_group : ℕ → ℕ → List A) (of_port : PortRef → ℕ → List A) where
+module _ {A : Type 0} (part : PlainComponent) (h : History) (t : ℕ) (of_group : ℕ → ℕ → List A)
+    (of_port : PortRef → ℕ → List A) where
   abbrev mutual
     -- at an offset below its length
     pub form_at : PlainForm → ℕ → List A
@@ -22,7 +23,8 @@ module _ {A : Type 0} (part : PlainComponent) (h : History) (t : ℕ) (of_group 
     form_at (Repeat count a) j = []
     form_at (StaticSeq length parts) j = parts_at parts j
     form_at (StaticPar length arms) j = arms_at arms j
-    form_at (StaticIf length test a b) j = of_port test.port j ++ (if h test.port (t - j) then while_runs a j else while_runs b j)
+    form_at (StaticIf length test a b) j =
+        of_port test.port j ++ (if h test.port (t - j) then while_runs a j else while_runs b j)
     form_at (StaticRepeat length count a) j = statement_at a (j % length_of part a)
     form_at (Timed k) j = []
 
@@ -36,7 +38,8 @@ module _ {A : Type 0} (part : PlainComponent) (h : History) (t : ℕ) (of_group 
     -- of a seq the part that runs
     pub parts_at : PlainStatements → ℕ → List A
     parts_at no_statements j = []
-    parts_at (a_statement s ss) j = if nat_lt j (length_of part s) then statement_at s j else parts_at ss (j - length_of part s)
+    parts_at (a_statement s ss) j =
+        if nat_lt j (length_of part s) then statement_at s j else parts_at ss (j - length_of part s)
 
     pub arms_at : PlainStatements → ℕ → List A
     arms_at no_statements j = []
@@ -75,7 +78,8 @@ abbrev mutual
   FormIfs P part (Repeat count a) = Unit {0}
   FormIfs P part (StaticSeq length parts) = AllIfs P part parts
   FormIfs P part (StaticPar length arms) = AllIfs P part arms
-  FormIfs P part (StaticIf length test a b) = P (form_length part (StaticIf length test a b)) × StatementIfs P part a × StatementIfs P part b
+  FormIfs P part (StaticIf length test a b) =
+      P (form_length part (StaticIf length test a b)) × StatementIfs P part a × StatementIfs P part b
   FormIfs P part (StaticRepeat length count a) = StatementIfs P part a
   FormIfs P part (Timed k) = Unit {0}
 

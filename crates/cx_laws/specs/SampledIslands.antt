@@ -13,7 +13,8 @@ use Rattle.cx_laws.specs.Samples.{Samples, says, active_by, begun_by, samples_af
 -- those of this cycle included
 abbrev pub sampled_turn : Instance → Held → PlainForm → ℕ → Samples → State → Turn State Fault
 sampled_turn i held form t kept s =
-    unless_unclear (first_unclear (seen i held nothing s) (begun_by (part_of i) kept t form)) (cycle i held (entries (active_by (part_of i) kept t form)) s)
+    unless_unclear (first_unclear (seen i held nothing s) (begun_by (part_of i) kept t form))
+    (cycle i held (entries (active_by (part_of i) kept t form)) s)
 
 -- from cycle t on, with so many cycles left, and after them one idle turn
 abbrev pub sampled_from : Instance → Held → PlainForm → ℕ → ℕ → Samples → Meaning State Fault
@@ -22,7 +23,8 @@ sampled_from i held form (suc left) t kept s zero = More
 sampled_from i held form (suc left) t kept s (suc n) =
     turn_then (idle i) s
     (sampled_turn i held form t (samples_after (part_of i) (says (seen i held nothing s)) t form kept) s)
-    (λ after. sampled_from i held form left (suc t) (samples_after (part_of i) (says (seen i held nothing s)) t form kept) after n)
+    (λ after. sampled_from i held form left (suc t)
+    (samples_after (part_of i) (says (seen i held nothing s)) t form kept) after n)
 
 -- AN ISLAND BY ITS SAMPLES, whatever they are at first
 abbrev pub sampled_island : Instance → Held → PlainForm → Samples → Meaning State Fault

@@ -71,19 +71,22 @@ module _ (part : PlainComponent) (now : PortRef → Bool) where
     statement_after (Placed form place) n j kept = form_after form n j kept
 
     pub while_after : PlainStatement → ℕ → ℕ → Samples → Samples
-    while_after (Placed form place) n j kept = if nat_lt j (length_of part (Placed form place)) then form_after form n j kept else kept
+    while_after (Placed form place) n j kept =
+        if nat_lt j (length_of part (Placed form place)) then form_after form n j kept else kept
 
     pub parts_after : PlainStatements → ℕ → ℕ → Samples → Samples
     parts_after no_statements n j kept = kept
     parts_after (a_statement s ss) n j kept =
-        if nat_lt j (length_of part s) then statement_after s n j kept else parts_after ss (n + ifs_of s) (j - length_of part s) kept
+        if nat_lt j (length_of part s) then statement_after s n j kept
+        else parts_after ss (n + ifs_of s) (j - length_of part s) kept
 
     pub arms_after : PlainStatements → ℕ → ℕ → Samples → Samples
     arms_after no_statements n j kept = kept
     arms_after (a_statement s ss) n j kept = arms_after ss (n + ifs_of s) j (while_after s n j kept)
 
 -- what the running parts give, where static ifs go by their samples
-module _ {A : Type 0} (part : PlainComponent) (kept : Samples) (of_group : ℕ → ℕ → List A) (of_port : PortRef → ℕ → List A) where
+module _ {A : Type 0} (part : PlainComponent) (kept : Samples) (of_group : ℕ → ℕ → List A)
+    (of_port : PortRef → ℕ → List A) where
   abbrev mutual
     pub form_by : PlainForm → ℕ → ℕ → List A
     form_by Empty n j = []
@@ -95,7 +98,8 @@ module _ {A : Type 0} (part : PlainComponent) (kept : Samples) (of_group : ℕ �
     form_by (Repeat count a) n j = []
     form_by (StaticSeq length parts) n j = parts_by parts n j
     form_by (StaticPar length arms) n j = arms_by arms n j
-    form_by (StaticIf length test a b) n j = of_port test.port j ++ (if kept n then while_by a (suc n) j else while_by b (suc n + ifs_of a) j)
+    form_by (StaticIf length test a b) n j =
+        of_port test.port j ++ (if kept n then while_by a (suc n) j else while_by b (suc n + ifs_of a) j)
     form_by (StaticRepeat length count a) n j = statement_by a n (j % length_of part a)
     form_by (Timed k) n j = []
 
@@ -107,7 +111,9 @@ module _ {A : Type 0} (part : PlainComponent) (kept : Samples) (of_group : ℕ �
 
     pub parts_by : PlainStatements → ℕ → ℕ → List A
     parts_by no_statements n j = []
-    parts_by (a_statement s ss) n j = if nat_lt j (length_of part s) then statement_by s n j else parts_by ss (n + ifs_of s) (j - length_of part s)
+    parts_by (a_statement s ss) n j =
+        if nat_lt j (length_of part s) then statement_by s n j
+        else parts_by ss (n + ifs_of s) (j - length_of part s)
 
     pub arms_by : PlainStatements → ℕ → ℕ → List A
     arms_by no_statements n j = []
@@ -151,7 +157,8 @@ module _ (P : ℕ → Type 0) (part : PlainComponent) (h : History) (t : ℕ) (k
     pub PartsKept : PlainStatements → ℕ → ℕ → Type 0
     PartsKept no_statements n j = Unit {0}
     PartsKept (a_statement s ss) n j =
-        (j < length_of part s → StatementKept s n j) × (length_of part s ≤ j → PartsKept ss (n + ifs_of s) (j - length_of part s))
+        (j < length_of part s → StatementKept s n j)
+        × (length_of part s ≤ j → PartsKept ss (n + ifs_of s) (j - length_of part s))
 
     pub ArmsKept : PlainStatements → ℕ → ℕ → Type 0
     ArmsKept no_statements n j = Unit {0}

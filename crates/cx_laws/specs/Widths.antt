@@ -15,4 +15,6 @@ HoldsWidths part held = (n : ℕ) (b : BitVector) → held n ≡ Value b → dec
 
 -- each primitive cell at and below an instance holds a state of its row
 abbrev pub HoldsStates : Instance → State → Type 0
-HoldsStates i s = (path : Path) (c : ℕ) (row : Row) → cell_at (cells_of (instance_at i path)) c ≡ OfRow row → IsState row.shape (s (path ++ c ∷ []))
+HoldsStates i s =
+    (path : Path) (c : ℕ) (row : Row) → cell_at (cells_of (instance_at i path)) c ≡ OfRow row
+    → IsState row.shape (s (path ++ c ∷ []))

@@ -85,7 +85,9 @@ pub fn accepted_groups_have_one_offset()
     ensures { (d : PlainDesign) (path : Path) (v : Visited) (h : History) (t : ℕ) (e : Entry)
         → IsAccepted d → In (statements_in (part_of (instance_at (tree_of d) path))) v
         → In (active_in h t (form_flat (part_of (instance_at (tree_of d) path)) v.form 0 [])) e
-        → (entries (active_in h t (form_flat (part_of (instance_at (tree_of d) path)) v.form 0 []))).offset e.group ≡ Some e.offset }
+        → (entries
+        (active_in h t (form_flat (part_of (instance_at (tree_of d) path)) v.form 0 []))).offset e.group ≡
+        Some e.offset }
 {}
 
 /// In an accepted design nothing leads in a circle under the groups that a static statement has active together in a cycle,

@@ -31,7 +31,9 @@ is_in_string b = not (b == 34 || b == 10)
 
 -- the base that a letter of a literal names: `d`, `b`, `o`, and `x` or `h`
 abbrev pub base_of : ℕ → Option ℕ
-base_of b = if b == 100 then Some 10 else if b == 98 then Some 2 else if b == 111 then Some 8 else if b == 120 || b == 104 then Some 16 else None
+base_of b =
+    if b == 100 then Some 10 else if b == 98 then Some 2 else if b == 111 then Some 8
+    else if b == 120 || b == 104 then Some 16 else None
 
 -- a digit of a base; letters of either case are the digits from ten on
 abbrev pub is_digit_in : ℕ → ℕ → Bool

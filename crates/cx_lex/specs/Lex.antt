@@ -50,15 +50,22 @@ pub record IsWord (first : ℕ) (more rest : List ℕ) : Type 0 where
 
 -- the longest sign that the text begins with
 abbrev pub IsLongest : Sign → List ℕ → Type 0
-IsLongest sign text = (other : Sign) (rest : List ℕ) → text ≡ sign_bytes other ++ rest → length (sign_bytes other) ≤ length (sign_bytes sign)
+IsLongest sign text =
+    (other : Sign) (rest : List ℕ) → text ≡ sign_bytes other ++ rest
+    → length (sign_bytes other) ≤ length (sign_bytes sign)
 
 -- the first bytes are a token of this kind, before the rest
 pub data IsToken : List ℕ → List ℕ → TokenKind → Type 0 where
-  name : {first : ℕ} {more rest : List ℕ} → IsWord first more rest → length (first ∷ more) ≤ 255 → IsToken (first ∷ more) rest (kinds.Word (first ∷ more))
-  number : {digits rest : List ℕ} → IsNumeral 10 digits → digits_value 10 digits < 2 ^ 64 → Stops goes_on rest → IsToken digits rest (kinds.Number (digits_value 10 digits))
-  literal : (width : List ℕ) (letter base : ℕ) (digits : List ℕ) {rest : List ℕ} → IsNumeral 10 width → digits_value 10 width < 2 ^ 32 → base_of letter ≡ Some base → IsNumeral base digits → digits_value base digits < 2 ^ 128 → Stops goes_on rest
+  name : {first : ℕ} {more rest : List ℕ} → IsWord first more rest → length (first ∷ more) ≤ 255
+      → IsToken (first ∷ more) rest (kinds.Word (first ∷ more))
+  number : {digits rest : List ℕ} → IsNumeral 10 digits → digits_value 10 digits < 2 ^ 64
+      → Stops goes_on rest → IsToken digits rest (kinds.Number (digits_value 10 digits))
+  literal : (width : List ℕ) (letter base : ℕ) (digits : List ℕ) {rest : List ℕ} → IsNumeral 10 width
+      → digits_value 10 width < 2 ^ 32 → base_of letter ≡ Some base → IsNumeral base digits
+      → digits_value base digits < 2 ^ 128 → Stops goes_on rest
       → IsToken (width ++ 39 ∷ letter ∷ digits) rest (kinds.Literal (digits_value 10 width) (digits_value base digits))
-  string : (body : List ℕ) {rest : List ℕ} → list_all is_in_string body ≡ true → length body ≤ 255 → IsToken (34 ∷ body ++ 34 ∷ []) rest (kinds.Text body)
+  string : (body : List ℕ) {rest : List ℕ} → list_all is_in_string body ≡ true → length body ≤ 255
+      → IsToken (34 ∷ body ++ 34 ∷ []) rest (kinds.Text body)
   sign : (s : Sign) {rest : List ℕ} → IsLongest s (sign_bytes s ++ rest) → IsToken (sign_bytes s) rest (kinds.Sign s)
 
 -- no `*/` stands in the bytes
@@ -68,7 +75,8 @@ HasNoClose bytes = (before after : List ℕ) → bytes ≢ before ++ 42 ∷ 47 �
 -- the first bytes are a blank or a comment, before the rest
 pub data IsGap : List ℕ → List ℕ → Type 0 where
   blank : {b : ℕ} {rest : List ℕ} → is_blank b ≡ true → IsGap (b ∷ []) rest
-  line_comment : {body rest : List ℕ} → list_all is_in_line body ≡ true → Stops is_in_line rest → IsGap (47 ∷ 47 ∷ body) rest
+  line_comment : {body rest : List ℕ} → list_all is_in_line body ≡ true → Stops is_in_line rest
+      → IsGap (47 ∷ 47 ∷ body) rest
   block_comment : (body : List ℕ) {rest : List ℕ} → HasNoClose body → IsGap (47 ∷ 42 ∷ body ++ 42 ∷ 47 ∷ []) rest
 
 -- no token begins the text
@@ -89,22 +97,32 @@ pub record IsStray (b : ℕ) (rest : List ℕ) : Type 0 where
 pub data IsFault : List ℕ → LexKind → Type 0 where
   bad_byte : {b : ℕ} {rest : List ℕ} → IsStray b rest → IsFault (b ∷ rest) BadByte
   open_comment : {rest : List ℕ} → HasNoClose rest → IsFault (47 ∷ 42 ∷ rest) OpenComment
-  open_string : (body rest : List ℕ) → list_all is_in_string body ≡ true → Stops is_in_line rest → IsFault (34 ∷ body ++ rest) OpenString
-  long_string : (body rest : List ℕ) → list_all is_in_string body ≡ true → 255 < length body → IsFault (34 ∷ body ++ 34 ∷ rest) BadLiteral
-  long_name : (first : ℕ) (more rest : List ℕ) → IsWord first more rest → 255 < length (first ∷ more) → IsFault (first ∷ more ++ rest) BadLiteral
-  bad_literal : {digit : ℕ} {rest : List ℕ} → is_digit digit ≡ true → BeginsNoToken (digit ∷ rest) → IsFault (digit ∷ rest) BadLiteral
+  open_string : (body rest : List ℕ) → list_all is_in_string body ≡ true → Stops is_in_line rest
+      → IsFault (34 ∷ body ++ rest) OpenString
+  long_string : (body rest : List ℕ) → list_all is_in_string body ≡ true → 255 < length body
+      → IsFault (34 ∷ body ++ 34 ∷ rest) BadLiteral
+  long_name : (first : ℕ) (more rest : List ℕ) → IsWord first more rest → 255 < length (first ∷ more)
+      → IsFault (first ∷ more ++ rest) BadLiteral
+  bad_literal : {digit : ℕ} {rest : List ℕ} → is_digit digit ≡ true → BeginsNoToken (digit ∷ rest)
+      → IsFault (digit ∷ rest) BadLiteral
 
 -- the text, whose first byte has this place, has these tokens
 pub data HasTokens : Place → List ℕ → List Token → Type 0 where
   ended : {place : Place} → HasTokens place [] []
-  gap : {place : Place} (bytes rest : List ℕ) {tokens : List Token} → IsGap bytes rest → HasTokens (after_bytes place bytes) rest tokens → HasTokens place (bytes ++ rest) tokens
-  token : {place : Place} (bytes rest : List ℕ) (kind : TokenKind) {tokens : List Token} → IsToken bytes rest kind → HasTokens (after_bytes place bytes) rest tokens → HasTokens place (bytes ++ rest) (record { kind = kind; place = place } ∷ tokens)
+  gap : {place : Place} (bytes rest : List ℕ) {tokens : List Token} → IsGap bytes rest
+      → HasTokens (after_bytes place bytes) rest tokens → HasTokens place (bytes ++ rest) tokens
+  token : {place : Place} (bytes rest : List ℕ) (kind : TokenKind) {tokens : List Token}
+      → IsToken bytes rest kind → HasTokens (after_bytes place bytes) rest tokens
+      → HasTokens place (bytes ++ rest) (record { kind = kind; place = place } ∷ tokens)
 
 -- the text, whose first byte has this place, has tokens, blanks and comments up to that fault
 pub data HasFault : Place → List ℕ → LexKind → Place → Type 0 where
   here : {place : Place} {text : List ℕ} {kind : LexKind} → IsFault text kind → HasFault place text kind place
-  behind_gap : {place fault : Place} (bytes rest : List ℕ) {kind : LexKind} → IsGap bytes rest → HasFault (after_bytes place bytes) rest kind fault → HasFault place (bytes ++ rest) kind fault
-  behind_token : {place fault : Place} (bytes rest : List ℕ) (found : TokenKind) {kind : LexKind} → IsToken bytes rest found → HasFault (after_bytes place bytes) rest kind fault → HasFault place (bytes ++ rest) kind fault
+  behind_gap : {place fault : Place} (bytes rest : List ℕ) {kind : LexKind} → IsGap bytes rest
+      → HasFault (after_bytes place bytes) rest kind fault → HasFault place (bytes ++ rest) kind fault
+  behind_token : {place fault : Place} (bytes rest : List ℕ) (found : TokenKind) {kind : LexKind}
+      → IsToken bytes rest found → HasFault (after_bytes place bytes) rest kind fault
+      → HasFault place (bytes ++ rest) kind fault
 
 -- the text has these tokens
 abbrev pub Lex : List ℕ → List Token → Type 0

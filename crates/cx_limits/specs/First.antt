@@ -16,5 +16,7 @@ IsFirstBreak stage d Memory = Unit {0}
 
 -- it tells what was found
 abbrev pub TellsFound : FoundBreak → Refusal → Type 0
-TellsFound found (Rule told) = (told.rule ≡ rules_told.Limit) × (told.place ≡ found.place) × (told.name ≡ word_of (limited_of found.limited))
+TellsFound found (Rule told) =
+    (told.rule ≡ rules_told.Limit) × (told.place ≡ found.place)
+    × (told.name ≡ word_of (limited_of found.limited))
 TellsFound found Memory = Unit {0}

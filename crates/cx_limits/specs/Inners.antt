@@ -53,7 +53,9 @@ flagged (b ∷ bs) [] = []
 flagged (b ∷ bs) (g ∷ gs) = group_if b g (flagged bs gs)
 
 abbrev pub needs_of : PlainComponent → List PlainGroup
-needs_of part = flagged (set_all (set_all (replicate (length part.groups) false) (groups_of part.control)) (captures_by part.invokes)) part.groups
+needs_of part =
+    flagged (set_all (set_all (replicate (length part.groups) false) (groups_of part.control))
+    (captures_by part.invokes)) part.groups
 
 -- the first limit that a statement exceeds, where so much stands at the cells
 abbrev pub limit_at : PlainComponent → Inners → Visited → Option Limited

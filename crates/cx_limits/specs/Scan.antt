@@ -43,7 +43,8 @@ noted best place (Some l) = Some (nearer best (record { place = place; limited =
 -- past some statements of a component
 abbrev pub past_statements : PlainComponent → Inners → Option FoundBreak → List Visited → Option FoundBreak
 past_statements part below best [] = best
-past_statements part below best (v ∷ vs) = past_statements part below (noted best v.place (option_map told (limit_at part below v))) vs
+past_statements part below best (v ∷ vs) =
+    past_statements part below (noted best v.place (option_map told (limit_at part below v))) vs
 
 -- what is told of a limit
 abbrev pub limited_of : Limited → rule.Limited
@@ -73,13 +74,15 @@ past_part best part below = past_statements part below (past_own best part below
 -- past the counts over the tree
 abbrev pub past_tree : Option FoundBreak → Place → LimitTally → Option FoundBreak
 past_tree best place tally =
-    noted (noted (noted (noted best place (if_over limited.Instances INSTANCES tally.instances)) place (if_over limited.Depth INSTANCE_DEPTH tally.depth))
+    noted (noted (noted (noted best place (if_over limited.Instances INSTANCES tally.instances)) place
+    (if_over limited.Depth INSTANCE_DEPTH tally.depth))
     place (if_over limited.Words MEMORY_WORDS tally.words)) place (if_over limited.Weight WEIGHT tally.weight)
 
 -- past the component of a number, and past the tree where it is main
 abbrev pub past_one : PlainDesign → Option FoundBreak → ℕ → Option FoundBreak
 past_one d best k =
-    if nat_eq k d.main then past_tree (past_part best (component_at d k) (below_at d k)) (component_at d k).place (counts_of (tree_of d))
+    if nat_eq k d.main then past_tree (past_part best (component_at d k) (below_at d k))
+    (component_at d k).place (counts_of (tree_of d))
     else past_part best (component_at d k) (below_at d k)
 
 -- past the first so many components, and past all

@@ -33,7 +33,8 @@ fn if_over(limited: Limited, limit: u64, count: u64) -> Option<Limited>
 
 /// The groups of a component, with those of its static invokes.
 fn group_count(part: &Component, below: &[Option<Inner>]) -> u64
-    ensures { result ≡ capped (length (plain_component part.now).groups + counts.groups_for (plain_inners below.now) (plain_component part.now).invokes) }
+    ensures { result ≡ capped (length (plain_component part.now).groups +
+        counts.groups_for (plain_inners below.now) (plain_component part.now).invokes) }
 {
     (part.groups.len() as u64).saturating_add(groups_for(below, part.invokes.as_slice()))
 }
@@ -72,7 +73,10 @@ fn past_one(
     is_main: bool,
     tally: LimitTally,
 ) -> Option<FoundBreak>
-    ensures { result ≡ (if is_main then scan.past_tree (scan.past_part best (plain_component part.now) (plain_inners below.now)) (plain_component part.now).place tally else scan.past_part best (plain_component part.now) (plain_inners below.now)) }
+    ensures { result ≡ (if is_main then scan.past_tree
+        (scan.past_part best (plain_component part.now) (plain_inners below.now))
+        (plain_component part.now).place tally
+        else scan.past_part best (plain_component part.now) (plain_inners below.now)) }
 {
     let best = past_part(best, part, below);
     if is_main {

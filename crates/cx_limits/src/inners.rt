@@ -125,7 +125,8 @@ pub fn copies_for(below: &[Option<Inner>], invokes: &[StaticInvoke]) -> u64
 
 /// What stands at the cell of an invoke.
 pub fn inner_for(part: &Component, below: &[Option<Inner>], number: u32) -> Option<Inner>
-    ensures { option_map plain_inner result ≡ counts.inner_for (plain_inners below.now) (invoke_at (plain_component part.now) number) }
+    ensures { option_map plain_inner result ≡
+        counts.inner_for (plain_inners below.now) (invoke_at (plain_component part.now) number) }
 {
     match part.invokes.as_slice().get(number as usize) {
         Some(invoke) => inner_at(below, invoke.cell),

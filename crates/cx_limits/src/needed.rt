@@ -99,7 +99,8 @@ pub struct Needed {
 /// One group more, where its flag is set.
 fn with_group(needed: Needed, is_needed: bool, group: &Group) -> Needed
     ensures groups { result.groups ≡ capped (needed.groups + length (group_if is_needed (plain_group group.now) [])) }
-    ensures size { result.size ≡ capped (needed.size + sizes.groups_size (group_if is_needed (plain_group group.now) [])) }
+    ensures size { result.size ≡
+        capped (needed.size + sizes.groups_size (group_if is_needed (plain_group group.now) [])) }
 {
     if !is_needed {
         return needed;
@@ -127,7 +128,8 @@ fn flagged_groups(flags: &[bool], groups: &[Group]) -> Needed
 /// The groups that the control of a component needs, each once.
 pub fn needed_groups(alloc: Global, part: &Component) -> Result<Needed, Memory>
     ensures groups { IfOk result (λ needed. needed.groups ≡ capped (length (needs_of (plain_component part.now)))) }
-    ensures size { IfOk result (λ needed. needed.size ≡ capped (sizes.groups_size (needs_of (plain_component part.now)))) }
+    ensures size { IfOk result
+        (λ needed. needed.size ≡ capped (sizes.groups_size (needs_of (plain_component part.now)))) }
 {
     let mut flags = vec![in alloc; false; part.groups.len()]?;
     flag_groups(&mut flags, &part.control);

@@ -15,7 +15,8 @@ use std::alloc::Global;
 
 /// Adds the component of a cell, where it is of one.
 fn add_child(children: &mut Vec<u32>, cell: &Cell) -> Result<(), Memory>
-    ensures { IfOk result (λ _. children.new.items ≡ children.old.items ++ component_of_kind (plain_cell cell.now).kind) }
+    ensures { IfOk result
+        (λ _. children.new.items ≡ children.old.items ++ component_of_kind (plain_cell cell.now).kind) }
 {
     if let CellKind::Part(component) = &cell.kind {
         children.push(*component)?;

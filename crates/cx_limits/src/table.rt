@@ -61,7 +61,8 @@ pub fn below(
     rows: &[Row],
     part: &Component,
 ) -> Result<Vec<Option<Inner>>, Memory>
-    ensures { IfOk result (λ below. plain_inners below.items ≡ inners_by (plain_design design.now) rows.now (plain_component part.now).cells) }
+    ensures { IfOk result (λ below. plain_inners below.items ≡
+        inners_by (plain_design design.now) rows.now (plain_component part.now).cells) }
 {
     let mut below = Vec::new(alloc);
     for cell in part.cells.as_slice() {
@@ -128,7 +129,8 @@ fn cell_count(part: &Component, below: &[Option<Inner>]) -> u64
 
 /// The continuous assignments of a component and of its static components.
 fn always_count(part: &Component, below: &[Option<Inner>]) -> u64
-    ensures { result ≡ capped (sizes.assigns_size (plain_component part.now).always + counts.always_in (plain_inners below.now)) }
+    ensures { result ≡ capped
+        (sizes.assigns_size (plain_component part.now).always + counts.always_in (plain_inners below.now)) }
 {
     assigns_size(&part.always).saturating_add(always_in(below))
 }
@@ -157,7 +159,8 @@ fn inner_of(
     requires sized { length below.now ≡ length part.now.cells.items }
     requires groups { needed.groups ≡ capped (length (counts.needed_groups (plain_component part.now))) }
     requires copies { needed.size ≡ capped (sizes.groups_size (counts.needed_groups (plain_component part.now))) }
-    requires control { IsCounted (plain_component part.now) (plain_inners below.now) (statements_in (plain_component part.now)) control }
+    requires control { IsCounted (plain_component part.now) (plain_inners below.now)
+        (statements_in (plain_component part.now)) control }
     ensures { plain_inner result ≡ capped_inner (counts.inner (plain_component part.now) (plain_inners below.now)) }
 {
     let wires = part.outputs.len() as u64;
@@ -174,7 +177,8 @@ fn inner_of(
 /// The size of a component with its static components written out.
 fn size_of(part: &Component, below: &[Option<Inner>], control: ControlCounts) -> u64
     requires sized { length below.now ≡ length part.now.cells.items }
-    requires control { IsCounted (plain_component part.now) (plain_inners below.now) (statements_in (plain_component part.now)) control }
+    requires control { IsCounted (plain_component part.now) (plain_inners below.now)
+        (statements_in (plain_component part.now)) control }
     ensures { result ≡ capped (counts.size_with (plain_component part.now) (plain_inners below.now)) }
 {
     let ports = (part.inputs.len() as u64).saturating_add(part.outputs.len() as u64);
@@ -195,7 +199,9 @@ fn component_row(
     part: &Component,
 ) -> Result<Row, Memory>
     requires needs { needs_of (plain_component part.now) ≡ counts.needed_groups (plain_component part.now) }
-    ensures { IfOk result (λ row. IsRowWith (plain_component part.now) (inners_by (plain_design design.now) rows.now (plain_component part.now).cells) (trees_by (plain_design design.now) rows.now (plain_component part.now).cells) row) }
+    ensures { IfOk result (λ row. IsRowWith (plain_component part.now)
+        (inners_by (plain_design design.now) rows.now (plain_component part.now).cells)
+        (trees_by (plain_design design.now) rows.now (plain_component part.now).cells) row) }
 {
     let below = below(alloc, design, rows, part)?;
     let control = control_counts(part, below.as_slice());

@@ -20,7 +20,9 @@ module _ {X : Type 0} {V : X → Type 0} {E S : Type 0} (W : World X V E S) (Res
     abbrev pub After : ℕ → (Control M.Place → Store X V → Type 0) → Control M.Place → Store X V → Type 0
     After zero P c s = P c s
     After (suc k) P Done s = ⊥
-    After (suc k) P (At c) s = (w : Store X V) → Agree R w s → (M.faults c w ≡ false) × After k P (M.step c w) (edge W.idle M (At c) w)
+    After (suc k) P (At c) s =
+        (w : Store X V) → Agree R w s
+        → (M.faults c w ≡ false) × After k P (M.step c w) (edge W.idle M (At c) w)
 
     -- done, with this store
     abbrev pub EndsAs : Store X V → Control M.Place → Store X V → Type 0
@@ -33,7 +35,8 @@ module _ {X : Type 0} {V : X → Type 0} {E S : Type 0} (W : World X V E S) (Res
     GoesOn (At c) s = Unit {0}
 
     -- it ends after t cycles, within the budget, and what it does not drive is as it was
-    pub record Ended (drives : X → Bool) (c : Control M.Place) (s : Store X V) (n : ℕ) (after : Store X V) (t : ℕ) : Type 0 where
+    pub record Ended (drives : X → Bool) (c : Control M.Place) (s : Store X V) (n : ℕ) (after : Store X V)
+        (t : ℕ) : Type 0 where
       pub in_budget : t ≤ n
       pub keeps : (x : X) → R x → drives x ≡ false → after x ≡ s x
       pub settled : Settles R after
@@ -46,7 +49,8 @@ module _ {X : Type 0} {V : X → Type 0} {E S : Type 0} (W : World X V E S) (Res
     Meets e drives c s n More = After n GoesOn c s
 
   -- THE MACHINE DOES WHAT IS MEANT, and writes only what it drives, in any surroundings that leave to it what it reads
-  pub record Does {F : Type 0} (M : Machine X V) (drives : X → Bool) (reads : X → Type 0) (meaning : E → Meaning S F) : Type 1 where
+  pub record Does {F : Type 0} (M : Machine X V) (drives : X → Bool) (reads : X → Type 0)
+      (meaning : E → Meaning S F) : Type 1 where
     pub sees : (x : X) → drives x ≡ true → reads x
     pub only : (c : M.Place) (s : Store X V) (x : X) → drives x ≡ false → M.writes c s x ≡ None
     pub does : (R : X → Type 0) (D : X → Bool) → ((x : X) → reads x → R x) → ((x : X) → D x ≡ false → drives x ≡ false)

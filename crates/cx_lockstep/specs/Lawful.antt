@@ -11,11 +11,16 @@ use Rattle.cx_lockstep.specs.Statements.{LeafMachines, machine_of}
 
 -- a statement of a dynamic statement
 pub data IsPart : PlainStatement → PlainStatement → Type 0 where
-  of_seq : {s : PlainStatement} {parts : PlainStatements} {place : Place} → In (list_of parts) s → IsPart s (Placed (Seq parts) place)
-  of_par : {s : PlainStatement} {arms : PlainStatements} {place : Place} → In (list_of arms) s → IsPart s (Placed (Par arms) place)
-  then_branch : {test : PlacedPort} {comb : Option ℕ} {a b : PlainStatement} {place : Place} → IsPart a (Placed (If test comb a b) place)
-  else_branch : {test : PlacedPort} {comb : Option ℕ} {a b : PlainStatement} {place : Place} → IsPart b (Placed (If test comb a b) place)
-  of_while : {test : PlacedPort} {comb : Option ℕ} {a : PlainStatement} {place : Place} → IsPart a (Placed (While test comb a) place)
+  of_seq : {s : PlainStatement} {parts : PlainStatements} {place : Place} → In (list_of parts) s
+      → IsPart s (Placed (Seq parts) place)
+  of_par : {s : PlainStatement} {arms : PlainStatements} {place : Place} → In (list_of arms) s
+      → IsPart s (Placed (Par arms) place)
+  then_branch : {test : PlacedPort} {comb : Option ℕ} {a b : PlainStatement} {place : Place}
+      → IsPart a (Placed (If test comb a b) place)
+  else_branch : {test : PlacedPort} {comb : Option ℕ} {a b : PlainStatement} {place : Place}
+      → IsPart b (Placed (If test comb a b) place)
+  of_while : {test : PlacedPort} {comb : Option ℕ} {a : PlainStatement} {place : Place}
+      → IsPart a (Placed (While test comb a) place)
   of_repeat : {count : ℕ} {a : PlainStatement} {place : Place} → IsPart a (Placed (Repeat count a) place)
 
 -- the leaves of control: the enable of a group, and a static statement
@@ -45,21 +50,31 @@ module _ {X : Type 0} (drives : PlainStatement → X → Bool) (reads : PlainSta
   AreApart (s ∷ ss) = ((t : PlainStatement) → In ss t → Apart s t) × AreApart ss
 
 -- Stands: the statements of which this is said, with each its parts
-pub record AreLawful {X : Type 0} {V : X → Type 0} {E S F : Type 0} (W : World X V E S) (Rests : (x : X) → V x → Type 0) (L : E → Leaves S F) (P : LeafMachines X V F)
-    (drives : PlainStatement → X → Bool) (reads : PlainStatement → X → Type 0) (Stands : PlainStatement → Type 0) : Type 1 where
+pub record AreLawful {X : Type 0} {V : X → Type 0} {E S F : Type 0} (W : World X V E S)
+    (Rests : (x : X) → V x → Type 0) (L : E → Leaves S F) (P : LeafMachines X V F)
+    (drives : PlainStatement → X → Bool) (reads : PlainStatement → X → Type 0)
+    (Stands : PlainStatement → Type 0) : Type 1 where
   pub parts_stand : (s whole : PlainStatement) → IsPart s whole → Stands whole → Stands s
   pub is_untimed : (k : ℕ) (place : Place) → Stands (Placed (Timed k) place) → ⊥
-  pub arms_apart : (arms : PlainStatements) (place : Place) → Stands (Placed (Par arms) place) → AreApart drives reads (list_of arms)
+  pub arms_apart : (arms : PlainStatements) (place : Place) → Stands (Placed (Par arms) place)
+      → AreApart drives reads (list_of arms)
   pub sees : (s : PlainStatement) → Stands s → (x : X) → drives s x ≡ true → reads s x
   pub part_drives : (s whole : PlainStatement) → IsPart s whole → (x : X) → drives s x ≡ true → drives whole x ≡ true
   pub part_reads : (s whole : PlainStatement) → IsPart s whole → (x : X) → reads s x → reads whole x
   pub keeps_rest : KeepsRest W Rests (λ e. Leaves.rest (L e))
   -- the spots that an arm drives from one state, and the others from another
-  pub merges : (e : E) (arm : PlainStatement) (s t : S) (x : X) → W.shown e (Leaves.merged (L e) (Leaves.driven (L e) arm) s t) x ≡ (if drives arm x then W.shown e s x else W.shown e t x)
+  pub merges : (e : E) (arm : PlainStatement) (s t : S) (x : X)
+      → W.shown e (Leaves.merged (L e) (Leaves.driven (L e) arm) s t) x ≡
+      (if drives arm x then W.shown e s x else W.shown e t x)
   -- a test hangs on what its statement reads alone, and is what the meaning's says
-  pub if_tests : (test : PlacedPort) (comb : Option ℕ) (a b : PlainStatement) (place : Place) → Stands (Placed (If test comb a b) place)
-      → (e : E) (s : S) (w : Store X V) → Agree (reads (Placed (If test comb a b) place)) w (W.shown e s) → P.test test.port comb w ≡ Leaves.test (L e) test.port comb s
-  pub while_tests : (test : PlacedPort) (comb : Option ℕ) (a : PlainStatement) (place : Place) → Stands (Placed (While test comb a) place)
-      → (e : E) (s : S) (w : Store X V) → Agree (reads (Placed (While test comb a) place)) w (W.shown e s) → P.test test.port comb w ≡ Leaves.test (L e) test.port comb s
+  pub if_tests : (test : PlacedPort) (comb : Option ℕ) (a b : PlainStatement) (place : Place)
+      → Stands (Placed (If test comb a b) place)
+      → (e : E) (s : S) (w : Store X V) → Agree (reads (Placed (If test comb a b) place)) w (W.shown e s)
+      → P.test test.port comb w ≡ Leaves.test (L e) test.port comb s
+  pub while_tests : (test : PlacedPort) (comb : Option ℕ) (a : PlainStatement) (place : Place)
+      → Stands (Placed (While test comb a) place)
+      → (e : E) (s : S) (w : Store X V) → Agree (reads (Placed (While test comb a) place)) w (W.shown e s)
+      → P.test test.port comb w ≡ Leaves.test (L e) test.port comb s
   pub leaf_does : (form : PlainForm) (place : Place) → IsLeaf form → Stands (Placed form place)
-      → Does W Rests (machine_of P (Placed form place)) (drives (Placed form place)) (reads (Placed form place)) (λ e. run (L e) (Placed form place))
+      → Does W Rests (machine_of P (Placed form place)) (drives (Placed form place))
+      (reads (Placed form place)) (λ e. run (L e) (Placed form place))

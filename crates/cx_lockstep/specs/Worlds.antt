@@ -33,7 +33,8 @@ abbrev pub step : {X : Type 0} {V : X → Type 0} (M : Machine X V) → Control 
 step M (At c) s = M.step c s
 step M Done s = Done
 
-abbrev pub writes : {X : Type 0} {V : X → Type 0} (M : Machine X V) → Control M.Place → Store X V → (x : X) → Option (V x)
+abbrev pub writes : {X : Type 0} {V : X → Type 0} (M : Machine X V) → Control M.Place → Store X V
+    → (x : X) → Option (V x)
 writes M (At c) s x = M.writes c s x
 writes M Done s x = None
 
@@ -46,7 +47,8 @@ abbrev pub edge_of : {A : Type 0} → Option A → A → A
 edge_of None idle = idle
 edge_of (Some written) idle = written
 
-abbrev pub edge : {X : Type 0} {V : X → Type 0} → ((x : X) → V x → V x) → (M : Machine X V) → Control M.Place → Store X V → Store X V
+abbrev pub edge : {X : Type 0} {V : X → Type 0} → ((x : X) → V x → V x) → (M : Machine X V)
+    → Control M.Place → Store X V → Store X V
 edge idle M c s = λ x. edge_of (writes M c s x) (idle x (s x))
 
 -- two stores hold the same at the spots of a set
@@ -58,9 +60,12 @@ pub record Moment {X : Type 0} {V : X → Type 0} (M : Machine X V) : Type 0 whe
   pub control : Control M.Place
   pub store : Store X V
 
-abbrev pub after_cycles : {X : Type 0} {V : X → Type 0} → ((x : X) → V x → V x) → (M : Machine X V) → ℕ → Moment M → Moment M
+abbrev pub after_cycles : {X : Type 0} {V : X → Type 0} → ((x : X) → V x → V x) → (M : Machine X V) → ℕ
+    → Moment M → Moment M
 after_cycles idle M zero m = m
-after_cycles idle M (suc n) m = after_cycles idle M n (record { control = step M m.control m.store; store = edge idle M m.control m.store })
+after_cycles idle M (suc n) m =
+    after_cycles idle M n
+    (record { control = step M m.control m.store; store = edge idle M m.control m.store })
 
 -- not done, and no fault
 pub record IsQuiet {X : Type 0} {V : X → Type 0} (M : Machine X V) (m : Moment M) : Type 0 where

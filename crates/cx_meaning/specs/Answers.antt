@@ -76,7 +76,8 @@ test_turn rest test first second s (suc n) = chosen (test s) (first (rest s) n) 
 -- at most so many tests, each but the last with a run of the body after it
 abbrev pub loop : {S F : Type 0} → ℕ → (S → S) → (S → Test F) → Meaning S F → Meaning S F
 loop zero rest test body s n = More
-loop (suc tests) rest test body s n = test_turn rest test (λ s1 m. then_do (body s1 m) m (loop tests rest test body)) stay s n
+loop (suc tests) rest test body s n =
+    test_turn rest test (λ s1 m. then_do (body s1 m) m (loop tests rest test body)) stay s n
 
 -- each test takes a turn, so a loop makes no more tests than its budget has turns
 abbrev pub loop_of : {S F : Type 0} → (S → S) → (S → Test F) → Meaning S F → Meaning S F

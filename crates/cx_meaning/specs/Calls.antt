@@ -96,13 +96,15 @@ inputs_of_call i held g c s input = seen i held (group g) s (ports.Cell c (suc i
 
 -- after the child's turns: an idle turn; or, where registers are captured, the capture cycle and an idle turn
 abbrev pub after_child : Instance → Held → ℕ → ℕ → Bool → Meaning State Fault
-after_child i held g c true s n = one_turn (idle i) (λ s1. turn_of (cycle i held (capture g c) s1)) (idle_turn (idle i)) s n
+after_child i held g c true s n =
+    one_turn (idle i) (λ s1. turn_of (cycle i held (capture g c) s1)) (idle_turn (idle i)) s n
 after_child i held g c false s n = idle_turn (idle i) s n
 
 -- A CALL: the inputs are seen in its first turn and held; the child's control runs from the child's state with them
 abbrev pub call : Instance → (ℕ → Held → Meaning State Fault) → Held → ℕ → ℕ → Meaning State Fault
 call i child held g c s n =
-    then_do (lift_answer c s (child c (inputs_of_call i held g c s) (under c s) n)) n (after_child i held g c (captures i g))
+    then_do (lift_answer c s (child c (inputs_of_call i held g c s) (under c s) n)) n
+    (after_child i held g c (captures i g))
 
 abbrev pub call_or_turns : Instance → (ℕ → Held → Meaning State Fault) → Held → ℕ → Option ℕ → Meaning State Fault
 call_or_turns i child held g (Some c) s n = call i child held g c s n

@@ -84,7 +84,8 @@ abbrev mutual
   run_form L (Seq no_statements) s n = idle_turn L.rest s n
   run_form L (Seq (a_statement first later)) s n = then_do (run L first s n) n (run_parts L later)
   run_form L (Par no_statements) s n = idle_turn L.rest s n
-  run_form L (Par (a_statement first later)) s n = both (L.merged (L.driven first)) (run L first s n) (run_arms L later s n)
+  run_form L (Par (a_statement first later)) s n =
+      both (L.merged (L.driven first)) (run L first s n) (run_arms L later s n)
   run_form L (If test comb a b) s n = test_turn L.rest (L.test test.port comb) (run L a) (run L b) s n
   run_form L (While test comb a) s n = loop_of L.rest (L.test test.port comb) (run L a) s n
   run_form L (Repeat zero a) s n = idle_turn L.rest s n

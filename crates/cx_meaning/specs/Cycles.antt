@@ -50,13 +50,16 @@ abbrev pub looks_at : Row → CellState → Inputs → ℕ → Bool
 looks_at row state enabling p = enables row p || row.demands state enabling p
 
 abbrev pub after_enabling : (ℕ → Seen) → Row → CellState → Gathered → Outcome
-after_enabling look row state (Given enabling) = after_data row state (gather look (looks_at row state enabling) 0 row.ports)
+after_enabling look row state (Given enabling) =
+    after_data row state (gather look (looks_at row state enabling) 0 row.ports)
 after_enabling look row state (Lacks p x) = Stops (kind_of x) p
 
 -- A CELL IN A CYCLE: its enabling ports are seen in port order, then the data ports that its row demands at their values,
 -- then the row compares each address with its size
 abbrev pub cell_outcome : Look → ℕ → Row → CellState → Outcome
-cell_outcome look c row state = after_enabling (λ p. look (ports.Cell c p)) row state (gather (λ p. look (ports.Cell c p)) (enables row) 0 row.ports)
+cell_outcome look c row state =
+    after_enabling (λ p. look (ports.Cell c p)) row state
+    (gather (λ p. look (ports.Cell c p)) (enables row) 0 row.ports)
 
 -- a primitive cell comes to its outcome; a component's cell stays as it is
 abbrev pub outcome_at : Look → ℕ → At → CellState → Outcome
@@ -66,7 +69,8 @@ outcome_at look c (OfInstance child) state = Next state
 
 -- WHAT EACH CELL COMES TO, by the old state: one that is not listed is not looked at, and stays as it is
 abbrev pub outcome_of : Set → Look → Cells → State → ℕ → Outcome
-outcome_of listed look cells s c = if listed c then outcome_at look c (cell_at cells c) (s (c ∷ [])) else Next (s (c ∷ []))
+outcome_of listed look cells s c =
+    if listed c then outcome_at look c (cell_at cells c) (s (c ∷ [])) else Next (s (c ∷ []))
 
 -- the fault of cell c, or else a later one
 abbrev pub first_of : ℕ → Outcome → Option Fault → Option Fault

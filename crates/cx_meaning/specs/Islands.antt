@@ -95,8 +95,10 @@ abbrev mutual
   form_flat part (StaticPar length arms) x conditions = par_flat part arms x conditions
   form_flat part (StaticIf length test a b) x conditions =
       Looks test.port x conditions
-      ∷ (flat part a x (condition test.port x true ∷ conditions) ++ flat part b x (condition test.port x false ∷ conditions))
-  form_flat part (StaticRepeat length count a) x conditions = rounds_from (λ y. flat part a y conditions) (length_of part a) count x
+      ∷ (flat part a x (condition test.port x true ∷ conditions) ++
+      flat part b x (condition test.port x false ∷ conditions))
+  form_flat part (StaticRepeat length count a) x conditions =
+      rounds_from (λ y. flat part a y conditions) (length_of part a) count x
   form_flat part (Timed k) x conditions = []
 
   pub flat : PlainComponent → PlainStatement → ℕ → List Condition → List Occurrence
@@ -104,7 +106,8 @@ abbrev mutual
 
   pub seq_flat : PlainComponent → PlainStatements → ℕ → List Condition → List Occurrence
   seq_flat part no_statements x conditions = []
-  seq_flat part (a_statement s ss) x conditions = flat part s x conditions ++ seq_flat part ss (x + length_of part s) conditions
+  seq_flat part (a_statement s ss) x conditions =
+      flat part s x conditions ++ seq_flat part ss (x + length_of part s) conditions
 
   pub par_flat : PlainComponent → PlainStatements → ℕ → List Condition → List Occurrence
   par_flat part no_statements x conditions = []
@@ -134,7 +137,8 @@ entry_if false g o rest = rest
 -- the groups that are active in cycle t, each at the offset since its occurrence began
 abbrev pub active_in : History → ℕ → List Occurrence → List Entry
 active_in h t [] = []
-active_in h t (Runs g from to conditions ∷ rest) = entry_if (nat_le from t && nat_lt t to && hold h conditions) g (t - from) (active_in h t rest)
+active_in h t (Runs g from to conditions ∷ rest) =
+    entry_if (nat_le from t && nat_lt t to && hold h conditions) g (t - from) (active_in h t rest)
 active_in h t (Looks port at conditions ∷ rest) = active_in h t rest
 
 abbrev pub port_if : Bool → PortRef → List PortRef → List PortRef
@@ -179,7 +183,8 @@ unless_unclear None ended = turn_of ended
 -- in source order, under the continuous assignments alone; then the cycle is made with the groups whose conditions hold
 abbrev pub island_turn : Instance → Held → List Occurrence → ℕ → History → State → Turn State Fault
 island_turn i held list t h s =
-    unless_unclear (first_unclear (seen i held nothing s) (looked_at h t list)) (cycle i held (entries (active_in h t list)) s)
+    unless_unclear (first_unclear (seen i held nothing s) (looked_at h t list))
+    (cycle i held (entries (active_in h t list)) s)
 
 -- from cycle t on, with so many cycles left, and after them one idle turn: first the samples of t are taken, and by the
 -- history that has them cycle t is made and the island goes on
@@ -192,4 +197,5 @@ island_from i held list (suc left) t before s (suc n) =
 
 -- AN ISLAND: a static statement that no static statement holds, or the enable of a static group from dynamic control
 abbrev pub island : Instance → Held → PlainForm → Meaning State Fault
-island i held form s n = island_from i held (form_flat (part_of i) form 0 []) (form_length (part_of i) form) 0 no_history s n
+island i held form s n =
+    island_from i held (form_flat (part_of i) form 0 []) (form_length (part_of i) form) 0 no_history s n

@@ -43,7 +43,8 @@ abbrev mutual
 
 -- RUN of any statement of an instance
 abbrev pub run_statement : Instance → Held → PlainStatement → Meaning State Fault
-run_statement (Node part cells) held statement s n = run (leaves (Node part cells) (control_below cells) held) statement s n
+run_statement (Node part cells) held statement s n =
+    run (leaves (Node part cells) (control_below cells) held) statement s n
 
 -- RUN OF MAIN, from the start with the loaded words
 abbrev pub run_main : PlainDesign → List (List ℕ) → ℕ → Answer State Fault

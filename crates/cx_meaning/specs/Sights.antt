@@ -118,7 +118,8 @@ abbrev pub gather : (ℕ → Seen) → (ℕ → Bool) → ℕ → List PortRow �
 gather look wanted p [] = Given []
 gather look wanted p (port ∷ ports) = gather_port (wanted p) p (look p) (gather look wanted (suc p) ports)
 
--- OUTPUTS OF A PRIMITIVE: by its row over the inputs that it reads; the first that is no value decides, and an address out of range gives Undefined
+-- OUTPUTS OF A PRIMITIVE: by its row over the inputs that it reads; the first that is no value decides, and an
+-- address out of range gives Undefined
 abbrev pub of_option : Option BitVector → Seen
 of_option None = Undefined
 of_option (Some b) = Value b
@@ -157,7 +158,9 @@ module _ (part : PlainComponent) (act : Active) (s : State) (look : Look) (below
   abbrev pub side_step : Row → ℕ → ℕ → Side → Seen
   side_step row c p Enable = input_step (bit_of false) c p
   side_step row c p Plain = input_step Undefined c p
-  side_step row c p Output = output_seen (λ inputs. row.output (s (c ∷ [])) inputs p) (gather (λ q. look (ports.Cell c q)) (row.reads p) 0 row.ports)
+  side_step row c p Output =
+      output_seen (λ inputs. row.output (s (c ∷ [])) inputs p)
+      (gather (λ q. look (ports.Cell c q)) (row.reads p) 0 row.ports)
   side_step row c p Registered = of_option (row.output (s (c ∷ [])) [] p)
 
   -- an output of a component cell is what the child gives; its done is 0 but in the capture cycle
@@ -234,9 +237,12 @@ Needs i act look (ports.Literal w v) q = ⊥
 -- is seen in the child's state under its continuous assignments as `below` says (the child's inputs do not matter there, since outputs
 -- rest on state); and one step from these gives what the port is seen as
 pub data Sees : Instance → Held → Active → State → PortRef → Seen → Type 0 where
-  by_step : {i : Instance} {held : Held} {act : Active} {s : State} {p : PortRef} {x : Seen} (look : Look) (below : Below)
+  by_step : {i : Instance} {held : Held} {act : Active} {s : State} {p : PortRef} {x : Seen} (look : Look)
+      (below : Below)
       → (here : (q : PortRef) → Needs i act look p q → Sees i held act s q (look q))
-      → (of_child : (c port n : ℕ) (child : Instance) → p ≡ ports.Cell c port → cell_at (cells_of i) c ≡ OfInstance child → Sees child unheld nothing (under c s) (ports.Output n) (below c n))
+      → (of_child : (c port n : ℕ) (child : Instance) → p ≡ ports.Cell c port →
+      cell_at (cells_of i) c ≡ OfInstance child →
+      Sees child unheld nothing (under c s) (ports.Output n) (below c n))
       → (one_step : step i held act s look below p ≡ x) → Sees i held act s p x
 
 -- WHAT A PORT IS SEEN AS, FOUND: step by step from ports of which nothing is known yet. After steps enough every port is
@@ -264,7 +270,9 @@ steps_enough i = suc (length (ports_of i))
 
 abbrev mutual
   pub seen : Instance → Held → Active → State → Look
-  seen (Node part cells) held act s p = approach (Node part cells) held act s (outputs_below cells (λ c. under c s)) (steps_enough (Node part cells)) p
+  seen (Node part cells) held act s p =
+      approach (Node part cells) held act s (outputs_below cells (λ c. under c s))
+      (steps_enough (Node part cells)) p
 
   pub outputs_below : Cells → (ℕ → State) → Below
   outputs_below no_cells states c n = Undefined

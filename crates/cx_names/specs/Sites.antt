@@ -18,7 +18,8 @@ abbrev pub ArePortNumbers : List PlainComponent → List Numbers → Type 0
 ArePortNumbers [] [] = Unit {0}
 ArePortNumbers [] (numbers ∷ rest) = ⊥
 ArePortNumbers (part ∷ parts) [] = ⊥
-ArePortNumbers (part ∷ parts) (numbers ∷ rest) = AreNumbersOf (cell_port_names (AComponent part)) numbers × ArePortNumbers parts rest
+ArePortNumbers (part ∷ parts) (numbers ∷ rest) =
+    AreNumbersOf (cell_port_names (AComponent part)) numbers × ArePortNumbers parts rest
 
 pub record IsSite (site : Site) : Type 0 where
   pub scope : IsScope site.scope

@@ -13,4 +13,6 @@ is_literal (operands.Hole group hole) = false
 is_literal (operands.Literal width value) = true
 
 abbrev pub HasTargets : PlainTree → Type 0
-HasTargets tree = (part : PlainComponent) → In tree.components part → (x : Standing) → In (standing part) x → is_literal x.assign.target.form ≡ false
+HasTargets tree =
+    (part : PlainComponent) → In tree.components part → (x : Standing) → In (standing part) x
+    → is_literal x.assign.target.form ≡ false

@@ -18,7 +18,8 @@ use std::alloc::Global;
 // An assignment.
 fn assign(alloc: Global, site: &Site, item: &AssignItem) -> Result<Assign, Memory>
     requires { IsSite site.now }
-    ensures { IfOk result (λ a. plain_assign a ≡ design.assign_of (tree_at site.now) (part_at site.now) (written.plain_assign item.now)) }
+    ensures { IfOk result (λ a. plain_assign a ≡
+        design.assign_of (tree_at site.now) (part_at site.now) (written.plain_assign item.now)) }
 {
     let target = port(site, &item.target.form)?;
     let guard = guard_or_true(alloc, site, &item.guard)?;
@@ -38,7 +39,8 @@ pub(crate) fn assigns(
     items: &[AssignItem],
 ) -> Result<Vec<Assign>, Memory>
     requires { IsSite site.now }
-    ensures { IfOk result (λ all. plain_assigns all.items ≡ map (design.assign_of (tree_at site.now) (part_at site.now)) (map written.plain_assign items.now)) }
+    ensures { IfOk result (λ all. plain_assigns all.items ≡
+        map (design.assign_of (tree_at site.now) (part_at site.now)) (map written.plain_assign items.now)) }
 {
     let mut all = Vec::with_capacity(alloc, items.len())?;
     for item in items {
@@ -50,7 +52,9 @@ pub(crate) fn assigns(
 /// The continuous assignments, in order.
 pub(crate) fn always(alloc: Global, site: &Site, wires: &[WireItem]) -> Result<Vec<Assign>, Memory>
     requires { IsSite site.now }
-    ensures { IfOk result (λ all. plain_assigns all.items ≡ map (design.assign_of (tree_at site.now) (part_at site.now)) (always_in (map written.plain_wire wires.now))) }
+    ensures { IfOk result (λ all. plain_assigns all.items ≡
+        map (design.assign_of (tree_at site.now) (part_at site.now))
+        (always_in (map written.plain_wire wires.now))) }
 {
     let mut all = Vec::new(alloc);
     for wire in wires {

@@ -32,7 +32,9 @@ fn primitive(name: PrimitiveName, numbers: &[u64]) -> Result<CellKind, Memory>
 // What a cell is of.
 fn kind<'a>(site: &Site<'a>, item: &'a CellItem) -> Result<CellKind, Memory>
     requires { IsSite site.now }
-    ensures { IfOk result (λ k. plain_kind k ≡ design.kind_or (tree_at site.now) (part_at site.now) (cell_of (tree_at site.now) (written.plain_cell item.now))) }
+    ensures { IfOk result (λ k. plain_kind k ≡
+        design.kind_or (tree_at site.now) (part_at site.now)
+        (cell_of (tree_at site.now) (written.plain_cell item.now))) }
 {
     match site.scope.kind(item) {
         Found::Unknown => Ok(CellKind::Part(0)),
@@ -47,7 +49,8 @@ fn kind<'a>(site: &Site<'a>, item: &'a CellItem) -> Result<CellKind, Memory>
 // A cell.
 fn cell<'a>(alloc: Global, site: &Site<'a>, item: &'a CellItem) -> Result<Cell, Memory>
     requires { IsSite site.now }
-    ensures { IfOk result (λ c. plain_cell c ≡ design.plain_cell_of (tree_at site.now) (part_at site.now) (written.plain_cell item.now)) }
+    ensures { IfOk result (λ c. plain_cell c ≡
+        design.plain_cell_of (tree_at site.now) (part_at site.now) (written.plain_cell item.now)) }
 {
     let name = Name::from_bytes(alloc, item.name.bytes())?;
     let kind = kind(site, item)?;
@@ -62,7 +65,8 @@ fn cell<'a>(alloc: Global, site: &Site<'a>, item: &'a CellItem) -> Result<Cell, 
 /// The cells of a component, in order.
 pub(crate) fn cells(alloc: Global, site: &Site) -> Result<Vec<Cell>, Memory>
     requires { IsSite site.now }
-    ensures { IfOk result (λ all. map plain_cell all.items ≡ map (design.plain_cell_of (tree_at site.now) (part_at site.now)) (part_at site.now).cells) }
+    ensures { IfOk result (λ all. map plain_cell all.items ≡
+        map (design.plain_cell_of (tree_at site.now) (part_at site.now)) (part_at site.now).cells) }
 {
     let mut all = Vec::with_capacity(alloc, site.scope.part.cells.len())?;
     for item in &site.scope.part.cells {

@@ -32,7 +32,8 @@ fn width(width: u64) -> Result<u8, Memory>
 
 // A port of the signature.
 fn decl(alloc: Global, site: &Site, port: &PortItem) -> Result<PortDecl, Memory>
-    ensures { IfOk result (λ d. d ≡ design.decl_of (tree_at site.now) (part_at site.now) (written.plain_port port.now)) }
+    ensures { IfOk result
+        (λ d. d ≡ design.decl_of (tree_at site.now) (part_at site.now) (written.plain_port port.now)) }
 {
     let name = Name::from_bytes(alloc, port.name.bytes())?;
     let width = width(port.width)?;
@@ -41,7 +42,9 @@ fn decl(alloc: Global, site: &Site, port: &PortItem) -> Result<PortDecl, Memory>
 
 // The ports of one side but the own ones, in order.
 fn decls(alloc: Global, site: &Site, ports: &[PortItem]) -> Result<Vec<PortDecl>, Memory>
-    ensures { IfOk result (λ all. all.items ≡ map (design.decl_of (tree_at site.now) (part_at site.now)) (signature_ports (map written.plain_port ports.now))) }
+    ensures { IfOk result (λ all. all.items ≡
+        map (design.decl_of (tree_at site.now) (part_at site.now))
+        (signature_ports (map written.plain_port ports.now))) }
 {
     let mut all = Vec::with_capacity(alloc, ports.len())?;
     for port in ports {

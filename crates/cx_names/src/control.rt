@@ -24,7 +24,8 @@ use std::alloc::Global;
 
 // The statements of a block in order. In static control it is static control.
 fn in_order(site: &Site, is_static: bool, parts: Vec<Statement>) -> Form
-    ensures { plain_form result ≡ design.seq_form (tree_at site.now) (part_at site.now) is_static (plain_statements parts.items) }
+    ensures { plain_form result ≡
+        design.seq_form (tree_at site.now) (part_at site.now) is_static (plain_statements parts.items) }
 {
     if is_static {
         Form::StaticSeq {
@@ -38,7 +39,8 @@ fn in_order(site: &Site, is_static: bool, parts: Vec<Statement>) -> Form
 
 // The statements of a block as one statement.
 fn joined(site: &Site, is_static: bool, place: Place, mut parts: Vec<Statement>) -> Statement
-    ensures { plain_statement result ≡ design.of_block (tree_at site.now) (part_at site.now) is_static place (plain_statements parts.items) }
+    ensures { plain_statement result ≡
+        design.of_block (tree_at site.now) (part_at site.now) is_static place (plain_statements parts.items) }
 {
     if parts.len() > 1 {
         return at(in_order(site, is_static, parts), place);
@@ -72,7 +74,8 @@ fn called(alloc: Global, site: &Site, draft: &mut Draft, call: Call) -> Result<F
     requires site { IsSite site.now }
     requires dynamic { is_static_invoke (tree_at site.now) (part_at site.now) (invoke_of call) ≡ false }
     ensures value { IfOk result (λ f. plain_form f ≡ plain.Enable (next_of (made_of draft.old)).group) }
-    ensures made { OnOk result (made_of draft.new ≡ with_invoke (tree_at site.now) (part_at site.now) (made_of draft.old) (invoke_of call.entry)) }
+    ensures made { OnOk result (made_of draft.new ≡
+        with_invoke (tree_at site.now) (part_at site.now) (made_of draft.old) (invoke_of call.entry)) }
 {
     let number = number(draft.groups.len())?;
     draft.groups.push(invoke_group(alloc, site, number, call)?)?;
@@ -91,7 +94,8 @@ fn kept(
     requires is_static { is_static_invoke (tree_at site.now) (part_at site.now) (invoke_of call) ≡ true }
     requires latency { latency ≡ invoke_latency (tree_at site.now) (part_at site.now) (invoke_of call) }
     ensures value { IfOk result (λ f. plain_form f ≡ plain.Timed (next_of (made_of draft.old)).invoke) }
-    ensures made { OnOk result (made_of draft.new ≡ with_invoke (tree_at site.now) (part_at site.now) (made_of draft.old) (invoke_of call.entry)) }
+    ensures made { OnOk result (made_of draft.new ≡
+        with_invoke (tree_at site.now) (part_at site.now) (made_of draft.old) (invoke_of call.entry)) }
 {
     let captures = captures(alloc, site, &mut draft.groups, call)?;
     let number = number(draft.invokes.len())?;
@@ -103,8 +107,12 @@ fn kept(
 // An invoke is a call, or a static one where the word stands there or the cell's component is static.
 fn invoke(alloc: Global, site: &Site, draft: &mut Draft, call: Call) -> Result<Form, Memory>
     requires { IsSite site.now }
-    ensures value { IfOk result (λ f. plain_form f ≡ design.invoke_form (tree_at site.now) (part_at site.now) (is_static_invoke (tree_at site.now) (part_at site.now) (invoke_of call.entry)) (next_of (made_of draft.old))) }
-    ensures made { OnOk result (made_of draft.new ≡ added (tree_at site.now) (part_at site.now) (made_of draft.old) (invoke_of call.entry ∷ [])) }
+    ensures value { IfOk result (λ f. plain_form f ≡
+        design.invoke_form (tree_at site.now) (part_at site.now)
+        (is_static_invoke (tree_at site.now) (part_at site.now) (invoke_of call.entry))
+        (next_of (made_of draft.old))) }
+    ensures made { OnOk result (made_of draft.new ≡
+        added (tree_at site.now) (part_at site.now) (made_of draft.old) (invoke_of call.entry ∷ [])) }
 {
     let latency = site.scope.latency(call.cell);
     if call.is_written || latency.is_some() {
@@ -123,8 +131,12 @@ fn form(
     place: Place,
 ) -> Result<Form, Memory>
     requires { IsSite site.now }
-    ensures value { IfOk result (λ f. plain_form f ≡ design.form_of (tree_at site.now) (part_at site.now) (next_of (made_of draft.old)) place (written.plain_form item.now)) }
-    ensures made { OnOk result (made_of draft.new ≡ added (tree_at site.now) (part_at site.now) (made_of draft.old) (invokes_in (written.plain_form item.now) place)) }
+    ensures value { IfOk result (λ f. plain_form f ≡
+        design.form_of (tree_at site.now) (part_at site.now) (next_of (made_of draft.old)) place
+        (written.plain_form item.now)) }
+    ensures made { OnOk result (made_of draft.new ≡
+        added (tree_at site.now) (part_at site.now) (made_of draft.old)
+        (invokes_in (written.plain_form item.now) place)) }
 {
     match item {
         StatementForm::Enable { group, .. } => Ok(Form::Enable(group_number(site, group)?)),
@@ -245,8 +257,12 @@ fn statement(
     item: &StatementItem,
 ) -> Result<Statement, Memory>
     requires { IsSite site.now }
-    ensures value { IfOk result (λ s. plain_statement s ≡ statement_of (tree_at site.now) (part_at site.now) (next_of (made_of draft.old)) (written.plain_statement item.now)) }
-    ensures made { OnOk result (made_of draft.new ≡ added (tree_at site.now) (part_at site.now) (made_of draft.old) (invokes_at (written.plain_statement item.now))) }
+    ensures value { IfOk result (λ s. plain_statement s ≡
+        statement_of (tree_at site.now) (part_at site.now) (next_of (made_of draft.old))
+        (written.plain_statement item.now)) }
+    ensures made { OnOk result (made_of draft.new ≡
+        added (tree_at site.now) (part_at site.now) (made_of draft.old)
+        (invokes_at (written.plain_statement item.now))) }
 {
     let form = form(alloc, site, draft, &item.form, item.place)?;
     Ok(Statement {
@@ -264,8 +280,12 @@ fn statements(
     items: &[StatementItem],
 ) -> Result<Vec<Statement>, Memory>
     requires { IsSite site.now }
-    ensures value { IfOk result (λ all. plain_statements all.items ≡ design.all_of (tree_at site.now) (part_at site.now) (next_of (made_of draft.old)) (written.statements_of (written.plain_statements items.now))) }
-    ensures made { OnOk result (made_of draft.new ≡ added (tree_at site.now) (part_at site.now) (made_of draft.old) (invokes_all (written.statements_of (written.plain_statements items.now)))) }
+    ensures value { IfOk result (λ all. plain_statements all.items ≡
+        design.all_of (tree_at site.now) (part_at site.now) (next_of (made_of draft.old))
+        (written.statements_of (written.plain_statements items.now))) }
+    ensures made { OnOk result (made_of draft.new ≡
+        added (tree_at site.now) (part_at site.now) (made_of draft.old)
+        (invokes_all (written.statements_of (written.plain_statements items.now)))) }
 {
     let mut all = Vec::with_capacity(alloc, items.len())?;
     for item in items {
@@ -284,8 +304,12 @@ fn parts(
     block: &Block,
 ) -> Result<Vec<Statement>, Memory>
     requires { IsSite site.now }
-    ensures value { IfOk result (λ all. plain_statements all.items ≡ design.parts_of (tree_at site.now) (part_at site.now) (next_of (made_of draft.old)) (written.plain_block block.now)) }
-    ensures made { OnOk result (made_of draft.new ≡ added (tree_at site.now) (part_at site.now) (made_of draft.old) (invokes_of (written.plain_block block.now))) }
+    ensures value { IfOk result (λ all. plain_statements all.items ≡
+        design.parts_of (tree_at site.now) (part_at site.now) (next_of (made_of draft.old))
+        (written.plain_block block.now)) }
+    ensures made { OnOk result (made_of draft.new ≡
+        added (tree_at site.now) (part_at site.now) (made_of draft.old)
+        (invokes_of (written.plain_block block.now))) }
 {
     statements(alloc, site, draft, &block.statements)
 }
@@ -300,8 +324,12 @@ fn block(
     item: &Block,
 ) -> Result<Statement, Memory>
     requires { IsSite site.now }
-    ensures value { IfOk result (λ s. plain_statement s ≡ design.block_of (tree_at site.now) (part_at site.now) is_static (next_of (made_of draft.old)) (written.plain_block item.now)) }
-    ensures made { OnOk result (made_of draft.new ≡ added (tree_at site.now) (part_at site.now) (made_of draft.old) (invokes_of (written.plain_block item.now))) }
+    ensures value { IfOk result (λ s. plain_statement s ≡
+        design.block_of (tree_at site.now) (part_at site.now) is_static (next_of (made_of draft.old))
+        (written.plain_block item.now)) }
+    ensures made { OnOk result (made_of draft.new ≡
+        added (tree_at site.now) (part_at site.now) (made_of draft.old)
+        (invokes_of (written.plain_block item.now))) }
 {
     let all = parts(alloc, site, draft, item)?;
     Ok(joined(site, is_static, item.place, all))
@@ -317,8 +345,12 @@ fn boxed_block(
     item: &Block,
 ) -> Result<Box<Statement>, Memory>
     requires { IsSite site.now }
-    ensures value { IfOk result (λ s. plain_statement s.value ≡ design.block_of (tree_at site.now) (part_at site.now) is_static (next_of (made_of draft.old)) (written.plain_block item.now)) }
-    ensures made { OnOk result (made_of draft.new ≡ added (tree_at site.now) (part_at site.now) (made_of draft.old) (invokes_of (written.plain_block item.now))) }
+    ensures value { IfOk result (λ s. plain_statement s.value ≡
+        design.block_of (tree_at site.now) (part_at site.now) is_static (next_of (made_of draft.old))
+        (written.plain_block item.now)) }
+    ensures made { OnOk result (made_of draft.new ≡
+        added (tree_at site.now) (part_at site.now) (made_of draft.old)
+        (invokes_of (written.plain_block item.now))) }
 {
     let statement = block(alloc, site, draft, is_static, item)?;
     Ok(Box::new(alloc, statement)?)
@@ -335,8 +367,12 @@ fn otherwise(
     item: &Option<Block>,
 ) -> Result<Box<Statement>, Memory>
     requires { IsSite site.now }
-    ensures value { IfOk result (λ s. plain_statement s.value ≡ design.else_of (tree_at site.now) (part_at site.now) is_static (next_of (made_of draft.old)) place (written.else_of (option_map written.plain_block item.now))) }
-    ensures made { OnOk result (made_of draft.new ≡ added (tree_at site.now) (part_at site.now) (made_of draft.old) (invokes_else (written.else_of (option_map written.plain_block item.now)))) }
+    ensures value { IfOk result (λ s. plain_statement s.value ≡
+        design.else_of (tree_at site.now) (part_at site.now) is_static (next_of (made_of draft.old)) place
+        (written.else_of (option_map written.plain_block item.now))) }
+    ensures made { OnOk result (made_of draft.new ≡
+        added (tree_at site.now) (part_at site.now) (made_of draft.old)
+        (invokes_else (written.else_of (option_map written.plain_block item.now)))) }
 {
     match item {
         None => {
@@ -358,9 +394,16 @@ pub(crate) fn control(alloc: Global, site: &Site, draft: &mut Draft) -> Result<S
     requires site { IsSite site.now }
     requires groups { length (map plain_group draft.old.groups.items) ≡ length (group_names (part_at site.now)) }
     requires invokes { map plain_invoke draft.old.invokes.items ≡ [] }
-    ensures value { IfOk result (λ s. plain_statement s ≡ design.control_of (tree_at site.now) (part_at site.now) (part_at site.now).control) }
-    ensures groups { OnOk result (map plain_group draft.new.groups.items ≡ map plain_group draft.old.groups.items ++ design.invoke_groups (tree_at site.now) (part_at site.now) (design.first (tree_at site.now) (part_at site.now)) (design.control_invokes (tree_at site.now) (part_at site.now) (part_at site.now).control)) }
-    ensures invokes { OnOk result (map plain_invoke draft.new.invokes.items ≡ design.static_invokes (tree_at site.now) (part_at site.now) (design.first (tree_at site.now) (part_at site.now)) (design.control_invokes (tree_at site.now) (part_at site.now) (part_at site.now).control)) }
+    ensures value { IfOk result (λ s. plain_statement s ≡
+        design.control_of (tree_at site.now) (part_at site.now) (part_at site.now).control) }
+    ensures groups { OnOk result (map plain_group draft.new.groups.items ≡
+        map plain_group draft.old.groups.items ++ design.invoke_groups (tree_at site.now) (part_at site.now)
+        (design.first (tree_at site.now) (part_at site.now))
+        (design.control_invokes (tree_at site.now) (part_at site.now) (part_at site.now).control)) }
+    ensures invokes { OnOk result (map plain_invoke draft.new.invokes.items ≡
+        design.static_invokes (tree_at site.now) (part_at site.now)
+        (design.first (tree_at site.now) (part_at site.now))
+        (design.control_invokes (tree_at site.now) (part_at site.now) (part_at site.now).control)) }
 {
     match &site.scope.part.control {
         None => Ok(Statement {

@@ -34,7 +34,8 @@ fn components(
 ) -> Result<Vec<Component>, Memory>
     requires index { IsIndex (plain_tree tree.now) index.now }
     requires ports { ArePortNumbers (plain_tree tree.now).components ports.now.items }
-    ensures { IfOk result (λ all. map plain_component all.items ≡ map (component_of (plain_tree tree.now)) (plain_tree tree.now).components) }
+    ensures { IfOk result (λ all. map plain_component all.items ≡
+        map (component_of (plain_tree tree.now)) (plain_tree tree.now).components) }
 {
     let mut all = Vec::with_capacity(alloc, tree.components.len())?;
     for number in 0..tree.components.len() {
@@ -55,7 +56,8 @@ fn components(
 /// The parts of the design of a tree. A name that names nothing has the number 0. There is no memory for parts that 32 bits
 /// do not number.
 pub fn design_parts(alloc: Global, tree: &Tree) -> Result<Parts, Memory>
-    ensures value { IfOk result (λ parts. plain_parts parts.components.items parts.main ≡ design_of (plain_tree tree.now)) }
+    ensures value { IfOk result
+        (λ parts. plain_parts parts.components.items parts.main ≡ design_of (plain_tree tree.now)) }
 {
     let index = Index::new(alloc, tree)?;
     let ports = all_port_numbers(alloc, &tree.components)?;

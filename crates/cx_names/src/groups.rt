@@ -29,7 +29,8 @@ fn kind(site: &Site, word: GroupWord) -> GroupKind
 // A group.
 fn group(alloc: Global, site: &Site, item: &GroupItem) -> Result<Group, Memory>
     requires { IsSite site.now }
-    ensures { IfOk result (λ g. plain_group g ≡ design.group_of (tree_at site.now) (part_at site.now) (written.plain_group item.now)) }
+    ensures { IfOk result (λ g.
+        plain_group g ≡ design.group_of (tree_at site.now) (part_at site.now) (written.plain_group item.now)) }
 {
     let name = Name::from_bytes(alloc, item.name.bytes())?;
     let kind = kind(site, item.kind);
@@ -45,7 +46,9 @@ fn group(alloc: Global, site: &Site, item: &GroupItem) -> Result<Group, Memory>
 /// The groups among what stands in wires, in order.
 pub(crate) fn groups(alloc: Global, site: &Site, wires: &[WireItem]) -> Result<Vec<Group>, Memory>
     requires { IsSite site.now }
-    ensures { IfOk result (λ all. map plain_group all.items ≡ map (design.group_of (tree_at site.now) (part_at site.now)) (groups_in (map written.plain_wire wires.now))) }
+    ensures { IfOk result (λ all. map plain_group all.items ≡
+        map (design.group_of (tree_at site.now) (part_at site.now))
+        (groups_in (map written.plain_wire wires.now))) }
 {
     let mut all = Vec::new(alloc);
     for wire in wires {

@@ -44,7 +44,8 @@ fn behind(offset: u64) -> u64
 #[cycle(guard)]
 pub(crate) fn guard(alloc: Global, site: &Site, item: &GuardItem) -> Result<Guard, Memory>
     requires { IsSite site.now }
-    ensures { IfOk result (λ g. plain_guard g ≡ design.guard_of (tree_at site.now) (part_at site.now) (written.plain_guard item.now)) }
+    ensures { IfOk result (λ g.
+        plain_guard g ≡ design.guard_of (tree_at site.now) (part_at site.now) (written.plain_guard item.now)) }
 {
     match item {
         GuardItem::Or(parts) => Ok(Guard::Or(guards(alloc, site, parts)?)),
@@ -68,7 +69,9 @@ pub(crate) fn guard(alloc: Global, site: &Site, item: &GuardItem) -> Result<Guar
 #[cycle(guard)]
 fn guards(alloc: Global, site: &Site, items: &[GuardItem]) -> Result<Vec<Guard>, Memory>
     requires { IsSite site.now }
-    ensures { IfOk result (λ gs. guards_of (map plain_guard gs.items) ≡ design.guards_in (tree_at site.now) (part_at site.now) (written.guards_of (written.plain_guards items.now))) }
+    ensures { IfOk result (λ gs. guards_of (map plain_guard gs.items) ≡
+        design.guards_in (tree_at site.now) (part_at site.now)
+        (written.guards_of (written.plain_guards items.now))) }
 {
     let mut all = Vec::with_capacity(alloc, items.len())?;
     for item in items {
@@ -84,7 +87,9 @@ pub(crate) fn guard_or_true(
     item: &Option<GuardItem>,
 ) -> Result<Guard, Memory>
     requires { IsSite site.now }
-    ensures { IfOk result (λ g. plain_guard g ≡ design.guard_or_always (tree_at site.now) (part_at site.now) (option_map written.plain_guard item.now)) }
+    ensures { IfOk result (λ g. plain_guard g ≡
+        design.guard_or_always (tree_at site.now) (part_at site.now)
+        (option_map written.plain_guard item.now)) }
 {
     match item {
         None => Ok(Guard::True),

@@ -10,5 +10,6 @@ ghost use Rattle.cx_names.specs.Targets.{HasTargets};
 
 /// A tree that keeps the rules on names, and whose targets are no literals, has a design, unless that has too many parts.
 pub fn kept_names_make_a_design()
-    ensures { (tree : PlainTree) → HasTargets tree → names_break tree ≡ None → design_size (design_of tree) < 2 ^ 32 → IsDesign (design_of tree) }
+    ensures { (tree : PlainTree) → HasTargets tree → names_break tree ≡ None →
+        design_size (design_of tree) < 2 ^ 32 → IsDesign (design_of tree) }
 {}

@@ -33,7 +33,8 @@ fn row_port(primitive: &Primitive, port: &Name) -> Option<usize>
 // The number of a port of a primitive. Numbers that break its row leave it no port.
 fn primitive_port(name: PrimitiveName, numbers: &[u64], port: &Name) -> Option<usize>
     requires { name ≢ PrimitiveName.Timer }
-    ensures { result ≡ number_of port.now (cell_port_names (APrimitive (record { name = name; numbers = numbers.now }))) }
+    ensures { result ≡
+        number_of port.now (cell_port_names (APrimitive (record { name = name; numbers = numbers.now }))) }
 {
     match primitive_row(name, numbers) {
         None => None,
@@ -44,7 +45,8 @@ fn primitive_port(name: PrimitiveName, numbers: &[u64], port: &Name) -> Option<u
 // The number of a port of the component of a name.
 fn component_port(site: &Site, component: &Name, port: &Name) -> Option<usize>
     requires { IsSite site.now }
-    ensures { result ≡ number_of port.now (cell_port_names (or_component (component_among component.now (tree_at site.now).components))) }
+    ensures { result ≡ number_of port.now
+        (cell_port_names (or_component (component_among component.now (tree_at site.now).components))) }
 {
     match site.scope.index.components.find(component) {
         None => None,
@@ -55,7 +57,8 @@ fn component_port(site: &Site, component: &Name, port: &Name) -> Option<usize>
 // The number of a port of the cell of a name.
 fn port_number(site: &Site, cell: &Name, port: &Name) -> Option<usize>
     requires { IsSite site.now }
-    ensures { result ≡ number_of port.now (found_cell_ports (tree_at site.now) (cell_among cell.now (part_at site.now).cells)) }
+    ensures { result ≡ number_of port.now
+        (found_cell_ports (tree_at site.now) (cell_among cell.now (part_at site.now).cells)) }
 {
     let Some(found) = site.scope.cell(cell) else {
         return None;
@@ -94,7 +97,9 @@ pub(crate) fn known_port(
 // A port of the component itself.
 fn own_port(site: &Site, name: &Name) -> Result<PortRef, Memory>
     requires { IsSite site.now }
-    ensures { IfOk result (λ p. p ≡ design.own_port (number_of name.now (port_names (part_at site.now).inputs)) (number_or_0 name.now (port_names (part_at site.now).outputs))) }
+    ensures { IfOk result (λ p. p ≡ design.own_port
+        (number_of name.now (port_names (part_at site.now).inputs))
+        (number_or_0 name.now (port_names (part_at site.now).outputs))) }
 {
     match site.scope.own.inputs.find(name) {
         Some(input) => Ok(PortRef::Input(number(input)?)),
@@ -108,7 +113,8 @@ fn own_port(site: &Site, name: &Name) -> Result<PortRef, Memory>
 // The done hole of a group.
 fn done(site: &Site, group: &Name) -> Result<PortRef, Memory>
     requires { IsSite site.now }
-    ensures { IfOk result (λ p. p ≡ PortRef.Done (design.group_number (tree_at site.now) (part_at site.now) group.now)) }
+    ensures { IfOk result
+        (λ p. p ≡ PortRef.Done (design.group_number (tree_at site.now) (part_at site.now) group.now)) }
 {
     Ok(PortRef::Done(group_number(site, group)?))
 }

@@ -19,7 +19,8 @@ fn add_ports(
     ports: &[PortItem],
 ) -> Result<usize, Memory>
     requires { next + length ports.now < 2 ^ 64 }
-    ensures { IfOk result (λ behind. AddsNames next numbers.old (port_names (map plain_port ports.now)) behind numbers.new) }
+    ensures { IfOk result
+        (λ behind. AddsNames next numbers.old (port_names (map plain_port ports.now)) behind numbers.new) }
 {
     let mut behind = next;
     for port in ports {

@@ -35,7 +35,8 @@ fn total_size(components: &[Component]) -> u64
 
 // The design of these parts, where 32 bits count them.
 fn counted(parts: Parts) -> Result<Design, Memory>
-    requires { design_size (plain_parts parts.components.items parts.main) < 2 ^ 32 → IsDesign (plain_parts parts.components.items parts.main) }
+    requires { design_size (plain_parts parts.components.items parts.main) < 2 ^ 32 →
+        IsDesign (plain_parts parts.components.items parts.main) }
     ensures { IfOk result (λ design. plain_design design ≡ plain_parts parts.components.items parts.main) }
 {
     if total_size(&parts.components) > u64::from(u32::MAX) {

@@ -20,7 +20,8 @@ use std::alloc::Global;
 // The assignment of the enable of an output's register.
 fn enable(alloc: Global, site: &Site, call: Call, bind: &BindItem) -> Result<Assign, Memory>
     requires { IsSite site.now }
-    ensures { IfOk result (λ a. plain_assign a ≡ static_enable_of (tree_at site.now) (part_at site.now) (invoke_of call.entry) bind.now) }
+    ensures { IfOk result (λ a. plain_assign a ≡
+        static_enable_of (tree_at site.now) (part_at site.now) (invoke_of call.entry) bind.now) }
 {
     let target = register_port(alloc, site, bind, b"write_en")?;
     Ok(Assign {
@@ -42,7 +43,10 @@ fn add_captures(
     call: Call,
 ) -> Result<(), Memory>
     requires { IsSite site.now }
-    ensures { OnOk result (plain_assigns assigns.new.items ≡ plain_assigns assigns.old.items ++ flat_map (design.static_capture (tree_at site.now) (part_at site.now) (invoke_of call.entry)) call.entry.outputs.now) }
+    ensures { OnOk result (plain_assigns assigns.new.items ≡
+        plain_assigns assigns.old.items ++ flat_map
+        (design.static_capture (tree_at site.now) (part_at site.now) (invoke_of call.entry))
+        call.entry.outputs.now) }
 {
     for bind in call.outputs {
         assigns.push(capture(alloc, site, call, bind)?)?;
@@ -54,7 +58,8 @@ fn add_captures(
 // The group that captures.
 fn capture_group(alloc: Global, site: &Site, call: Call) -> Result<Group, Memory>
     requires { IsSite site.now }
-    ensures { IfOk result (λ g. plain_group g ≡ design.capture_group (tree_at site.now) (part_at site.now) (invoke_of call.entry)) }
+    ensures { IfOk result (λ g.
+        plain_group g ≡ design.capture_group (tree_at site.now) (part_at site.now) (invoke_of call.entry)) }
 {
     let mut assigns = Vec::new(alloc);
     add_captures(alloc, site, &mut assigns, call)?;
@@ -75,8 +80,11 @@ pub(crate) fn captures(
     call: Call,
 ) -> Result<Option<u32>, Memory>
     requires { IsSite site.now }
-    ensures value { IfOk result (λ n. n ≡ captures_number (tree_at site.now) (part_at site.now) (length (map plain_group groups.old.items)) call.entry.outputs.now) }
-    ensures groups { OnOk result (map plain_group groups.new.items ≡ map plain_group groups.old.items ++ design.captures_for (tree_at site.now) (part_at site.now) (invoke_of call.entry) call.entry.outputs.now) }
+    ensures value { IfOk result (λ n. n ≡ captures_number (tree_at site.now) (part_at site.now)
+        (length (map plain_group groups.old.items)) call.entry.outputs.now) }
+    ensures groups { OnOk result (map plain_group groups.new.items ≡
+        map plain_group groups.old.items ++ design.captures_for (tree_at site.now) (part_at site.now)
+        (invoke_of call.entry) call.entry.outputs.now) }
 {
     if call.outputs.is_empty() {
         return Ok(None);

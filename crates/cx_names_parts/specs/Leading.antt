@@ -52,11 +52,14 @@ pub record AreCircles (tree : PlainTree) (circles : CellCircles) : Type 0 where
 
 -- of the components that the cells of a component are of, those that lead back to it are marked
 abbrev pub AreMarks : PlainTree → PlainComponent → List Bool → Type 0
-AreMarks tree part marks = (k : ℕ) → In (numbers_in tree part.cells) k → slice_get marks k ≡ Some (leads_at tree part.name (length tree.components) k)
+AreMarks tree part marks =
+    (k : ℕ) → In (numbers_in tree part.cells) k
+    → slice_get marks k ≡ Some (leads_at tree part.name (length tree.components) k)
 
 -- without marks none leads back
 abbrev pub IsLeading : {A : Type 0} → PlainTree → PlainComponent → Option (Vec Bool A) → Type 0
-IsLeading tree part None = (k : ℕ) → In (numbers_in tree part.cells) k → leads_at tree part.name (length tree.components) k ≡ false
+IsLeading tree part None =
+    (k : ℕ) → In (numbers_in tree part.cells) k → leads_at tree part.name (length tree.components) k ≡ false
 IsLeading tree part (Some marks) = AreMarks tree part marks.items
 
 -- the cell is one of these

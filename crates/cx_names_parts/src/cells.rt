@@ -28,7 +28,8 @@ fn kind_break(
     kind: &CellKind,
 ) -> Result<(), Memory>
     requires { IsKind kind.now }
-    ensures { OnOk result (found.new ≡ first_of found.old (rules.kind_breaks (tree_in scope.now) (part_in scope.now) (plain_cell cell.now) (kind_of kind.now))) }
+    ensures { OnOk result (found.new ≡ first_of found.old
+        (rules.kind_breaks (tree_in scope.now) (part_in scope.now) (plain_cell cell.now) (kind_of kind.now))) }
 {
     match kind {
         CellKind::Unknown => {
@@ -183,7 +184,9 @@ fn is_narrow_memory(scope: &Scope, kind: &CellKind) -> bool
 // Whether a cell is external and may not be: it is no memory of main, or one with wide words.
 fn is_wrongly_external(scope: &Scope, cell: &CellItem, kind: &CellKind) -> bool
     requires { IsKind kind.now }
-    ensures { result ≡ (is_external_of (plain_cell cell.now) && not (rules.is_main (tree_in scope.now) (part_in scope.now) && rules.is_narrow_memory (tree_in scope.now) (part_in scope.now) (kind_of kind.now))) }
+    ensures { result ≡ (is_external_of (plain_cell cell.now) &&
+        not (rules.is_main (tree_in scope.now) (part_in scope.now) &&
+        rules.is_narrow_memory (tree_in scope.now) (part_in scope.now) (kind_of kind.now))) }
 {
     is_external(cell) && !(is_main(scope) && is_narrow_memory(scope, kind))
 }
@@ -198,7 +201,8 @@ fn external_break(
 ) -> Result<(), Memory>
     requires kind { IsKind kind.now }
     requires of_cell { kind_of kind.now ≡ cell_of (tree_in scope.now) (plain_cell cell.now) }
-    ensures { OnOk result (found.new ≡ first_of found.old (rules.external_breaks (tree_in scope.now) (part_in scope.now) (plain_cell cell.now))) }
+    ensures { OnOk result (found.new ≡ first_of found.old
+        (rules.external_breaks (tree_in scope.now) (part_in scope.now) (plain_cell cell.now))) }
 {
     let is_wrong = is_wrongly_external(scope, cell, kind);
     tell_if(
@@ -222,7 +226,8 @@ fn recursive_break(
     requires scope { IsScope scope.now }
     requires leading { IsLeading (tree_in scope.now) (part_in scope.now) leading.now }
     requires stands { StandsIn (part_in scope.now).cells (plain_cell cell.now) }
-    ensures { OnOk result (found.new ≡ first_of found.old (rules.recursive_breaks (tree_in scope.now) (part_in scope.now) (plain_cell cell.now))) }
+    ensures { OnOk result (found.new ≡ first_of found.old
+        (rules.recursive_breaks (tree_in scope.now) (part_in scope.now) (plain_cell cell.now))) }
 {
     let is_broken = is_recursive(scope, leading, cell);
     tell_if(
@@ -248,7 +253,8 @@ fn cell_break(
     requires scope { IsScope scope.now }
     requires leading { IsLeading (tree_in scope.now) (part_in scope.now) leading.now }
     requires stands { StandsIn (part_in scope.now).cells (plain_cell cell.now) }
-    ensures { OnOk result (found.new ≡ first_of found.old (rules.cell_breaks (tree_in scope.now) (part_in scope.now) (plain_cell cell.now))) }
+    ensures { OnOk result (found.new ≡
+        first_of found.old (rules.cell_breaks (tree_in scope.now) (part_in scope.now) (plain_cell cell.now))) }
 {
     let kind = scope.kind(cell);
     kind_break(alloc, found, scope, cell, &kind)?;
@@ -266,7 +272,8 @@ pub(crate) fn cells(
 ) -> Result<(), Memory>
     requires scope { IsScope scope.now }
     requires leading { IsLeading (tree_in scope.now) (part_in scope.now) leading.now }
-    ensures { OnOk result (found.new ≡ first_of found.old (flat_map (rules.cell_breaks (tree_in scope.now) (part_in scope.now)) (part_in scope.now).cells)) }
+    ensures { OnOk result (found.new ≡ first_of found.old
+        (flat_map (rules.cell_breaks (tree_in scope.now) (part_in scope.now)) (part_in scope.now).cells)) }
 {
     for cell in &scope.part.cells {
         cell_break(alloc, found, scope, leading, cell)?;

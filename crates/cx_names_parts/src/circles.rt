@@ -63,7 +63,8 @@ pub fn is_recursive(scope: &Scope, leading: &Option<Vec<bool>>, cell: &CellItem)
     requires scope { IsScope scope.now }
     requires leading { IsLeading (tree_in scope.now) (part_in scope.now) leading.now }
     requires stands { StandsIn (part_in scope.now).cells (plain_cell cell.now) }
-    ensures value { result ≡ is_recursive_of (tree_in scope.now) (part_in scope.now).name (cell_of (tree_in scope.now) (plain_cell cell.now)) }
+    ensures value { result ≡ is_recursive_of (tree_in scope.now) (part_in scope.now).name
+        (cell_of (tree_in scope.now) (plain_cell cell.now)) }
 {
     match leading {
         None => false,
@@ -76,7 +77,8 @@ fn leads_back(scope: &Scope, marks: &[bool], cell: &CellItem) -> bool
     requires scope { IsScope scope.now }
     requires marks { AreMarks (tree_in scope.now) (part_in scope.now) marks.now }
     requires stands { StandsIn (part_in scope.now).cells (plain_cell cell.now) }
-    ensures value { result ≡ is_recursive_of (tree_in scope.now) (part_in scope.now).name (cell_of (tree_in scope.now) (plain_cell cell.now)) }
+    ensures value { result ≡ is_recursive_of (tree_in scope.now) (part_in scope.now).name
+        (cell_of (tree_in scope.now) (plain_cell cell.now)) }
 {
     match component_number(scope, cell) {
         None => false,

@@ -81,7 +81,10 @@ fn duplicates(alloc: Global, found: &mut Option<Diagnostic>, scope: &Scope) -> R
 // Tells of the name of a component and of the names in it.
 #[tactic(auto, using(cx_names_rules::proofs::FoundRules::in_turn))]
 fn names(alloc: Global, found: &mut Option<Diagnostic>, scope: &Scope) -> Result<(), Memory>
-    ensures { OnOk result (found.new ≡ first_of found.old (rules.primitive_named (part_in scope.now) ++ rules.main_static (tree_in scope.now) (part_in scope.now) ++ rules.component_duplicates (part_in scope.now))) }
+    ensures { OnOk result (found.new ≡ first_of found.old
+        (rules.primitive_named (part_in scope.now) ++
+        rules.main_static (tree_in scope.now) (part_in scope.now) ++
+        rules.component_duplicates (part_in scope.now))) }
 {
     primitive_named(alloc, found, scope)?;
     main_static(alloc, found, scope)?;
@@ -92,7 +95,10 @@ fn names(alloc: Global, found: &mut Option<Diagnostic>, scope: &Scope) -> Result
 #[tactic(auto, using(cx_names_rules::proofs::FoundRules::in_turn))]
 fn signature(alloc: Global, found: &mut Option<Diagnostic>, scope: &Scope) -> Result<(), Memory>
     requires { IsScope scope.now }
-    ensures { OnOk result (found.new ≡ first_of found.old (flat_map (rules.port_breaks (tree_in scope.now) (part_in scope.now) true) (part_in scope.now).inputs ++ flat_map (rules.port_breaks (tree_in scope.now) (part_in scope.now) false) (part_in scope.now).outputs)) }
+    ensures { OnOk result (found.new ≡ first_of found.old
+        (flat_map (rules.port_breaks (tree_in scope.now) (part_in scope.now) true)
+        (part_in scope.now).inputs ++ flat_map
+        (rules.port_breaks (tree_in scope.now) (part_in scope.now) false) (part_in scope.now).outputs)) }
 {
     signature_ports(alloc, found, scope, true, &scope.part.inputs)?;
     signature_ports(alloc, found, scope, false, &scope.part.outputs)
@@ -102,7 +108,11 @@ fn signature(alloc: Global, found: &mut Option<Diagnostic>, scope: &Scope) -> Re
 #[tactic(auto, using(cx_names_rules::proofs::FoundRules::in_turn))]
 fn body(alloc: Global, found: &mut Option<Diagnostic>, scope: &Scope) -> Result<(), Memory>
     requires { IsScope scope.now }
-    ensures { OnOk result (found.new ≡ first_of found.old (flat_map (rules.assign_breaks (tree_in scope.now) (part_in scope.now)) (rules.standing (part_in scope.now)) ++ flat_map (λ v. rules.form_breaks (tree_in scope.now) (part_in scope.now) v.form v.place) (rules.statements_in (part_in scope.now)))) }
+    ensures { OnOk result (found.new ≡ first_of found.old
+        (flat_map (rules.assign_breaks (tree_in scope.now) (part_in scope.now))
+        (rules.standing (part_in scope.now)) ++
+        flat_map (λ v. rules.form_breaks (tree_in scope.now) (part_in scope.now) v.form v.place)
+        (rules.statements_in (part_in scope.now)))) }
 {
     component_assigns(alloc, found, scope)?;
     component_statements(alloc, found, scope)
@@ -120,7 +130,8 @@ fn component(
     requires scope { IsScope scope.now }
     requires circles { AreCircles (tree_in scope.now) circles.now }
     requires number { slice_get (tree_in scope.now).components number ≡ Some (part_in scope.now) }
-    ensures { OnOk result (found.new ≡ first_of found.old (rules.component_breaks (tree_in scope.now) (part_in scope.now))) }
+    ensures { OnOk result
+        (found.new ≡ first_of found.old (rules.component_breaks (tree_in scope.now) (part_in scope.now))) }
 {
     names(alloc, found, scope)?;
     signature(alloc, found, scope)?;
@@ -138,7 +149,8 @@ pub(crate) fn components(
     index: &Index,
 ) -> Result<(), Memory>
     requires { IsIndex (plain_tree tree.now) index.now }
-    ensures { OnOk result (found.new ≡ first_of found.old (flat_map (rules.component_breaks (plain_tree tree.now)) (plain_tree tree.now).components)) }
+    ensures { OnOk result (found.new ≡ first_of found.old
+        (flat_map (rules.component_breaks (plain_tree tree.now)) (plain_tree tree.now).components)) }
 {
     let circles = CellCircles::new(alloc, tree, index)?;
     for number in 0..tree.components.len() {

@@ -46,7 +46,8 @@ fn add_number(edges: &mut Vec<u32>, number: usize) -> Result<(), Memory>
 // Adds the number of the component that a cell is of, where it is of one.
 fn add_edge(edges: &mut Vec<u32>, scope: &Scope, cell: &CellItem) -> Result<(), Memory>
     requires { IsScope scope.now }
-    ensures { OnOk result (edges.new.items ≡ edges.old.items ++ if_some (cell_number (tree_in scope.now) (plain_cell cell.now)) []) }
+    ensures { OnOk result (edges.new.items ≡
+        edges.old.items ++ if_some (cell_number (tree_in scope.now) (plain_cell cell.now)) []) }
 {
     match component_number(scope, cell) {
         None => Ok(()),

@@ -20,7 +20,10 @@ use std::alloc::Global;
 // Whether a target is one that assignments may not have.
 fn is_wrong(scope: &Scope, group: Option<&Name>, item: &AssignItem) -> bool
     requires { IsScope scope.now }
-    ensures { result ≡ ((is_left_out_of (tree_in scope.now) (part_in scope.now) item.now.target.form || is_wrong_target_of (tree_in scope.now) (part_in scope.now) (option_copied group.entry) item.now.target.form) || is_bare_done_of (tree_in scope.now) (part_in scope.now) (plain_assign item.now)) }
+    ensures { result ≡ ((is_left_out_of (tree_in scope.now) (part_in scope.now) item.now.target.form ||
+        is_wrong_target_of (tree_in scope.now) (part_in scope.now)
+        (option_copied group.entry) item.now.target.form) ||
+        is_bare_done_of (tree_in scope.now) (part_in scope.now) (plain_assign item.now)) }
 {
     is_left_out(scope, &item.target.form)
         || is_wrong_target(scope, group, &item.target.form)
@@ -37,7 +40,9 @@ fn assign(
     item: &AssignItem,
 ) -> Result<(), Memory>
     requires { IsScope scope.now }
-    ensures { OnOk result (found.new ≡ first_of found.old (assign_breaks (tree_in scope.now) (part_in scope.now) (record { group = option_copied group.entry; assign = plain_assign item.now }))) }
+    ensures { OnOk result (found.new ≡ first_of found.old
+        (assign_breaks (tree_in scope.now) (part_in scope.now)
+        (record { group = option_copied group.entry; assign = plain_assign item.now }))) }
 {
     unknown(alloc, found, scope, &item.target)?;
     let is_broken = is_wrong(scope, group, item);
@@ -55,7 +60,9 @@ fn always(
     wires: &[WireItem],
 ) -> Result<(), Memory>
     requires { IsScope scope.now }
-    ensures { OnOk result (found.new ≡ first_of found.old (flat_map (assign_breaks (tree_in scope.now) (part_in scope.now)) (map (λ a. record { group = None; assign = a }) (always_in (map plain_wire wires.now))))) }
+    ensures { OnOk result (found.new ≡ first_of found.old
+        (flat_map (assign_breaks (tree_in scope.now) (part_in scope.now))
+        (map (λ a. record { group = None; assign = a }) (always_in (map plain_wire wires.now))))) }
 {
     for wire in wires {
         let WireItem::Assign(item) = wire else {
@@ -75,7 +82,10 @@ fn group_assigns(
     group: &GroupItem,
 ) -> Result<(), Memory>
     requires { IsScope scope.now }
-    ensures { OnOk result (found.new ≡ first_of found.old (flat_map (assign_breaks (tree_in scope.now) (part_in scope.now)) (map (λ a. record { group = Some (plain_group group.now).name; assign = a }) (plain_group group.now).assigns))) }
+    ensures { OnOk result (found.new ≡ first_of found.old
+        (flat_map (assign_breaks (tree_in scope.now) (part_in scope.now))
+        (map (λ a. record { group = Some (plain_group group.now).name; assign = a })
+        (plain_group group.now).assigns))) }
 {
     for item in &group.assigns {
         assign(alloc, found, scope, Some(&group.name), item)?;
@@ -92,7 +102,10 @@ fn groups_assigns(
     wires: &[WireItem],
 ) -> Result<(), Memory>
     requires { IsScope scope.now }
-    ensures { OnOk result (found.new ≡ first_of found.old (flat_map (assign_breaks (tree_in scope.now) (part_in scope.now)) (flat_map (λ g. map (λ a. record { group = Some g.name; assign = a }) g.assigns) (groups_in (map plain_wire wires.now))))) }
+    ensures { OnOk result (found.new ≡ first_of found.old
+        (flat_map (assign_breaks (tree_in scope.now) (part_in scope.now))
+        (flat_map (λ g. map (λ a. record { group = Some g.name; assign = a }) g.assigns)
+        (groups_in (map plain_wire wires.now))))) }
 {
     for wire in wires {
         let WireItem::Group(group) = wire else {
@@ -111,7 +124,8 @@ pub fn component_assigns(
     scope: &Scope,
 ) -> Result<(), Memory>
     requires { IsScope scope.now }
-    ensures { OnOk result (found.new ≡ first_of found.old (flat_map (assign_breaks (tree_in scope.now) (part_in scope.now)) (standing (part_in scope.now)))) }
+    ensures { OnOk result (found.new ≡ first_of found.old
+        (flat_map (assign_breaks (tree_in scope.now) (part_in scope.now)) (standing (part_in scope.now)))) }
 {
     always(alloc, found, scope, &scope.part.wires)?;
     groups_assigns(alloc, found, scope, &scope.part.wires)

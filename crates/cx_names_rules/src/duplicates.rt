@@ -21,7 +21,8 @@ fn see(
     name: &Name,
     place: Place,
 ) -> Result<(), Memory>
-    ensures { (before : List (List ℕ)) → Sees before seen.old → OnOk result (SeesOne before name.now place found.old seen.new found.new) }
+    ensures { (before : List (List ℕ)) → Sees before seen.old →
+        OnOk result (SeesOne before name.now place found.old seen.new found.new) }
 {
     tell_if(alloc, found, seen.has(name), Rule::Duplicate, place, name)?;
     seen.add(alloc, name, 0)
@@ -34,7 +35,9 @@ fn see_ports(
     seen: &mut Numbers,
     ports: &[PortItem],
 ) -> Result<(), Memory>
-    ensures { (before : List (List ℕ)) → Sees before seen.old → OnOk result (SeesUpTo before (map (λ p. named p.name p.place) (map plain_port ports.now)) [] found.old seen.new found.new) }
+    ensures { (before : List (List ℕ)) → Sees before seen.old →
+        OnOk result (SeesUpTo before
+        (map (λ p. named p.name p.place) (map plain_port ports.now)) [] found.old seen.new found.new) }
 {
     for port in ports {
         see(alloc, found, seen, &port.name, port.place)?;
@@ -49,7 +52,9 @@ fn see_cells(
     seen: &mut Numbers,
     cells: &[CellItem],
 ) -> Result<(), Memory>
-    ensures { (before : List (List ℕ)) → Sees before seen.old → OnOk result (SeesUpTo before (map (λ c. named c.name c.place) (map plain_cell cells.now)) [] found.old seen.new found.new) }
+    ensures { (before : List (List ℕ)) → Sees before seen.old →
+        OnOk result (SeesUpTo before
+        (map (λ c. named c.name c.place) (map plain_cell cells.now)) [] found.old seen.new found.new) }
 {
     for cell in cells {
         see(alloc, found, seen, &cell.name, cell.place)?;
@@ -64,7 +69,8 @@ fn see_binds(
     seen: &mut Numbers,
     binds: &[BindItem],
 ) -> Result<(), Memory>
-    ensures { (before : List (List ℕ)) → Sees before seen.old → OnOk result (SeesUpTo before (bind_names binds.now) [] found.old seen.new found.new) }
+    ensures { (before : List (List ℕ)) → Sees before seen.old →
+        OnOk result (SeesUpTo before (bind_names binds.now) [] found.old seen.new found.new) }
 {
     for bind in binds {
         see(alloc, found, seen, &bind.name, bind.place)?;
@@ -79,7 +85,9 @@ fn see_components(
     seen: &mut Numbers,
     components: &[ComponentItem],
 ) -> Result<(), Memory>
-    ensures { (before : List (List ℕ)) → Sees before seen.old → OnOk result (SeesUpTo before (map (λ part. named part.name part.place) (map plain_component components.now)) [] found.old seen.new found.new) }
+    ensures { (before : List (List ℕ)) → Sees before seen.old →
+        OnOk result (SeesUpTo before (map (λ part. named part.name part.place)
+        (map plain_component components.now)) [] found.old seen.new found.new) }
 {
     for component in components {
         see(alloc, found, seen, &component.name, component.place)?;
@@ -94,7 +102,9 @@ fn see_groups(
     seen: &mut Numbers,
     wires: &[WireItem],
 ) -> Result<(), Memory>
-    ensures { (before : List (List ℕ)) → Sees before seen.old → OnOk result (SeesUpTo before (map (λ g. named g.name g.place) (groups_in (map plain_wire wires.now))) [] found.old seen.new found.new) }
+    ensures { (before : List (List ℕ)) → Sees before seen.old →
+        OnOk result (SeesUpTo before (map (λ g. named g.name g.place) (groups_in (map plain_wire wires.now)))
+        [] found.old seen.new found.new) }
 {
     for wire in wires {
         let WireItem::Group(group) = wire else {
@@ -111,7 +121,8 @@ pub fn cell_duplicates(
     found: &mut Option<Diagnostic>,
     cells: &[CellItem],
 ) -> Result<(), Memory>
-    ensures { OnOk result (found.new ≡ first_of found.old (duplicates_of [] (map (λ c. named c.name c.place) (map plain_cell cells.now)))) }
+    ensures { OnOk result (found.new ≡
+        first_of found.old (duplicates_of [] (map (λ c. named c.name c.place) (map plain_cell cells.now)))) }
 {
     let mut seen = Numbers::new(alloc);
     see_cells(alloc, found, &mut seen, cells)?;
@@ -124,7 +135,8 @@ pub fn group_duplicates(
     found: &mut Option<Diagnostic>,
     wires: &[WireItem],
 ) -> Result<(), Memory>
-    ensures { OnOk result (found.new ≡ first_of found.old (duplicates_of [] (map (λ g. named g.name g.place) (groups_in (map plain_wire wires.now))))) }
+    ensures { OnOk result (found.new ≡ first_of found.old
+        (duplicates_of [] (map (λ g. named g.name g.place) (groups_in (map plain_wire wires.now))))) }
 {
     let mut seen = Numbers::new(alloc);
     see_groups(alloc, found, &mut seen, wires)?;
@@ -150,7 +162,8 @@ pub fn component_duplicates(
     found: &mut Option<Diagnostic>,
     components: &[ComponentItem],
 ) -> Result<(), Memory>
-    ensures { OnOk result (found.new ≡ first_of found.old (duplicates_of [] (map (λ part. named part.name part.place) (map plain_component components.now)))) }
+    ensures { OnOk result (found.new ≡ first_of found.old
+        (duplicates_of [] (map (λ part. named part.name part.place) (map plain_component components.now)))) }
 {
     let mut seen = Numbers::new(alloc);
     see_components(alloc, found, &mut seen, components)?;
@@ -164,7 +177,9 @@ pub fn port_duplicates(
     inputs: &[PortItem],
     outputs: &[PortItem],
 ) -> Result<(), Memory>
-    ensures { OnOk result (found.new ≡ first_of found.old (duplicates_of [] (map (λ p. named p.name p.place) (map plain_port inputs.now ++ map plain_port outputs.now)))) }
+    ensures { OnOk result (found.new ≡ first_of found.old
+        (duplicates_of []
+        (map (λ p. named p.name p.place) (map plain_port inputs.now ++ map plain_port outputs.now)))) }
 {
     let mut seen = Numbers::new(alloc);
     see_ports(alloc, found, &mut seen, inputs)?;

@@ -75,7 +75,8 @@ pub(crate) fn tell_form_if(
     rule: Rule,
     item: &OperandItem,
 ) -> Result<(), Memory>
-    ensures { OnOk result (found.new ≡ first_of found.old (tell_if_of is_broken rule item.now.place (path_of item.now.form))) }
+    ensures { OnOk result
+        (found.new ≡ first_of found.old (tell_if_of is_broken rule item.now.place (path_of item.now.form))) }
 {
     if !is_broken {
         return Ok(());

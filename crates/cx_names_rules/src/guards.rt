@@ -20,7 +20,9 @@ pub(crate) fn guard_sources(
     guard: &Option<GuardItem>,
 ) -> Result<(), Memory>
     requires { IsScope scope.now }
-    ensures { OnOk result (found.new ≡ first_of found.old (flat_map (source_breaks (tree_in scope.now) (part_in scope.now)) (guard_operands (option_map plain_guard guard.now)))) }
+    ensures { OnOk result (found.new ≡ first_of found.old
+        (flat_map (source_breaks (tree_in scope.now) (part_in scope.now))
+        (guard_operands (option_map plain_guard guard.now)))) }
 {
     match guard {
         None => Ok(()),
@@ -38,7 +40,9 @@ fn both_sources(
     right: &OperandItem,
 ) -> Result<(), Memory>
     requires { IsScope scope.now }
-    ensures { OnOk result (found.new ≡ first_of found.old (source_breaks (tree_in scope.now) (part_in scope.now) left.now ++ (source_breaks (tree_in scope.now) (part_in scope.now) right.now ++ []))) }
+    ensures { OnOk result (found.new ≡ first_of found.old
+        (source_breaks (tree_in scope.now) (part_in scope.now) left.now ++
+        (source_breaks (tree_in scope.now) (part_in scope.now) right.now ++ []))) }
 {
     source(alloc, found, scope, left)?;
     source(alloc, found, scope, right)
@@ -54,7 +58,9 @@ fn sources(
     guard: &GuardItem,
 ) -> Result<(), Memory>
     requires { IsScope scope.now }
-    ensures { OnOk result (found.new ≡ first_of found.old (flat_map (source_breaks (tree_in scope.now) (part_in scope.now)) (operands_of (plain_guard guard.now)))) }
+    ensures { OnOk result (found.new ≡ first_of found.old
+        (flat_map (source_breaks (tree_in scope.now) (part_in scope.now))
+        (operands_of (plain_guard guard.now)))) }
 {
     match guard {
         GuardItem::Or(parts) => all_sources(alloc, found, scope, parts),
@@ -77,7 +83,9 @@ fn all_sources(
     guards: &[GuardItem],
 ) -> Result<(), Memory>
     requires { IsScope scope.now }
-    ensures { OnOk result (found.new ≡ first_of found.old (flat_map (source_breaks (tree_in scope.now) (part_in scope.now)) (operands_in (guards_of (plain_guards guards.now))))) }
+    ensures { OnOk result (found.new ≡ first_of found.old
+        (flat_map (source_breaks (tree_in scope.now) (part_in scope.now))
+        (operands_in (guards_of (plain_guards guards.now))))) }
 {
     for guard in guards {
         sources(alloc, found, scope, guard)?;

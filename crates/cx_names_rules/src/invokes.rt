@@ -30,7 +30,8 @@ fn is_register_in(scope: &Scope, form: &OperandForm) -> bool
 // Whether a cell of the name is there and is a register.
 fn is_of_register(scope: &Scope, cell: &Name) -> bool
     requires { IsScope scope.now }
-    ensures { result ≡ rules.found_reg (tree_in scope.now) (part_in scope.now) (cell_among cell.now (part_in scope.now).cells) }
+    ensures { result ≡ rules.found_reg (tree_in scope.now) (part_in scope.now)
+        (cell_among cell.now (part_in scope.now).cells) }
 {
     match scope.cell(cell) {
         None => false,
@@ -51,7 +52,9 @@ fn is_go(scope: &Scope, kind: &CellKind, name: &Name) -> bool
 // Whether a cell has no port of the name.
 fn lacks_port(scope: &Scope, cell: &Name, port: &Name) -> bool
     requires { IsScope scope.now }
-    ensures { result ≡ not (is_among port.now (rules.cell_ports (tree_in scope.now) (part_in scope.now) cell.now) || rules.is_clock (tree_in scope.now) (part_in scope.now) cell.now port.now) }
+    ensures { result ≡ not (is_among port.now
+        (rules.cell_ports (tree_in scope.now) (part_in scope.now) cell.now) ||
+        rules.is_clock (tree_in scope.now) (part_in scope.now) cell.now port.now) }
 {
     !(has_cell_port(scope, cell, port) || is_clock(scope, cell, port))
 }
@@ -60,7 +63,10 @@ fn lacks_port(scope: &Scope, cell: &Name, port: &Name) -> bool
 fn is_no_input(scope: &Scope, cell: &Name, kind: &CellKind, port: &Name) -> bool
     requires scope { IsScope scope.now }
     requires kind { IsKind kind.now }
-    ensures { result ≡ ((is_among port.now (rules.output_names (tree_in scope.now) (part_in scope.now) (kind_of kind.now)) || rules.is_go_name (tree_in scope.now) (part_in scope.now) (cell_go (kind_of kind.now)) port.now) || rules.is_clock (tree_in scope.now) (part_in scope.now) cell.now port.now) }
+    ensures { result ≡ ((is_among port.now
+        (rules.output_names (tree_in scope.now) (part_in scope.now) (kind_of kind.now)) ||
+        rules.is_go_name (tree_in scope.now) (part_in scope.now) (cell_go (kind_of kind.now)) port.now) ||
+        rules.is_clock (tree_in scope.now) (part_in scope.now) cell.now port.now) }
 {
     kind.has_output(scope, port) || is_go(scope, kind, port) || is_clock(scope, cell, port)
 }
@@ -69,7 +75,9 @@ fn is_no_input(scope: &Scope, cell: &Name, kind: &CellKind, port: &Name) -> bool
 fn is_no_output(scope: &Scope, cell: &Name, kind: &CellKind, port: &Name) -> bool
     requires scope { IsScope scope.now }
     requires kind { IsKind kind.now }
-    ensures { result ≡ (not (is_among port.now (rules.output_names (tree_in scope.now) (part_in scope.now) (kind_of kind.now))) || rules.is_static_end (tree_in scope.now) (part_in scope.now) cell.now port.now) }
+    ensures { result ≡ (not
+        (is_among port.now (rules.output_names (tree_in scope.now) (part_in scope.now) (kind_of kind.now))) ||
+        rules.is_static_end (tree_in scope.now) (part_in scope.now) cell.now port.now) }
 {
     !kind.has_output(scope, port) || is_static_end(scope, cell, port)
 }
@@ -86,7 +94,8 @@ fn input(
 ) -> Result<(), Memory>
     requires scope { IsScope scope.now }
     requires kind { IsKind kind.now }
-    ensures { OnOk result (found.new ≡ first_of found.old (rules.input_breaks (tree_in scope.now) (part_in scope.now) cell.now (kind_of kind.now) bind.now)) }
+    ensures { OnOk result (found.new ≡ first_of found.old
+        (rules.input_breaks (tree_in scope.now) (part_in scope.now) cell.now (kind_of kind.now) bind.now)) }
 {
     let is_absent = lacks_port(scope, cell, &bind.name);
     tell_if(
@@ -121,7 +130,8 @@ fn output(
 ) -> Result<(), Memory>
     requires scope { IsScope scope.now }
     requires kind { IsKind kind.now }
-    ensures { OnOk result (found.new ≡ first_of found.old (rules.output_breaks (tree_in scope.now) (part_in scope.now) cell.now (kind_of kind.now) bind.now)) }
+    ensures { OnOk result (found.new ≡ first_of found.old
+        (rules.output_breaks (tree_in scope.now) (part_in scope.now) cell.now (kind_of kind.now) bind.now)) }
 {
     let is_absent = lacks_port(scope, cell, &bind.name);
     tell_if(
@@ -158,7 +168,9 @@ fn inputs(
 ) -> Result<(), Memory>
     requires scope { IsScope scope.now }
     requires kind { IsKind kind.now }
-    ensures { OnOk result (found.new ≡ first_of found.old (flat_map (rules.input_breaks (tree_in scope.now) (part_in scope.now) cell.now (kind_of kind.now)) binds.now)) }
+    ensures { OnOk result (found.new ≡ first_of found.old
+        (flat_map
+        (rules.input_breaks (tree_in scope.now) (part_in scope.now) cell.now (kind_of kind.now)) binds.now)) }
 {
     for bind in binds {
         input(alloc, found, scope, cell, kind, bind)?;
@@ -178,7 +190,9 @@ fn outputs(
 ) -> Result<(), Memory>
     requires scope { IsScope scope.now }
     requires kind { IsKind kind.now }
-    ensures { OnOk result (found.new ≡ first_of found.old (flat_map (rules.output_breaks (tree_in scope.now) (part_in scope.now) cell.now (kind_of kind.now)) binds.now)) }
+    ensures { OnOk result (found.new ≡ first_of found.old
+        (flat_map
+        (rules.output_breaks (tree_in scope.now) (part_in scope.now) cell.now (kind_of kind.now)) binds.now)) }
 {
     for bind in binds {
         output(alloc, found, scope, cell, kind, bind)?;
@@ -198,7 +212,10 @@ fn bound(
     place: Place,
 ) -> Result<(), Memory>
     requires { IsScope scope.now }
-    ensures { OnOk result (found.new ≡ first_of found.old (rules.invoke_on (tree_in scope.now) (part_in scope.now) cell.now inputs_bound.now outputs_bound.now place (cell_among cell.now (part_in scope.now).cells))) }
+    ensures { OnOk result (found.new ≡ first_of found.old
+        (rules.invoke_on (tree_in scope.now)
+        (part_in scope.now) cell.now inputs_bound.now outputs_bound.now place
+        (cell_among cell.now (part_in scope.now).cells))) }
 {
     let Some(item) = scope.cell(cell) else {
         return tell_if(alloc, found, true, Rule::UnknownName, place, cell);
@@ -222,7 +239,12 @@ pub(crate) fn invoke(
     place: Place,
 ) -> Result<(), Memory>
     requires { IsScope scope.now }
-    ensures { OnOk result (found.new ≡ first_of found.old (rules.duplicates [] (rules.bind_names inputs_bound.now) ++ rules.duplicates [] (rules.bind_names outputs_bound.now) ++ rules.invoke_on (tree_in scope.now) (part_in scope.now) cell.now inputs_bound.now outputs_bound.now place (cell_among cell.now (part_in scope.now).cells))) }
+    ensures { OnOk result (found.new ≡ first_of found.old
+        (rules.duplicates [] (rules.bind_names inputs_bound.now) ++
+        rules.duplicates [] (rules.bind_names outputs_bound.now) ++
+        rules.invoke_on (tree_in scope.now)
+        (part_in scope.now) cell.now inputs_bound.now outputs_bound.now place
+        (cell_among cell.now (part_in scope.now).cells))) }
 {
     bind_duplicates(alloc, found, inputs_bound)?;
     bind_duplicates(alloc, found, outputs_bound)?;

@@ -26,7 +26,8 @@ pub(crate) fn has_cell_port(scope: &Scope, cell: &Name, port: &Name) -> bool
 // Whether a cell of the name is there and is of a component.
 fn is_of_component(scope: &Scope, cell: &Name) -> bool
     requires { IsScope scope.now }
-    ensures { result ≡ rules.found_component (tree_in scope.now) (part_in scope.now) (cell_among cell.now (part_in scope.now).cells) }
+    ensures { result ≡ rules.found_component (tree_in scope.now) (part_in scope.now)
+        (cell_among cell.now (part_in scope.now).cells) }
 {
     let Some(found) = scope.cell(cell) else {
         return false;
@@ -57,7 +58,8 @@ pub(crate) fn is_static_end(scope: &Scope, cell: &Name, port: &Name) -> bool
 // Whether a hole is one of a group that is there.
 fn is_known_hole(scope: &Scope, group: &Name, hole: &Name) -> bool
     requires { IsScope scope.now }
-    ensures { result ≡ (is_among group.now (group_names (part_in scope.now)) && (same_name hole.now (codes "go") || same_name hole.now (codes "done"))) }
+    ensures { result ≡ (is_among group.now (group_names (part_in scope.now)) &&
+        (same_name hole.now (codes "go") || same_name hole.now (codes "done"))) }
 {
     scope.group(group).is_some() && (is_named(hole, b"go") || is_named(hole, b"done"))
 }
@@ -112,7 +114,8 @@ pub(crate) fn unknown(
     item: &OperandItem,
 ) -> Result<(), Memory>
     requires { IsScope scope.now }
-    ensures { OnOk result (found.new ≡ first_of found.old (rules.unknown (tree_in scope.now) (part_in scope.now) item.now)) }
+    ensures { OnOk result
+        (found.new ≡ first_of found.old (rules.unknown (tree_in scope.now) (part_in scope.now) item.now)) }
 {
     let is_broken = is_unknown(scope, &item.form);
     tell_form_if(alloc, found, is_broken, Rule::UnknownName, item)
@@ -127,7 +130,8 @@ pub(crate) fn source(
     item: &OperandItem,
 ) -> Result<(), Memory>
     requires { IsScope scope.now }
-    ensures { OnOk result (found.new ≡ first_of found.old (rules.source_breaks (tree_in scope.now) (part_in scope.now) item.now)) }
+    ensures { OnOk result (found.new ≡
+        first_of found.old (rules.source_breaks (tree_in scope.now) (part_in scope.now) item.now)) }
 {
     unknown(alloc, found, scope, item)?;
     let is_broken = is_left_out(scope, &item.form) || is_hole(scope, &item.form);

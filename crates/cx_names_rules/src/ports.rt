@@ -52,7 +52,9 @@ fn is_on_side(scope: &Scope, is_input: bool, name: &Name) -> bool
 
 // Whether a port is on the wrong side or of a wrong width, or is one that main may not have.
 fn is_misplaced(scope: &Scope, is_input: bool, port: &PortItem) -> bool
-    ensures { result ≡ (if is_own_name_of port.now.name then not (rules.is_on_side (tree_in scope.now) (part_in scope.now) is_input port.now.name) || not (nat_eq port.now.width 1) else rules.is_main (tree_in scope.now) (part_in scope.now)) }
+    ensures { result ≡ (if is_own_name_of port.now.name
+        then not (rules.is_on_side (tree_in scope.now) (part_in scope.now) is_input port.now.name)
+        || not (nat_eq port.now.width 1) else rules.is_main (tree_in scope.now) (part_in scope.now)) }
 {
     if is_own_name(&port.name) {
         !is_on_side(scope, is_input, &port.name) || port.width != 1
@@ -78,7 +80,8 @@ fn port(
     port: &PortItem,
 ) -> Result<(), Memory>
     requires { IsScope scope.now }
-    ensures { OnOk result (found.new ≡ first_of found.old (rules.port_breaks (tree_in scope.now) (part_in scope.now) is_input (plain_port port.now))) }
+    ensures { OnOk result (found.new ≡ first_of found.old
+        (rules.port_breaks (tree_in scope.now) (part_in scope.now) is_input (plain_port port.now))) }
 {
     let is_no_width = !(1 <= port.width && port.width <= 128);
     tell_if(
@@ -110,7 +113,9 @@ pub fn signature_ports(
     ports: &[PortItem],
 ) -> Result<(), Memory>
     requires { IsScope scope.now }
-    ensures { OnOk result (found.new ≡ first_of found.old (flat_map (rules.port_breaks (tree_in scope.now) (part_in scope.now) is_input) (map plain_port ports.now))) }
+    ensures { OnOk result (found.new ≡ first_of found.old
+        (flat_map (rules.port_breaks (tree_in scope.now) (part_in scope.now) is_input)
+        (map plain_port ports.now))) }
 {
     for item in ports {
         port(alloc, found, scope, is_input, item)?;

@@ -19,7 +19,8 @@ use std::alloc::Global;
 // Whether a group of the name is there and is a comb group.
 fn is_comb_group(scope: &Scope, name: &Name) -> bool
     requires { IsScope scope.now }
-    ensures { result ≡ is_comb_group_of (tree_in scope.now) (part_in scope.now) (group_among name.now (groups_in (part_in scope.now).wires)) }
+    ensures { result ≡ is_comb_group_of (tree_in scope.now) (part_in scope.now)
+        (group_among name.now (groups_in (part_in scope.now).wires)) }
 {
     match scope.group(name) {
         None => false,
@@ -48,7 +49,8 @@ fn enable(
     place: Place,
 ) -> Result<(), Memory>
     requires { IsScope scope.now }
-    ensures { OnOk result (found.new ≡ first_of found.old (enable_breaks (tree_in scope.now) (part_in scope.now) name.now place)) }
+    ensures { OnOk result (found.new ≡
+        first_of found.old (enable_breaks (tree_in scope.now) (part_in scope.now) name.now place)) }
 {
     let is_absent = scope.group(name).is_none();
     tell_if(alloc, found, is_absent, Rule::UnknownName, place, name)?;
@@ -66,7 +68,8 @@ fn with(
     place: Place,
 ) -> Result<(), Memory>
     requires { IsScope scope.now }
-    ensures { OnOk result (found.new ≡ first_of found.old (with_breaks (tree_in scope.now) (part_in scope.now) comb.now place)) }
+    ensures { OnOk result (found.new ≡
+        first_of found.old (with_breaks (tree_in scope.now) (part_in scope.now) comb.now place)) }
 {
     let Some(name) = comb else {
         return Ok(());
@@ -88,7 +91,9 @@ fn tested(
     place: Place,
 ) -> Result<(), Memory>
     requires { IsScope scope.now }
-    ensures { OnOk result (found.new ≡ first_of found.old (with_breaks (tree_in scope.now) (part_in scope.now) comb.now place ++ source_breaks (tree_in scope.now) (part_in scope.now) test.now)) }
+    ensures { OnOk result (found.new ≡ first_of found.old
+        (with_breaks (tree_in scope.now) (part_in scope.now) comb.now place ++
+        source_breaks (tree_in scope.now) (part_in scope.now) test.now)) }
 {
     with(alloc, found, scope, comb, place)?;
     source(alloc, found, scope, test)
@@ -104,7 +109,8 @@ fn form(
     place: Place,
 ) -> Result<(), Memory>
     requires { IsScope scope.now }
-    ensures { OnOk result (found.new ≡ first_of found.old (form_breaks (tree_in scope.now) (part_in scope.now) (plain_form form.now) place)) }
+    ensures { OnOk result (found.new ≡
+        first_of found.old (form_breaks (tree_in scope.now) (part_in scope.now) (plain_form form.now) place)) }
 {
     match form {
         StatementForm::Enable { group, .. } => enable(alloc, found, scope, group, place),
@@ -138,7 +144,9 @@ fn statement(
     item: &StatementItem,
 ) -> Result<(), Memory>
     requires { IsScope scope.now }
-    ensures { OnOk result (found.new ≡ first_of found.old (flat_map (λ v. form_breaks (tree_in scope.now) (part_in scope.now) v.form v.place) (visit_statement (plain_statement item.now)))) }
+    ensures { OnOk result (found.new ≡ first_of found.old
+        (flat_map (λ v. form_breaks (tree_in scope.now) (part_in scope.now) v.form v.place)
+        (visit_statement (plain_statement item.now)))) }
 {
     placed(alloc, found, scope, &item.form, item.place)
 }
@@ -154,7 +162,10 @@ fn placed(
     place: Place,
 ) -> Result<(), Memory>
     requires { IsScope scope.now }
-    ensures { OnOk result (found.new ≡ first_of found.old (form_breaks (tree_in scope.now) (part_in scope.now) (plain_form item.now) place ++ flat_map (λ v. form_breaks (tree_in scope.now) (part_in scope.now) v.form v.place) (visit_parts (plain_form item.now)))) }
+    ensures { OnOk result (found.new ≡ first_of found.old
+        (form_breaks (tree_in scope.now) (part_in scope.now) (plain_form item.now) place ++
+        flat_map (λ v. form_breaks (tree_in scope.now) (part_in scope.now) v.form v.place)
+        (visit_parts (plain_form item.now)))) }
 {
     form(alloc, found, scope, item, place)?;
     parts(alloc, found, scope, item)
@@ -170,7 +181,9 @@ fn block(
     block: &Block,
 ) -> Result<(), Memory>
     requires { IsScope scope.now }
-    ensures { OnOk result (found.new ≡ first_of found.old (flat_map (λ v. form_breaks (tree_in scope.now) (part_in scope.now) v.form v.place) (visit_block (plain_block block.now)))) }
+    ensures { OnOk result (found.new ≡ first_of found.old
+        (flat_map (λ v. form_breaks (tree_in scope.now) (part_in scope.now) v.form v.place)
+        (visit_block (plain_block block.now)))) }
 {
     for item in &block.statements {
         statement(alloc, found, scope, item)?;
@@ -188,7 +201,9 @@ fn otherwise(
     no: &Option<Block>,
 ) -> Result<(), Memory>
     requires { IsScope scope.now }
-    ensures { OnOk result (found.new ≡ first_of found.old (flat_map (λ v. form_breaks (tree_in scope.now) (part_in scope.now) v.form v.place) (visit_else (else_of (option_map plain_block no.now))))) }
+    ensures { OnOk result (found.new ≡ first_of found.old
+        (flat_map (λ v. form_breaks (tree_in scope.now) (part_in scope.now) v.form v.place)
+        (visit_else (else_of (option_map plain_block no.now))))) }
 {
     match no {
         None => Ok(()),
@@ -206,7 +221,9 @@ fn parts(
     form: &StatementForm,
 ) -> Result<(), Memory>
     requires { IsScope scope.now }
-    ensures { OnOk result (found.new ≡ first_of found.old (flat_map (λ v. form_breaks (tree_in scope.now) (part_in scope.now) v.form v.place) (visit_parts (plain_form form.now)))) }
+    ensures { OnOk result (found.new ≡ first_of found.old
+        (flat_map (λ v. form_breaks (tree_in scope.now) (part_in scope.now) v.form v.place)
+        (visit_parts (plain_form form.now)))) }
 {
     match form {
         StatementForm::Seq { block: body, .. }
@@ -235,7 +252,9 @@ pub fn component_statements(
     scope: &Scope,
 ) -> Result<(), Memory>
     requires { IsScope scope.now }
-    ensures { OnOk result (found.new ≡ first_of found.old (flat_map (λ v. form_breaks (tree_in scope.now) (part_in scope.now) v.form v.place) (statements_in (part_in scope.now)))) }
+    ensures { OnOk result (found.new ≡ first_of found.old
+        (flat_map (λ v. form_breaks (tree_in scope.now) (part_in scope.now) v.form v.place)
+        (statements_in (part_in scope.now)))) }
 {
     match &scope.part.control {
         None => Ok(()),

@@ -24,7 +24,8 @@ fn is_group(scope: &Scope, group: Option<&Name>, name: &Name) -> bool
 /// Whether a target is a go, the done of another group, or in a group an output of the signature.
 pub(crate) fn is_wrong_target(scope: &Scope, group: Option<&Name>, form: &OperandForm) -> bool
     requires { IsScope scope.now }
-    ensures { result ≡ rules.is_wrong_target (tree_in scope.now) (part_in scope.now) (option_copied group.entry) form.now }
+    ensures { result ≡
+        rules.is_wrong_target (tree_in scope.now) (part_in scope.now) (option_copied group.entry) form.now }
 {
     match form {
         OperandForm::Own(name) => group.is_some() && scope.is_output(name),

@@ -19,7 +19,8 @@ number_if true n = Some n
 number_if false n = None
 
 abbrev pub IsAddedTo : Numbers → List ℕ → ℕ → Numbers → Type 0
-IsAddedTo old name number new = (n : List ℕ) → number_in new n ≡ or_else (number_in old n) (number_if (same_name name n) number)
+IsAddedTo old name number new =
+    (n : List ℕ) → number_in new n ≡ or_else (number_in old n) (number_if (same_name name n) number)
 
 -- these are the numbers of the names of a list
 abbrev pub AreNumbersOf : List (List ℕ) → Numbers → Type 0

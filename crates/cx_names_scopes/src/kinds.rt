@@ -96,7 +96,9 @@ impl CellKind<'_> {
 
 // Whether a name is go, done or that of a port of the signature.
 fn is_component_port(index: &PartIndex, port: &Name) -> bool
-    ensures { result ≡ (((same_name (codes "go") port.now || is_some (number_in index.now.inputs port.now)) || is_some (number_in index.now.outputs port.now)) || same_name (codes "done") port.now) }
+    ensures { result ≡ (((same_name (codes "go") port.now ||
+        is_some (number_in index.now.inputs port.now)) || is_some (number_in index.now.outputs port.now)) ||
+        same_name (codes "done") port.now) }
 {
     is_named(port, b"go")
         || index.inputs.has(port)

@@ -38,7 +38,8 @@ pub fn has_port(primitive: &Primitive, name: &Name) -> bool
 
 /// Whether a primitive has an output of the name.
 pub fn has_output(scope: &Scope, primitive: &Primitive, name: &Name) -> bool
-    ensures { result ≡ is_among name.now (output_rows (tree_in scope.now) (part_in scope.now) (row_of primitive.now).ports) }
+    ensures { result ≡
+        is_among name.now (output_rows (tree_in scope.now) (part_in scope.now) (row_of primitive.now).ports) }
 {
     for number in 0..primitive.port_count() {
         if is_output_named(primitive.port(number), name) {

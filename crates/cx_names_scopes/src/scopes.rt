@@ -115,7 +115,8 @@ impl<'a> Scope<'a> {
     // The component of a name, as what a cell is of.
     fn component_kind(&self, name: &Name) -> CellKind<'a>
         requires { IsScope self.now }
-        ensures value { kind_of result ≡ or_component (component_among name.now (plain_tree self.now.tree.now).components) }
+        ensures value { kind_of result ≡
+            or_component (component_among name.now (plain_tree self.now.tree.now).components) }
         ensures sound { IsKind result }
     {
         match self.index.components.find(name) {

@@ -39,7 +39,9 @@ abbrev mutual
 -- the first true guard gives a register its source; without one it stays
 abbrev pub taken : (guard source : PlainNetDriver → Option BitVector) → ℕ → List PlainNetDriver → ℕ
 taken guard source old [] = old
-taken guard source old (d ∷ ds) = if option_map_or is_true (guard d) false then option_map_or (λ b. b.value) (source d) old else taken guard source old ds
+taken guard source old (d ∷ ds) =
+    if option_map_or is_true (guard d) false then option_map_or (λ b. b.value) (source d) old
+    else taken guard source old ds
 
 module _ (part : PlainNetComponent) (cells : NetCells) (around : NetAround) (s : NetState) (look : NetLook) where
   abbrev pub value_in : PlainNetDriver → Option BitVector
@@ -54,7 +56,8 @@ module _ (part : PlainNetComponent) (cells : NetCells) (around : NetAround) (s :
 abbrev mutual
   pub register_after : NetInstance → NetAround → NetState → NetLook → Path → ℕ → ℕ
   register_after (NetNode part cells) around s look [] n = own_register part cells around s look n
-  register_after (NetNode part cells) around s look (c ∷ path) n = register_below cells c (around_child c (look [])) (below_cell c s) (λ q. look (c ∷ q)) path n
+  register_after (NetNode part cells) around s look (c ∷ path) n =
+      register_below cells c (around_child c (look [])) (below_cell c s) (λ q. look (c ∷ q)) path n
 
   pub register_below : NetCells → ℕ → NetAround → NetState → NetLook → Path → ℕ → ℕ
   register_below no_net_cells c around s look path n = s.register path n

@@ -72,8 +72,10 @@ IsFitKind k (OfPrimitive primitive) = HasRow primitive
 IsFitKind k (OfComponent child) = child < k
 
 pub record IsFitComponent (net : PlainNet) (k : ℕ) : Type 0 where
-  pub drivers : (n : ℕ) (d : PlainNetDriver) → slice_get (net_component_at net k).drivers n ≡ Some d → IsFitDriver net (net_component_at net k) d
-  pub cells : (c : ℕ) (cell : PlainCell) → slice_get (net_component_at net k).cells c ≡ Some cell → IsFitKind k cell.kind
+  pub drivers : (n : ℕ) (d : PlainNetDriver) → slice_get (net_component_at net k).drivers n ≡ Some d
+      → IsFitDriver net (net_component_at net k) d
+  pub cells : (c : ℕ) (cell : PlainCell) → slice_get (net_component_at net k).cells c ≡ Some cell
+      → IsFitKind k cell.kind
 
 -- an external cell is a memory
 abbrev pub IsExternalKind : PlainKind → Type 0
@@ -82,7 +84,9 @@ IsExternalKind (OfComponent child) = ⊥
 
 pub record IsFit (net : PlainNet) : Type 0 where
   pub has_main : net.main < length net.components
-  pub externals : (c : ℕ) (cell : PlainCell) → slice_get (net_component_at net net.main).cells c ≡ Some cell → cell.external ≡ true → IsExternalKind cell.kind
+  pub externals : (c : ℕ) (cell : PlainCell)
+      → slice_get (net_component_at net net.main).cells c ≡ Some cell → cell.external ≡ true
+      → IsExternalKind cell.kind
   pub components : (k : ℕ) → k < length net.components → IsFitComponent net k
 
 -- what is left where holes are wires
@@ -91,7 +95,10 @@ HasNoHoles net = (k : ℕ) → (net_component_at net k).holes ≡ 0
 
 -- of each driver the target is there
 abbrev pub HasTargets : PlainNet → Type 0
-HasTargets n = (k : ℕ) → k < length n.components → (m : ℕ) (d : PlainNetDriver) → slice_get (net_component_at n k).drivers m ≡ Some d → IsSome (target_width n (net_component_at n k) d.target)
+HasTargets n =
+    (k : ℕ) → k < length n.components → (m : ℕ) (d : PlainNetDriver)
+    → slice_get (net_component_at n k).drivers m ≡ Some d
+    → IsSome (target_width n (net_component_at n k) d.target)
 
 -- WHAT EVERY NET KEEPS: its numbers name parts of it, its widths agree, and each component comes behind those of its cells, so that no cell
 -- leads back to its own component; and what its drivers drive is there

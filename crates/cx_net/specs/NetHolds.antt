@@ -14,8 +14,10 @@ use Rattle.cx_net.specs.NetPaths.{LeadsTo}
 
 -- below component k
 pub record Holds (net : PlainNet) (k : ℕ) (s : NetState) : Type 0 where
-  pub registers : (path : Path) (h n w : ℕ) → LeadsTo net k path h → slice_get (net_component_at net h).registers n ≡ Some w → s.register path n < 2 ^ w
-  pub cells : (path : Path) (h c : ℕ) (cell : PlainCell) (primitive : PrimitiveRow) → LeadsTo net k path h → slice_get (net_component_at net h).cells c ≡ Some cell → cell.kind ≡ OfPrimitive primitive
+  pub registers : (path : Path) (h n w : ℕ) → LeadsTo net k path h
+      → slice_get (net_component_at net h).registers n ≡ Some w → s.register path n < 2 ^ w
+  pub cells : (path : Path) (h c : ℕ) (cell : PlainCell) (primitive : PrimitiveRow) → LeadsTo net k path h
+      → slice_get (net_component_at net h).cells c ≡ Some cell → cell.kind ≡ OfPrimitive primitive
       → IsState (row_of primitive).shape (s.cell (path ++ c ∷ []))
 
 -- all widths are 1 to 128
@@ -30,4 +32,6 @@ IsWide net = (k : ℕ) → IsWideComponent (net_component_at net k)
 
 -- the ports of all rows are
 abbrev pub RowsAreWide : Type 0
-RowsAreWide = (primitive : PrimitiveRow) (n : ℕ) (port : PortRow) → slice_get (row_of primitive).ports n ≡ Some port → IsWidth port.width
+RowsAreWide =
+    (primitive : PrimitiveRow) (n : ℕ) (port : PortRow) → slice_get (row_of primitive).ports n ≡ Some port
+    → IsWidth port.width

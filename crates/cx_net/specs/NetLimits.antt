@@ -92,7 +92,8 @@ signature_size part = 2 + length part.inputs + length part.outputs
 -- the nets over a tree, its instances, and the words of its memories
 abbrev mutual
   pub nets_below : NetInstance → ℕ
-  nets_below (NetNode part cells) = (2 + signature_size part) + length part.wires + length part.registers + nets_in cells
+  nets_below (NetNode part cells) =
+      (2 + signature_size part) + length part.wires + length part.registers + nets_in cells
 
   pub nets_in : NetCells → ℕ
   nets_in no_net_cells = 0
@@ -125,9 +126,13 @@ pub record IsWritable (net : PlainNet) : Type 0 where
   pub no_inputs : (net_component_at net net.main).inputs ≡ []
   pub no_outputs : (net_component_at net net.main).outputs ≡ []
   -- external memories have names of their own
-  pub externals : (c : ℕ) (cell : PlainCell) → slice_get (net_component_at net net.main).cells c ≡ Some cell → cell.external ≡ true → IsWritableExternal cell
-  pub externals_apart : (c e : ℕ) (cell other : PlainCell) → slice_get (net_component_at net net.main).cells c ≡ Some cell → cell.external ≡ true
-      → slice_get (net_component_at net net.main).cells e ≡ Some other → other.external ≡ true → cell.name ≡ other.name → c ≡ e
+  pub externals : (c : ℕ) (cell : PlainCell)
+      → slice_get (net_component_at net net.main).cells c ≡ Some cell → cell.external ≡ true
+      → IsWritableExternal cell
+  pub externals_apart : (c e : ℕ) (cell other : PlainCell)
+      → slice_get (net_component_at net net.main).cells c ≡ Some cell → cell.external ≡ true
+      → slice_get (net_component_at net net.main).cells e ≡ Some other → other.external ≡ true
+      → cell.name ≡ other.name → c ≡ e
   -- the tree is not too large
   pub nets : nets_below (net_tree net) ≤ 4194304
   pub instances : instances_below (net_tree net) ≤ 131072

@@ -85,7 +85,8 @@ module _ (around : NetAround) (registers : ℕ → Option BitVector) (look : Nod
   -- the guards up to the first true one, and that one's source
   abbrev pub chain : BitVector → List PlainNetDriver → Option BitVector
   chain undriven [] = Some undriven
-  chain undriven (d ∷ ds) = option_and_then (λ g. if is_true g then net_expr d.source else chain undriven ds) (net_expr d.guard)
+  chain undriven (d ∷ ds) =
+      option_and_then (λ g. if is_true g then net_expr d.source else chain undriven ds) (net_expr d.guard)
 
 abbrev pub same_target : PlainNetTarget → PlainNetTarget → Bool
 same_target (ToPort (ports.Cell c p)) (ToPort (ports.Cell d q)) = if c == d then p == q else false
@@ -118,14 +119,16 @@ net_at_width (AChild child) p = child_port_width (net_part child) (net_part_port
 abbrev pub gather_known : (ℕ → Option BitVector) → (ℕ → Bool) → ℕ → List PortRow → Option Inputs
 gather_known look wanted p [] = Some []
 gather_known look wanted p (port ∷ rest) =
-    if wanted p then option_and_then (λ b. option_map (λ more. Some b ∷ more) (gather_known look wanted (suc p) rest)) (look p)
+    if wanted p then option_and_then
+    (λ b. option_map (λ more. Some b ∷ more) (gather_known look wanted (suc p) rest)) (look p)
     else option_map (λ more. None ∷ more) (gather_known look wanted (suc p) rest)
 
 abbrev pub zero_wide : ℕ → BitVector
 zero_wide w = record { width = w; value = 0 }
 
 -- ONE RULE, of a node of an instance; of the cells below only outputs and dones are looked at
-module _ (part : PlainNetComponent) (cells : NetCells) (around : NetAround) (s : NetState) (look : Node → Option BitVector) (below : ℕ → Node → Option BitVector) where
+module _ (part : PlainNetComponent) (cells : NetCells) (around : NetAround) (s : NetState)
+    (look : Node → Option BitVector) (below : ℕ → Node → Option BitVector) where
   abbrev pub registers_of : ℕ → Option BitVector
   registers_of n = option_map (λ w. record { width = w; value = s.register [] n }) (slice_get part.registers n)
 
@@ -168,7 +171,8 @@ around_child c look = record { go = look (APort (ports.Cell c 0)); input = λ n.
 abbrev mutual
   pub net_step : NetInstance → NetAround → NetState → NetLook → Path → Node → Option BitVector
   net_step (NetNode part cells) around s look [] node = own_step part cells around s (look []) (λ c. look (c ∷ [])) node
-  net_step (NetNode part cells) around s look (c ∷ path) node = child_step cells c (around_child c (look [])) (below_cell c s) (λ q. look (c ∷ q)) path node
+  net_step (NetNode part cells) around s look (c ∷ path) node =
+      child_step cells c (around_child c (look [])) (below_cell c s) (λ q. look (c ∷ q)) path node
 
   pub child_step : NetCells → ℕ → NetAround → NetState → NetLook → Path → Node → Option BitVector
   child_step no_net_cells c around s look path node = None

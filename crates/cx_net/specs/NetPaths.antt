@@ -12,7 +12,8 @@ use Rattle.cx_net.specs.NetFits.{port_width}
 abbrev pub LeadsTo : PlainNet → ℕ → Path → ℕ → Type 0
 LeadsTo net k [] h = k ≡ h
 LeadsTo net k (c ∷ path) h =
-    (cell : PlainCell) × (child : ℕ) × (slice_get (net_component_at net k).cells c ≡ Some cell) × (cell.kind ≡ OfComponent child) × LeadsTo net child path h
+    (cell : PlainCell) × (child : ℕ) × (slice_get (net_component_at net k).cells c ≡ Some cell)
+    × (cell.kind ≡ OfComponent child) × LeadsTo net child path h
 
 -- the width of a node; None where it is not there
 abbrev pub width_of_node : PlainNet → PlainNetComponent → Node → Option ℕ

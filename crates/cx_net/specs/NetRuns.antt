@@ -50,9 +50,12 @@ abbrev pub is_done : NetLook → Bool
 is_done look = option_map_or is_true (look [] TheDone) false
 
 pub data NetRunsFrom (tree : NetInstance) : NetState → ℕ → ℕ → Outcome → Type 0 where
-  ends : {s : NetState} {cycle left : ℕ} (look : NetLook) → IsWholeLook tree true s look → is_done look ≡ true → NetRunsFrom tree s cycle left (DoneAt cycle (net_words tree s))
-  spent : {s : NetState} {cycle : ℕ} (look : NetLook) → IsWholeLook tree true s look → is_done look ≡ false → NetRunsFrom tree s cycle 0 NotDone
-  goes_on : {s : NetState} {cycle left : ℕ} {o : Outcome} (look : NetLook) → IsWholeLook tree true s look → is_done look ≡ false
+  ends : {s : NetState} {cycle left : ℕ} (look : NetLook) → IsWholeLook tree true s look
+      → is_done look ≡ true → NetRunsFrom tree s cycle left (DoneAt cycle (net_words tree s))
+  spent : {s : NetState} {cycle : ℕ} (look : NetLook) → IsWholeLook tree true s look
+      → is_done look ≡ false → NetRunsFrom tree s cycle 0 NotDone
+  goes_on : {s : NetState} {cycle left : ℕ} {o : Outcome} (look : NetLook) → IsWholeLook tree true s look
+      → is_done look ≡ false
       → NetRunsFrom tree (net_after tree false true s look) (cycle + 1) left o → NetRunsFrom tree s cycle (suc left) o
 
 -- THE RUN OF A NET: one edge with reset and without go, and then cycles with go
@@ -63,13 +66,19 @@ pub data NetRun (tree : NetInstance) (loaded : List (List ℕ)) (last : ℕ) : O
 -- the states that a run comes to
 pub data Comes (tree : NetInstance) (loaded : List (List ℕ)) : Bool → NetState → Type 0 where
   at_reset : Comes tree loaded false (net_start tree loaded)
-  at_first : (look : NetLook) → IsWholeLook tree false (net_start tree loaded) look → Comes tree loaded true (net_after tree true false (net_start tree loaded) look)
-  at_next : {s : NetState} (look : NetLook) → Comes tree loaded true s → IsWholeLook tree true s look → Comes tree loaded true (net_after tree false true s look)
+  at_first : (look : NetLook) → IsWholeLook tree false (net_start tree loaded) look
+      → Comes tree loaded true (net_after tree true false (net_start tree loaded) look)
+  at_next : {s : NetState} (look : NetLook) → Comes tree loaded true s → IsWholeLook tree true s look
+      → Comes tree loaded true (net_after tree false true s look)
 
 -- GROUNDED: in each of them all has a value
 abbrev pub IsGrounded : (List (List ℕ) → Type 0) → NetInstance → Type 0
-IsGrounded Fits tree = (loaded : List (List ℕ)) → Fits loaded → (go : Bool) (s : NetState) → Comes tree loaded go s → (path : Path) (n : Node) → is_node tree path n ≡ true → (v : BitVector) × NetHas tree go s path n v
+IsGrounded Fits tree =
+    (loaded : List (List ℕ)) → Fits loaded → (go : Bool) (s : NetState) → Comes tree loaded go s
+    → (path : Path) (n : Node) → is_node tree path n ≡ true → (v : BitVector) × NetHas tree go s path n v
 
 -- words of memories that fit the external rows of a design
 abbrev pub AreWords : PlainDesign → List (List ℕ) → Type 0
-AreWords d loaded = (memories : List PlainMemory) × FitsRows (external_rows d) memories × (map (λ m. m.words) memories ≡ loaded)
+AreWords d loaded =
+    (memories : List PlainMemory) × FitsRows (external_rows d) memories
+    × (map (λ m. m.words) memories ≡ loaded)

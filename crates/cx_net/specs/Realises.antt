@@ -24,7 +24,8 @@ pub record RealisesBy (d : PlainDesign) (runs : List (List ℕ) → ℕ → Outc
       → run_main d (words_loaded memories) budget ≡ End after turns
       → runs (words_loaded memories) budget (DoneAt turns (words_of (tree_of d) after))
   -- where `done` comes in a cycle, the run of main with as many turns has ended or has a fault
-  pub ends_only : (memories : List PlainMemory) (budget cycle : ℕ) (left : List (List ℕ)) → FitsRows (external_rows d) memories
+  pub ends_only : (memories : List PlainMemory) (budget cycle : ℕ) (left : List (List ℕ))
+      → FitsRows (external_rows d) memories
       → runs (words_loaded memories) budget (DoneAt cycle left)
       → run_main d (words_loaded memories) cycle ≢ More
   -- each run comes to something, and not to a net without a value
@@ -37,6 +38,7 @@ pub record Realises (d : PlainDesign) (source : PlainSource) : Type 0 where
   pub runs : RealisesBy d (SimRun source)
 
 -- for words that fit, what one comes to the other comes to
-abbrev pub Follows : List PlainRow → (List (List ℕ) → ℕ → Outcome → Type 0) → (List (List ℕ) → ℕ → Outcome → Type 0) → Type 0
+abbrev pub Follows : List PlainRow → (List (List ℕ) → ℕ → Outcome → Type 0)
+    → (List (List ℕ) → ℕ → Outcome → Type 0) → Type 0
 Follows rows first second = (memories : List PlainMemory) (last : ℕ) (o : Outcome) → FitsRows rows memories
     → first (words_loaded memories) last o → second (words_loaded memories) last o

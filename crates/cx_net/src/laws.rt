@@ -8,5 +8,6 @@ ghost use Rattle.cx_net.specs.Nets.{PlainNet};
 
 /// No cell of a net leads back to the component that it stands in.
 pub fn no_cell_leads_back()
-    ensures { (net : PlainNet) (k c : ℕ) (path : Path) → IsNet net → k < length net.components → LeadsTo net k (c ∷ path) k → ⊥ }
+    ensures { (net : PlainNet) (k c : ℕ) (path : Path) → IsNet net → k < length net.components →
+        LeadsTo net k (c ∷ path) k → ⊥ }
 {}

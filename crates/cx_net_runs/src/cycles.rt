@@ -18,7 +18,8 @@ use cx_vsim::trees_can_be_built;
 /// Finds the values of all nets, or the first net that has none.
 fn values(machine: &Machine, bench: &mut Bench, stored: &Stored) -> Option<usize>
     requires ready { IsReady machine.now stored.now bench.old }
-    ensures value { MatchOption result (AreValues machine.now stored.now bench.new.values.items) (IsFirstWithout machine.now.nets stored.now) }
+    ensures value { MatchOption result (AreValues machine.now stored.now bench.new.values.items)
+        (IsFirstWithout machine.now.nets stored.now) }
     ensures ready { IsReady machine.now stored.now bench.new }
 {
     settle(
@@ -41,7 +42,8 @@ pub(crate) fn cycle(
 )
     requires ready { IsReady machine.now stored.old bench.old }
     ensures ready { IsReady machine.now stored.new bench.new }
-    ensures value { (net : PlainNet) (s : NetState) (look : NetLook) → StandsIn net s machine.now stored.old → IsWholeLook (net_tree net) go s look
+    ensures value { (net : PlainNet) (s : NetState) (look : NetLook) →
+        StandsIn net s machine.now stored.old → IsWholeLook (net_tree net) go s look
         → StandsIn net (net_after (net_tree net) reset go s look) machine.now stored.new }
 {
     codes_have_widths();
@@ -65,8 +67,10 @@ fn shows_done(machine: &Machine, bench: &Bench, stored: &Stored) -> bool
 pub(crate) fn tells_done(machine: &Machine, bench: &mut Bench, stored: &mut Stored) -> bool
     requires ready { IsReady machine.now stored.old bench.old }
     ensures ready { IsReady machine.now stored.new bench.new }
-    ensures stands { (net : PlainNet) (s : NetState) → StandsIn net s machine.now stored.old → StandsIn net s machine.now stored.new }
-    ensures value { (net : PlainNet) (s : NetState) (look : NetLook) → StandsIn net s machine.now stored.old → IsWholeLook (net_tree net) true s look
+    ensures stands { (net : PlainNet) (s : NetState) → StandsIn net s machine.now stored.old →
+        StandsIn net s machine.now stored.new }
+    ensures value { (net : PlainNet) (s : NetState) (look : NetLook) →
+        StandsIn net s machine.now stored.old → IsWholeLook (net_tree net) true s look
         → result ≡ is_done look }
 {
     trees_can_be_built();

@@ -37,8 +37,10 @@ pub(crate) fn set_inputs(
 /// The edge of a cycle whose nets all have their values.
 pub(crate) fn end_cycle(machine: &Machine, bench: &mut Bench, stored: &mut Stored, reset: bool)
     requires ready { IsReady machine.now stored.old bench.old }
-    ensures with_reset { reset ≡ true → IsAfter machine.now.nets.codes.items machine.now.resets.items [] bench.old.values.items stored.old stored.new }
-    ensures without { reset ≡ false → IsAfter machine.now.nets.codes.items machine.now.sets.items machine.now.stores.items bench.old.values.items stored.old stored.new }
+    ensures with_reset { reset ≡ true → IsAfter machine.now.nets.codes.items machine.now.resets.items []
+        bench.old.values.items stored.old stored.new }
+    ensures without { reset ≡ false → IsAfter machine.now.nets.codes.items machine.now.sets.items
+        machine.now.stores.items bench.old.values.items stored.old stored.new }
     ensures ready { IsReady machine.now stored.new bench.new }
 {
     if reset {

@@ -24,9 +24,13 @@ use std::alloc::Global;
 /// The machine of a net's source, with the loaded words.
 fn started(alloc: Global, net: &Net, loaded: &Loaded) -> Result<Built, Memory>
     requires net { CanBeEmitted (plain_net net.now) }
-    requires words { FitsRows (rows_of (net_component_at (plain_net net.now) (plain_net net.now).main).cells) (plain_loaded loaded.now) }
+    requires words { FitsRows
+        (rows_of (net_component_at (plain_net net.now) (plain_net net.now).main).cells)
+        (plain_loaded loaded.now) }
     ensures ready { IfOk result (λ b. IsReady b.machine b.stored b.bench) }
-    ensures stands { IfOk result (λ b. StandsIn (plain_net net.now) (net_start (net_tree (plain_net net.now)) (words_loaded (plain_loaded loaded.now))) b.machine b.stored) }
+    ensures stands { IfOk result (λ b. StandsIn (plain_net net.now)
+        (net_start (net_tree (plain_net net.now)) (words_loaded (plain_loaded loaded.now))) b.machine
+        b.stored) }
 {
     let source = emit(alloc, net)?;
     source_is_sound(&source);
@@ -47,9 +51,12 @@ impl NetState {
     /// register 0.
     pub fn start(alloc: Global, net: &Net, loaded: &Loaded) -> Result<NetState, Memory>
         requires net { CanBeEmitted (plain_net net.now) }
-        requires words { FitsRows (rows_of (net_component_at (plain_net net.now) (plain_net net.now).main).cells) (plain_loaded loaded.now) }
+        requires words { FitsRows
+            (rows_of (net_component_at (plain_net net.now) (plain_net net.now).main).cells)
+            (plain_loaded loaded.now) }
         ensures ready { IfOk result CanStep }
-        ensures value { IfOk result (StandsFor (plain_net net.now) (net_start (net_tree (plain_net net.now)) (words_loaded (plain_loaded loaded.now)))) }
+        ensures value { IfOk result (StandsFor (plain_net net.now)
+            (net_start (net_tree (plain_net net.now)) (words_loaded (plain_loaded loaded.now)))) }
     {
         let mut built = started(alloc, net, loaded)?;
         let done = tells_done(&built.machine, &mut built.bench, &mut built.stored);
@@ -58,7 +65,8 @@ impl NetState {
 
     /// Whether `done` of `main` is 1 in a cycle without reset and with go, where all of the net has a value. It takes no memory.
     pub fn done(&self) -> bool
-        ensures value { (net : PlainNet) (s : StateOf) (look : NetLook) → StandsFor net s self.now → IsWholeLook (net_tree net) true s look
+        ensures value { (net : PlainNet) (s : StateOf) (look : NetLook) → StandsFor net s self.now →
+            IsWholeLook (net_tree net) true s look
             → result ≡ is_done look }
     {
         self.done
@@ -68,7 +76,8 @@ impl NetState {
     pub fn step(&mut self, reset: bool, go: bool)
         requires ready { CanStep self.old }
         ensures ready { CanStep self.new }
-        ensures value { (net : PlainNet) (s : StateOf) (look : NetLook) → StandsFor net s self.old → IsWholeLook (net_tree net) go s look
+        ensures value { (net : PlainNet) (s : StateOf) (look : NetLook) → StandsFor net s self.old →
+            IsWholeLook (net_tree net) go s look
             → StandsFor net (net_after (net_tree net) reset go s look) self.new }
     {
         let built = &mut self.built;

@@ -49,7 +49,8 @@ named name place = record { name = name; place = place }
 
 abbrev pub duplicates : List (List ℕ) → List Named → List Diagnostic
 duplicates before [] = []
-duplicates before (x ∷ xs) = tell_if (is_among x.name before) Duplicate x.place x.name ++ duplicates (x.name ∷ before) xs
+duplicates before (x ∷ xs) =
+    tell_if (is_among x.name before) Duplicate x.place x.name ++ duplicates (x.name ∷ before) xs
 
 abbrev pub bind_names : List BindItem → List Named
 bind_names binds = map (λ b. named b.name b.place) binds
@@ -148,11 +149,15 @@ module _ (tree : ast.PlainTree) (part : ast.PlainComponent) where
 
   -- clk and reset of a component's cell are there, and left out
   abbrev pub is_clock : List ℕ → List ℕ → Bool
-  is_clock cell port = found_component (cell_among cell part.cells) && (same_name port (codes "clk") || same_name port (codes "reset"))
+  is_clock cell port =
+      found_component (cell_among cell part.cells)
+      && (same_name port (codes "clk") || same_name port (codes "reset"))
 
   -- go and done of a cell of a static component are there, and left out
   abbrev pub is_static_end : List ℕ → List ℕ → Bool
-  is_static_end cell port = is_some (found_latency tree (cell_among cell part.cells)) && (same_name port (codes "go") || same_name port (codes "done"))
+  is_static_end cell port =
+      is_some (found_latency tree (cell_among cell part.cells))
+      && (same_name port (codes "go") || same_name port (codes "done"))
 
   abbrev pub is_own : List ℕ → Bool
   is_own name = is_among name (port_names part.inputs) || is_among name (port_names part.outputs)
@@ -161,7 +166,9 @@ module _ (tree : ast.PlainTree) (part : ast.PlainComponent) where
   abbrev pub is_unknown : OperandForm → Bool
   is_unknown (operands.Own name) = not (is_own name || is_own_name name)
   is_unknown (operands.Port cell port) = not (is_among port (cell_ports cell) || is_clock cell port)
-  is_unknown (operands.Hole group hole) = not (is_among group (group_names part) && (same_name hole (codes "go") || same_name hole (codes "done")))
+  is_unknown (operands.Hole group hole) =
+      not
+      (is_among group (group_names part) && (same_name hole (codes "go") || same_name hole (codes "done")))
   is_unknown (operands.Literal width value) = false
 
   abbrev pub unknown : OperandItem → List Diagnostic
@@ -208,7 +215,8 @@ module _ (tree : ast.PlainTree) (part : ast.PlainComponent) where
   abbrev pub assign_breaks : Standing → List Diagnostic
   assign_breaks x =
       unknown x.assign.target
-      ++ tell_if (is_left_out x.assign.target.form || is_wrong_target x.group x.assign.target.form || is_bare_done x.assign) LeftOut x.assign.target.place (path_of x.assign.target.form)
+      ++ tell_if (is_left_out x.assign.target.form || is_wrong_target x.group x.assign.target.form ||
+      is_bare_done x.assign) LeftOut x.assign.target.place (path_of x.assign.target.form)
       ++ source_breaks x.assign.source
       ++ flat_map source_breaks (guard_operands x.assign.guard)
 
@@ -236,7 +244,8 @@ module _ (tree : ast.PlainTree) (part : ast.PlainComponent) where
   -- INVOKES. The names of the outputs of a cell, its done among them
   abbrev pub output_rows : List PortRow → List (List ℕ)
   output_rows [] = []
-  output_rows (port ∷ rest) = if is_output_side port.side then text_of port.name ∷ output_rows rest else output_rows rest
+  output_rows (port ∷ rest) =
+      if is_output_side port.side then text_of port.name ∷ output_rows rest else output_rows rest
 
   abbrev pub output_names : CellOf → List (List ℕ)
   output_names Neither = []
@@ -271,14 +280,16 @@ module _ (tree : ast.PlainTree) (part : ast.PlainComponent) where
   abbrev pub input_breaks : List ℕ → CellOf → BindItem → List Diagnostic
   input_breaks cell of bind =
       tell_if (not (is_among bind.name (cell_ports cell) || is_clock cell bind.name)) UnknownName bind.place bind.name
-      ++ tell_if (is_among bind.name (output_names of) || is_go_name (cell_go of) bind.name || is_clock cell bind.name) LeftOut bind.place bind.name
+      ++ tell_if (is_among bind.name (output_names of) || is_go_name (cell_go of) bind.name ||
+      is_clock cell bind.name) LeftOut bind.place bind.name
       ++ source_breaks bind.value
 
   -- an output is an output of the cell, and no done of a static one; it is bound to `in` of a std_reg
   abbrev pub output_breaks : List ℕ → CellOf → BindItem → List Diagnostic
   output_breaks cell of bind =
       tell_if (not (is_among bind.name (cell_ports cell) || is_clock cell bind.name)) UnknownName bind.place bind.name
-      ++ tell_if (not (is_among bind.name (output_names of)) || is_static_end cell bind.name) LeftOut bind.place bind.name
+      ++ tell_if (not (is_among bind.name (output_names of)) || is_static_end cell bind.name) LeftOut
+      bind.place bind.name
       ++ unknown bind.value
       ++ tell_if (not (is_register_in bind.value.form)) LeftOut bind.value.place (path_of bind.value.form)
 
@@ -301,33 +312,41 @@ module _ (tree : ast.PlainTree) (part : ast.PlainComponent) where
   form_breaks (statements.Repeat count body) place = []
   form_breaks (statements.StaticRepeat length count body) place = []
   form_breaks (statements.Invoke cell inputs outputs) place =
-      duplicates [] (bind_names inputs) ++ duplicates [] (bind_names outputs) ++ invoke_on cell inputs outputs place (cell_among cell part.cells)
+      duplicates [] (bind_names inputs) ++ duplicates [] (bind_names outputs)
+      ++ invoke_on cell inputs outputs place (cell_among cell part.cells)
   form_breaks (statements.StaticInvoke length cell inputs outputs) place =
-      duplicates [] (bind_names inputs) ++ duplicates [] (bind_names outputs) ++ invoke_on cell inputs outputs place (cell_among cell part.cells)
+      duplicates [] (bind_names inputs) ++ duplicates [] (bind_names outputs)
+      ++ invoke_on cell inputs outputs place (cell_among cell part.cells)
 
   -- CELLS. RULE unknown-primitive, and RULE bad-parameters: numbers that break the row, or numbers of a component's cell
   abbrev pub kind_breaks : ast.PlainCell → CellOf → List Diagnostic
   kind_breaks cell Neither = tell UnknownPrimitive cell.place cell.kind ∷ []
-  kind_breaks cell (APrimitive primitive) = tell_if (is_none (row_at primitive.name primitive.numbers)) BadParameters cell.place cell.name
-  kind_breaks cell (AComponent component) = tell_if (not (nat_eq (length cell.numbers) 0)) BadParameters cell.place cell.name
+  kind_breaks cell (APrimitive primitive) =
+      tell_if (is_none (row_at primitive.name primitive.numbers)) BadParameters cell.place cell.name
+  kind_breaks cell (AComponent component) =
+      tell_if (not (nat_eq (length cell.numbers) 0)) BadParameters cell.place cell.name
 
   -- external on what is no memory, is not in main, or has words of over 64 bits
   abbrev pub is_narrow_memory : CellOf → Bool
   is_narrow_memory Neither = false
-  is_narrow_memory (APrimitive primitive) = is_memory (row_of primitive).shape && nat_le (first_number primitive.numbers) 64
+  is_narrow_memory (APrimitive primitive) =
+      is_memory (row_of primitive).shape && nat_le (first_number primitive.numbers) 64
   is_narrow_memory (AComponent component) = false
 
   abbrev pub is_main : Bool
   is_main = same_name part.name (codes "main")
 
   abbrev pub external_breaks : ast.PlainCell → List Diagnostic
-  external_breaks cell = tell_if (is_external cell && not (is_main && is_narrow_memory (cell_of tree cell))) LeftOut cell.place cell.name
+  external_breaks cell =
+      tell_if (is_external cell && not (is_main && is_narrow_memory (cell_of tree cell))) LeftOut cell.place
+      cell.name
 
   -- SIGNATURE PORTS. A width that is not 1 to 128 is RULE bad-parameters. Left out are: a port of main other than the own
   -- four; one of these on the wrong side, of another width than 1, or with the attribute of another; and another port with one
   abbrev pub has_other_attribute : List ℕ → List Attribute → Bool
   has_other_attribute name [] = false
-  has_other_attribute name (a ∷ rest) = (is_own_name a.name && not (same_name a.name name)) || has_other_attribute name rest
+  has_other_attribute name (a ∷ rest) =
+      (is_own_name a.name && not (same_name a.name name)) || has_other_attribute name rest
 
   abbrev pub is_on_side : Bool → List ℕ → Bool
   is_on_side true name = not (same_name name (codes "done"))
@@ -358,18 +377,22 @@ some_part test (part ∷ rest) = test part || some_part test rest
 
 abbrev pub leads_back : ast.PlainTree → List ℕ → ℕ → ast.PlainComponent → Bool
 leads_back tree name zero part = same_name part.name name
-leads_back tree name (suc n) part = same_name part.name name || some_part (leads_back tree name n) (component_kinds tree part)
+leads_back tree name (suc n) part =
+    same_name part.name name || some_part (leads_back tree name n) (component_kinds tree part)
 
 abbrev pub circle_breaks : ast.PlainTree → ast.PlainComponent → ast.PlainCell → CellOf → List Diagnostic
 circle_breaks tree part cell Neither = []
 circle_breaks tree part cell (APrimitive primitive) = []
-circle_breaks tree part cell (AComponent component) = tell_if (leads_back tree part.name (length tree.components) component) Recursive cell.place cell.name
+circle_breaks tree part cell (AComponent component) =
+    tell_if (leads_back tree part.name (length tree.components) component) Recursive cell.place cell.name
 
 abbrev pub recursive_breaks : ast.PlainTree → ast.PlainComponent → ast.PlainCell → List Diagnostic
 recursive_breaks tree part cell = circle_breaks tree part cell (cell_of tree cell)
 
 abbrev pub cell_breaks : ast.PlainTree → ast.PlainComponent → ast.PlainCell → List Diagnostic
-cell_breaks tree part cell = kind_breaks tree part cell (cell_of tree cell) ++ external_breaks tree part cell ++ recursive_breaks tree part cell
+cell_breaks tree part cell =
+    kind_breaks tree part cell (cell_of tree cell) ++ external_breaks tree part cell
+    ++ recursive_breaks tree part cell
 
 -- a static main
 abbrev pub main_static : ast.PlainTree → ast.PlainComponent → List Diagnostic
@@ -394,7 +417,9 @@ import_breaks item = tell_if (not (begins_with (codes "primitives/") item.path))
 
 -- RULE no-main
 abbrev pub main_breaks : ast.PlainTree → List Diagnostic
-main_breaks tree = tell_if (not (is_among (codes "main") (component_names tree))) NoMain (record { line = 1; column = 1 }) []
+main_breaks tree =
+    tell_if (not (is_among (codes "main") (component_names tree))) NoMain
+    (record { line = 1; column = 1 }) []
 
 -- ALL BREAKS of the rules on names
 abbrev pub name_breaks : ast.PlainTree → List Diagnostic

@@ -31,12 +31,17 @@ is_among name names = is_some (number_of name names)
 -- the primitives that a text can name, all but the internal timer
 abbrev pub primitive_names : List PrimitiveName
 primitive_names =
-    primitives.Const ∷ primitives.Wire ∷ primitives.Add ∷ primitives.Sub ∷ primitives.And ∷ primitives.Or ∷ primitives.Xor ∷ primitives.Not
-    ∷ primitives.Lsh ∷ primitives.Rsh ∷ primitives.Lt ∷ primitives.Gt ∷ primitives.Equal ∷ primitives.Neq ∷ primitives.Le ∷ primitives.Ge
-    ∷ primitives.Slt ∷ primitives.Sgt ∷ primitives.Seq ∷ primitives.Sneq ∷ primitives.Sle ∷ primitives.Sge ∷ primitives.Slice ∷ primitives.Pad
-    ∷ primitives.Mux ∷ primitives.Reg ∷ primitives.StdMemD1 ∷ primitives.StdMemD2 ∷ primitives.StdMemD3 ∷ primitives.StdMemD4
+    primitives.Const ∷ primitives.Wire ∷ primitives.Add ∷ primitives.Sub ∷ primitives.And ∷ primitives.Or
+    ∷ primitives.Xor ∷ primitives.Not
+    ∷ primitives.Lsh ∷ primitives.Rsh ∷ primitives.Lt ∷ primitives.Gt ∷ primitives.Equal ∷ primitives.Neq
+    ∷ primitives.Le ∷ primitives.Ge
+    ∷ primitives.Slt ∷ primitives.Sgt ∷ primitives.Seq ∷ primitives.Sneq ∷ primitives.Sle ∷ primitives.Sge
+    ∷ primitives.Slice ∷ primitives.Pad
+    ∷ primitives.Mux ∷ primitives.Reg ∷ primitives.StdMemD1 ∷ primitives.StdMemD2 ∷ primitives.StdMemD3
+    ∷ primitives.StdMemD4
     ∷ primitives.CombMemD1 ∷ primitives.CombMemD2 ∷ primitives.CombMemD3 ∷ primitives.CombMemD4
-    ∷ primitives.SeqMemD1 ∷ primitives.SeqMemD2 ∷ primitives.SeqMemD3 ∷ primitives.SeqMemD4 ∷ primitives.MultPipe ∷ primitives.DivPipe ∷ []
+    ∷ primitives.SeqMemD1 ∷ primitives.SeqMemD2 ∷ primitives.SeqMemD3 ∷ primitives.SeqMemD4
+    ∷ primitives.MultPipe ∷ primitives.DivPipe ∷ []
 
 abbrev pub primitive_among : List ℕ → List PrimitiveName → Option PrimitiveName
 primitive_among name [] = None
@@ -119,7 +124,8 @@ cell_of tree cell = primitive_or (primitive_of cell.kind) cell.numbers (componen
 abbrev pub cell_port_names : CellOf → List (List ℕ)
 cell_port_names Neither = []
 cell_port_names (APrimitive primitive) = map (λ port. text_of port.name) (row_of primitive).ports
-cell_port_names (AComponent part) = codes "go" ∷ (port_names part.inputs ++ (port_names part.outputs ++ (codes "done" ∷ [])))
+cell_port_names (AComponent part) =
+    codes "go" ∷ (port_names part.inputs ++ (port_names part.outputs ++ (codes "done" ∷ [])))
 
 abbrev pub found_cell_ports : ast.PlainTree → Option ast.PlainCell → List (List ℕ)
 found_cell_ports tree None = []

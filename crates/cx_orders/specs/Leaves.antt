@@ -26,7 +26,8 @@ rested i driven s = merge driven (idle i s) s
 -- A TURN OF A GROUP
 abbrev pub own_turn : Instance → Held → ℕ → State → Turn State Fault
 own_turn i held g s =
-    hole_turn g (cycle_of i held (group g) (group_drives (part_of i) g) s) (truth_of (seen i held (group g) s (ports.Done g)))
+    hole_turn g (cycle_of i held (group g) (group_drives (part_of i) g) s)
+    (truth_of (seen i held (group g) s (ports.Done g)))
 
 -- THE CAPTURE CYCLE of a call
 abbrev pub own_capture : Instance → Held → ℕ → ℕ → State → Turn State Fault
@@ -49,7 +50,8 @@ samples_now i held form h t s = sampled_now (is_tested form) h t (seen i held no
 -- CYCLE t OF AN ISLAND; h knows the samples, those of this cycle included
 abbrev pub own_cycle : Instance → Held → Set → List Occurrence → ℕ → History → State → Turn State Fault
 own_cycle i held driven list t h s =
-    unless_unclear (first_unclear (seen i held nothing s) (looked_at h t list)) (cycle_of i held (entries (active_in h t list)) driven s)
+    unless_unclear (first_unclear (seen i held nothing s) (looked_at h t list))
+    (cycle_of i held (entries (active_in h t list)) driven s)
 
 abbrev pub own_island : Instance → Held → PlainForm → ℕ → History → State → Turn State Fault
 own_island i held form t h s = own_cycle i held (form_drives (part_of i) form) (form_flat (part_of i) form 0 []) t h s

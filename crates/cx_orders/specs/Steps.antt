@@ -99,12 +99,15 @@ abbrev mutual
   step i held Idling k s = Now None s
   step i held (InGroup g) k s = turned (own_turn i held g s) (rested i (group_drives (part_of i) g) s) (InGroup g)
   step i held (Choosing port comb a b) k s =
-      tested (test i held port comb s) (rested i (test_drives (part_of i) comb) s) (Some (open_statement i a)) (Some (open_statement i b))
+      tested (test i held port comb s) (rested i (test_drives (part_of i) comb) s)
+      (Some (open_statement i a)) (Some (open_statement i b))
   step i held (Testing port comb body) k s =
-      tested (test i held port comb s) (rested i (test_drives (part_of i) comb) s) (Some (InLoop (open_statement i body) port comb body)) None
+      tested (test i held port comb s) (rested i (test_drives (part_of i) comb) s)
+      (Some (InLoop (open_statement i body) port comb body)) None
   step i held (InIsland form t zero h) k s = Now None (rested i (form_drives (part_of i) form) s)
   step i held (InIsland form t (suc left) h) k s =
-      turned (own_island i held form t (samples_now i held form h t s) s) s (InIsland form (suc t) left (samples_now i held form h t s))
+      turned (own_island i held form t (samples_now i held form h t s) s) s
+      (InIsland form (suc t) left (samples_now i held form h t s))
   step i held (Capturing g c) k s = turned (own_capture i held g c s) s (Closing g)
   step i held (Closing g) k s = Now None (rested i (group_drives (part_of i) g) s)
   step i held Waiting k s = Now (Some Waiting) s

@@ -36,7 +36,9 @@ weave_from i held choice (suc left) made sum (Some now) s =
 
 -- WOVEN, from the start with the loaded words, with so many choices
 abbrev pub woven : PlainDesign → List (List ℕ) → Choices → ℕ → Woven
-woven d words choice steps = weave_from (tree_of d) unheld choice steps 0 0 (Some (open_control (tree_of d))) (start (tree_of d) words)
+woven d words choice steps =
+    weave_from (tree_of d) unheld choice steps 0 0 (Some (open_control (tree_of d)))
+    (start (tree_of d) words)
 
 -- WHAT IS OPEN after so many choices, and the state then; or the fault that a leaf has before
 abbrev pub then_open : Stepped (Option Open) → (Option Open → State → Stepped (Option Open)) → Stepped (Option Open)
@@ -46,10 +48,12 @@ then_open (Stops fault) go = Stops fault
 abbrev pub open_from : Instance → Held → Choices → ℕ → ℕ → Option Open → State → Stepped (Option Open)
 open_from i held choice zero made now s = Now now s
 open_from i held choice (suc left) made None s = Now None s
-open_from i held choice (suc left) made (Some now) s = then_open (step i held now (leaf_of (choice made) now) s) (open_from i held choice left (suc made))
+open_from i held choice (suc left) made (Some now) s =
+    then_open (step i held now (leaf_of (choice made) now) s) (open_from i held choice left (suc made))
 
 abbrev pub open_after : PlainDesign → List (List ℕ) → Choices → ℕ → Stepped (Option Open)
-open_after d words choice steps = open_from (tree_of d) unheld choice steps 0 (Some (open_control (tree_of d))) (start (tree_of d) words)
+open_after d words choice steps =
+    open_from (tree_of d) unheld choice steps 0 (Some (open_control (tree_of d))) (start (tree_of d) words)
 
 -- the choices of a list, from its front again and again
 abbrev pub by_list : List ℕ → Choices

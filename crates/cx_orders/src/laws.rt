@@ -20,13 +20,16 @@ use cx_meaning::laws::designs_keep_idle;
 /// In an accepted design, where one order of the leaves ends, every order does with as many choices, in the same state; with
 /// fewer it has not ended, and none has a fault.
 pub fn orders_agree()
-    ensures ends { (d : PlainDesign) (words : List (List ℕ)) (one other : Choices) (n m : ℕ) (after : State) (made sum : ℕ)
+    ensures ends { (d : PlainDesign) (words : List (List ℕ)) (one other : Choices) (n m : ℕ)
+        (after : State) (made sum : ℕ)
         → IsDesign d → IsAccepted d → woven d words one n ≡ Ends after made sum → made ≤ m
         → (others : ℕ) × (woven d words other m ≡ Ends after made others) }
-    ensures goes_on { (d : PlainDesign) (words : List (List ℕ)) (one other : Choices) (n m : ℕ) (after : State) (made sum : ℕ)
+    ensures goes_on { (d : PlainDesign) (words : List (List ℕ)) (one other : Choices) (n m : ℕ)
+        (after : State) (made sum : ℕ)
         → IsDesign d → IsAccepted d → woven d words one n ≡ Ends after made sum → m < made
         → woven d words other m ≡ More }
-    ensures faults { (d : PlainDesign) (words : List (List ℕ)) (one other : Choices) (n m : ℕ) (after : State) (made sum : ℕ) (fault : Fault) (before : ℕ)
+    ensures faults { (d : PlainDesign) (words : List (List ℕ)) (one other : Choices) (n m : ℕ)
+        (after : State) (made sum : ℕ) (fault : Fault) (before : ℕ)
         → IsDesign d → IsAccepted d → woven d words one n ≡ Ends after made sum
         → woven d words other m ≡ Faults fault before → ⊥ }
 {

@@ -4,8 +4,8 @@ use Rattle.std.specs.List.{list_any}
 use Rattle.std.specs.Cmp.Lexicographic.{pointwise}
 use Rattle.cx_outside.specs.Counts.{raised}
 
--- files in memory: names with what they hold, the numbers of the calls that fail, how many calls and faults there were, and the names of the
--- reads that failed
+-- files in memory: names with what they hold, the numbers of the calls that fail, how many calls and faults there
+-- were, and the names of the reads that failed
 pub record MemoryFiles : Type 0 where
   pub entries : List (List ℕ × List ℕ)
   pub fails : List ℕ

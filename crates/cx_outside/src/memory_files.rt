@@ -36,7 +36,8 @@ impl MemFiles {
     /// Each entry is a name and the bytes that it holds. `fails` lists the numbers of the calls that fail, from 1;
     /// the number of a call stays at 2^64 - 1 once it is reached.
     pub fn new(entries: Vec<(Word, Word)>, fails: Vec<u64>) -> MemFiles
-        ensures value { result ≡ record { entries = entries.items; fails = fails.items; calls = 0; faults = 0; failures = [] } }
+        ensures value { result ≡
+            record { entries = entries.items; fails = fails.items; calls = 0; faults = 0; failures = [] } }
     {
         MemFiles {
             entries,
@@ -60,7 +61,8 @@ impl Files for MemFiles {
         ensures exact { MatchResult (read_answer self.old name.now limit)
             (λ bytes. MatchResult result (λ read. read.items ≡ bytes) (λ e. e ≡ FileAnswer.Memory))
             (λ e. IsErrOf result e ⊎ ((e ≡ FileAnswer.Failed) × IsErrOf result FileAnswer.Memory)) }
-        ensures after { MatchResult result (λ _. self.new ≡ after_read self.old) (λ e. self.new ≡ after_answer e name.now self.old) }
+        ensures after { MatchResult result (λ _. self.new ≡ after_read self.old)
+            (λ e. self.new ≡ after_answer e name.now self.old) }
         ensures count { self.old.faults ≤ self.new.faults }
     {
         self.calls = raise(self.calls);

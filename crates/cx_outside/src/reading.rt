@@ -29,7 +29,8 @@ impl From<AllocError> for FileAnswer {
     }
 }
 
-/// Files by name. What they hold is told or not told; their faults are counted, and the count never falls; which reads failed is always told.
+/// Files by name. What they hold is told or not told; their faults are counted, and the count never falls; which
+/// reads failed is always told.
 pub trait Files {
     /// Where it is told: for each name the bytes that it holds, or none.
     ghost held: { Self → Option (List ℕ → Option (List ℕ)) };
@@ -50,9 +51,11 @@ pub trait Files {
         ensures too_long { (seen : ℕ) → IsErrOf result (FileAnswer.TooLong seen) →
             (limit < seen) × HasLength (held self.old) name.now seen }
         ensures over { (bytes : List ℕ) → IsHeld (held self.old) name.now bytes → limit < length bytes →
-            IsErrOf result (FileAnswer.TooLong (length bytes)) ⊎ (IsErrOf result FileAnswer.Failed ⊎ IsErrOf result FileAnswer.Memory) }
+            IsErrOf result (FileAnswer.TooLong (length bytes))
+            ⊎ (IsErrOf result FileAnswer.Failed ⊎ IsErrOf result FileAnswer.Memory) }
 
-        ensures names { MatchResult result (λ _. failures self.new ≡ failures self.old) (λ e. failures self.new ≡ failed_by e name.now (failures self.old)) }
+        ensures names { MatchResult result (λ _. failures self.new ≡ failures self.old)
+            (λ e. failures self.new ≡ failed_by e name.now (failures self.old)) }
 
         ensures kept { held self.new ≡ held self.old }
         ensures count { faults self.old ≤ faults self.new };

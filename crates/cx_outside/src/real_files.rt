@@ -57,7 +57,8 @@ impl<R: System> Files for RealFiles<R> {
     fn read_file(&mut self, alloc: Global, name: &[u8], limit: usize) -> Result<Vec<u8>, FileAnswer>
         ensures within { IfOk result (λ bytes. length bytes.items ≤ limit) }
         ensures too_long { (seen : ℕ) → IsErrOf result (FileAnswer.TooLong seen) → limit < seen }
-        ensures after { MatchResult result (λ _. self.new ≡ self.old) (λ e. self.new ≡ reads_after e name.now self.old) }
+        ensures after { MatchResult result (λ _. self.new ≡ self.old)
+            (λ e. self.new ≡ reads_after e name.now self.old) }
         ensures count { self.old.faults ≤ self.new.faults }
     {
         let answer = read_named(&self.system, alloc, name, limit);

@@ -11,7 +11,8 @@ use Rattle.cx_parse.specs.declared.files.ParseFault.TheVariants as faults
 
 -- the place of the first token, or of the end, with which the tokens so far begin no file, before any that is too deep
 abbrev pub IsUnexpectedAt : List Token → Place → Type 0
-IsUnexpectedAt tokens place = (front back : List Token) × IsUnexpected tokens front back × (place ≡ place_at back tokens)
+IsUnexpectedAt tokens place =
+    (front back : List Token) × IsUnexpected tokens front back × (place ≡ place_at back tokens)
 
 -- the place of the token that begins the sixty-fifth level, before any that is unexpected
 abbrev pub IsTooDeepAt : List Token → Place → Type 0
@@ -25,6 +26,7 @@ IsFault tokens faults.Memory = ⊥
 
 -- the tokens have this fault, with so many of them left
 abbrev pub IsStop : List Token → Stop → Type 0
-IsStop tokens (stops.Unexpected left) = (front back : List Token) × IsUnexpected tokens front back × (length back ≡ left)
+IsStop tokens (stops.Unexpected left) =
+    (front back : List Token) × IsUnexpected tokens front back × (length back ≡ left)
 IsStop tokens (stops.TooDeep left) = (front back : List Token) × IsDeep tokens front back × (length back ≡ left)
 IsStop tokens stops.Memory = ⊥

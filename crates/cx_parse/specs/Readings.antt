@@ -75,9 +75,11 @@ with_first x g = mapped (λ xs. x ∷ xs) g
 
 -- so it is with what follows the first of a list with commas
 abbrev pub commas_behind : {A : Type 0} → ℕ → Grammar A → A → List Token → Reads (List A)
-commas_behind levels g x ts = then_reads (commas_at (read (nested_at levels) g) (starts g) ts) (λ xs rest. Ok (x ∷ xs, rest))
+commas_behind levels g x ts =
+    then_reads (commas_at (read (nested_at levels) g) (starts g) ts) (λ xs rest. Ok (x ∷ xs, rest))
 
-pub record GivesCommas {A : Type 0} (levels : ℕ) (g : Grammar A) (first : A) (old new : State) (values : List A) : Type 0 where
+pub record GivesCommas {A : Type 0} (levels : ℕ) (g : Grammar A) (first : A) (old new : State)
+    (values : List A) : Type 0 where
   pub leads : Leads (commas_behind levels g first) old new (Some values)
 
 -- a list, where there is something

@@ -10,7 +10,8 @@ use cx_grammar::Terminal;
 
 /// Reads the number of an attribute, where there is one.
 fn attribute_number(reader: &mut Reader) -> Option<u64>
-    ensures value { (levels : ℕ) → Gives levels calyx.attribute_number (state_of reader.old) (state_of reader.new) (Some result) }
+    ensures value { (levels : ℕ) →
+        Gives levels calyx.attribute_number (state_of reader.old) (state_of reader.new) (Some result) }
 {
     if !reader.next_is(Terminal::OpenParen) {
         return None;
@@ -33,7 +34,8 @@ fn attribute(reader: &mut Reader) -> Option<Attribute>
 
 /// Reads the attributes before a part.
 pub fn attributes(reader: &mut Reader) -> Vec<Attribute>
-    ensures value { (levels : ℕ) → Gives levels calyx.attributes (state_of reader.old) (state_of reader.new) (Some result.items) }
+    ensures value { (levels : ℕ) →
+        Gives levels calyx.attributes (state_of reader.old) (state_of reader.new) (Some result.items) }
 {
     let mut all = Vec::new(reader.alloc);
     while reader.next_is(Terminal::At) {
@@ -55,7 +57,8 @@ fn mark(reader: &mut Reader) -> Option<Mark>
 
 /// Reads the marks behind the first.
 fn more_marks(reader: &mut Reader, first: Mark) -> Vec<Mark>
-    ensures value { (levels : ℕ) → Gives levels (with_first first calyx.more_marks) (state_of reader.old) (state_of reader.new) (Some result.items) }
+    ensures value { (levels : ℕ) → Gives levels (with_first first calyx.more_marks) (state_of reader.old)
+        (state_of reader.new) (Some result.items) }
 {
     let mut all = Vec::new(reader.alloc);
     reader.keep(&mut all, Some(first));
@@ -69,7 +72,8 @@ fn more_marks(reader: &mut Reader, first: Mark) -> Vec<Mark>
 
 /// Reads the marks behind a name, where there are some.
 pub fn marks(reader: &mut Reader) -> Vec<Mark>
-    ensures value { (levels : ℕ) → Gives levels calyx.marks (state_of reader.old) (state_of reader.new) (Some result.items) }
+    ensures value { (levels : ℕ) →
+        Gives levels calyx.marks (state_of reader.old) (state_of reader.new) (Some result.items) }
 {
     if !reader.next_is(Terminal::Less) {
         return Vec::new(reader.alloc);
@@ -87,7 +91,8 @@ pub fn marks(reader: &mut Reader) -> Vec<Mark>
 
 /// Reads a length in cycles.
 pub fn length_of(reader: &mut Reader) -> u64
-    ensures value { (levels : ℕ) → Gives levels calyx.length_of (state_of reader.old) (state_of reader.new) (Some result) }
+    ensures value { (levels : ℕ) →
+        Gives levels calyx.length_of (state_of reader.old) (state_of reader.new) (Some result) }
 {
     reader.sign(Terminal::Less);
     let n = reader.number();
@@ -97,7 +102,8 @@ pub fn length_of(reader: &mut Reader) -> u64
 
 /// Reads a length in cycles, where there is one.
 pub fn optional_length(reader: &mut Reader) -> Option<u64>
-    ensures value { (levels : ℕ) → Gives levels calyx.optional_length (state_of reader.old) (state_of reader.new) (Some result) }
+    ensures value { (levels : ℕ) →
+        Gives levels calyx.optional_length (state_of reader.old) (state_of reader.new) (Some result) }
 {
     if reader.next_is(Terminal::Less) {
         Some(length_of(reader))

@@ -36,7 +36,8 @@ type Value = (Option<GuardItem>, OperandItem);
 
 /// Reads the rest of a guard behind its first part, and the source.
 fn guarded(reader: &mut Reader, levels: u32, first: GuardItem) -> Value
-    ensures value { Gives levels (given (plain_guard first) calyx.guarded) (state_of reader.old) (state_of reader.new) (Some (option_map plain_guard result.0, result.1)) }
+    ensures value { Gives levels (given (plain_guard first) calyx.guarded) (state_of reader.old)
+        (state_of reader.new) (Some (option_map plain_guard result.0, result.1)) }
 {
     let parts = more_comps(reader, levels, first);
     let parts = more_conjs(reader, levels, conjunction(parts));
@@ -47,7 +48,8 @@ fn guarded(reader: &mut Reader, levels: u32, first: GuardItem) -> Value
 
 /// Reads what follows the first operand of a value.
 fn after_operand(reader: &mut Reader, levels: u32, first: OperandItem) -> Value
-    ensures value { Gives levels (given first calyx.after_operand) (state_of reader.old) (state_of reader.new) (Some (option_map plain_guard result.0, result.1)) }
+    ensures value { Gives levels (given first calyx.after_operand) (state_of reader.old)
+        (state_of reader.new) (Some (option_map plain_guard result.0, result.1)) }
 {
     if reader.next_in(&GUARD_GOES_ON) {
         let part = compared(reader, first);
@@ -59,7 +61,8 @@ fn after_operand(reader: &mut Reader, levels: u32, first: OperandItem) -> Value
 
 /// Reads what follows the `=` of an assignment.
 fn value(reader: &mut Reader, levels: u32) -> Value
-    ensures value { Gives levels calyx.value (state_of reader.old) (state_of reader.new) (Some (option_map plain_guard result.0, result.1)) }
+    ensures value { Gives levels calyx.value (state_of reader.old) (state_of reader.new)
+        (Some (option_map plain_guard result.0, result.1)) }
 {
     if reader.next_in(&PREFIXED) {
         let first = prefixed(reader, levels);
@@ -72,7 +75,8 @@ fn value(reader: &mut Reader, levels: u32) -> Value
 
 /// Reads an assignment behind its attributes.
 pub fn bare_assign(reader: &mut Reader, levels: u32, attributes: Vec<Attribute>) -> AssignItem
-    ensures value { Gives levels (given attributes.items calyx.bare_assign) (state_of reader.old) (state_of reader.new) (Some (plain_assign result)) }
+    ensures value { Gives levels (given attributes.items calyx.bare_assign) (state_of reader.old)
+        (state_of reader.new) (Some (plain_assign result)) }
 {
     let target = target(reader);
     reader.sign(Terminal::Equal);
@@ -98,7 +102,8 @@ fn assign(reader: &mut Reader, levels: u32) -> AssignItem
 
 /// Reads the assignments of a group.
 pub fn assigns(reader: &mut Reader, levels: u32) -> Vec<AssignItem>
-    ensures value { Gives levels calyx.assigns (state_of reader.old) (state_of reader.new) (Some (map plain_assign result.items)) }
+    ensures value { Gives levels calyx.assigns (state_of reader.old) (state_of reader.new)
+        (Some (map plain_assign result.items)) }
 {
     let mut all = Vec::new(reader.alloc);
     while reader.next_in(&ASSIGN) {

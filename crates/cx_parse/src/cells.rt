@@ -15,7 +15,8 @@ const CELL: [Terminal; 2] = [Terminal::At, Terminal::Name];
 
 /// Reads the numbers behind the first.
 fn more_numbers(reader: &mut Reader, first: u64) -> Vec<u64>
-    ensures value { (levels : ℕ) → Gives levels (with_first first calyx.more_numbers) (state_of reader.old) (state_of reader.new) (Some result.items) }
+    ensures value { (levels : ℕ) → Gives levels (with_first first calyx.more_numbers)
+        (state_of reader.old) (state_of reader.new) (Some result.items) }
 {
     let mut all = Vec::new(reader.alloc);
     reader.keep(&mut all, Some(first));
@@ -29,7 +30,8 @@ fn more_numbers(reader: &mut Reader, first: u64) -> Vec<u64>
 
 /// Reads the numbers of a cell.
 fn numbers(reader: &mut Reader) -> Vec<u64>
-    ensures value { (levels : ℕ) → Gives levels calyx.numbers (state_of reader.old) (state_of reader.new) (Some result.items) }
+    ensures value { (levels : ℕ) →
+        Gives levels calyx.numbers (state_of reader.old) (state_of reader.new) (Some result.items) }
 {
     if !reader.next_is(Terminal::Number) {
         return Vec::new(reader.alloc);
@@ -40,7 +42,8 @@ fn numbers(reader: &mut Reader) -> Vec<u64>
 
 /// Reads a cell.
 fn cell(reader: &mut Reader) -> Option<CellItem>
-    ensures value { (levels : ℕ) → Gives levels calyx.cell (state_of reader.old) (state_of reader.new) (option_map plain_cell result) }
+    ensures value { (levels : ℕ) →
+        Gives levels calyx.cell (state_of reader.old) (state_of reader.new) (option_map plain_cell result) }
 {
     let attributes = attributes(reader);
     let (name, place) = reader.name()?;
@@ -63,7 +66,8 @@ fn cell(reader: &mut Reader) -> Option<CellItem>
 
 /// Reads cells.
 fn cell_list(reader: &mut Reader) -> Vec<CellItem>
-    ensures value { (levels : ℕ) → Gives levels calyx.cell_list (state_of reader.old) (state_of reader.new) (Some (map plain_cell result.items)) }
+    ensures value { (levels : ℕ) → Gives levels calyx.cell_list (state_of reader.old)
+        (state_of reader.new) (Some (map plain_cell result.items)) }
 {
     let mut all = Vec::new(reader.alloc);
     while reader.next_in(&CELL) {
@@ -75,7 +79,8 @@ fn cell_list(reader: &mut Reader) -> Vec<CellItem>
 
 /// Reads the part `cells`.
 pub fn cells(reader: &mut Reader) -> Vec<CellItem>
-    ensures value { (levels : ℕ) → Gives levels calyx.cells (state_of reader.old) (state_of reader.new) (Some (map plain_cell result.items)) }
+    ensures value { (levels : ℕ) → Gives levels calyx.cells (state_of reader.old) (state_of reader.new)
+        (Some (map plain_cell result.items)) }
 {
     reader.sign(Terminal::Cells);
     reader.sign(Terminal::OpenBrace);

@@ -24,7 +24,8 @@ type Signature = ((Name, Place), Vec<Mark>, Vec<PortItem>, Vec<PortItem>);
 
 /// Reads the word `component` and what stands before it.
 fn component_word(reader: &mut Reader) -> (Option<u64>, Place)
-    ensures value { (levels : ℕ) → Gives levels calyx.component_word (state_of reader.old) (state_of reader.new) (Some (result.0, result.1)) }
+    ensures value { (levels : ℕ) → Gives levels calyx.component_word (state_of reader.old)
+        (state_of reader.new) (Some (result.0, result.1)) }
 {
     if reader.next_is(Terminal::Static) {
         let place = reader.sign(Terminal::Static);
@@ -38,7 +39,9 @@ fn component_word(reader: &mut Reader) -> (Option<u64>, Place)
 
 /// Reads a component's name and signature.
 fn signature(reader: &mut Reader) -> Option<Signature>
-    ensures value { (levels : ℕ) → Gives levels calyx.signature (state_of reader.old) (state_of reader.new) (option_map (λ x. ((x.0.0, x.0.1), (x.1.items, (map plain_port x.2.items, map plain_port x.3.items)))) result) }
+    ensures value { (levels : ℕ) → Gives levels calyx.signature (state_of reader.old)
+        (state_of reader.new) (option_map
+        (λ x. ((x.0.0, x.0.1), (x.1.items, (map plain_port x.2.items, map plain_port x.3.items)))) result) }
 {
     let name = reader.name()?;
     let marks = marks(reader);
@@ -49,7 +52,9 @@ fn signature(reader: &mut Reader) -> Option<Signature>
 
 /// Reads what stands between a component's braces.
 fn body(reader: &mut Reader, levels: u32) -> Body
-    ensures value { Gives levels calyx.body (state_of reader.old) (state_of reader.new) (Some (map plain_cell result.0.items, (map plain_wire result.1.items, option_map plain_block result.2))) }
+    ensures value { Gives levels calyx.body (state_of reader.old) (state_of reader.new)
+        (Some
+        (map plain_cell result.0.items, (map plain_wire result.1.items, option_map plain_block result.2))) }
 {
     reader.sign(Terminal::OpenBrace);
     let cells = cells(reader);
@@ -61,7 +66,8 @@ fn body(reader: &mut Reader, levels: u32) -> Body
 
 /// Reads a component.
 pub fn component(reader: &mut Reader, levels: u32) -> Option<ComponentItem>
-    ensures value { Gives levels calyx.component (state_of reader.old) (state_of reader.new) (option_map plain_component result) }
+    ensures value { Gives levels calyx.component (state_of reader.old) (state_of reader.new)
+        (option_map plain_component result) }
 {
     let attributes = attributes(reader);
     let (length, place) = component_word(reader);

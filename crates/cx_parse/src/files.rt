@@ -37,7 +37,8 @@ pub enum ParseFault {
 
 /// Reads imports.
 fn imports(reader: &mut Reader) -> Vec<ImportItem>
-    ensures value { (levels : ℕ) → Gives levels calyx.imports (state_of reader.old) (state_of reader.new) (Some result.items) }
+    ensures value { (levels : ℕ) →
+        Gives levels calyx.imports (state_of reader.old) (state_of reader.new) (Some result.items) }
 {
     let mut all = Vec::new(reader.alloc);
     while reader.next_is(Terminal::Import) {
@@ -49,7 +50,8 @@ fn imports(reader: &mut Reader) -> Vec<ImportItem>
 
 /// Reads the components behind the first.
 fn more_components(reader: &mut Reader, levels: u32, first: ComponentItem) -> Vec<ComponentItem>
-    ensures value { Gives levels (with_first (plain_component first) calyx.components) (state_of reader.old) (state_of reader.new) (Some (map plain_component result.items)) }
+    ensures value { Gives levels (with_first (plain_component first) calyx.components)
+        (state_of reader.old) (state_of reader.new) (Some (map plain_component result.items)) }
 {
     let mut all = Vec::new(reader.alloc);
     reader.keep(&mut all, Some(first));

@@ -23,7 +23,8 @@ const WIRE: [Terminal; 5] = [
 
 /// Reads the word `group` and what stands before it.
 fn group_word(reader: &mut Reader) -> (GroupWord, Place)
-    ensures value { (levels : ℕ) → Gives levels calyx.group_word (state_of reader.old) (state_of reader.new) (Some (result.0, result.1)) }
+    ensures value { (levels : ℕ) → Gives levels calyx.group_word (state_of reader.old)
+        (state_of reader.new) (Some (result.0, result.1)) }
 {
     if reader.next_is(Terminal::Comb) {
         let place = reader.sign(Terminal::Comb);
@@ -42,7 +43,8 @@ fn group_word(reader: &mut Reader) -> (GroupWord, Place)
 
 /// Reads a group behind its attributes.
 fn bare_group(reader: &mut Reader, levels: u32, attributes: Vec<Attribute>) -> Option<GroupItem>
-    ensures value { Gives levels (given attributes.items calyx.bare_group) (state_of reader.old) (state_of reader.new) (option_map plain_group result) }
+    ensures value { Gives levels (given attributes.items calyx.bare_group) (state_of reader.old)
+        (state_of reader.new) (option_map plain_group result) }
 {
     let (kind, place) = group_word(reader);
     let (name, _) = reader.name()?;
@@ -75,7 +77,8 @@ fn wire(reader: &mut Reader, levels: u32) -> Option<WireItem>
 
 /// Reads groups and continuous assignments.
 fn wire_list(reader: &mut Reader, levels: u32) -> Vec<WireItem>
-    ensures value { Gives levels calyx.wire_list (state_of reader.old) (state_of reader.new) (Some (map plain_wire result.items)) }
+    ensures value { Gives levels calyx.wire_list (state_of reader.old) (state_of reader.new)
+        (Some (map plain_wire result.items)) }
 {
     let mut all = Vec::new(reader.alloc);
     while reader.next_in(&WIRE) {
@@ -87,7 +90,8 @@ fn wire_list(reader: &mut Reader, levels: u32) -> Vec<WireItem>
 
 /// Reads the part `wires`.
 pub fn wires_part(reader: &mut Reader, levels: u32) -> Vec<WireItem>
-    ensures value { Gives levels calyx.wires_part (state_of reader.old) (state_of reader.new) (Some (map plain_wire result.items)) }
+    ensures value { Gives levels calyx.wires_part (state_of reader.old) (state_of reader.new)
+        (Some (map plain_wire result.items)) }
 {
     reader.sign(Terminal::Wires);
     reader.sign(Terminal::OpenBrace);

@@ -56,7 +56,8 @@ pub fn disjunction(mut all: Vec<GuardItem>) -> GuardItem
 
 /// Reads the cycles of a window between brackets.
 fn window_range(reader: &mut Reader) -> GuardItem
-    ensures value { (levels : ℕ) → Gives levels calyx.window_range (state_of reader.old) (state_of reader.new) (Some (plain_guard result)) }
+    ensures value { (levels : ℕ) → Gives levels calyx.window_range (state_of reader.old)
+        (state_of reader.new) (Some (plain_guard result)) }
 {
     reader.sign(Terminal::OpenBracket);
     let from = reader.number();
@@ -68,7 +69,8 @@ fn window_range(reader: &mut Reader) -> GuardItem
 
 /// Reads a window of cycles.
 fn window(reader: &mut Reader) -> GuardItem
-    ensures value { (levels : ℕ) → Gives levels calyx.window (state_of reader.old) (state_of reader.new) (Some (plain_guard result)) }
+    ensures value { (levels : ℕ) →
+        Gives levels calyx.window (state_of reader.old) (state_of reader.new) (Some (plain_guard result)) }
 {
     reader.sign(Terminal::Percent);
     if reader.next_is(Terminal::Number) {
@@ -81,7 +83,8 @@ fn window(reader: &mut Reader) -> GuardItem
 /// Reads a negation.
 #[cycle(guard)]
 fn negation(reader: &mut Reader, levels: u32) -> GuardItem
-    ensures value { Gives levels (Deeper Negation) (state_of reader.old) (state_of reader.new) (Some (plain_guard result)) }
+    ensures value { Gives levels (Deeper Negation) (state_of reader.old) (state_of reader.new)
+        (Some (plain_guard result)) }
 {
     if levels == 0 {
         reader.no_level(Terminal::Not);
@@ -101,7 +104,8 @@ fn negation(reader: &mut Reader, levels: u32) -> GuardItem
 /// Reads a guard in parentheses.
 #[cycle(guard)]
 fn parens(reader: &mut Reader, levels: u32) -> GuardItem
-    ensures value { Gives levels (Deeper Parens) (state_of reader.old) (state_of reader.new) (Some (plain_guard result)) }
+    ensures value { Gives levels (Deeper Parens) (state_of reader.old) (state_of reader.new)
+        (Some (plain_guard result)) }
 {
     if levels == 0 {
         reader.no_level(Terminal::OpenParen);
@@ -116,7 +120,8 @@ fn parens(reader: &mut Reader, levels: u32) -> GuardItem
 /// Reads a negation, a guard in parentheses or a window of cycles.
 #[cycle(guard)]
 pub fn prefixed(reader: &mut Reader, levels: u32) -> GuardItem
-    ensures value { Gives levels calyx.prefixed (state_of reader.old) (state_of reader.new) (Some (plain_guard result)) }
+    ensures value { Gives levels calyx.prefixed (state_of reader.old) (state_of reader.new)
+        (Some (plain_guard result)) }
 {
     if reader.next_is(Terminal::Not) {
         negation(reader, levels)
@@ -141,7 +146,8 @@ fn unary(reader: &mut Reader, levels: u32) -> GuardItem
 
 /// Reads what follows the first operand of a comparison, where it is one.
 pub fn compared(reader: &mut Reader, left: OperandItem) -> GuardItem
-    ensures value { (levels : ℕ) → Gives levels (given left calyx.compared) (state_of reader.old) (state_of reader.new) (Some (plain_guard result)) }
+    ensures value { (levels : ℕ) → Gives levels (given left calyx.compared) (state_of reader.old)
+        (state_of reader.new) (Some (plain_guard result)) }
 {
     if reader.next_in(&COMPARISONS) {
         let comparison = cmp(reader);
@@ -168,7 +174,8 @@ fn comp(reader: &mut Reader, levels: u32) -> GuardItem
 /// Reads the parts of a conjunction behind the first.
 #[cycle(guard)]
 pub fn more_comps(reader: &mut Reader, levels: u32, first: GuardItem) -> Vec<GuardItem>
-    ensures value { Gives levels (with_first (plain_guard first) calyx.more_comps) (state_of reader.old) (state_of reader.new) (Some (map plain_guard result.items)) }
+    ensures value { Gives levels (with_first (plain_guard first) calyx.more_comps) (state_of reader.old)
+        (state_of reader.new) (Some (map plain_guard result.items)) }
 {
     let mut all = Vec::new(reader.alloc);
     reader.keep(&mut all, Some(first));
@@ -192,7 +199,8 @@ fn conj(reader: &mut Reader, levels: u32) -> GuardItem
 /// Reads the parts of a disjunction behind the first.
 #[cycle(guard)]
 pub fn more_conjs(reader: &mut Reader, levels: u32, first: GuardItem) -> Vec<GuardItem>
-    ensures value { Gives levels (with_first (plain_guard first) calyx.more_conjs) (state_of reader.old) (state_of reader.new) (Some (map plain_guard result.items)) }
+    ensures value { Gives levels (with_first (plain_guard first) calyx.more_conjs) (state_of reader.old)
+        (state_of reader.new) (Some (map plain_guard result.items)) }
 {
     let mut all = Vec::new(reader.alloc);
     reader.keep(&mut all, Some(first));

@@ -14,7 +14,8 @@ const NO_FORM: OperandForm = OperandForm::Literal(0, 0);
 
 /// Reads what follows the first name of a target.
 fn reference(reader: &mut Reader, first: Name) -> OperandForm
-    ensures value { (levels : ℕ) → Gives levels (given first calyx.reference) (state_of reader.old) (state_of reader.new) (Some result) }
+    ensures value { (levels : ℕ) →
+        Gives levels (given first calyx.reference) (state_of reader.old) (state_of reader.new) (Some result) }
 {
     if reader.next_is(Terminal::Dot) {
         reader.sign(Terminal::Dot);
@@ -64,7 +65,8 @@ fn literal_of(kind: &TokenKind) -> OperandForm
 
 /// Reads a literal.
 fn literal(reader: &mut Reader) -> OperandItem
-    ensures value { (levels : ℕ) → Gives levels calyx.literal (state_of reader.old) (state_of reader.new) (Some result) }
+    ensures value { (levels : ℕ) →
+        Gives levels calyx.literal (state_of reader.old) (state_of reader.new) (Some result) }
 {
     match reader.take(&[Terminal::Literal]) {
         Some(token) => OperandItem {
@@ -80,7 +82,8 @@ fn literal(reader: &mut Reader) -> OperandItem
 
 /// Reads an operand.
 pub fn operand(reader: &mut Reader) -> OperandItem
-    ensures value { (levels : ℕ) → Gives levels calyx.operand (state_of reader.old) (state_of reader.new) (Some result) }
+    ensures value { (levels : ℕ) →
+        Gives levels calyx.operand (state_of reader.old) (state_of reader.new) (Some result) }
 {
     if reader.next_is(Terminal::Name) {
         target(reader)

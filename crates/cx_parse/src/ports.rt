@@ -15,7 +15,8 @@ const PORT: [Terminal; 2] = [Terminal::At, Terminal::Name];
 
 /// Reads a port.
 fn port(reader: &mut Reader) -> Option<PortItem>
-    ensures value { (levels : ℕ) → Gives levels calyx.port (state_of reader.old) (state_of reader.new) (option_map plain_port result) }
+    ensures value { (levels : ℕ) →
+        Gives levels calyx.port (state_of reader.old) (state_of reader.new) (option_map plain_port result) }
 {
     let attributes = attributes(reader);
     let (name, place) = reader.name()?;
@@ -31,7 +32,8 @@ fn port(reader: &mut Reader) -> Option<PortItem>
 
 /// Reads the ports behind the first. A comma may stand behind the last.
 fn more_ports(reader: &mut Reader, first: PortItem) -> Vec<PortItem>
-    ensures value { (levels : ℕ) → GivesCommas levels calyx.port (plain_port first) (state_of reader.old) (state_of reader.new) (map plain_port result.items) }
+    ensures value { (levels : ℕ) → GivesCommas levels calyx.port (plain_port first) (state_of reader.old)
+        (state_of reader.new) (map plain_port result.items) }
 {
     let mut all = Vec::new(reader.alloc);
     reader.keep(&mut all, Some(first));
@@ -48,7 +50,8 @@ fn more_ports(reader: &mut Reader, first: PortItem) -> Vec<PortItem>
 
 /// Reads ports and their parentheses.
 pub fn ports(reader: &mut Reader) -> Vec<PortItem>
-    ensures value { (levels : ℕ) → Gives levels calyx.ports (state_of reader.old) (state_of reader.new) (Some (map plain_port result.items)) }
+    ensures value { (levels : ℕ) → Gives levels calyx.ports (state_of reader.old) (state_of reader.new)
+        (Some (map plain_port result.items)) }
 {
     reader.sign(Terminal::OpenParen);
     let all = some_ports(reader);
@@ -58,7 +61,8 @@ pub fn ports(reader: &mut Reader) -> Vec<PortItem>
 
 /// Reads the ports between parentheses.
 fn some_ports(reader: &mut Reader) -> Vec<PortItem>
-    ensures value { (levels : ℕ) → Gives levels calyx.some_ports (state_of reader.old) (state_of reader.new) (Some (map plain_port result.items)) }
+    ensures value { (levels : ℕ) → Gives levels calyx.some_ports (state_of reader.old)
+        (state_of reader.new) (Some (map plain_port result.items)) }
 {
     if !reader.next_in(&PORT) {
         return Vec::new(reader.alloc);
@@ -71,7 +75,8 @@ fn some_ports(reader: &mut Reader) -> Vec<PortItem>
 
 /// Reads the outputs, where there are some.
 pub fn outputs(reader: &mut Reader) -> Vec<PortItem>
-    ensures value { (levels : ℕ) → Gives levels calyx.outputs (state_of reader.old) (state_of reader.new) (Some (map plain_port result.items)) }
+    ensures value { (levels : ℕ) → Gives levels calyx.outputs (state_of reader.old) (state_of reader.new)
+        (Some (map plain_port result.items)) }
 {
     if !reader.next_is(Terminal::Arrow) {
         return Vec::new(reader.alloc);

@@ -68,7 +68,8 @@ impl<'a> Reader<'a> {
 
     /// Reads one token of a set.
     pub fn take(&mut self, set: &[Terminal]) -> Option<&'a Token>
-        ensures value { (levels : ℕ) → Gives levels (one_of set.now) (state_of self.old) (state_of self.new) (option_map (λ t. t.now) result) }
+        ensures value { (levels : ℕ) → Gives levels (one_of set.now) (state_of self.old)
+            (state_of self.new) (option_map (λ t. t.now) result) }
     {
         if self.stop.is_some() {
             return None;
@@ -87,7 +88,8 @@ impl<'a> Reader<'a> {
 
     /// Reads a reserved word or a sign, and answers its place.
     pub fn sign(&mut self, want: Terminal) -> Place
-        ensures value { (levels : ℕ) → Gives levels (calyx.sign want) (state_of self.old) (state_of self.new) (Some result) }
+        ensures value { (levels : ℕ) →
+            Gives levels (calyx.sign want) (state_of self.old) (state_of self.new) (Some result) }
     {
         match self.take(&[want]) {
             Some(token) => token.place,
@@ -107,7 +109,8 @@ impl<'a> Reader<'a> {
 
     /// Reads a word that is not reserved, and answers its place too.
     pub fn name(&mut self) -> Option<(Name, Place)>
-        ensures value { (levels : ℕ) → Gives levels calyx.name (state_of self.old) (state_of self.new) (option_map (λ n. (n.0, n.1)) result) }
+        ensures value { (levels : ℕ) → Gives levels calyx.name (state_of self.old) (state_of self.new)
+            (option_map (λ n. (n.0, n.1)) result) }
     {
         let token = self.take(&[Terminal::Name])?;
         let name = self.copied(word_of(&token.kind))?;
@@ -132,7 +135,8 @@ impl<'a> Reader<'a> {
 
     /// Copies the bytes of a name.
     fn copied(&mut self, bytes: &[u8]) -> Option<Name>
-        ensures value { MatchOption result (state_of self.new ≡ out_of_memory (state_of self.old)) (λ name. (state_of self.new ≡ state_of self.old) × (name ≡ bytes.now)) }
+        ensures value { MatchOption result (state_of self.new ≡ out_of_memory (state_of self.old))
+            (λ name. (state_of self.new ≡ state_of self.old) × (name ≡ bytes.now)) }
     {
         match Name::from_bytes(self.alloc, bytes) {
             Ok(name) => Some(name),
@@ -154,7 +158,8 @@ impl<'a> Reader<'a> {
 
     /// Stops where no level is left: a token that begins one is too deep, another one unexpected.
     pub fn no_level(&mut self, want: Terminal)
-        ensures value { (n : Nest) → opening n ≡ want → Gives 0 (Deeper n) (state_of self.old) (state_of self.new) None }
+        ensures value { (n : Nest) → opening n ≡ want →
+            Gives 0 (Deeper n) (state_of self.old) (state_of self.new) None }
     {
         if self.stop.is_some() {
             return;

@@ -38,7 +38,8 @@ fn bind(reader: &mut Reader) -> Option<BindItem>
 
 /// Reads the binds behind the first. A comma may stand behind the last.
 fn more_binds(reader: &mut Reader, first: BindItem) -> Vec<BindItem>
-    ensures value { (levels : ℕ) → GivesCommas levels calyx.bind first (state_of reader.old) (state_of reader.new) result.items }
+    ensures value { (levels : ℕ) →
+        GivesCommas levels calyx.bind first (state_of reader.old) (state_of reader.new) result.items }
 {
     let mut all = Vec::new(reader.alloc);
     reader.keep(&mut all, Some(first));
@@ -55,7 +56,8 @@ fn more_binds(reader: &mut Reader, first: BindItem) -> Vec<BindItem>
 
 /// Reads the binds between parentheses.
 fn some_binds(reader: &mut Reader) -> Vec<BindItem>
-    ensures value { (levels : ℕ) → Gives levels calyx.some_binds (state_of reader.old) (state_of reader.new) (Some result.items) }
+    ensures value { (levels : ℕ) →
+        Gives levels calyx.some_binds (state_of reader.old) (state_of reader.new) (Some result.items) }
 {
     if !reader.next_is(Terminal::Name) {
         return Vec::new(reader.alloc);
@@ -68,7 +70,8 @@ fn some_binds(reader: &mut Reader) -> Vec<BindItem>
 
 /// Reads binds and their parentheses.
 fn binds(reader: &mut Reader) -> Vec<BindItem>
-    ensures value { (levels : ℕ) → Gives levels calyx.binds (state_of reader.old) (state_of reader.new) (Some result.items) }
+    ensures value { (levels : ℕ) →
+        Gives levels calyx.binds (state_of reader.old) (state_of reader.new) (Some result.items) }
 {
     reader.sign(Terminal::OpenParen);
     let all = some_binds(reader);
@@ -93,7 +96,8 @@ fn comb(reader: &mut Reader) -> Option<Name>
 /// Reads a block.
 #[cycle(statement)]
 pub fn block(reader: &mut Reader, levels: u32) -> Block
-    ensures value { Gives levels (Deeper Braces) (state_of reader.old) (state_of reader.new) (Some (plain_block result)) }
+    ensures value { Gives levels (Deeper Braces) (state_of reader.old) (state_of reader.new)
+        (Some (plain_block result)) }
 {
     if levels == 0 {
         reader.no_level(Terminal::OpenBrace);
@@ -111,7 +115,8 @@ pub fn block(reader: &mut Reader, levels: u32) -> Block
 /// Reads the block behind `else`, where there is one.
 #[cycle(statement)]
 fn otherwise(reader: &mut Reader, levels: u32) -> Option<Block>
-    ensures value { Gives levels calyx.otherwise (state_of reader.old) (state_of reader.new) (Some (option_map plain_block result)) }
+    ensures value { Gives levels calyx.otherwise (state_of reader.old) (state_of reader.new)
+        (Some (option_map plain_block result)) }
 {
     if !reader.next_is(Terminal::Else) {
         return None;
@@ -123,7 +128,8 @@ fn otherwise(reader: &mut Reader, levels: u32) -> Option<Block>
 /// Reads marks and a block.
 #[cycle(statement)]
 fn marked_block(reader: &mut Reader, levels: u32) -> (Vec<Mark>, Block)
-    ensures value { Gives levels calyx.marked_block (state_of reader.old) (state_of reader.new) (Some (result.0.items, plain_block result.1)) }
+    ensures value { Gives levels calyx.marked_block (state_of reader.old) (state_of reader.new)
+        (Some (result.0.items, plain_block result.1)) }
 {
     let marks = marks(reader);
     let block = block(reader, levels);
@@ -133,7 +139,8 @@ fn marked_block(reader: &mut Reader, levels: u32) -> (Vec<Mark>, Block)
 /// Reads the count and the body of a `repeat`.
 #[cycle(statement)]
 fn repeat_rest(reader: &mut Reader, levels: u32) -> (u64, Block)
-    ensures value { Gives levels calyx.repeat_rest (state_of reader.old) (state_of reader.new) (Some (result.0, plain_block result.1)) }
+    ensures value { Gives levels calyx.repeat_rest (state_of reader.old) (state_of reader.new)
+        (Some (result.0, plain_block result.1)) }
 {
     let count = reader.number();
     let body = block(reader, levels);
@@ -142,7 +149,8 @@ fn repeat_rest(reader: &mut Reader, levels: u32) -> (u64, Block)
 
 /// Reads the cell of an `invoke` and its binds.
 fn invoke_rest(reader: &mut Reader) -> Option<(Name, Vec<BindItem>, Vec<BindItem>, Place)>
-    ensures value { (levels : ℕ) → Gives levels calyx.invoke_rest (state_of reader.old) (state_of reader.new) (option_map (λ x. ((x.0, x.3), (x.1.items, x.2.items))) result) }
+    ensures value { (levels : ℕ) → Gives levels calyx.invoke_rest (state_of reader.old)
+        (state_of reader.new) (option_map (λ x. ((x.0, x.3), (x.1.items, x.2.items))) result) }
 {
     let (cell, place) = reader.name()?;
     let inputs = binds(reader);
@@ -154,7 +162,8 @@ fn invoke_rest(reader: &mut Reader) -> Option<(Name, Vec<BindItem>, Vec<BindItem
 /// Reads a static `if`.
 #[cycle(statement)]
 fn static_if(reader: &mut Reader, levels: u32, length: Option<u64>) -> StatementForm
-    ensures value { Gives levels (given length calyx.static_if_rest) (state_of reader.old) (state_of reader.new) (Some (plain_form result)) }
+    ensures value { Gives levels (given length calyx.static_if_rest) (state_of reader.old)
+        (state_of reader.new) (Some (plain_form result)) }
 {
     let test = operand(reader);
     let yes = block(reader, levels);
@@ -170,7 +179,8 @@ fn static_if(reader: &mut Reader, levels: u32, length: Option<u64>) -> Statement
 /// Reads what follows `static` and its length.
 #[cycle(statement)]
 fn static_rest(reader: &mut Reader, levels: u32, length: Option<u64>) -> Option<StatementForm>
-    ensures value { Gives levels (given length calyx.static_rest) (state_of reader.old) (state_of reader.new) (option_map plain_form result) }
+    ensures value { Gives levels (given length calyx.static_rest) (state_of reader.old)
+        (state_of reader.new) (option_map plain_form result) }
 {
     if reader.next_is(Terminal::Seq) {
         reader.sign(Terminal::Seq);
@@ -215,7 +225,8 @@ fn static_rest(reader: &mut Reader, levels: u32, length: Option<u64>) -> Option<
 
 /// Reads the enable of a group.
 fn enable(reader: &mut Reader) -> Option<(StatementForm, Place)>
-    ensures value { (levels : ℕ) → Gives levels calyx.enable (state_of reader.old) (state_of reader.new) (option_map (λ x. (plain_form x.0, x.1)) result) }
+    ensures value { (levels : ℕ) → Gives levels calyx.enable (state_of reader.old) (state_of reader.new)
+        (option_map (λ x. (plain_form x.0, x.1)) result) }
 {
     let (group, place) = reader.name()?;
     let marks = marks(reader);
@@ -226,7 +237,8 @@ fn enable(reader: &mut Reader) -> Option<(StatementForm, Place)>
 /// Reads a `seq`.
 #[cycle(statement)]
 fn seq(reader: &mut Reader, levels: u32) -> (StatementForm, Place)
-    ensures value { Gives levels calyx.seq (state_of reader.old) (state_of reader.new) (Some (plain_form result.0, result.1)) }
+    ensures value { Gives levels calyx.seq (state_of reader.old) (state_of reader.new)
+        (Some (plain_form result.0, result.1)) }
 {
     let place = reader.sign(Terminal::Seq);
     let (marks, block) = marked_block(reader, levels);
@@ -236,7 +248,8 @@ fn seq(reader: &mut Reader, levels: u32) -> (StatementForm, Place)
 /// Reads a `par`.
 #[cycle(statement)]
 fn par(reader: &mut Reader, levels: u32) -> (StatementForm, Place)
-    ensures value { Gives levels calyx.par (state_of reader.old) (state_of reader.new) (Some (plain_form result.0, result.1)) }
+    ensures value { Gives levels calyx.par (state_of reader.old) (state_of reader.new)
+        (Some (plain_form result.0, result.1)) }
 {
     let place = reader.sign(Terminal::Par);
     let (marks, block) = marked_block(reader, levels);
@@ -246,7 +259,8 @@ fn par(reader: &mut Reader, levels: u32) -> (StatementForm, Place)
 /// Reads an `if`.
 #[cycle(statement)]
 fn if_form(reader: &mut Reader, levels: u32) -> (StatementForm, Place)
-    ensures value { Gives levels calyx.if_form (state_of reader.old) (state_of reader.new) (Some (plain_form result.0, result.1)) }
+    ensures value { Gives levels calyx.if_form (state_of reader.old) (state_of reader.new)
+        (Some (plain_form result.0, result.1)) }
 {
     let place = reader.sign(Terminal::If);
     let test = operand(reader);
@@ -265,7 +279,8 @@ fn if_form(reader: &mut Reader, levels: u32) -> (StatementForm, Place)
 /// Reads a `while`.
 #[cycle(statement)]
 fn while_form(reader: &mut Reader, levels: u32) -> (StatementForm, Place)
-    ensures value { Gives levels calyx.while_form (state_of reader.old) (state_of reader.new) (Some (plain_form result.0, result.1)) }
+    ensures value { Gives levels calyx.while_form (state_of reader.old) (state_of reader.new)
+        (Some (plain_form result.0, result.1)) }
 {
     let place = reader.sign(Terminal::While);
     let test = operand(reader);
@@ -277,7 +292,8 @@ fn while_form(reader: &mut Reader, levels: u32) -> (StatementForm, Place)
 /// Reads a `repeat`.
 #[cycle(statement)]
 fn repeat(reader: &mut Reader, levels: u32) -> (StatementForm, Place)
-    ensures value { Gives levels calyx.repeat (state_of reader.old) (state_of reader.new) (Some (plain_form result.0, result.1)) }
+    ensures value { Gives levels calyx.repeat (state_of reader.old) (state_of reader.new)
+        (Some (plain_form result.0, result.1)) }
 {
     let place = reader.sign(Terminal::Repeat);
     let (count, body) = repeat_rest(reader, levels);
@@ -286,7 +302,8 @@ fn repeat(reader: &mut Reader, levels: u32) -> (StatementForm, Place)
 
 /// Reads an `invoke`.
 fn invoke(reader: &mut Reader) -> Option<(StatementForm, Place)>
-    ensures value { (levels : ℕ) → Gives levels calyx.invoke (state_of reader.old) (state_of reader.new) (option_map (λ x. (plain_form x.0, x.1)) result) }
+    ensures value { (levels : ℕ) → Gives levels calyx.invoke (state_of reader.old) (state_of reader.new)
+        (option_map (λ x. (plain_form x.0, x.1)) result) }
 {
     let place = reader.sign(Terminal::Invoke);
     let (cell, inputs, outputs, _) = invoke_rest(reader)?;
@@ -301,7 +318,8 @@ fn invoke(reader: &mut Reader) -> Option<(StatementForm, Place)>
 /// Reads a static statement.
 #[cycle(statement)]
 fn static_statement(reader: &mut Reader, levels: u32) -> Option<(StatementForm, Place)>
-    ensures value { Gives levels calyx.static_statement (state_of reader.old) (state_of reader.new) (option_map (λ x. (plain_form x.0, x.1)) result) }
+    ensures value { Gives levels calyx.static_statement (state_of reader.old) (state_of reader.new)
+        (option_map (λ x. (plain_form x.0, x.1)) result) }
 {
     let place = reader.sign(Terminal::Static);
     let length = optional_length(reader);
@@ -312,7 +330,8 @@ fn static_statement(reader: &mut Reader, levels: u32) -> Option<(StatementForm, 
 /// Reads a statement behind its attributes, with its place.
 #[cycle(statement)]
 fn form(reader: &mut Reader, levels: u32) -> Option<(StatementForm, Place)>
-    ensures value { Gives levels calyx.form (state_of reader.old) (state_of reader.new) (option_map (λ x. (plain_form x.0, x.1)) result) }
+    ensures value { Gives levels calyx.form (state_of reader.old) (state_of reader.new)
+        (option_map (λ x. (plain_form x.0, x.1)) result) }
 {
     if reader.next_is(Terminal::Name) {
         return enable(reader);
@@ -341,7 +360,8 @@ fn form(reader: &mut Reader, levels: u32) -> Option<(StatementForm, Place)>
 /// Reads a statement.
 #[cycle(statement)]
 fn statement(reader: &mut Reader, levels: u32) -> Option<StatementItem>
-    ensures value { Gives levels calyx.statement (state_of reader.old) (state_of reader.new) (option_map plain_statement result) }
+    ensures value { Gives levels calyx.statement (state_of reader.old) (state_of reader.new)
+        (option_map plain_statement result) }
 {
     let attributes = attributes(reader);
     let (form, place) = form(reader, levels)?;
@@ -355,7 +375,8 @@ fn statement(reader: &mut Reader, levels: u32) -> Option<StatementItem>
 /// Reads the statements of a block.
 #[cycle(statement)]
 fn statements(reader: &mut Reader, levels: u32) -> Vec<StatementItem>
-    ensures value { Gives levels calyx.statements (state_of reader.old) (state_of reader.new) (Some (map plain_statement result.items)) }
+    ensures value { Gives levels calyx.statements (state_of reader.old) (state_of reader.new)
+        (Some (map plain_statement result.items)) }
 {
     let mut all = Vec::new(reader.alloc);
     while reader.next_in(&STATEMENT) {
@@ -367,7 +388,8 @@ fn statements(reader: &mut Reader, levels: u32) -> Vec<StatementItem>
 
 /// Reads the part `control`, where there is one.
 pub fn control(reader: &mut Reader, levels: u32) -> Option<Block>
-    ensures value { Gives levels calyx.control (state_of reader.old) (state_of reader.new) (Some (option_map plain_block result)) }
+    ensures value { Gives levels calyx.control (state_of reader.old) (state_of reader.new)
+        (Some (option_map plain_block result)) }
 {
     if !reader.next_is(Terminal::Control) {
         return None;

@@ -44,9 +44,11 @@ abbrev pub IsState : StateShape → CellState → Type 0
 IsState NoState Stateless = Unit {0}
 IsState (RegisterOf width) (Register value done) = value < 2 ^ width
 IsState (MemoryOf width count) (Memory words done) = AreWords width count words
-IsState (SequentialMemoryOf width count) (SequentialMemory words read_data done) = AreWords width count words × (read_data < 2 ^ width)
+IsState (SequentialMemoryOf width count) (SequentialMemory words read_data done) =
+    AreWords width count words × (read_data < 2 ^ width)
 IsState (MultiplierOf width latency) (Multiplier run product) = IsRun width latency run × (product < 2 ^ width)
-IsState (DividerOf width latency) (Divider run quotient remainder) = IsRun width latency run × (quotient < 2 ^ width) × (remainder < 2 ^ width)
+IsState (DividerOf width latency) (Divider run quotient remainder) =
+    IsRun width latency run × (quotient < 2 ^ width) × (remainder < 2 ^ width)
 IsState (TimerOf length) (Timer count done) = count < length
 IsState _ _ = ⊥
 

@@ -39,12 +39,15 @@ combinational_row ports input_count value = record {
 
 -- out
 abbrev pub constant_row : ℕ → ℕ → Row
-constant_row width value = combinational_row (output_port Out width ∷ []) 0 (λ inputs. Some (record { width = width; value = value }))
+constant_row width value =
+    combinational_row (output_port Out width ∷ []) 0
+    (λ inputs. Some (record { width = width; value = value }))
 
 -- in, out
 abbrev pub unary_row : ℕ → ℕ → (BitVector → BitVector) → Row
 unary_row width out_width operator =
-    combinational_row (plain_port In width ∷ output_port Out out_width ∷ []) 1 (λ inputs. option_map operator (input inputs 0))
+    combinational_row (plain_port In width ∷ output_port Out out_width ∷ []) 1
+    (λ inputs. option_map operator (input inputs 0))
 
 -- left, right, out
 abbrev pub binary_row : ℕ → ℕ → (BitVector → BitVector → BitVector) → Row
@@ -60,7 +63,9 @@ chosen condition yes_value no_value = if condition.value == 1 then yes_value els
 abbrev pub mux_row : ℕ → Row
 mux_row width =
     combinational_row (plain_port Cond 1 ∷ plain_port Tru width ∷ plain_port Fal width ∷ output_port Out width ∷ []) 3
-    (λ inputs. option_and_then (λ condition. option_and_then (λ yes_value. option_map (chosen condition yes_value) (input inputs 2)) (input inputs 1)) (input inputs 0))
+    (λ inputs. option_and_then (λ condition.
+    option_and_then (λ yes_value. option_map (chosen condition yes_value) (input inputs 2))
+    (input inputs 1)) (input inputs 0))
 
 -- comparisons of unsigned numbers, as one bit
 abbrev pub greater_bit_of : BitVector → BitVector → BitVector

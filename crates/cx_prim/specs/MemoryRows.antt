@@ -1,4 +1,5 @@
--- The rows of memories of one to four dimensions: combinational ones, whose read data follows the addresses, and sequential ones, whose read data is registered.
+-- The rows of memories of one to four dimensions: combinational ones, whose read data follows the addresses, and
+-- sequential ones, whose read data is registered.
 use Rattle.std.specs.Prelude.{◌≡◌, ◌≤◌, ℕ, ◌+◌, ◌*◌, ◌^◌, ◌==◌, ◌&&◌, ◌||◌, not, Bool, true, false, List, [], ◌∷◌, ◌++◌, Option, Some, None, nat_lt, nat_le, is_some, is_none, slice_index, slice_set, length, replicate, if◌then◌else◌}
 use Rattle.std.specs.List.{list_all}
 use Rattle.cx_bits.specs.BitVector.{BitVector}
@@ -40,7 +41,8 @@ address_ports widths = ports_named (Addr0 ∷ Addr1 ∷ Addr2 ∷ Addr3 ∷ []) 
 -- the first port from n on whose address is not below the size of its dimension
 abbrev pub first_beyond : List ℕ → ℕ → Inputs → Option ℕ
 first_beyond [] n inputs = None
-first_beyond (size ∷ sizes) n inputs = if nat_lt (value_at inputs n) size then first_beyond sizes (n + 1) inputs else Some n
+first_beyond (size ∷ sizes) n inputs =
+    if nat_lt (value_at inputs n) size then first_beyond sizes (n + 1) inputs else Some n
 
 -- the number of the word at the addresses that stand at the ports from n on, in row-major order
 abbrev pub word_number : List ℕ → ℕ → Inputs → ℕ
@@ -54,11 +56,14 @@ have_addresses (size ∷ sizes) n inputs = is_some (input inputs n) && have_addr
 
 -- the word at the addresses, and 0 where one is out of range
 abbrev pub word_at : List ℕ → Inputs → List ℕ → ℕ
-word_at sizes inputs words = if is_none (first_beyond sizes 0 inputs) then slice_index words (word_number sizes 0 inputs) else 0
+word_at sizes inputs words =
+    if is_none (first_beyond sizes 0 inputs) then slice_index words (word_number sizes 0 inputs) else 0
 
 -- the words after a write; where an address is out of range they stay
 abbrev pub written : List ℕ → Inputs → ℕ → List ℕ → List ℕ
-written sizes inputs word words = if is_none (first_beyond sizes 0 inputs) then slice_set words (word_number sizes 0 inputs) word else words
+written sizes inputs word words =
+    if is_none (first_beyond sizes 0 inputs) then slice_set words (word_number sizes 0 inputs) word
+    else words
 
 -- of d dimensions: `write_data` is port d, `write_en` d + 1, `read_data` d + 2, `done` d + 3
 abbrev pub memory_read : ℕ → List ℕ → List ℕ → Inputs → Option BitVector
@@ -68,7 +73,8 @@ memory_read width sizes words inputs =
     else None
 
 abbrev pub memory_output : ℕ → List ℕ → CellState → Inputs → ℕ → Option BitVector
-memory_output width sizes (Memory words done) inputs n = if n == length sizes + 2 then memory_read width sizes words inputs else Some (bit_of done)
+memory_output width sizes (Memory words done) inputs n =
+    if n == length sizes + 2 then memory_read width sizes words inputs else Some (bit_of done)
 memory_output width sizes state inputs n = None
 
 -- the words stay, and done falls
@@ -78,13 +84,16 @@ memory_idle state = state
 
 -- with `write_en` the word at the addresses becomes `write_data`, and done rises
 abbrev pub memory_write : List ℕ → CellState → Inputs → CellState
-memory_write sizes (Memory words done) inputs = Memory (written sizes inputs (value_at inputs (length sizes)) words) true
+memory_write sizes (Memory words done) inputs =
+    Memory (written sizes inputs (value_at inputs (length sizes)) words) true
 memory_write sizes state inputs = state
 
 -- at the width, the sizes and the address widths
 abbrev pub memory_row : ℕ → List ℕ → List ℕ → Row
 memory_row width sizes address_widths = record {
-  ports = address_ports address_widths ++ (plain_port WriteData width ∷ enable_port WriteEn ∷ output_port ReadData width ∷ registered_port Done 1 ∷ []);
+  ports =
+      address_ports address_widths ++ (plain_port WriteData width ∷ enable_port WriteEn ∷
+      output_port ReadData width ∷ registered_port Done 1 ∷ []);
   shape = MemoryOf width (word_count sizes);
   start = Memory (replicate (word_count sizes) 0) false;
   output = memory_output width sizes;
@@ -98,7 +107,8 @@ memory_row width sizes address_widths = record {
 
 -- of d dimensions: `content_en` is port d, `write_en` d + 1, `write_data` d + 2, `read_data` d + 3, `done` d + 4
 abbrev pub sequential_output : ℕ → List ℕ → CellState → ℕ → Option BitVector
-sequential_output width sizes (SequentialMemory words read_data done) n = Some (if n == length sizes + 3 then record { width = width; value = read_data } else bit_of done)
+sequential_output width sizes (SequentialMemory words read_data done) n =
+    Some (if n == length sizes + 3 then record { width = width; value = read_data } else bit_of done)
 sequential_output width sizes state n = None
 
 -- words and read data stay, and done falls
@@ -117,14 +127,20 @@ sequential_access sizes state inputs = state
 -- at the width, the sizes and the address widths
 abbrev pub sequential_memory_row : ℕ → List ℕ → List ℕ → Row
 sequential_memory_row width sizes address_widths = record {
-  ports = address_ports address_widths ++ (enable_port ContentEn ∷ enable_port WriteEn ∷ plain_port WriteData width ∷ registered_port ReadData width ∷ registered_port Done 1 ∷ []);
+  ports =
+      address_ports address_widths ++ (enable_port ContentEn ∷ enable_port WriteEn ∷
+      plain_port WriteData width ∷ registered_port ReadData width ∷ registered_port Done 1 ∷ []);
   shape = SequentialMemoryOf width (word_count sizes);
   start = SequentialMemory (replicate (word_count sizes) 0) 0 false;
   output = λ state inputs n. sequential_output width sizes state n;
   reads = λ n m. false;
   beyond = λ inputs n. false;
-  demands = λ state inputs n. is_on inputs (length sizes) && (nat_lt n (length sizes) || ((n == length sizes + 2) && is_on inputs (length sizes + 1)));
+  demands =
+      λ state inputs n. is_on inputs (length sizes)
+      && (nat_lt n (length sizes) || ((n == length sizes + 2) && is_on inputs (length sizes + 1)));
   out_of_range = λ inputs. if is_on inputs (length sizes) then first_beyond sizes 0 inputs else None;
-  next = λ state inputs. if is_on inputs (length sizes) then sequential_access sizes state inputs else sequential_idle state;
+  next =
+      λ state inputs.
+      if is_on inputs (length sizes) then sequential_access sizes state inputs else sequential_idle state;
   idle = sequential_idle;
 }

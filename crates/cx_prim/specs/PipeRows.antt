@@ -19,7 +19,9 @@ is_last latency run = run.count + 1 == latency
 
 -- after one more cycle: in the last one done rises and the pipe is ready to begin anew
 abbrev pub advanced : ℕ → PipeRun → PipeRun
-advanced latency run = if is_last latency run then record run { count = 0; done = true } else record run { count = run.count + 1; done = false }
+advanced latency run =
+    if is_last latency run then record run { count = 0; done = true }
+    else record run { count = run.count + 1; done = false }
 
 -- a pipe that is not driven begins anew
 abbrev pub stopped : PipeRun → PipeRun
@@ -40,7 +42,8 @@ pipe_demands run inputs n = (is_on inputs 0 && (run.count == 0)) && (nat_le 1 n 
 
 -- `out` is port 3, `done` port 4
 abbrev pub multiplier_output : ℕ → CellState → ℕ → Option BitVector
-multiplier_output width (Multiplier run product) n = Some (if n == 3 then record { width = width; value = product } else bit_of run.done)
+multiplier_output width (Multiplier run product) n =
+    Some (if n == 3 then record { width = width; value = product } else bit_of run.done)
 multiplier_output width state n = None
 
 abbrev pub multiplier_idle : CellState → CellState
@@ -53,7 +56,9 @@ multiplier_demands state inputs n = false
 
 -- in the last cycle the output becomes the product of the held operands, modulo two to the width
 abbrev pub multiplied : ℕ → ℕ → PipeRun → ℕ → CellState
-multiplied width latency run product = Multiplier (advanced latency run) (if is_last latency run then (product_of (left_of width run) (right_of width run)).value else product)
+multiplied width latency run product =
+    Multiplier (advanced latency run)
+    (if is_last latency run then (product_of (left_of width run) (right_of width run)).value else product)
 
 abbrev pub multiplier_go : ℕ → ℕ → CellState → Inputs → CellState
 multiplier_go width latency (Multiplier run product) inputs = multiplied width latency (holding run inputs) product
@@ -64,7 +69,9 @@ multiplier_latency = 3
 
 abbrev pub multiplier_row : ℕ → Row
 multiplier_row width = record {
-  ports = enable_port Go ∷ plain_port Left width ∷ plain_port Right width ∷ registered_port Out width ∷ registered_port Done 1 ∷ [];
+  ports =
+      enable_port Go ∷ plain_port Left width ∷ plain_port Right width ∷ registered_port Out width
+      ∷ registered_port Done 1 ∷ [];
   shape = MultiplierOf width multiplier_latency;
   start = Multiplier at_rest 0;
   output = λ state inputs n. multiplier_output width state n;
@@ -72,14 +79,17 @@ multiplier_row width = record {
   beyond = λ inputs n. false;
   demands = multiplier_demands;
   out_of_range = λ inputs. None;
-  next = λ state inputs. if is_on inputs 0 then multiplier_go width multiplier_latency state inputs else multiplier_idle state;
+  next =
+      λ state inputs.
+      if is_on inputs 0 then multiplier_go width multiplier_latency state inputs else multiplier_idle state;
   idle = multiplier_idle;
 }
 
 -- `out_quotient` is port 3, `out_remainder` port 4, `done` port 5
 abbrev pub divider_output : ℕ → CellState → ℕ → Option BitVector
 divider_output width (Divider run quotient remainder) n =
-    Some (if n == 3 then record { width = width; value = quotient } else if n == 4 then record { width = width; value = remainder } else bit_of run.done)
+    Some (if n == 3 then record { width = width; value = quotient } else if n == 4
+    then record { width = width; value = remainder } else bit_of run.done)
 divider_output width state n = None
 
 abbrev pub divider_idle : CellState → CellState
@@ -94,17 +104,21 @@ divider_demands state inputs n = false
 abbrev pub divided : ℕ → ℕ → PipeRun → ℕ → ℕ → CellState
 divided width latency run quotient remainder =
     if is_last latency run
-    then Divider (advanced latency run) (quotient_of (left_of width run) (right_of width run)).value (remainder_of (left_of width run) (right_of width run)).value
+    then Divider (advanced latency run) (quotient_of (left_of width run) (right_of width run)).value
+    (remainder_of (left_of width run) (right_of width run)).value
     else Divider (advanced latency run) quotient remainder
 
 abbrev pub divider_go : ℕ → ℕ → CellState → Inputs → CellState
-divider_go width latency (Divider run quotient remainder) inputs = divided width latency (holding run inputs) quotient remainder
+divider_go width latency (Divider run quotient remainder) inputs =
+    divided width latency (holding run inputs) quotient remainder
 divider_go width latency state inputs = state
 
 -- the latency of a divider is its width
 abbrev pub divider_row : ℕ → Row
 divider_row width = record {
-  ports = enable_port Go ∷ plain_port Left width ∷ plain_port Right width ∷ registered_port OutQuotient width ∷ registered_port OutRemainder width ∷ registered_port Done 1 ∷ [];
+  ports =
+      enable_port Go ∷ plain_port Left width ∷ plain_port Right width ∷ registered_port OutQuotient width
+      ∷ registered_port OutRemainder width ∷ registered_port Done 1 ∷ [];
   shape = DividerOf width width;
   start = Divider at_rest 0 0;
   output = λ state inputs n. divider_output width state n;

@@ -9,7 +9,8 @@ use Rattle.cx_prim.specs.CombinationalRows.{enable_port, plain_port, registered_
 
 -- `out` is port 2, `done` port 3
 abbrev pub register_output : ℕ → CellState → ℕ → Option BitVector
-register_output width (Register value done) n = Some (if n == 2 then record { width = width; value = value } else bit_of done)
+register_output width (Register value done) n =
+    Some (if n == 2 then record { width = width; value = value } else bit_of done)
 register_output width state n = None
 
 -- a register keeps its value, and done falls

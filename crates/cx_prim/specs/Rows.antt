@@ -1,4 +1,5 @@
--- What a primitive is to its users: a row of ports and equations. A cycle looks at the old state and the inputs; its edge gives the next state.
+-- What a primitive is to its users: a row of ports and equations. A cycle looks at the old state and the inputs; its
+-- edge gives the next state.
 use Rattle.std.specs.Prelude.{◌≡◌, ℕ, ◌<◌, ◌==◌, Bool, true, false, List, Option, Some, None, Result, Ok, Err, IsSome, slice_get, slice_index_or, length}
 use Rattle.cx_bits.specs.BitVector.{BitVector, Fits}
 use Rattle.cx_prim.specs.declared.ports.PortRow.{PortRow}
@@ -6,7 +7,8 @@ use Rattle.cx_prim.specs.declared.ports.Side.{Side}
 use Rattle.cx_prim.specs.declared.ports.Side.TheVariants.{Enable, Plain, Output, Registered}
 use Rattle.cx_prim.specs.CellStates.{CellState, StateShape, IsState, words_of, with_words}
 
--- what stands at the ports of a cell, one entry for each port of its row in their order: a value, or none. What stands at outputs is not looked at
+-- what stands at the ports of a cell, one entry for each port of its row in their order: a value, or none. What
+-- stands at outputs is not looked at
 abbrev pub Inputs : Type 0
 Inputs = List (Option BitVector)
 
@@ -80,7 +82,8 @@ HasSide r n test = (port : PortRow) × (slice_get r.ports n ≡ Some port) × (t
 -- one entry a port, each value as wide as its port
 pub record FitsPorts (ports : List PortRow) (inputs : Inputs) : Type 0 where
   pub count : length inputs ≡ length ports
-  pub widths : (n : ℕ) (port : PortRow) (b : BitVector) → slice_get ports n ≡ Some port → input inputs n ≡ Some b → b.width ≡ port.width
+  pub widths : (n : ℕ) (port : PortRow) (b : BitVector) → slice_get ports n ≡ Some port
+      → input inputs n ≡ Some b → b.width ≡ port.width
 
 -- each value fits its width, as every value of the program does
 abbrev pub AreValues : Inputs → Type 0
@@ -88,21 +91,27 @@ AreValues inputs = (n : ℕ) (b : BitVector) → input inputs n ≡ Some b → F
 
 -- every enabling port has a value, and so has every plain port that the edge demands
 pub record IsLookedAt (r : Row) (state : CellState) (inputs : Inputs) : Type 0 where
-  pub enabling : (n : ℕ) (port : PortRow) → slice_get r.ports n ≡ Some port → port.side ≡ Enable → IsSome (input inputs n)
-  pub demanded : (n : ℕ) (port : PortRow) → slice_get r.ports n ≡ Some port → port.side ≡ Plain → r.demands state inputs n ≡ true → IsSome (input inputs n)
+  pub enabling : (n : ℕ) (port : PortRow) → slice_get r.ports n ≡ Some port → port.side ≡ Enable
+      → IsSome (input inputs n)
+  pub demanded : (n : ℕ) (port : PortRow) → slice_get r.ports n ≡ Some port → port.side ≡ Plain
+      → r.demands state inputs n ≡ true → IsSome (input inputs n)
 
 -- every enabling port is 0
 abbrev pub IsQuiet : Row → Inputs → Type 0
-IsQuiet r inputs = (n : ℕ) (port : PortRow) → slice_get r.ports n ≡ Some port → port.side ≡ Enable → value_at inputs n ≡ 0
+IsQuiet r inputs =
+    (n : ℕ) (port : PortRow) → slice_get r.ports n ≡ Some port → port.side ≡ Enable → value_at inputs n ≡ 0
 
 -- the same stands at every enabling port and at every plain port that the edge demands
 pub record AgreesWhereLooked (r : Row) (state : CellState) (inputs others : Inputs) : Type 0 where
-  pub enabling : (n : ℕ) (port : PortRow) → slice_get r.ports n ≡ Some port → port.side ≡ Enable → input inputs n ≡ input others n
-  pub demanded : (n : ℕ) (port : PortRow) → slice_get r.ports n ≡ Some port → port.side ≡ Plain → r.demands state inputs n ≡ true → input inputs n ≡ input others n
+  pub enabling : (n : ℕ) (port : PortRow) → slice_get r.ports n ≡ Some port → port.side ≡ Enable
+      → input inputs n ≡ input others n
+  pub demanded : (n : ℕ) (port : PortRow) → slice_get r.ports n ≡ Some port → port.side ≡ Plain
+      → r.demands state inputs n ≡ true → input inputs n ≡ input others n
 
 -- the same stands at every enabling port
 pub record AgreesWhereEnabling (r : Row) (inputs others : Inputs) : Type 0 where
-  pub enabling : (n : ℕ) (port : PortRow) → slice_get r.ports n ≡ Some port → port.side ≡ Enable → input inputs n ≡ input others n
+  pub enabling : (n : ℕ) (port : PortRow) → slice_get r.ports n ≡ Some port → port.side ≡ Enable
+      → input inputs n ≡ input others n
 
 -- an idle edge leaves the start as it is
 abbrev pub StartsSettled : Row → Type 0
@@ -118,19 +127,26 @@ IdlesWhenQuiet r = (state : CellState) (inputs : Inputs) → IsQuiet r inputs �
 
 -- a registered output reads no input
 abbrev pub KeepsRegistered : Row → Type 0
-KeepsRegistered r = (state : CellState) (inputs others : Inputs) (n : ℕ) (port : PortRow) → slice_get r.ports n ≡ Some port → port.side ≡ Registered → r.output state inputs n ≡ r.output state others n
+KeepsRegistered r =
+    (state : CellState) (inputs others : Inputs) (n : ℕ) (port : PortRow) → slice_get r.ports n ≡ Some port
+    → port.side ≡ Registered → r.output state inputs n ≡ r.output state others n
 
 -- an edge depends only on the enabling and the demanded ports
 abbrev pub LooksWhereDemanded : Row → Type 0
-LooksWhereDemanded r = (state : CellState) (inputs others : Inputs) → AgreesWhereLooked r state inputs others → edge r state inputs ≡ edge r state others
+LooksWhereDemanded r =
+    (state : CellState) (inputs others : Inputs) → AgreesWhereLooked r state inputs others
+    → edge r state inputs ≡ edge r state others
 
 -- what is demanded depends on the enabling ports alone
 abbrev pub DemandsByEnabling : Row → Type 0
-DemandsByEnabling r = (state : CellState) (inputs others : Inputs) (n : ℕ) → AgreesWhereEnabling r inputs others → r.demands state inputs n ≡ r.demands state others n
+DemandsByEnabling r =
+    (state : CellState) (inputs others : Inputs) (n : ℕ) → AgreesWhereEnabling r inputs others
+    → r.demands state inputs n ≡ r.demands state others n
 
 -- nothing is demanded where every enabling port is 0
 abbrev pub DemandsNothingWhenQuiet : Row → Type 0
-DemandsNothingWhenQuiet r = (state : CellState) (inputs : Inputs) (n : ℕ) → IsQuiet r inputs → r.demands state inputs n ≡ false
+DemandsNothingWhenQuiet r =
+    (state : CellState) (inputs : Inputs) (n : ℕ) → IsQuiet r inputs → r.demands state inputs n ≡ false
 
 -- an address that is out of range stands at a port
 abbrev pub RangesArePorts : Row → Type 0
@@ -145,8 +161,10 @@ pub record IsOfWidth (width : ℕ) (b : BitVector) : Type 0 where
 
 abbrev pub GivesWidths : Row → Type 0
 GivesWidths r =
-    (state : CellState) (inputs : Inputs) (n : ℕ) (port : PortRow) (b : BitVector) → IsState r.shape state → FitsPorts r.ports inputs → AreValues inputs
-    → slice_get r.ports n ≡ Some port → is_output_side port.side ≡ true → r.output state inputs n ≡ Some b → IsOfWidth port.width b
+    (state : CellState) (inputs : Inputs) (n : ℕ) (port : PortRow) (b : BitVector) → IsState r.shape state
+    → FitsPorts r.ports inputs → AreValues inputs
+    → slice_get r.ports n ≡ Some port → is_output_side port.side ≡ true → r.output state inputs n ≡ Some b
+    → IsOfWidth port.width b
 
 -- the same stands at every input that output n reads
 abbrev pub AgreesWhereRead : Row → ℕ → Inputs → Inputs → Type 0
@@ -154,21 +172,27 @@ AgreesWhereRead r n inputs others = (m : ℕ) → r.reads n m ≡ true → input
 
 -- an output depends only on the inputs that it reads
 abbrev pub ReadsOnly : Row → Type 0
-ReadsOnly r = (state : CellState) (inputs others : Inputs) (n : ℕ) → AgreesWhereRead r n inputs others → r.output state inputs n ≡ r.output state others n
+ReadsOnly r =
+    (state : CellState) (inputs others : Inputs) (n : ℕ) → AgreesWhereRead r n inputs others
+    → r.output state inputs n ≡ r.output state others n
 
 -- an output has no value exactly where an input that it reads has none, or where it is a word at addresses of which one is out of range
 pub record IsStrict (r : Row) (state : CellState) (inputs : Inputs) (n : ℕ) : Type 0 where
   pub unread : (m : ℕ) → r.reads n m ≡ true → input inputs m ≡ None → r.output state inputs n ≡ None
   pub beyond : r.beyond inputs n ≡ true → r.output state inputs n ≡ None
-  pub otherwise : ((m : ℕ) → r.reads n m ≡ true → IsSome (input inputs m)) → r.beyond inputs n ≡ false → IsSome (r.output state inputs n)
+  pub otherwise : ((m : ℕ) → r.reads n m ≡ true → IsSome (input inputs m)) → r.beyond inputs n ≡ false
+      → IsSome (r.output state inputs n)
 
 abbrev pub AnswersStrictly : Row → Type 0
-AnswersStrictly r = (state : CellState) (inputs : Inputs) (n : ℕ) → IsState r.shape state → HasSide r n is_output_side → IsStrict r state inputs n
+AnswersStrictly r =
+    (state : CellState) (inputs : Inputs) (n : ℕ) → IsState r.shape state → HasSide r n is_output_side
+    → IsStrict r state inputs n
 
 -- the start is a state of the row, and edges keep the states of the row
 pub record KeepsStates (r : Row) : Type 0 where
   pub start : IsState r.shape r.start
-  pub next : (state : CellState) (inputs : Inputs) → IsState r.shape state → FitsPorts r.ports inputs → AreValues inputs → IsState r.shape (r.next state inputs)
+  pub next : (state : CellState) (inputs : Inputs) → IsState r.shape state → FitsPorts r.ports inputs
+      → AreValues inputs → IsState r.shape (r.next state inputs)
   pub idle : (state : CellState) → IsState r.shape state → IsState r.shape (r.idle state)
 
 -- the laws of a row, which every primitive keeps

@@ -23,24 +23,30 @@ at_width make _ = None
 
 -- numbers: the width and the value, which is below two to the width
 abbrev pub constant_at : List ℕ → Option Row
-constant_at (width ∷ value ∷ []) = if is_width width && nat_lt value (2 ^ width) then Some (constant_row width value) else None
+constant_at (width ∷ value ∷ []) =
+    if is_width width && nat_lt value (2 ^ width) then Some (constant_row width value) else None
 constant_at _ = None
 
 -- numbers: the width of the input, and that of the output, which is no greater
 abbrev pub slice_at : List ℕ → Option Row
-slice_at (width ∷ low ∷ []) = if (is_width width && is_width low) && nat_le low width then Some (unary_row width low (λ a. low_bits_of a low)) else None
+slice_at (width ∷ low ∷ []) =
+    if (is_width width && is_width low) && nat_le low width
+    then Some (unary_row width low (λ a. low_bits_of a low)) else None
 slice_at _ = None
 
 -- numbers: the width of the input, and that of the output, which is no smaller
 abbrev pub pad_at : List ℕ → Option Row
-pad_at (width ∷ wide ∷ []) = if (is_width width && is_width wide) && nat_le width wide then Some (unary_row width wide (λ a. zero_extension_of a wide)) else None
+pad_at (width ∷ wide ∷ []) =
+    if (is_width width && is_width wide) && nat_le width wide
+    then Some (unary_row width wide (λ a. zero_extension_of a wide)) else None
 pad_at _ = None
 
 -- numbers: the width, the size of each dimension, the address width of each dimension
 abbrev pub memory_at : ℕ → (ℕ → List ℕ → List ℕ → Row) → List ℕ → Option Row
 memory_at dimensions make [] = None
 memory_at dimensions make (width ∷ rest) =
-    if (is_width width && (length rest == 2 * dimensions)) && (are_sizes (take dimensions rest) && list_all is_address_width (drop dimensions rest))
+    if (is_width width && (length rest == 2 * dimensions))
+    && (are_sizes (take dimensions rest) && list_all is_address_width (drop dimensions rest))
     then Some (make width (take dimensions rest) (drop dimensions rest))
     else None
 

@@ -14,7 +14,8 @@ use Rattle.cx_print.specs.declared.pieces.Piece.{Piece}
 -- a name or reserved word: a letter or `_`, then letters, `_` and digits, 255 bytes at most
 abbrev pub IsWritableWord : List ℕ → Type 0
 IsWritableWord [] = ⊥
-IsWritableWord (first ∷ more) = (is_name_start first ≡ true) × (list_all is_name_byte more ≡ true) × (length (first ∷ more) ≤ 255)
+IsWritableWord (first ∷ more) =
+    (is_name_start first ≡ true) × (list_all is_name_byte more ≡ true) × (length (first ∷ more) ≤ 255)
 
 -- a token that a text can have
 abbrev pub IsWritable : TokenKind → Type 0
@@ -44,7 +45,8 @@ IsGapOf Line blanks = (blanks ≢ []) × (list_all is_blank blanks ≡ true)
 -- the text is these tokens with what stands before each, and a line feed
 pub data IsLaidOut : List Piece → List ℕ → Type 0 where
   ended : IsLaidOut [] (10 ∷ [])
-  piece : {p : Piece} {ps : List Piece} (blanks : List ℕ) {rest : List ℕ} → IsGapOf p.gap blanks → IsLaidOut ps rest → IsLaidOut (p ∷ ps) (blanks ++ (token_bytes p.kind ++ rest))
+  piece : {p : Piece} {ps : List Piece} (blanks : List ℕ) {rest : List ℕ} → IsGapOf p.gap blanks
+      → IsLaidOut ps rest → IsLaidOut (p ∷ ps) (blanks ++ (token_bytes p.kind ++ rest))
 
 abbrev pub AppendsLayout : List Piece → List ℕ → List ℕ → Type 0
 AppendsLayout ps old new = (text : List ℕ) × (new ≡ old ++ text) × IsLaidOut ps text

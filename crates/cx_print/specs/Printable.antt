@@ -109,13 +109,17 @@ abbrev mutual
   IsControl (plain.Par ms block) n = AllByRecursion IsMark ms × IsBlock block n
   IsControl (plain.StaticSeq length ms block) n = IfThere IsNumber length × AllByRecursion IsMark ms × IsBlock block n
   IsControl (plain.StaticPar length ms block) n = IfThere IsNumber length × AllByRecursion IsMark ms × IsBlock block n
-  IsControl (plain.If test comb body otherwise) n = IsOperand test × IfThere IsName comb × IsBlock body n × IsElse otherwise n
-  IsControl (plain.StaticIf length test body otherwise) n = IfThere IsNumber length × IsOperand test × IsBlock body n × IsElse otherwise n
+  IsControl (plain.If test comb body otherwise) n =
+      IsOperand test × IfThere IsName comb × IsBlock body n × IsElse otherwise n
+  IsControl (plain.StaticIf length test body otherwise) n =
+      IfThere IsNumber length × IsOperand test × IsBlock body n × IsElse otherwise n
   IsControl (plain.While test comb body) n = IsOperand test × IfThere IsName comb × IsBlock body n
   IsControl (plain.Repeat count body) n = IsNumber count × IsBlock body n
   IsControl (plain.StaticRepeat length count body) n = IfThere IsNumber length × IsNumber count × IsBlock body n
-  IsControl (plain.Invoke cell inputs outputs) n = IsName cell × AllByRecursion IsBind inputs × AllByRecursion IsBind outputs
-  IsControl (plain.StaticInvoke length cell inputs outputs) n = IfThere IsNumber length × IsName cell × AllByRecursion IsBind inputs × AllByRecursion IsBind outputs
+  IsControl (plain.Invoke cell inputs outputs) n =
+      IsName cell × AllByRecursion IsBind inputs × AllByRecursion IsBind outputs
+  IsControl (plain.StaticInvoke length cell inputs outputs) n =
+      IfThere IsNumber length × IsName cell × AllByRecursion IsBind inputs × AllByRecursion IsBind outputs
 
   pub IsElse : PlainElse → ℕ → Type 0
   IsElse NoElse n = Unit {0}
@@ -140,7 +144,9 @@ IsGroupWord group_words.Comb = Unit {0}
 IsGroupWord (group_words.Timed n) = IsNumber n
 
 abbrev pub IsGroup : PlainGroup → Type 0
-IsGroup g = AllByRecursion IsAttribute g.attributes × IsGroupWord g.kind × IsName g.name × AllByRecursion IsMark g.marks × AllByRecursion IsAssign g.assigns
+IsGroup g =
+    AllByRecursion IsAttribute g.attributes × IsGroupWord g.kind × IsName g.name
+    × AllByRecursion IsMark g.marks × AllByRecursion IsAssign g.assigns
 
 abbrev pub IsWire : PlainWire → Type 0
 IsWire (wires.Group g) = IsGroup g
@@ -150,7 +156,9 @@ abbrev pub IsPort : PlainPort → Type 0
 IsPort p = AllByRecursion IsAttribute p.attributes × IsName p.name × IsNumber p.width
 
 abbrev pub IsCell : PlainCell → Type 0
-IsCell c = AllByRecursion IsAttribute c.attributes × IsName c.name × AllByRecursion IsMark c.marks × IsName c.kind × AllByRecursion IsNumber c.numbers
+IsCell c =
+    AllByRecursion IsAttribute c.attributes × IsName c.name × AllByRecursion IsMark c.marks × IsName c.kind
+    × AllByRecursion IsNumber c.numbers
 
 pub record IsComponent (c : PlainComponent) : Type 0 where
   pub attributes : AllByRecursion IsAttribute c.attributes

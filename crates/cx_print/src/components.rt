@@ -97,7 +97,8 @@ fn cell(alloc: Global, out: &mut Vec<Piece>, gap: Gap, item: &CellItem) -> Resul
 
 // Adds the cells of a component.
 fn cells(alloc: Global, out: &mut Vec<Piece>, items: &[CellItem]) -> Result<(), Memory>
-    ensures { OnOk result (out.new.items ≡ add_section add_cell (codes "cells") (map plain_cell items.now) out.old.items) }
+    ensures { OnOk result
+        (out.new.items ≡ add_section add_cell (codes "cells") (map plain_cell items.now) out.old.items) }
 {
     word(alloc, out, Gap::Line, b"cells")?;
     sign(out, Gap::Space, Sign::OpenBrace)?;
@@ -109,7 +110,8 @@ fn cells(alloc: Global, out: &mut Vec<Piece>, items: &[CellItem]) -> Result<(), 
 
 // Adds the groups and continuous assignments of a component.
 fn wires(alloc: Global, out: &mut Vec<Piece>, items: &[WireItem]) -> Result<(), Memory>
-    ensures { OnOk result (out.new.items ≡ add_section add_wire (codes "wires") (map plain_wire items.now) out.old.items) }
+    ensures { OnOk result
+        (out.new.items ≡ add_section add_wire (codes "wires") (map plain_wire items.now) out.old.items) }
 {
     word(alloc, out, Gap::Line, b"wires")?;
     sign(out, Gap::Space, Sign::OpenBrace)?;

@@ -102,7 +102,8 @@ fn joined(
     between: Sign,
     parts: &[GuardItem],
 ) -> Result<(), Memory>
-    ensures { OnOk result (out.new.items ≡ add_parts binding between false (guards_of (plain_guards parts.now)) gap out.old.items) }
+    ensures { OnOk result (out.new.items ≡
+        add_parts binding between false (guards_of (plain_guards parts.now)) gap out.old.items) }
 {
     let mut is_behind = false;
     let mut gap = gap;

@@ -28,10 +28,12 @@ shown_count counts part = counted_among part.cells part.groups + cells_count cou
 pub record AreShown (d : PlainDesign) (counts : List ℕ) : Type 0 where
   pub sized : length counts ≡ length d.components
   pub shown : (k : ℕ) → is_reached d k ≡ true → get_or counts k 0 ≡ length (shown_in (component_of d k))
-  pub trees : (k : ℕ) → is_reached d k ≡ true → component_of d k ≡ Node (component_at d k) (cells_for (component_of d) (component_at d k).cells)
+  pub trees : (k : ℕ) → is_reached d k ≡ true
+      → component_of d k ≡ Node (component_at d k) (cells_for (component_of d) (component_at d k).cells)
 
 pub record AreGains (d : PlainDesign) (gains : Gains) : Type 0 where
   pub reached : AreReached d gains.reached.items
   pub outputs : AreGained d gains.outputs.items
   pub entries : gains.entries ≡ entry_count d
-  pub trees : (k : ℕ) → is_reached d k ≡ true → component_of d k ≡ Node (component_at d k) (cells_for (component_of d) (component_at d k).cells)
+  pub trees : (k : ℕ) → is_reached d k ≡ true
+      → component_of d k ≡ Node (component_at d k) (cells_for (component_of d) (component_at d k).cells)

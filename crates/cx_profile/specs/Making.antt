@@ -11,8 +11,12 @@ own_of part = counted_among part.cells part.groups
 
 abbrev pub made_main : PlainDesign → (PortRef → PortRef) → PlainComponent → PlainComponent
 made_main d move part =
-    main_part move part (free_names (names_of part) (2 * own_of part + length (shown_ports d part (own_of part)) + 1)) (own_of part) (shown_ports d part (own_of part))
+    main_part move part
+    (free_names (names_of part) (2 * own_of part + length (shown_ports d part (own_of part)) + 1))
+    (own_of part) (shown_ports d part (own_of part))
 
 abbrev pub made_child : PlainDesign → (PortRef → PortRef) → PlainComponent → PlainComponent
 made_child d move part =
-    child_part move part (free_names (names_of part) (2 * own_of part + length (shown_ports d part (own_of part)))) (own_of part) (shown_ports d part (own_of part))
+    child_part move part
+    (free_names (names_of part) (2 * own_of part + length (shown_ports d part (own_of part))))
+    (own_of part) (shown_ports d part (own_of part))

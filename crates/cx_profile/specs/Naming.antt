@@ -7,4 +7,6 @@ use Rattle.cx_profiling.specs.FreeNames.{profile_name}
 
 -- of the names with numbers below a bound the first k that are not taken
 abbrev pub first_free : Numbers → ℕ → ℕ → List (List ℕ)
-first_free taken k last = take k (filter (λ name. not (is_some (number_in taken name))) (map profile_name (range_with_len 0 last)))
+first_free taken k last =
+    take k
+    (filter (λ name. not (is_some (number_in taken name))) (map profile_name (range_with_len 0 last)))

@@ -10,7 +10,9 @@ use Rattle.cx_profile.specs.declared.entries.ProfiledGroup.{ProfiledGroup}
 abbrev pub own_rows : Cells → ℕ → List ℕ → ℕ → List PlainGroup → List ProfiledGroup
 own_rows cells n names g [] = []
 own_rows cells n names g (x ∷ gs) =
-    if is_counted cells x then record { instance = n; group = g; path = names ++ x.name } ∷ own_rows cells n names (g + 1) gs else own_rows cells n names (g + 1) gs
+    if is_counted cells x
+    then record { instance = n; group = g; path = names ++ x.name } ∷ own_rows cells n names (g + 1) gs
+    else own_rows cells n names (g + 1) gs
 
 -- the name of the first cell, and the other cells
 abbrev pub first_name : List PlainCell → List ℕ
@@ -32,4 +34,6 @@ abbrev mutual
   pub rows_below : Cells → List PlainCell → ℕ → List ℕ → List ProfiledGroup
   rows_below no_cells cs n names = []
   rows_below (a_primitive row rest) cs n names = rows_below rest (others cs) n names
-  rows_below (an_instance child rest) cs n names = rows_in child n (names_below names (first_name cs)) ++ rows_below rest (others cs) (n + instances_below child) names
+  rows_below (an_instance child rest) cs n names =
+      rows_in child n (names_below names (first_name cs))
+      ++ rows_below rest (others cs) (n + instances_below child) names

@@ -10,7 +10,8 @@ use Rattle.cx_profile.specs.Rows.{rows_in, rows_below}
 
 -- the row of a group of an instance, where it is counted, and those of its groups from group g on, by the cells of its component
 abbrev pub counted_row : List PlainCell → ℕ → List ℕ → ℕ → PlainGroup → List ProfiledGroup
-counted_row cells n names g x = if counts_group cells x then record { instance = n; group = g; path = names ++ x.name } ∷ [] else []
+counted_row cells n names g x =
+    if counts_group cells x then record { instance = n; group = g; path = names ++ x.name } ∷ [] else []
 
 abbrev pub counted_rows : List PlainCell → ℕ → List ℕ → ℕ → List PlainGroup → List ProfiledGroup
 counted_rows cells n names g [] = []

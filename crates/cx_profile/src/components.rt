@@ -26,7 +26,8 @@ pub(crate) fn instrumented_components(
     gains: &Gains,
 ) -> Result<Vec<Component>, Memory>
     requires gains { AreGains (plain_design design.now) gains.now }
-    ensures value { IfOk result (λ all. map plain_component all.items ≡ (instrumented.with_counts (plain_design design.now)).components) }
+    ensures value { IfOk result (λ all.
+        map plain_component all.items ≡ (instrumented.with_counts (plain_design design.now)).components) }
 {
     let mut all = Vec::with_capacity(alloc, design.components.len())?;
     for number in 0..design.components.len() {
@@ -62,7 +63,8 @@ fn instrumented_component(
 ) -> Result<Component, Memory>
     requires there { number < length design.now.components.items }
     requires gains { AreGains (plain_design design.now) gains.now }
-    ensures value { IfOk result (λ c. plain_component c ≡ instrumented.instrumented_component (plain_design design.now) number) }
+    ensures value { IfOk result
+        (λ c. plain_component c ≡ instrumented.instrumented_component (plain_design design.now) number) }
 {
     let part = &design.components.as_slice()[number];
     let dones = renumbered_cells(alloc, design, &gains.outputs, &part.cells)?;
@@ -85,7 +87,8 @@ fn instrumented_main(
 ) -> Result<Component, Memory>
     requires there { AreThere (length design.now.components.items) (map plain_cell part.now.cells.items) }
     requires gained { AreGained (plain_design design.now) gained.now }
-    ensures value { IfOk result (λ c. plain_component c ≡ making.made_main (plain_design design.now) (renumber dones.now) (plain_component part.now)) }
+    ensures value { IfOk result (λ c. plain_component c ≡
+        making.made_main (plain_design design.now) (renumber dones.now) (plain_component part.now)) }
 {
     let own = counted(&part.cells, &part.groups)?;
     let ports = shown_ports(alloc, design, gained, part, own)?;
@@ -104,7 +107,8 @@ fn instrumented_child(
 ) -> Result<Component, Memory>
     requires there { AreThere (length design.now.components.items) (map plain_cell part.now.cells.items) }
     requires gained { AreGained (plain_design design.now) gained.now }
-    ensures value { IfOk result (λ c. plain_component c ≡ making.made_child (plain_design design.now) (renumber dones.now) (plain_component part.now)) }
+    ensures value { IfOk result (λ c. plain_component c ≡
+        making.made_child (plain_design design.now) (renumber dones.now) (plain_component part.now)) }
 {
     let own = counted(&part.cells, &part.groups)?;
     let ports = shown_ports(alloc, design, gained, part, own)?;

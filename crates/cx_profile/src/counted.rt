@@ -18,7 +18,8 @@ pub(crate) fn is_counted(cells: &[Cell], group: &Group) -> bool
 
 /// The same by the kind of the group.
 fn is_counted_kind(cells: &[Cell], group: &Group) -> bool
-    ensures value { result ≡ specs.counts_kind (map plain_cell cells.now) (plain_group group.now).assigns group.now.kind }
+    ensures value { result ≡
+        specs.counts_kind (map plain_cell cells.now) (plain_group group.now).assigns group.now.kind }
 {
     match group.kind {
         GroupKind::Plain => !calls(cells, &group.assigns),
@@ -54,7 +55,8 @@ fn is_part_port(cells: &[Cell], port: PortRef) -> bool
 
 /// How many groups are counted.
 pub(crate) fn counted(cells: &[Cell], groups: &[Group]) -> Result<u32, Memory>
-    ensures value { IfOk result (λ count. count ≡ specs.counted_among (map plain_cell cells.now) (map plain_group groups.now)) }
+    ensures value { IfOk result
+        (λ count. count ≡ specs.counted_among (map plain_cell cells.now) (map plain_group groups.now)) }
 {
     let mut count = 0u32;
     for group in groups {

@@ -34,7 +34,8 @@ pub(crate) fn drive(place: Place, target: PortRef, source: PortRef) -> Assign
 /// Appends the assignments of a counter, whose register is a cell and whose adder is the cell behind it:
 /// `a.left = r.out; a.right = 64'd1; r.in = a.out; r.write_en = 1'd1;`.
 fn with_counter(assigns: Vec<Assign>, place: Place, register: u32) -> Result<Vec<Assign>, Memory>
-    ensures value { IfOk result (λ all. plain_assigns all.items ≡ plain_assigns assigns.items ++ instrumented.counter_assigns place register) }
+    ensures value { IfOk result (λ all.
+        plain_assigns all.items ≡ plain_assigns assigns.items ++ instrumented.counter_assigns place register) }
 {
     let adder = sum(register, 1)?;
     let mut all = assigns;
@@ -53,7 +54,8 @@ fn grown_group(
     group: &Group,
     register: u32,
 ) -> Result<Group, Memory>
-    ensures value { IfOk result (λ g. plain_group g ≡ growing.grown_group (renumber dones.now) place register (plain_group group.now)) }
+    ensures value { IfOk result (λ g.
+        plain_group g ≡ growing.grown_group (renumber dones.now) place register (plain_group group.now)) }
 {
     let assigns = moved_assigns(alloc, &NewPorts { dones }, &group.assigns)?;
     let assigns = with_counter(assigns, place, register)?;
@@ -74,7 +76,9 @@ fn counted_group(
     group: &Group,
     register: u32,
 ) -> Result<Group, Memory>
-    ensures value { IfOk result (λ g. plain_group g ≡ growing.counted_group (renumber dones.now) (map plain_cell part.now.cells.items) part.now.place register (plain_group group.now)) }
+    ensures value { IfOk result (λ g. plain_group g ≡
+        growing.counted_group (renumber dones.now)
+        (map plain_cell part.now.cells.items) part.now.place register (plain_group group.now)) }
 {
     if is_counted(&part.cells, group) {
         grown_group(alloc, dones, part.place, group, register)
@@ -85,7 +89,8 @@ fn counted_group(
 
 /// The register of the next counter, behind a group.
 fn next_register(part: &Component, group: &Group, register: u32) -> Result<u32, Memory>
-    ensures value { IfOk result (λ next. next ≡ growing.next_register (map plain_cell part.now.cells.items) register (plain_group group.now)) }
+    ensures value { IfOk result (λ next.
+        next ≡ growing.next_register (map plain_cell part.now.cells.items) register (plain_group group.now)) }
 {
     if is_counted(&part.cells, group) {
         sum(register, 2)
@@ -101,7 +106,9 @@ pub(crate) fn counted_groups(
     dones: &[NewDone],
     part: &Component,
 ) -> Result<Vec<Group>, Memory>
-    ensures value { IfOk result (λ gs. map plain_group gs.items ≡ growing.counted_groups (renumber dones.now) (map plain_cell part.now.cells.items) part.now.place (length part.now.cells.items) (map plain_group part.now.groups.items)) }
+    ensures value { IfOk result (λ gs. map plain_group gs.items ≡
+        growing.counted_groups (renumber dones.now) (map plain_cell part.now.cells.items) part.now.place
+        (length part.now.cells.items) (map plain_group part.now.groups.items)) }
 {
     let mut groups = Vec::with_capacity(alloc, part.groups.len())?;
     let mut register = number(part.cells.len())?;
@@ -132,7 +139,8 @@ pub(crate) fn new_cell(
     external: bool,
 ) -> Result<Cell, Memory>
     requires named { primitive ≢ primitives.Timer }
-    ensures value { IfOk result (λ cell. plain_cell cell ≡ instrumented.new_cell place name primitive numbers.now external) }
+    ensures value { IfOk result
+        (λ cell. plain_cell cell ≡ instrumented.new_cell place name primitive numbers.now external) }
 {
     match primitive_row(primitive, numbers) {
         Some(primitive) => Ok(Cell {
@@ -154,7 +162,8 @@ fn counter_cell(
     primitive: PrimitiveName,
 ) -> Result<Cell, Memory>
     requires named { primitive ≢ primitives.Timer }
-    ensures value { IfOk result (λ cell. plain_cell cell ≡ instrumented.new_cell place (instrumented.name_at names.now number) primitive (64 ∷ []) false) }
+    ensures value { IfOk result (λ cell. plain_cell cell ≡
+        instrumented.new_cell place (instrumented.name_at names.now number) primitive (64 ∷ []) false) }
 {
     let name = name_again(alloc, names, number)?;
     new_cell(alloc, place, name, primitive, &[64], false)
@@ -168,7 +177,8 @@ pub(crate) fn with_counter_cells(
     names: &[Name],
     counters: u32,
 ) -> Result<Vec<Cell>, Memory>
-    ensures value { IfOk result (λ all. map plain_cell all.items ≡ map plain_cell cells.items ++ instrumented.counter_cells place names.now 0 counters) }
+    ensures value { IfOk result (λ all. map plain_cell all.items ≡
+        map plain_cell cells.items ++ instrumented.counter_cells place names.now 0 counters) }
 {
     let mut all = cells;
     for counter in 0..counters {

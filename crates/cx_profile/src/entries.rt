@@ -76,7 +76,9 @@ fn past_cells(
     walk: Walk,
 ) -> Result<Walk, Memory>
     requires there { AreThere (length design.now.components.items) (map plain_cell cells.now) }
-    ensures value { IfOk result (IsPastCells (cells_for (tree_within (plain_design design.now) levels) (map plain_cell cells.now)) (map plain_cell cells.now) names.now walk) }
+    ensures value { IfOk result (IsPastCells
+        (cells_for (tree_within (plain_design design.now) levels) (map plain_cell cells.now))
+        (map plain_cell cells.now) names.now walk) }
 {
     let mut past = walk;
     for cell in cells {
@@ -96,7 +98,9 @@ fn past_cell(
     walk: Walk,
 ) -> Result<Walk, Memory>
     requires there { IsThereKind (length design.now.components.items) (plain_kind cell.now.kind) }
-    ensures value { IfOk result (IsPastCells (add_cell (tree_within (plain_design design.now) levels) (plain_kind cell.now.kind) no_cells) (map plain_cell (cell.now ∷ [])) names.now walk) }
+    ensures value { IfOk result (IsPastCells
+        (add_cell (tree_within (plain_design design.now) levels) (plain_kind cell.now.kind) no_cells)
+        (map plain_cell (cell.now ∷ [])) names.now walk) }
 {
     match &cell.kind {
         CellKind::Prim(_) => Ok(walk),
@@ -119,7 +123,9 @@ fn names_below(alloc: Global, names: &[u8], name: &[u8]) -> Result<Vec<u8>, Memo
 
 /// Goes past an instance itself, with its counted groups.
 fn past_groups(alloc: Global, part: &Component, names: &[u8], walk: Walk) -> Result<Walk, Memory>
-    ensures groups { IfOk result (λ past. past.groups.items ≡ walk.groups.items ++ counted_rows (map plain_cell part.now.cells.items) walk.instance names.now 0 (map plain_group part.now.groups.items)) }
+    ensures groups { IfOk result (λ past. past.groups.items ≡
+        walk.groups.items ++ counted_rows (map plain_cell part.now.cells.items) walk.instance names.now 0
+        (map plain_group part.now.groups.items)) }
     ensures instance { IfOk result (λ past. past.instance ≡ walk.instance + 1) }
 {
     let instance = sum(walk.instance, 1)?;
@@ -135,7 +141,9 @@ fn with_own_groups(
     names: &[u8],
     instance: u32,
 ) -> Result<Vec<ProfiledGroup>, Memory>
-    ensures value { IfOk result (λ all. all.items ≡ groups.items ++ counted_rows (map plain_cell part.now.cells.items) instance names.now 0 (map plain_group part.now.groups.items)) }
+    ensures value { IfOk result (λ all. all.items ≡
+        groups.items ++ counted_rows (map plain_cell part.now.cells.items) instance names.now 0
+        (map plain_group part.now.groups.items)) }
 {
     let mut all = groups;
     let mut group = 0u32;
@@ -156,7 +164,9 @@ fn with_own_group(
     instance: u32,
     group: u32,
 ) -> Result<Vec<ProfiledGroup>, Memory>
-    ensures value { IfOk result (λ all. all.items ≡ groups.items ++ counted_row (map plain_cell part.now.cells.items) instance names.now group (plain_group own.now)) }
+    ensures value { IfOk result (λ all. all.items ≡
+        groups.items
+        ++ counted_row (map plain_cell part.now.cells.items) instance names.now group (plain_group own.now)) }
 {
     if !is_counted(&part.cells, own) {
         return Ok(groups);

@@ -15,7 +15,8 @@ use std::alloc::Global;
 
 /// The first names of `profile_0`, `profile_1`, and so on, that no part of a component has, so many of them.
 pub(crate) fn free_names(alloc: Global, part: &Component, count: u32) -> Result<Vec<Name>, Memory>
-    ensures value { IfOk result (λ names. names.items ≡ specs.free_names (specs.names_of (plain_component part.now)) count) }
+    ensures value { IfOk result
+        (λ names. names.items ≡ specs.free_names (specs.names_of (plain_component part.now)) count) }
 {
     let names = part_names(alloc, part)?;
     let taken = taken_names(alloc, &names)?;
@@ -112,7 +113,8 @@ fn with_cell_names(alloc: Global, names: Vec<Name>, cells: &[Cell]) -> Result<Ve
 
 /// Appends the names of groups.
 fn with_group_names(alloc: Global, names: Vec<Name>, groups: &[Group]) -> Result<Vec<Name>, Memory>
-    ensures value { IfOk result (λ all. all.items ≡ names.items ++ map (λ group. group.name) (map plain_group groups.now)) }
+    ensures value { IfOk result
+        (λ all. all.items ≡ names.items ++ map (λ group. group.name) (map plain_group groups.now)) }
 {
     let mut all = names;
     for group in groups {

@@ -28,7 +28,8 @@ pub(crate) fn kept_component(
     dones: &[NewDone],
     part: &Component,
 ) -> Result<Component, Memory>
-    ensures value { IfOk result (λ c. plain_component c ≡ growing.kept_part (renumber dones.now) (plain_component part.now)) }
+    ensures value { IfOk result
+        (λ c. plain_component c ≡ growing.kept_part (renumber dones.now) (plain_component part.now)) }
 {
     Ok(Component {
         name: copied_name(alloc, &part.name)?,
@@ -51,7 +52,8 @@ fn cells_with_counters(
     names: &[Name],
     own: u32,
 ) -> Result<Vec<Cell>, Memory>
-    ensures value { IfOk result (λ cells. map plain_cell cells.items ≡ map plain_cell part.now.cells.items ++ instrumented.counter_cells part.now.place names.now 0 own) }
+    ensures value { IfOk result (λ cells. map plain_cell cells.items ≡
+        map plain_cell part.now.cells.items ++ instrumented.counter_cells part.now.place names.now 0 own) }
 {
     let cells = copied_cells(alloc, &part.cells)?;
     with_counter_cells(alloc, cells, part.place, names, own)
@@ -65,7 +67,8 @@ fn outputs_with_counts(
     own: u32,
     ports: &[PortRef],
 ) -> Result<Vec<PortDecl>, Memory>
-    ensures value { IfOk result (λ outputs. outputs.items ≡ part.now.outputs.items ++ growing.new_outputs names.now (2 * own) (length ports.now)) }
+    ensures value { IfOk result (λ outputs.
+        outputs.items ≡ part.now.outputs.items ++ growing.new_outputs names.now (2 * own) (length ports.now)) }
 {
     let outputs = copied_ports(alloc, &part.outputs)?;
     let count = number(ports.len())?;
@@ -79,7 +82,9 @@ fn always_with_counts(
     part: &Component,
     ports: &[PortRef],
 ) -> Result<Vec<Assign>, Memory>
-    ensures value { IfOk result (λ always. plain_assigns always.items ≡ map (moved_assign (renumber dones.now)) (plain_assigns part.now.always.items) ++ growing.port_assigns part.now.place (length part.now.outputs.items) ports.now) }
+    ensures value { IfOk result (λ always. plain_assigns always.items ≡
+        map (moved_assign (renumber dones.now)) (plain_assigns part.now.always.items)
+        ++ growing.port_assigns part.now.place (length part.now.outputs.items) ports.now) }
 {
     let always = moved_assigns(alloc, &NewPorts { dones }, &part.always)?;
     let first = number(part.outputs.len())?;
@@ -95,7 +100,8 @@ pub(crate) fn child_component(
     own: u32,
     ports: &[PortRef],
 ) -> Result<Component, Memory>
-    ensures value { IfOk result (λ c. plain_component c ≡ growing.child_part (renumber dones.now) (plain_component part.now) names.now own ports.now) }
+    ensures value { IfOk result (λ c. plain_component c ≡
+        growing.child_part (renumber dones.now) (plain_component part.now) names.now own ports.now) }
 {
     Ok(Component {
         name: copied_name(alloc, &part.name)?,
@@ -119,7 +125,9 @@ fn cells_with_memory(
     own: u32,
     count: u32,
 ) -> Result<Vec<Cell>, Memory>
-    ensures value { IfOk result (λ cells. map plain_cell cells.items ≡ (map plain_cell part.now.cells.items ++ instrumented.counter_cells part.now.place names.now 0 own) ++ instrumented.memory_cell part.now.place (instrumented.name_at names.now (2 * own)) count ∷ []) }
+    ensures value { IfOk result (λ cells. map plain_cell cells.items ≡
+        (map plain_cell part.now.cells.items ++ instrumented.counter_cells part.now.place names.now 0 own)
+        ++ instrumented.memory_cell part.now.place (instrumented.name_at names.now (2 * own)) count ∷ []) }
 {
     let mut cells = cells_with_counters(alloc, part, names, own)?;
     let name = name_again(alloc, names, 2 * own as usize)?;
@@ -160,7 +168,8 @@ fn groups_with_stores(
     own: u32,
     ports: &[PortRef],
 ) -> Result<Vec<Group>, Memory>
-    ensures value { IfOk result (λ groups. map plain_group groups.items ≡ (growing.main_part (renumber dones.now) (plain_component part.now) names.now own ports.now).groups) }
+    ensures value { IfOk result (λ groups. map plain_group groups.items ≡
+        (growing.main_part (renumber dones.now) (plain_component part.now) names.now own ports.now).groups) }
 {
     let groups = counted_groups(alloc, dones, part)?;
     let memory = count_memory(part, own, number(ports.len())?)?;
@@ -175,7 +184,10 @@ fn control_with_stores(
     part: &Component,
     count: u32,
 ) -> Result<Statement, Memory>
-    ensures value { IfOk result (λ s. plain_statement s ≡ growing.then_stores part.now.place (statement_moved (renumber dones.now) (plain_statement part.now.control)) (length part.now.groups.items) count) }
+    ensures value { IfOk result (λ s. plain_statement s ≡
+        growing.then_stores part.now.place
+        (statement_moved (renumber dones.now) (plain_statement part.now.control))
+        (length part.now.groups.items) count) }
 {
     let control = moved_statement(alloc, &NewPorts { dones }, &part.control)?;
     let first = number(part.groups.len())?;
@@ -191,7 +203,8 @@ pub(crate) fn main_component(
     own: u32,
     ports: &[PortRef],
 ) -> Result<Component, Memory>
-    ensures value { IfOk result (λ c. plain_component c ≡ growing.main_part (renumber dones.now) (plain_component part.now) names.now own ports.now) }
+    ensures value { IfOk result (λ c. plain_component c ≡
+        growing.main_part (renumber dones.now) (plain_component part.now) names.now own ports.now) }
 {
     let count = number(ports.len())?;
     Ok(Component {

@@ -39,12 +39,19 @@ pub fn instrument(alloc: Global, design: &Checked) -> Result<Profiled, Refusal>
     ensures design { IfOk result (λ p. plain_design p.design ≡ definitions.instrumented (plain_design design.now)) }
     ensures memory { IfOk result (λ p. p.memory ≡ memory_place_of (plain_design design.now)) }
     // Of each word of the memory, in order: the path of the group, its number, and that of the instance.
-    ensures paths { IfOk result (λ p. map (λ g. g.path) p.groups.items ≡ map (group_path (tree_of (plain_design design.now))) (entries_of (tree_of (plain_design design.now)))) }
-    ensures groups { IfOk result (λ p. map (λ g. g.group) p.groups.items ≡ map (λ e. e.group) (entries_of (tree_of (plain_design design.now)))) }
-    ensures instances { IfOk result (λ p. map (λ g. slice_get (paths_of (tree_of (plain_design design.now))) g.instance) p.groups.items ≡ map (λ e. Some e.path) (entries_of (tree_of (plain_design design.now)))) }
+    ensures paths { IfOk result (λ p. map (λ g. g.path) p.groups.items ≡
+        map (group_path (tree_of (plain_design design.now))) (entries_of (tree_of (plain_design design.now)))) }
+    ensures groups { IfOk result (λ p. map (λ g. g.group) p.groups.items ≡
+        map (λ e. e.group) (entries_of (tree_of (plain_design design.now)))) }
+    ensures instances { IfOk result (λ p. map
+        (λ g. slice_get (paths_of (tree_of (plain_design design.now))) g.instance) p.groups.items ≡
+        map (λ e. Some e.path) (entries_of (tree_of (plain_design design.now)))) }
     // It is refused for the first limit that the instrumented design exceeds, or for want of memory.
     ensures limit { IfErr result (IsLimit (definitions.instrumented (plain_design design.now))) }
-    ensures all_limits { (told : Diagnostic) → IsFirstOf 7 (definitions.instrumented (plain_design design.now)) told → MatchResult result (λ _. ⊥) (λ refusal. TellsAs (definitions.instrumented (plain_design design.now)) told refusal) }
+    ensures all_limits { (told : Diagnostic) →
+        IsFirstOf 7 (definitions.instrumented (plain_design design.now)) told →
+        MatchResult result (λ _. ⊥)
+        (λ refusal. TellsAs (definitions.instrumented (plain_design design.now)) told refusal) }
 {
     match made(alloc, design.design()) {
         Ok(made) => checked(alloc, made),
@@ -84,7 +91,8 @@ fn checked(alloc: Global, made: Unchecked) -> Result<Profiled, Refusal>
     ensures memory { IfOk result (λ p. p.memory ≡ made.memory) }
     ensures groups { IfOk result (λ p. p.groups.items ≡ made.groups.items) }
     ensures limit { IfErr result (IsLimit (plain_design made.design)) }
-    ensures all_limits { (told : Diagnostic) → IsFirstOf 7 (plain_design made.design) told → MatchResult result (λ _. ⊥) (λ refusal. TellsAs (plain_design made.design) told refusal) }
+    ensures all_limits { (told : Diagnostic) → IsFirstOf 7 (plain_design made.design) told →
+        MatchResult result (λ _. ⊥) (λ refusal. TellsAs (plain_design made.design) told refusal) }
 {
     let Unchecked {
         design,
@@ -145,7 +153,8 @@ fn instrumented_design(alloc: Global, design: &Design, gains: &Gains) -> Result<
 /// The components of the instrumented design. One without an entry stays as it is.
 fn new_components(alloc: Global, design: &Design, gains: &Gains) -> Result<Vec<Component>, Memory>
     requires gains { AreGains (plain_design design.now) gains.now }
-    ensures value { IfOk result (λ all. map plain_component all.items ≡ (definitions.instrumented (plain_design design.now)).components) }
+    ensures value { IfOk result (λ all.
+        map plain_component all.items ≡ (definitions.instrumented (plain_design design.now)).components) }
 {
     if gains.entries == 0 {
         same_components(alloc, &design.components)

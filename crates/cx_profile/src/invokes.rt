@@ -34,7 +34,8 @@ pub(crate) fn moved_invokes(
     dones: &[NewDone],
     invokes: &[StaticInvoke],
 ) -> Result<Vec<StaticInvoke>, Memory>
-    ensures value { IfOk result (λ copies. map plain_invoke copies.items ≡ map (renumbered_invoke dones.now) (map plain_invoke invokes.now)) }
+    ensures value { IfOk result (λ copies.
+        map plain_invoke copies.items ≡ map (renumbered_invoke dones.now) (map plain_invoke invokes.now)) }
 {
     let mut copies = Vec::with_capacity(alloc, invokes.len())?;
     for invoke in invokes {

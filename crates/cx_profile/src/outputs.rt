@@ -51,7 +51,8 @@ fn with_kind_ports(
 ) -> Result<Vec<PortRef>, Memory>
     requires there { IsThereKind (length design.now.components.items) (plain_kind kind.now) }
     requires gained { AreGained (plain_design design.now) gained.now }
-    ensures value { IfOk result (λ all. all.items ≡ ports.items ++ growing.kind_ports (plain_design design.now) cell (plain_kind kind.now)) }
+    ensures value { IfOk result (λ all.
+        all.items ≡ ports.items ++ growing.kind_ports (plain_design design.now) cell (plain_kind kind.now)) }
 {
     match kind {
         CellKind::Prim(_) => Ok(ports),
@@ -72,7 +73,8 @@ fn with_cell_ports(
 ) -> Result<Vec<PortRef>, Memory>
     requires there { AreThere (length design.now.components.items) (map plain_cell cells.now) }
     requires gained { AreGained (plain_design design.now) gained.now }
-    ensures value { IfOk result (λ all. all.items ≡ ports.items ++ growing.cell_ports (plain_design design.now) 0 (map plain_cell cells.now)) }
+    ensures value { IfOk result (λ all.
+        all.items ≡ ports.items ++ growing.cell_ports (plain_design design.now) 0 (map plain_cell cells.now)) }
 {
     let mut all = ports;
     let mut number = 0u32;
@@ -94,7 +96,8 @@ pub(crate) fn shown_ports(
 ) -> Result<Vec<PortRef>, Memory>
     requires there { AreThere (length design.now.components.items) (map plain_cell part.now.cells.items) }
     requires gained { AreGained (plain_design design.now) gained.now }
-    ensures value { IfOk result (λ ports. ports.items ≡ growing.shown_ports (plain_design design.now) (plain_component part.now) own) }
+    ensures value { IfOk result (λ ports.
+        ports.items ≡ growing.shown_ports (plain_design design.now) (plain_component part.now) own) }
 {
     let first = number(part.cells.len())?;
     let ports = register_ports(alloc, first, own)?;
@@ -127,7 +130,8 @@ pub(crate) fn with_output_assigns(
     first: u32,
     ports: &[PortRef],
 ) -> Result<Vec<Assign>, Memory>
-    ensures value { IfOk result (λ all. plain_assigns all.items ≡ plain_assigns always.items ++ growing.port_assigns place first ports.now) }
+    ensures value { IfOk result (λ all.
+        plain_assigns all.items ≡ plain_assigns always.items ++ growing.port_assigns place first ports.now) }
 {
     let mut all = always;
     let mut output = first;

@@ -43,7 +43,8 @@ pub(crate) fn renumbered_cells(
 ) -> Result<Vec<NewDone>, Memory>
     requires there { renumbering.AreThere (length design.now.components.items) (map plain_cell cells.now) }
     requires gained { renumbering.AreGained (plain_design design.now) gained.now }
-    ensures value { IfOk result (λ all. all.items ≡ renumbering.dones_of (plain_design design.now) (map plain_cell cells.now)) }
+    ensures value { IfOk result
+        (λ all. all.items ≡ renumbering.dones_of (plain_design design.now) (map plain_cell cells.now)) }
 {
     let mut all = Vec::with_capacity(alloc, cells.len())?;
     for cell in cells {

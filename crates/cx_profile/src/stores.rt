@@ -60,7 +60,9 @@ fn store_assigns(
     word: u32,
     count: PortRef,
 ) -> Result<Vec<Assign>, Memory>
-    ensures value { IfOk result (λ assigns. plain_assigns assigns.items ≡ instrumented.store_assigns place memory.cell memory.address_width group word count) }
+    ensures value { IfOk result (λ assigns.
+        plain_assigns assigns.items ≡
+        instrumented.store_assigns place memory.cell memory.address_width group word count) }
 {
     let address = PortRef::Literal(memory.address_width, u128::from(word));
     let mut assigns = Vec::with_capacity(alloc, 4)?;
@@ -88,7 +90,9 @@ fn store_group(
     word: u32,
     count: PortRef,
 ) -> Result<Group, Memory>
-    ensures value { IfOk result (λ g. plain_group g ≡ growing.store_group place names.now memory.cell memory.address_width first.name first.group word count) }
+    ensures value { IfOk result (λ g. plain_group g ≡
+        growing.store_group place names.now memory.cell memory.address_width first.name first.group word
+        count) }
 {
     let name = name_again(alloc, names, sum(first.name, word)? as usize)?;
     let group = sum(first.group, word)?;
@@ -111,7 +115,9 @@ pub(crate) fn with_stores(
     first: FirstStore,
     counts: &[PortRef],
 ) -> Result<Vec<Group>, Memory>
-    ensures value { IfOk result (λ all. map plain_group all.items ≡ map plain_group groups.items ++ growing.store_groups place names.now memory.cell memory.address_width first.name first.group 0 counts.now) }
+    ensures value { IfOk result (λ all. map plain_group all.items ≡
+        map plain_group groups.items ++ growing.store_groups place names.now memory.cell memory.address_width
+        first.name first.group 0 counts.now) }
 {
     let mut all = groups;
     let mut word = 0u32;
@@ -130,7 +136,8 @@ pub(crate) fn then_stores(
     first: u32,
     count: u32,
 ) -> Result<Statement, Memory>
-    ensures value { IfOk result (λ s. plain_statement s ≡ growing.then_stores place (plain_statement statement) first count) }
+    ensures value { IfOk result
+        (λ s. plain_statement s ≡ growing.then_stores place (plain_statement statement) first count) }
 {
     let mut parts = Vec::new(alloc);
     parts.push(statement)?;

@@ -29,7 +29,10 @@ pub record Counter : Type 0 where
 -- of the groups from number g on, with registers from cell c on
 abbrev pub counters_from : Cells → ℕ → ℕ → List PlainGroup → List Counter
 counters_from cells c g [] = []
-counters_from cells c g (x ∷ xs) = if is_counted cells x then record { group = g; register = c } ∷ counters_from cells (suc (suc c)) (suc g) xs else counters_from cells c (suc g) xs
+counters_from cells c g (x ∷ xs) =
+    if is_counted cells x
+    then record { group = g; register = c } ∷ counters_from cells (suc (suc c)) (suc g) xs
+    else counters_from cells c (suc g) xs
 
 -- THE COUNTERS of an instance, in source order of the groups, behind its cells
 abbrev pub counters : Instance → List Counter
@@ -54,22 +57,27 @@ first_gained part = suc (length part.inputs + length part.outputs)
 
 -- the register of a counter of the instance itself
 abbrev pub shown_here : Counter → Shown
-shown_here counter = record { entry = record { path = []; group = counter.group }; port = ports.Cell counter.register 2 }
+shown_here counter =
+    record { entry = record { path = []; group = counter.group }; port = ports.Cell counter.register 2 }
 
 -- what a child shows, the instance has at ports of its cell, from port p on
 abbrev pub shown_at_cell : ℕ → ℕ → List Shown → List Shown
 shown_at_cell c p [] = []
-shown_at_cell c p (x ∷ xs) = record { entry = behind_cell c x.entry; port = ports.Cell c p } ∷ shown_at_cell c (suc p) xs
+shown_at_cell c p (x ∷ xs) =
+    record { entry = behind_cell c x.entry; port = ports.Cell c p } ∷ shown_at_cell c (suc p) xs
 
--- THE COUNTS OF AN INSTANCE and all below it, each with the port that has it: those of its own groups, then, in cell order, those of its children
+-- THE COUNTS OF AN INSTANCE and all below it, each with the port that has it: those of its own groups, then, in cell
+-- order, those of its children
 abbrev mutual
   pub shown_in : Instance → List Shown
-  shown_in (Node part cells) = map shown_here (counters_from cells (length part.cells) 0 part.groups) ++ shown_below cells 0
+  shown_in (Node part cells) =
+      map shown_here (counters_from cells (length part.cells) 0 part.groups) ++ shown_below cells 0
 
   pub shown_below : Cells → ℕ → List Shown
   shown_below no_cells c = []
   shown_below (a_primitive row rest) c = shown_below rest (suc c)
-  shown_below (an_instance child rest) c = shown_at_cell c (first_gained (part_of child)) (shown_in child) ++ shown_below rest (suc c)
+  shown_below (an_instance child rest) c =
+      shown_at_cell c (first_gained (part_of child)) (shown_in child) ++ shown_below rest (suc c)
 
 -- THE ENTRIES OF A PROFILE, in pre-order of the instances, and of each in source order of its groups
 abbrev pub entries_of : Instance → List ProfileEntry

@@ -47,7 +47,9 @@ counting i child held = record {
 -- WHAT THE CONTROL OF AN INSTANCE COUNTS, with its inputs held, in a run from a state for a budget of turns
 abbrev mutual
   pub count_control : Instance → Held → Counted State
-  count_control (Node part cells) held s n = count (leaves (Node part cells) (control_below cells) held) (counting (Node part cells) (count_below cells) held) part.control s n
+  count_control (Node part cells) held s n =
+      count (leaves (Node part cells) (control_below cells) held)
+      (counting (Node part cells) (count_below cells) held) part.control s n
 
   pub count_below : Cells → ChildrenCount
   count_below no_cells c held s n = none

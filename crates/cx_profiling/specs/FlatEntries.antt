@@ -1,6 +1,7 @@
--- Where the entries of a profile stand in the flat design. An instance that is not static stands once, at the path of its cells as flattening
--- numbers them, and its groups keep their numbers. An instance of a static component stands in its caller, where each group that its control
--- enables has one copy for each static invoke of its cell; the copies of a static component in a static component are copied in turn.
+-- Where the entries of a profile stand in the flat design. An instance that is not static stands once, at the path of
+-- its cells as flattening numbers them, and its groups keep their numbers. An instance of a static component stands
+-- in its caller, where each group that its control enables has one copy for each static invoke of its cell; the
+-- copies of a static component in a static component are copied in turn.
 use Rattle.std.specs.Prelude.{ℕ, zero, suc, ◌+◌, nat_eq, List, [], ◌∷◌, map, flat_map, Option, Some, None, sum_by, if◌then◌else◌}
 use Rattle.cx_meaning.specs.Designs.{PlainInvoke, PlainComponent, PlainDesign}
 use Rattle.cx_meaning.specs.Instances.{Instance, Node, Cells, no_cells, a_primitive, an_instance, Path, tree_of}
@@ -19,12 +20,15 @@ invokes_of c k [] = []
 invokes_of c k (v ∷ vs) = if nat_eq v.cell c then k ∷ invokes_of c (suc k) vs else invokes_of c (suc k) vs
 
 module _ (kids : Kids) (part : PlainComponent) (c : ℕ) where
-  -- the copies of a group of the flat static child at cell c: one for each invoke of the cell, and none where the child's control never enables it
+  -- the copies of a group of the flat static child at cell c: one for each invoke of the cell, and none where the
+  -- child's control never enables it
   abbrev pub copies_of : PlainComponent → ℕ → List ProfileEntry
-  copies_of child g = if is_one_of g (groups_of child.control) then map (λ j. entry_at [] (copy_of kids part child j g)) (invokes_of c 0 part.invokes) else []
+  copies_of child g =
+      if is_one_of g (groups_of child.control)
+      then map (λ j. entry_at [] (copy_of kids part child j g)) (invokes_of c 0 part.invokes) else []
 
-  -- where an entry of the flat child at cell c stands in the flat component: that of a child that is kept below its cell; that of a static one
-  -- as the copies of its group, or below the cell that stands for the child's
+  -- where an entry of the flat child at cell c stands in the flat component: that of a child that is kept below its
+  -- cell; that of a static one as the copies of its group, or below the cell that stands for the child's
   abbrev pub placed_entry : Option PlainComponent → Path → ℕ → List ProfileEntry
   placed_entry None path g = entry_at (kept_at kids c ∷ path) g ∷ []
   placed_entry (Some child) [] g = copies_of child g
@@ -37,7 +41,8 @@ module _ (kids : Kids) (part : PlainComponent) (c : ℕ) where
 abbrev mutual
   pub entries_in_flat : Instance → Path → ℕ → List ProfileEntry
   entries_in_flat (Node part cells) [] g = entry_at [] g ∷ []
-  entries_in_flat (Node part cells) (c ∷ path) g = placed_entries (flat_kids cells) part c (entries_below cells c path g)
+  entries_in_flat (Node part cells) (c ∷ path) g =
+      placed_entries (flat_kids cells) part c (entries_below cells c path g)
 
   pub entries_below : Cells → ℕ → Path → ℕ → List ProfileEntry
   entries_below no_cells c path g = []

@@ -12,9 +12,11 @@ abbrev mutual
   pub Grown : Instance → Tally → State → State → Type 0
   Grown (Node part cells) counted s t =
       GrownCells cells 0 counted s t
-      × ((counter : Counter) → In (counters (Node part cells)) counter → (done : Bool) × (t (counter.register ∷ []) ≡ Register (counted [] counter.group % 2 ^ 64) done))
+      × ((counter : Counter) → In (counters (Node part cells)) counter →
+      (done : Bool) × (t (counter.register ∷ []) ≡ Register (counted [] counter.group % 2 ^ 64) done))
 
   pub GrownCells : Cells → ℕ → Tally → State → State → Type 0
   GrownCells no_cells c counted s t = Unit {0}
   GrownCells (a_primitive row rest) c counted s t = (t (c ∷ []) ≡ s (c ∷ [])) × GrownCells rest (suc c) counted s t
-  GrownCells (an_instance child rest) c counted s t = Grown child (at_cell c counted) (under c s) (under c t) × GrownCells rest (suc c) counted s t
+  GrownCells (an_instance child rest) c counted s t =
+      Grown child (at_cell c counted) (under c s) (under c t) × GrownCells rest (suc c) counted s t

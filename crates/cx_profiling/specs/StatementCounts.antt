@@ -16,17 +16,20 @@ abbrev pub counting_in : Instance → Held → Counting State
 counting_in i held = counting i (count_below (cells_of i)) held
 
 abbrev pub count_statement : Instance → Held → PlainStatement → Counted State
-count_statement i held statement s n = count (leaves i (control_below (cells_of i)) held) (counting_in i held) statement s n
+count_statement i held statement s n =
+    count (leaves i (control_below (cells_of i)) held) (counting_in i held) statement s n
 
 -- a form, the parts of a seq that are left, and some of the arms of a par, each from the same state
 abbrev pub count_of_form : Instance → Held → PlainForm → Counted State
 count_of_form i held form s n = count_form (leaves i (control_below (cells_of i)) held) (counting_in i held) form s n
 
 abbrev pub count_of_parts : Instance → Held → PlainStatements → Counted State
-count_of_parts i held parts s n = count_parts (leaves i (control_below (cells_of i)) held) (counting_in i held) parts s n
+count_of_parts i held parts s n =
+    count_parts (leaves i (control_below (cells_of i)) held) (counting_in i held) parts s n
 
 abbrev pub count_of_arms : Instance → Held → List PlainStatement → Counted State
-count_of_arms i held arms s n = count_arms (leaves i (control_below (cells_of i)) held) (counting_in i held) (statements_of arms) s n
+count_of_arms i held arms s n =
+    count_arms (leaves i (control_below (cells_of i)) held) (counting_in i held) (statements_of arms) s n
 
 -- cycle t of an island and those after it, with so many left: each that goes on counts once each group that runs by the samples,
 -- those of the cycle included
@@ -36,7 +39,8 @@ sampled_count_from i held form (suc left) t kept s zero = none
 sampled_count_from i held form (suc left) t kept s (suc n) =
     let now : Samples = samples_after (part_of i) (says (seen i held nothing s)) t form kept in
     turn_count (sampled_turn i held form t now s)
-    (λ after. plus (made_with (entries (active_by (part_of i) now t form))) (sampled_count_from i held form left (suc t) now after n))
+    (λ after. plus (made_with (entries (active_by (part_of i) now t form)))
+    (sampled_count_from i held form left (suc t) now after n))
 
 -- WHAT AN ISLAND COUNTS BY ITS SAMPLES, whatever they are at first
 abbrev pub sampled_count : Instance → Held → PlainForm → Samples → Counted State

@@ -23,8 +23,10 @@ abbrev mutual
   whole_count_form L C (Enable g) s n = C.enable g s n
   whole_count_form L C (Seq parts) s n = whole_count_parts L C parts s n
   whole_count_form L C (Par arms) s n = whole_count_arms L C arms s n
-  whole_count_form L C (If test comb a b) s n = test_count L.rest (L.test test.port comb) (whole_count L C a) (whole_count L C b) s n
-  whole_count_form L C (While test comb a) s n = loop_count (suc n) L.rest (L.test test.port comb) (run L a) (whole_count L C a) s n
+  whole_count_form L C (If test comb a b) s n =
+      test_count L.rest (L.test test.port comb) (whole_count L C a) (whole_count L C b) s n
+  whole_count_form L C (While test comb a) s n =
+      loop_count (suc n) L.rest (L.test test.port comb) (run L a) (whole_count L C a) s n
   whole_count_form L C (Repeat k a) s n = rounds_count k (run L a) (whole_count L C a) s n
   whole_count_form L C (StaticSeq length parts) s n = C.island (StaticSeq length parts) s n
   whole_count_form L C (StaticPar length arms) s n = C.island (StaticPar length arms) s n
@@ -37,7 +39,8 @@ abbrev mutual
 
   pub whole_count_parts : {S F : Type 0} → Leaves S F → Counting S → PlainStatements → Counted S
   whole_count_parts L C no_statements s n = none
-  whole_count_parts L C (a_statement first later) s n = plus (whole_count L C first s n) (then_count (run L first s n) n (whole_count_parts L C later))
+  whole_count_parts L C (a_statement first later) s n =
+      plus (whole_count L C first s n) (then_count (run L first s n) n (whole_count_parts L C later))
 
   pub whole_count_arms : {S F : Type 0} → Leaves S F → Counting S → PlainStatements → Counted S
   whole_count_arms L C no_statements s n = none
@@ -55,12 +58,14 @@ whole_count_from i held list zero t before s n = none
 whole_count_from i held list (suc left) t before s zero = none
 whole_count_from i held list (suc left) t before s (suc n) =
     let h : History = and_now before t (look_below i held s) in
-    turn_count (whole_turn i held list t h s) (λ after. plus (done_with (deeds_in h t list)) (whole_count_from i held list left (suc t) h after n))
+    turn_count (whole_turn i held list t h s)
+    (λ after. plus (done_with (deeds_in h t list)) (whole_count_from i held list left (suc t) h after n))
 
 -- an island, with the static invokes in it, or a static invoke in dynamic control
 abbrev pub count_whole_island : Instance → Held → PlainForm → Counted State
 count_whole_island i held form s n =
-    whole_count_from i held (form_events (part_of i) (events_below (cells_of i)) form (record { at = []; bound = spot []; from = 0; conditions = [] }))
+    whole_count_from i held (form_events (part_of i) (events_below (cells_of i)) form
+    (record { at = []; bound = spot []; from = 0; conditions = [] }))
     (form_lasts (part_of i) form) 0 no_history s n
 
 -- a group counts its cycles; a call counts what the child counts
@@ -84,7 +89,8 @@ whole_counting i child held = record {
 abbrev mutual
   pub count_whole_control : Instance → Held → Counted State
   count_whole_control (Node part cells) held s n =
-      whole_count (whole_leaves (Node part cells) (whole_below cells) held) (whole_counting (Node part cells) (count_whole_below cells) held) part.control s n
+      whole_count (whole_leaves (Node part cells) (whole_below cells) held)
+      (whole_counting (Node part cells) (count_whole_below cells) held) part.control s n
 
   pub count_whole_below : Cells → ChildrenCount
   count_whole_below no_cells c held s n = none

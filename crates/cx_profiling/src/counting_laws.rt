@@ -68,7 +68,8 @@ pub fn own_inputs_suffice_for_counts()
     ensures { (d : PlainDesign) (path : Path) (held other : Held) (s : State) (n : ℕ)
         → IsDesign d → IsAccepted d
         → ((input : ℕ) → input < length (part_of (instance_at (tree_of d) path)).inputs → held input ≡ other input)
-        → (q : Path) (g : ℕ) → count_control (instance_at (tree_of d) path) held s n q g ≡ count_control (instance_at (tree_of d) path) other s n q g }
+        → (q : Path) (g : ℕ) → count_control (instance_at (tree_of d) path) held s n q g ≡
+        count_control (instance_at (tree_of d) path) other s n q g }
 {
     accepted_entries_are_acyclic();
 }
@@ -76,5 +77,6 @@ pub fn own_inputs_suffice_for_counts()
 /// An island counts by its samples alone what it counts by its flat list, where no static if in it is empty.
 pub fn islands_count_by_samples()
     ensures { (i : Instance) (held : Held) (form : PlainForm) (kept : Samples) (s : State) (n : ℕ)
-        → HasNoEmptyIf (part_of i) form → (q : Path) (g : ℕ) → sampled_count i held form kept s n q g ≡ count_island i held form s n q g }
+        → HasNoEmptyIf (part_of i) form → (q : Path) (g : ℕ)
+        → sampled_count i held form kept s n q g ≡ count_island i held form s n q g }
 {}

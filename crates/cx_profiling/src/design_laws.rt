@@ -23,5 +23,6 @@ pub fn instrumented_keeps_the_widths()
 /// The instrumented design of an accepted design is accepted, where it keeps the limits: it breaks no rule on widths, on shapes, on
 /// circles or on races.
 pub fn instrumented_is_accepted()
-    ensures { (d : PlainDesign) → IsDesign d → IsAccepted d → KeepsStage 7 (instrumented d) → IsAccepted (instrumented d) }
+    ensures { (d : PlainDesign) → IsDesign d → IsAccepted d → KeepsStage 7 (instrumented d) →
+        IsAccepted (instrumented d) }
 {}

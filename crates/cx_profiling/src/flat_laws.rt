@@ -22,10 +22,12 @@ use cx_flattening::laws::flat_trees_are_flattened;
 pub fn flat_designs_count_the_same()
     ensures groups { (d : PlainDesign) (words : List (List ℕ)) (n : ℕ) (path : Path) (g : ℕ)
         → IsDesign d → IsAccepted d → NoneNamesDone d → g < length (part_of (instance_at (tree_of d) path)).groups
-        → whole_tally_of d words n path g ≡ total_of (tally_of (flat_design d) words n) (flat_entries d (entry_at path g)) }
+        → whole_tally_of d words n path g ≡
+        total_of (tally_of (flat_design d) words n) (flat_entries d (entry_at path g)) }
     ensures runs { (d : PlainDesign) (words : List (List ℕ)) (n : ℕ) (path : Path) (g : ℕ)
         → IsDesign d → IsAccepted d → NoneNamesDone d → g < length (part_of (instance_at (tree_of d) path)).groups
-        → whole_tally_of d words n path g ≡ total_of (tally_of (runnable d) words n) (flat_entries d (entry_at path g)) }
+        → whole_tally_of d words n path g ≡
+        total_of (tally_of (runnable d) words n) (flat_entries d (entry_at path g)) }
     ensures entries { (d : PlainDesign) (words : List (List ℕ)) (n : ℕ) (e : ProfileEntry)
         → IsDesign d → IsAccepted d → NoneNamesDone d → In (entries_of (tree_of d)) e
         → whole_tally_of d words n e.path e.group ≡ total_of (tally_of (runnable d) words n) (flat_entries d e) }
@@ -37,7 +39,8 @@ pub fn flat_designs_count_the_same()
 /// the design that is run.
 pub fn flat_entries_are_there()
     ensures groups { (d : PlainDesign) (path : Path) (g : ℕ) (e : ProfileEntry)
-        → IsDesign d → g < length (part_of (instance_at (tree_of d) path)).groups → In (flat_entries d (entry_at path g)) e
+        → IsDesign d → g < length (part_of (instance_at (tree_of d) path)).groups
+        → In (flat_entries d (entry_at path g)) e
         → e.group < length (part_of (instance_at (tree_of (flat_design d)) e.path)).groups }
     ensures runs { (d : PlainDesign) (e f : ProfileEntry)
         → IsDesign d → In (entries_of (tree_of d)) e → In (flat_entries d e) f

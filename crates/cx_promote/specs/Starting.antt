@@ -14,5 +14,6 @@ drives_start c assigns (Some e) = some_target (same_port (ports.Cell c e)) assig
 
 abbrev pub drives_right : PlainGroup → ℕ → ℕ → Row → PlainAssign → Bool
 drives_right x c p row a =
-    is_port_of c a.target && (same_port a.source.port one && (is_always a.guard || (is_pipe row.shape && is_negated (ports.Cell c p) a.guard)))
+    is_port_of c a.target && (same_port a.source.port one &&
+    (is_always a.guard || (is_pipe row.shape && is_negated (ports.Cell c p) a.guard)))
     && nat_eq (length (with_target a.target x.assigns)) 1

@@ -29,9 +29,12 @@ pub(crate) fn promoted_component(
     lengths: Lengths,
 ) -> Result<ComponentItem, Memory>
     requires site { IsSite site }
-    requires lengths { Begins (promotion.length_of (tree_at site) (part_at site) (instance_at site)) lengths.cycles.now (groups_in (part_at site).wires) }
+    requires lengths { Begins
+        (promotion.length_of (tree_at site) (part_at site) (instance_at site)) lengths.cycles.now
+        (groups_in (part_at site).wires) }
     requires numbers { AreNumbersOf (group_names (part_at site)) lengths.numbers.now }
-    ensures value { IfOk result (λ c. plain_component c ≡ promotion.promote_component (tree_at site.entry) (part_at site.entry) (instance_at site.entry)) }
+    ensures value { IfOk result (λ c. plain_component c ≡
+        promotion.promote_component (tree_at site.entry) (part_at site.entry) (instance_at site.entry)) }
 {
     let item = site.part;
     let attributes = copied_attributes(alloc, item.attributes.as_slice())?;
@@ -62,7 +65,9 @@ fn promoted_control(
     lengths: &Lengths,
     control: &Option<Block>,
 ) -> Result<Option<Block>, Memory>
-    ensures value { IfOk result (λ c. option_map plain_block c ≡ option_map (promotion.promote_block (long_in lengths.now) promotion.BELOW_CONTROL true) (option_map plain_block control.now)) }
+    ensures value { IfOk result (λ c. option_map plain_block c ≡
+        option_map (promotion.promote_block (long_in lengths.now) promotion.BELOW_CONTROL true)
+        (option_map plain_block control.now)) }
 {
     match control {
         None => Ok(None),
@@ -78,8 +83,12 @@ pub(crate) fn add_rows(
     site: Site,
     lengths: &[Option<u64>],
 ) -> Result<(), Memory>
-    requires lengths { Begins (promotion.length_of (tree_at site) (part_at site) (instance_at site)) lengths.now (groups_in (part_at site).wires) }
-    ensures value { OnOk result (rows.new.items ≡ rows.old.items ++ promotion.rows_in (tree_at site.entry) (part_at site.entry) (instance_at site.entry) (groups_in (part_at site.entry).wires)) }
+    requires lengths { Begins
+        (promotion.length_of (tree_at site) (part_at site) (instance_at site)) lengths.now
+        (groups_in (part_at site).wires) }
+    ensures value { OnOk result (rows.new.items ≡
+        rows.old.items ++ promotion.rows_in (tree_at site.entry) (part_at site.entry) (instance_at site.entry)
+        (groups_in (part_at site.entry).wires)) }
 {
     let mut place = 0;
     for wire in &site.part.wires {

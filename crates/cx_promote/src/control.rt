@@ -24,7 +24,8 @@ pub(crate) fn promoted_block(
     in_order: bool,
     block: &Block,
 ) -> Result<Block, Memory>
-    ensures value { IfOk result (λ b. plain_block b ≡ promotion.promote_block (long_in lengths.now) below in_order (plain_block block.now)) }
+    ensures value { IfOk result (λ b.
+        plain_block b ≡ promotion.promote_block (long_in lengths.now) below in_order (plain_block block.now)) }
 {
     let statements = block.statements.as_slice();
     let statements = if in_order && below > 0 {
@@ -46,7 +47,9 @@ fn cut_statements(
     below: u32,
     items: &[StatementItem],
 ) -> Result<Vec<StatementItem>, Memory>
-    ensures value { IfOk result (λ list. statements_of (plain_statements list.items) ≡ promotion.cut_if (long_in lengths.now) true (promotion.promote_all (long_in lengths.now) below (statements_of (plain_statements items.now)))) }
+    ensures value { IfOk result (λ list. statements_of (plain_statements list.items) ≡
+        promotion.cut_if (long_in lengths.now) true
+        (promotion.promote_all (long_in lengths.now) below (statements_of (plain_statements items.now)))) }
 {
     let mut pieces = Pieces::new(alloc);
     for item in items {
@@ -65,7 +68,8 @@ fn promoted_statements(
     below: u32,
     items: &[StatementItem],
 ) -> Result<Vec<StatementItem>, Memory>
-    ensures value { IfOk result (λ list. statements_of (plain_statements list.items) ≡ promotion.promote_all (long_in lengths.now) below (statements_of (plain_statements items.now))) }
+    ensures value { IfOk result (λ list. statements_of (plain_statements list.items) ≡
+        promotion.promote_all (long_in lengths.now) below (statements_of (plain_statements items.now))) }
 {
     let mut promoted = Vec::with_capacity(alloc, items.len())?;
     for item in items {
@@ -81,7 +85,8 @@ fn promoted_statement(
     below: u32,
     item: &StatementItem,
 ) -> Result<StatementItem, Memory>
-    ensures value { IfOk result (λ s. plain_statement s ≡ promotion.promote_statement (long_in lengths.now) below (plain_statement item.now)) }
+    ensures value { IfOk result (λ s. plain_statement s ≡
+        promotion.promote_statement (long_in lengths.now) below (plain_statement item.now)) }
 {
     let attributes = copied_attributes(alloc, item.attributes.as_slice())?;
     let form = promoted_form(alloc, lengths, below, &item.form)?;
@@ -100,7 +105,8 @@ fn promoted_form(
     below: u32,
     form: &StatementForm,
 ) -> Result<StatementForm, Memory>
-    ensures value { IfOk result (λ f. plain_form f ≡ promotion.promote_form (long_in lengths.now) below (plain_form form.now)) }
+    ensures value { IfOk result
+        (λ f. plain_form f ≡ promotion.promote_form (long_in lengths.now) below (plain_form form.now)) }
 {
     let inside = below.saturating_sub(1);
     match form {
@@ -159,7 +165,8 @@ fn promoted_else(
     below: u32,
     block: &Option<Block>,
 ) -> Result<Option<Block>, Memory>
-    ensures value { IfOk result (λ b. else_of (option_map plain_block b) ≡ promotion.promote_else (long_in lengths.now) below (else_of (option_map plain_block block.now))) }
+    ensures value { IfOk result (λ b. else_of (option_map plain_block b) ≡
+        promotion.promote_else (long_in lengths.now) below (else_of (option_map plain_block block.now))) }
 {
     match block {
         None => Ok(None),

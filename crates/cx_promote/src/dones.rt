@@ -31,7 +31,8 @@ pub(crate) fn is_done(design: &Design, number: usize, port: PortRef) -> bool
 /// Whether an assignment looks at a done, as its source or anywhere in its guard.
 pub(crate) fn looks_at_done(design: &Design, number: usize, assign: &Assign) -> bool
     requires within { number < length design.now.components.items }
-    ensures value { result ≡ promotable.looks_at_done (component_of (plain_design design.now) number) (plain_assign assign.now) }
+    ensures value { result ≡
+        promotable.looks_at_done (component_of (plain_design design.now) number) (plain_assign assign.now) }
 {
     if is_done(design, number, assign.source.port) {
         return true;
@@ -42,7 +43,8 @@ pub(crate) fn looks_at_done(design: &Design, number: usize, assign: &Assign) -> 
 /// Whether a guard has a done as an operand.
 fn guard_looks(design: &Design, number: usize, guard: &Guard) -> bool
     requires within { number < length design.now.components.items }
-    ensures value { result ≡ looking.guard_looks (component_of (plain_design design.now) number) (plain_guard guard.now) }
+    ensures value { result ≡
+        looking.guard_looks (component_of (plain_design design.now) number) (plain_guard guard.now) }
 {
     match guard {
         Guard::True | Guard::During(_, _) => false,
@@ -65,7 +67,9 @@ fn guard_looks(design: &Design, number: usize, guard: &Guard) -> bool
 /// Whether a continuous assignment of a component looks at a done.
 pub(crate) fn always_looks(design: &Design, number: usize) -> bool
     requires within { number < length design.now.components.items }
-    ensures value { result ≡ list_any (promotable.looks_at_done (component_of (plain_design design.now) number)) (part_of (component_of (plain_design design.now) number)).always }
+    ensures value { result ≡ list_any
+        (promotable.looks_at_done (component_of (plain_design design.now) number))
+        (part_of (component_of (plain_design design.now) number)).always }
 {
     for assign in &component(design, number).always {
         if looks_at_done(design, number, assign) {

@@ -29,8 +29,12 @@ pub(crate) fn promoted_wires(
     lengths: &[Option<u64>],
 ) -> Result<Vec<WireItem>, Memory>
     requires site { IsSite site }
-    requires lengths { Begins (promotion.length_of (tree_at site) (part_at site) (instance_at site)) lengths.now (groups_in (part_at site).wires) }
-    ensures value { IfOk result (λ list. map written.plain_wire list.items ≡ map (promotion.promote_wire (tree_at site.entry) (part_at site.entry) (instance_at site.entry)) (part_at site.entry).wires) }
+    requires lengths { Begins
+        (promotion.length_of (tree_at site) (part_at site) (instance_at site)) lengths.now
+        (groups_in (part_at site).wires) }
+    ensures value { IfOk result (λ list. map written.plain_wire list.items ≡
+        map (promotion.promote_wire (tree_at site.entry) (part_at site.entry) (instance_at site.entry))
+        (part_at site.entry).wires) }
 {
     let groups = component(site.design, site.number).groups.as_slice();
     let mut promoted = Vec::with_capacity(alloc, site.part.wires.len())?;
@@ -60,7 +64,10 @@ fn by_length(
 ) -> Result<GroupItem, Memory>
     requires site { IsSite site }
     requires its { plain_group group.now ≡ group_of (tree_at site) (part_at site) (written.plain_group item.now) }
-    ensures value { IfOk result (λ g. written.plain_group g ≡ promotion.promote_group (promotion.enables (tree_at site.entry) (part_at site.entry) (instance_at site.entry)) length (written.plain_group item.now)) }
+    ensures value { IfOk result (λ g. written.plain_group g ≡
+        promotion.promote_group
+        (promotion.enables (tree_at site.entry) (part_at site.entry) (instance_at site.entry)) length
+        (written.plain_group item.now)) }
 {
     match length {
         None => copied_group(alloc, item),
@@ -78,7 +85,10 @@ fn static_group(
 ) -> Result<GroupItem, Memory>
     requires site { IsSite site }
     requires its { plain_group group.now ≡ group_of (tree_at site) (part_at site) (written.plain_group item.now) }
-    ensures value { IfOk result (λ g. written.plain_group g ≡ promotion.promote_group (promotion.enables (tree_at site.entry) (part_at site.entry) (instance_at site.entry)) (Some cycles) (written.plain_group item.now)) }
+    ensures value { IfOk result (λ g. written.plain_group g ≡
+        promotion.promote_group
+        (promotion.enables (tree_at site.entry) (part_at site.entry) (instance_at site.entry)) (Some cycles)
+        (written.plain_group item.now)) }
 {
     let attributes = copied_attributes(alloc, item.attributes.as_slice())?;
     let name = copied_name(alloc, &item.name)?;
@@ -108,8 +118,12 @@ fn static_assigns(
     items: &[AssignItem],
 ) -> Result<Vec<AssignItem>, Memory>
     requires site { IsSite site }
-    requires its { plain_assigns assigns.now ≡ map (assign_of (tree_at site) (part_at site)) (map written.plain_assign items.now) }
-    ensures value { IfOk result (λ list. map written.plain_assign list.items ≡ promotion.promote_assigns (promotion.enables (tree_at site.entry) (part_at site.entry) (instance_at site.entry)) (map written.plain_assign items.now)) }
+    requires its { plain_assigns assigns.now ≡
+        map (assign_of (tree_at site) (part_at site)) (map written.plain_assign items.now) }
+    ensures value { IfOk result (λ list. map written.plain_assign list.items ≡
+        promotion.promote_assigns
+        (promotion.enables (tree_at site.entry) (part_at site.entry) (instance_at site.entry))
+        (map written.plain_assign items.now)) }
 {
     let mut kept = Vec::new(alloc);
     for place in 0..items.len() {
@@ -135,7 +149,9 @@ fn is_hole_item(form: &OperandForm) -> bool
 
 /// An assignment, without its guard where it drives an enabling port.
 fn kept_assign(alloc: Global, enables: bool, item: &AssignItem) -> Result<AssignItem, Memory>
-    ensures value { IfOk result (λ a. written.plain_assign a ≡ (if enables then record (written.plain_assign item.now) { guard = None } else written.plain_assign item.now)) }
+    ensures value { IfOk result (λ a. written.plain_assign a ≡
+        (if enables then record (written.plain_assign item.now) { guard = None }
+        else written.plain_assign item.now)) }
 {
     if enables {
         bare_assign(alloc, item)
@@ -147,7 +163,8 @@ fn kept_assign(alloc: Global, enables: bool, item: &AssignItem) -> Result<Assign
 /// An assignment without its guard.
 #[tactic(auto, using(crate::proofs::OperandLemmas::same_operand))]
 fn bare_assign(alloc: Global, item: &AssignItem) -> Result<AssignItem, Memory>
-    ensures value { IfOk result (λ a. written.plain_assign a ≡ record (written.plain_assign item.now) { guard = None }) }
+    ensures value { IfOk result
+        (λ a. written.plain_assign a ≡ record (written.plain_assign item.now) { guard = None }) }
 {
     let attributes = copied_attributes(alloc, item.attributes.as_slice())?;
     let target = named_operand(alloc, &SameNames, &item.target)?;

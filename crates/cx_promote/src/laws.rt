@@ -17,14 +17,17 @@ ghost use Rattle.cx_check.specs.Acceptance.{IsAcceptedTree};
 
 /// The design of a promoted tree is one that promotion makes of the tree's design.
 pub fn promoted_trees_have_promoted_designs()
-    ensures made { (tree new : PlainTree) (rows : List PromotedRow) → IsPromotedTree tree new rows → DesignMade (design_of tree) (design_of new) }
+    ensures made { (tree new : PlainTree) (rows : List PromotedRow) → IsPromotedTree tree new rows →
+        DesignMade (design_of tree) (design_of new) }
 {}
 
 /// The promoted tree of an accepted tree is accepted, and has no static component where the tree has none. The tree that is made,
 /// whatever its size, breaks no rule on names and has no target that is a literal, where the tree breaks and has none.
 pub fn promoted_is_accepted()
-    ensures accepted { (tree new : PlainTree) (rows : List PromotedRow) → IsDesign (design_of tree) → IsAcceptedTree tree → IsPromotedTree tree new rows → IsAcceptedTree new }
-    ensures flat { (tree new : PlainTree) (rows : List PromotedRow) → IsFlat (design_of tree) → IsPromotedTree tree new rows → IsFlat (design_of new) }
+    ensures accepted { (tree new : PlainTree) (rows : List PromotedRow) → IsDesign (design_of tree) →
+        IsAcceptedTree tree → IsPromotedTree tree new rows → IsAcceptedTree new }
+    ensures flat { (tree new : PlainTree) (rows : List PromotedRow) → IsFlat (design_of tree) →
+        IsPromotedTree tree new rows → IsFlat (design_of new) }
     ensures named { (tree : PlainTree) → names_break tree ≡ None → names_break (made_tree tree) ≡ None }
     ensures targets { (tree : PlainTree) → HasTargets tree → HasTargets (made_tree tree) }
 {}
@@ -35,10 +38,12 @@ pub fn promoted_is_accepted()
 /// from places. The external memories of a state are read alike.
 pub fn promoted_trees_run_quicker()
     ensures quickens { (tree new : PlainTree) (rows : List PromotedRow)
-        → IsDesign (design_of tree) → IsAcceptedTree tree → NoneNamesDone (design_of tree) → IsPromotedTree tree new rows
+        → IsDesign (design_of tree) → IsAcceptedTree tree → NoneNamesDone (design_of tree)
+        → IsPromotedTree tree new rows
         → WholeQuickens (design_of tree) (design_of new) }
     ensures again { (tree new again : PlainTree) (rows : List PromotedRow)
-        → IsDesign (design_of tree) → IsAcceptedTree tree → NoneNamesDone (design_of tree) → IsPromotedTree tree new rows
+        → IsDesign (design_of tree) → IsAcceptedTree tree → NoneNamesDone (design_of tree)
+        → IsPromotedTree tree new rows
         → SameDesign (design_of new) (design_of again) → WholeQuickens (design_of tree) (design_of again) }
     ensures words { (tree new : PlainTree) (rows : List PromotedRow) (s : State)
         → IsDesign (design_of tree) → IsAcceptedTree tree → IsPromotedTree tree new rows
@@ -47,6 +52,8 @@ pub fn promoted_trees_run_quicker()
 
 /// Nothing more is promoted in a promoted tree: no row is told of it, and it stays as it is.
 pub fn promoted_trees_promote_nothing_more()
-    ensures rows { (tree new newer : PlainTree) (rows more : List PromotedRow) → IsPromotedTree tree new rows → IsPromotedTree new newer more → more ≡ [] }
-    ensures stays { (tree new newer : PlainTree) (rows more : List PromotedRow) → IsPromotedTree tree new rows → IsPromotedTree new newer more → newer ≡ new }
+    ensures rows { (tree new newer : PlainTree) (rows more : List PromotedRow) →
+        IsPromotedTree tree new rows → IsPromotedTree new newer more → more ≡ [] }
+    ensures stays { (tree new newer : PlainTree) (rows more : List PromotedRow) →
+        IsPromotedTree tree new rows → IsPromotedTree new newer more → newer ≡ new }
 {}

@@ -31,7 +31,9 @@ pub(crate) fn lengths(
     number: usize,
 ) -> Result<Vec<Option<u64>>, Memory>
     requires within { number < length design.now.components.items }
-    ensures value { IfOk result (λ list. list.items ≡ map (promotable.promotable (component_of (plain_design design.now) number)) (component_at (plain_design design.now) number).groups) }
+    ensures value { IfOk result (λ list. list.items ≡
+        map (promotable.promotable (component_of (plain_design design.now) number))
+        (component_at (plain_design design.now) number).groups) }
 {
     let groups = component(design, number).groups.as_slice();
     let looks = always_looks(design, number);
@@ -45,8 +47,11 @@ pub(crate) fn lengths(
 /// The length in cycles of a group, where it is promotable; `looks` tells whether a continuous assignment looks at a done.
 fn length_of(design: &Design, number: usize, looks: bool, group: &Group) -> Option<u64>
     requires within { number < length design.now.components.items }
-    requires looks { looks ≡ list_any (promotable.looks_at_done (component_of (plain_design design.now) number)) (part_of (component_of (plain_design design.now) number)).always }
-    ensures value { result ≡ promotable.promotable (component_of (plain_design design.now) number) (plain_group group.now) }
+    requires looks { looks ≡ list_any
+        (promotable.looks_at_done (component_of (plain_design design.now) number))
+        (part_of (component_of (plain_design design.now) number)).always }
+    ensures value { result ≡
+        promotable.promotable (component_of (plain_design design.now) number) (plain_group group.now) }
 {
     if is_plain(group.kind) && !drives_part(design, number, group.assigns.as_slice()) {
         length_waiting(design, number, looks, group)
@@ -58,8 +63,11 @@ fn length_of(design: &Design, number: usize, looks: bool, group: &Group) -> Opti
 /// The length of a group that drives no component's cell, by its done.
 fn length_waiting(design: &Design, number: usize, looks: bool, group: &Group) -> Option<u64>
     requires within { number < length design.now.components.items }
-    requires looks { looks ≡ list_any (promotable.looks_at_done (component_of (plain_design design.now) number)) (part_of (component_of (plain_design design.now) number)).always }
-    ensures value { result ≡ promotable.of_dones (component_of (plain_design design.now) number) (plain_group group.now) (filter (λ a. rules.is_hole a.target) (plain_group group.now).assigns) }
+    requires looks { looks ≡ list_any
+        (promotable.looks_at_done (component_of (plain_design design.now) number))
+        (part_of (component_of (plain_design design.now) number)).always }
+    ensures value { result ≡ promotable.of_dones (component_of (plain_design design.now) number)
+        (plain_group group.now) (filter (λ a. rules.is_hole a.target) (plain_group group.now).assigns) }
 {
     match only_done(group.assigns.as_slice()) {
         None => None,
@@ -76,8 +84,11 @@ fn length_after(
     done: &Assign,
 ) -> Option<u64>
     requires within { number < length design.now.components.items }
-    requires looks { looks ≡ list_any (promotable.looks_at_done (component_of (plain_design design.now) number)) (part_of (component_of (plain_design design.now) number)).always }
-    ensures value { result ≡ of_done (component_of (plain_design design.now) number) (plain_group group.now) (plain_assign done.now) }
+    requires looks { looks ≡ list_any
+        (promotable.looks_at_done (component_of (plain_design design.now) number))
+        (part_of (component_of (plain_design design.now) number)).always }
+    ensures value { result ≡ of_done (component_of (plain_design design.now) number)
+        (plain_group group.now) (plain_assign done.now) }
 {
     if is_always(&done.guard) {
         length_by(design, number, looks, group, done.source.port)
@@ -95,8 +106,11 @@ fn length_by(
     source: PortRef,
 ) -> Option<u64>
     requires within { number < length design.now.components.items }
-    requires looks { looks ≡ list_any (promotable.looks_at_done (component_of (plain_design design.now) number)) (part_of (component_of (plain_design design.now) number)).always }
-    ensures value { result ≡ promotable.of_source (component_of (plain_design design.now) number) (plain_group group.now) source }
+    requires looks { looks ≡ list_any
+        (promotable.looks_at_done (component_of (plain_design design.now) number))
+        (part_of (component_of (plain_design design.now) number)).always }
+    ensures value { result ≡
+        promotable.of_source (component_of (plain_design design.now) number) (plain_group group.now) source }
 {
     match source {
         PortRef::Cell(cell, port) => match stands_at(design, number, cell) {
@@ -121,7 +135,8 @@ fn length_by(
 /// Whether one of the assignments drives a port of a component's cell.
 fn drives_part(design: &Design, number: usize, assigns: &[Assign]) -> bool
     requires within { number < length design.now.components.items }
-    ensures value { result ≡ some_target (ports.is_part_port (component_of (plain_design design.now) number)) (plain_assigns assigns.now) }
+    ensures value { result ≡ some_target
+        (ports.is_part_port (component_of (plain_design design.now) number)) (plain_assigns assigns.now) }
 {
     for assign in assigns {
         if is_part_port(design, number, assign.target) {
@@ -133,7 +148,8 @@ fn drives_part(design: &Design, number: usize, assigns: &[Assign]) -> bool
 
 /// The one assignment of a done, where there is exactly one.
 fn only_done(assigns: &[Assign]) -> Option<&Assign>
-    ensures value { option_map (λ a. plain_assign a.now) result ≡ only (filter (λ a. rules.is_hole a.target) (plain_assigns assigns.now)) }
+    ensures value { option_map (λ a. plain_assign a.now) result ≡
+        only (filter (λ a. rules.is_hole a.target) (plain_assigns assigns.now)) }
 {
     let mut found = None;
     for assign in assigns {

@@ -48,8 +48,10 @@ impl Pieces {
         is_run: bool,
         statement: StatementItem,
     ) -> Result<(), Memory>
-        ensures value { (long : List ℕ → Bool) (later : PlainStatements) → is_run ≡ is_run_of long (plain_statement statement) →
-            OnOk result (cut_with long self.new later ≡ cut_with long self.old (StatementThen (plain_statement statement) later)) }
+        ensures value { (long : List ℕ → Bool) (later : PlainStatements) →
+            is_run ≡ is_run_of long (plain_statement statement) →
+            OnOk result (cut_with long self.new later ≡
+            cut_with long self.old (StatementThen (plain_statement statement) later)) }
     {
         if !is_run {
             self.close(alloc)?;
@@ -65,7 +67,9 @@ impl Pieces {
 
     /// Closes the open piece: two enables or more are one static seq.
     pub(crate) fn close(&mut self, alloc: Global) -> Result<(), Memory>
-        ensures done { (long : List ℕ → Bool) (later : PlainStatements) → OnOk result (before (done_of self.new) later ≡ before (done_of self.old) (closed long (open_of self.old) later)) }
+        ensures done { (long : List ℕ → Bool) (later : PlainStatements) →
+            OnOk result (before (done_of self.new) later ≡
+            before (done_of self.old) (closed long (open_of self.old) later)) }
         ensures piece { OnOk result (open_of self.new ≡ []) }
     {
         let mut piece = replace(&mut self.piece, Vec::new(alloc));
@@ -83,7 +87,8 @@ impl Pieces {
 /// Enables as one static seq, at the place of the first.
 fn static_seq(alloc: Global, statements: Vec<StatementItem>) -> StatementItem
     requires some { 1 < length statements.items }
-    ensures value { (long : List ℕ → Bool) (later : PlainStatements) → StatementThen (plain_statement result) later ≡ closed long (plain_statements statements.items) later }
+    ensures value { (long : List ℕ → Bool) (later : PlainStatements) →
+        StatementThen (plain_statement result) later ≡ closed long (plain_statements statements.items) later }
 {
     let place = statements.as_slice()[0].place;
     StatementItem {

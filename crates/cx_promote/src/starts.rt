@@ -41,8 +41,11 @@ impl Started<'_> {
         group: &Group,
     ) -> bool
         requires within { number < length design.now.components.items }
-        requires looks { looks ≡ list_any (promotable.looks_at_done (component_of (plain_design design.now) number)) (part_of (component_of (plain_design design.now) number)).always }
-        ensures value { result ≡ promotable.keeps_all (component_of (plain_design design.now) number) (plain_group group.now) self.entry.cell self.entry.port (row_of self.entry.primitive.now) }
+        requires looks { looks ≡ list_any
+            (promotable.looks_at_done (component_of (plain_design design.now) number))
+            (part_of (component_of (plain_design design.now) number)).always }
+        ensures value { result ≡ promotable.keeps_all (component_of (plain_design design.now) number)
+            (plain_group group.now) self.entry.cell self.entry.port (row_of self.entry.primitive.now) }
     {
         let done = is_done_port(self.primitive, self.port);
         let starting = self.starts(group);
@@ -52,7 +55,8 @@ impl Started<'_> {
 
     /// Whether an assignment drives the port that starts the cell.
     fn starts(self, group: &Group) -> bool
-        ensures value { result ≡ drives_start self.entry.cell (plain_group group.now).assigns (promotable.starting_port (row_of self.entry.primitive.now)) }
+        ensures value { result ≡ drives_start self.entry.cell (plain_group group.now).assigns
+            (promotable.starting_port (row_of self.entry.primitive.now)) }
     {
         match starting_port(self.primitive) {
             None => false,
@@ -63,7 +67,10 @@ impl Started<'_> {
     /// Whether each assignment is one of the done, or drives an enabling port as it has to be, or looks at no done.
     fn all_right(self, design: &Design, number: usize, group: &Group) -> bool
         requires within { number < length design.now.components.items }
-        ensures value { result ≡ list_all (promotable.is_right (component_of (plain_design design.now) number) (plain_group group.now) self.entry.cell self.entry.port (row_of self.entry.primitive.now)) (plain_group group.now).assigns }
+        ensures value { result ≡ list_all (promotable.is_right
+            (component_of (plain_design design.now) number)
+            (plain_group group.now) self.entry.cell self.entry.port (row_of self.entry.primitive.now))
+            (plain_group group.now).assigns }
     {
         for assign in &group.assigns {
             if !self.is_right(design, number, group, assign) {
@@ -75,7 +82,9 @@ impl Started<'_> {
 
     fn is_right(self, design: &Design, number: usize, group: &Group, assign: &Assign) -> bool
         requires within { number < length design.now.components.items }
-        ensures value { result ≡ promotable.is_right (component_of (plain_design design.now) number) (plain_group group.now) self.entry.cell self.entry.port (row_of self.entry.primitive.now) (plain_assign assign.now) }
+        ensures value { result ≡ promotable.is_right (component_of (plain_design design.now) number)
+            (plain_group group.now) self.entry.cell self.entry.port (row_of self.entry.primitive.now)
+            (plain_assign assign.now) }
     {
         if is_hole(assign.target) {
             return true;
@@ -89,7 +98,8 @@ impl Started<'_> {
 
     /// Whether an enabling port is one of the cell and is driven once, by `1'd1`, without a guard or, of a pipe, while not done.
     fn is_right_enable(self, group: &Group, assign: &Assign) -> bool
-        ensures value { result ≡ drives_right (plain_group group.now) self.entry.cell self.entry.port (row_of self.entry.primitive.now) (plain_assign assign.now) }
+        ensures value { result ≡ drives_right (plain_group group.now) self.entry.cell self.entry.port
+            (row_of self.entry.primitive.now) (plain_assign assign.now) }
     {
         self.is_own(assign.target)
             && is_one(assign.source.port)
@@ -111,7 +121,9 @@ impl Started<'_> {
 
     /// Whether there is no guard or, of a pipe, the negated done.
     fn is_free(self, guard: &Guard) -> bool
-        ensures value { result ≡ (shape.is_always (plain_guard guard.now) || (promotable.is_pipe (row_of self.entry.primitive.now).shape && shape.is_negated (refs.Cell self.entry.cell self.entry.port) (plain_guard guard.now))) }
+        ensures value { result ≡ (shape.is_always (plain_guard guard.now) ||
+            (promotable.is_pipe (row_of self.entry.primitive.now).shape &&
+            shape.is_negated (refs.Cell self.entry.cell self.entry.port) (plain_guard guard.now))) }
     {
         is_always(guard) || timing_of(self.primitive).is_pipe && self.is_not_done(guard)
     }

@@ -41,7 +41,9 @@ or_else (Some p) later = Some p
 
 -- the enabling port that starts a cell: content_en of a sequential memory, write_en of a register or another memory, go of a pipe
 abbrev pub starting_port : Row → Option ℕ
-starting_port row = or_else (first_named names.ContentEn row.ports 0) (or_else (first_named names.WriteEn row.ports 0) (first_named names.Go row.ports 0))
+starting_port row =
+    or_else (first_named names.ContentEn row.ports 0)
+    (or_else (first_named names.WriteEn row.ports 0) (first_named names.Go row.ports 0))
 
 -- the cycles until a cell is done: the latency of a pipe, else 1. A combinational cell is never done, and no text has a timer
 abbrev pub cycles_of : StateShape → Option ℕ
@@ -84,12 +86,15 @@ module _ (i : Instance) (x : PlainGroup) (c p : ℕ) (row : Row) where
   -- an enabling port belongs to the cell and is driven once, by 1'd1, bare or, of a pipe, under the guard !c.done
   abbrev pub is_right_enable : PlainAssign → Bool
   is_right_enable a =
-      is_port_of c a.target && (same_port a.source.port one && (is_always a.guard || (is_pipe row.shape && is_negated (ports.Cell c p) a.guard)))
+      is_port_of c a.target && (same_port a.source.port one &&
+      (is_always a.guard || (is_pipe row.shape && is_negated (ports.Cell c p) a.guard)))
       && nat_eq (length (with_target a.target x.assigns)) 1
 
   -- an assignment that is neither of the done nor of an enabling port looks at no done
   abbrev pub is_right : PlainAssign → Bool
-  is_right a = if is_hole a.target then true else if is_primitive_enable i a.target then is_right_enable a else not (looks_at_done i a)
+  is_right a =
+      if is_hole a.target then true else if is_primitive_enable i a.target then is_right_enable a
+      else not (looks_at_done i a)
 
   -- the cell is started
   abbrev pub starts : Option ℕ → Bool
@@ -126,7 +131,8 @@ of_dones i x (a ∷ b ∷ rest) = None
 -- THE LENGTH in cycles of a promotable group; none of another one
 abbrev pub promotable : Instance → PlainGroup → Option ℕ
 promotable i x =
-    if is_plain x.kind && not (some_target (is_part_port i) x.assigns) then of_dones i x (filter (λ a. is_hole a.target) x.assigns) else None
+    if is_plain x.kind && not (some_target (is_part_port i) x.assigns)
+    then of_dones i x (filter (λ a. is_hole a.target) x.assigns) else None
 
 -- THE PROMOTED GROUP: without its done assignment, and without the guards of its enabling ports
 abbrev pub bare_enable : Instance → PlainAssign → PlainAssign
@@ -134,7 +140,8 @@ bare_enable i a = if is_primitive_enable i a.target then record a { guard = Alwa
 
 abbrev pub promoted_assigns : Instance → List PlainAssign → List PlainAssign
 promoted_assigns i [] = []
-promoted_assigns i (a ∷ rest) = if is_hole a.target then promoted_assigns i rest else bare_enable i a ∷ promoted_assigns i rest
+promoted_assigns i (a ∷ rest) =
+    if is_hole a.target then promoted_assigns i rest else bare_enable i a ∷ promoted_assigns i rest
 
 abbrev pub promoted_group : Instance → ℕ → PlainGroup → PlainGroup
 promoted_group i n x = record x { kind = Timed n; assigns = promoted_assigns i x.assigns }

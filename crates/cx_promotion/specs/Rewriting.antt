@@ -39,7 +39,8 @@ module _ (enables : OperandForm → Bool) where
   -- without the assignment of the done, and enabling ports without their guards
   abbrev pub promote_assigns : List PlainAssign → List PlainAssign
   promote_assigns [] = []
-  promote_assigns (a ∷ rest) = if is_hole_item a.target.form then promote_assigns rest else bare_enable a ∷ promote_assigns rest
+  promote_assigns (a ∷ rest) =
+      if is_hole_item a.target.form then promote_assigns rest else bare_enable a ∷ promote_assigns rest
 
   -- by the length, where there is one
   abbrev pub promote_group : Option ℕ → PlainGroup → PlainGroup
@@ -73,7 +74,8 @@ module _ (is_long : List ℕ → Bool) where
   close [] later = later
   close (s ∷ []) later = StatementThen s later
   close (s ∷ t ∷ rest) later =
-      StatementThen (Placed [] (plain.StaticSeq None [] (Braces (statements_of (s ∷ t ∷ rest)) (place_of s))) (place_of s)) later
+      StatementThen (Placed []
+      (plain.StaticSeq None [] (Braces (statements_of (s ∷ t ∷ rest)) (place_of s))) (place_of s)) later
 
   -- PIECES, cut from the front, where so many enables stand in the piece that is open
   abbrev pub cut : List PlainStatement → ℕ → PlainStatements → PlainStatements
@@ -96,7 +98,8 @@ module _ (is_long : List ℕ → Bool) where
     promote_form below (plain.Par marks block) = plain.Par marks (promote_block (below - 1) false block)
     promote_form below (plain.StaticSeq length marks block) = plain.StaticSeq length marks block
     promote_form below (plain.StaticPar length marks block) = plain.StaticPar length marks block
-    promote_form below (plain.If test comb body otherwise) = plain.If test comb (promote_block (below - 1) true body) (promote_else (below - 1) otherwise)
+    promote_form below (plain.If test comb body otherwise) =
+        plain.If test comb (promote_block (below - 1) true body) (promote_else (below - 1) otherwise)
     promote_form below (plain.StaticIf length test body otherwise) = plain.StaticIf length test body otherwise
     promote_form below (plain.While test comb body) = plain.While test comb (promote_block (below - 1) true body)
     promote_form below (plain.Repeat count body) = plain.Repeat count (promote_block (below - 1) true body)
@@ -116,7 +119,8 @@ module _ (is_long : List ℕ → Bool) where
     promote_all below (StatementThen s ss) = StatementThen (promote_statement below s) (promote_all below ss)
 
     pub promote_block : ℕ → Bool → PlainBlock → PlainBlock
-    promote_block below in_order (Braces ss place) = Braces (cut_if (in_order && nat_lt 0 below) (promote_all below ss)) place
+    promote_block below in_order (Braces ss place) =
+        Braces (cut_if (in_order && nat_lt 0 below) (promote_all below ss)) place
 
 -- A COMPONENT of the tree, by the instance that stands for it in the design
 module _ (tree : PlainTree) (part : PlainComponent) (i : Instance) where
@@ -160,11 +164,13 @@ module _ (tree : PlainTree) (part : PlainComponent) (i : Instance) where
 module _ (tree : PlainTree) where
   abbrev pub components_from : ℕ → List PlainComponent → List PlainComponent
   components_from k [] = []
-  components_from k (part ∷ parts) = promote_component tree part (component_of (design_of tree) k) ∷ components_from (suc k) parts
+  components_from k (part ∷ parts) =
+      promote_component tree part (component_of (design_of tree) k) ∷ components_from (suc k) parts
 
   abbrev pub rows_from : ℕ → List PlainComponent → List PromotedRow
   rows_from k [] = []
-  rows_from k (part ∷ parts) = rows_in tree part (component_of (design_of tree) k) (groups_in part.wires) ++ rows_from (suc k) parts
+  rows_from k (part ∷ parts) =
+      rows_in tree part (component_of (design_of tree) k) (groups_in part.wires) ++ rows_from (suc k) parts
 
   abbrev pub made_tree : PlainTree
   made_tree = record tree { components = components_from 0 tree.components }

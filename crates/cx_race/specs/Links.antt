@@ -8,7 +8,8 @@ use Rattle.cx_race.specs.Cells.{target_in, named_in}
 
 -- an edge leads from a cell of which one of the assignments drives a port to each cell that this assignment names
 pub record HasLinks (assigns : List PlainAssign) (g : Edges) : Type 0 where
-  pub sound : (c e : ℕ) → In (targets_of g c) e → (a : PlainAssign) × In assigns a × In (target_in a) c × In (named_in a) e
+  pub sound : (c e : ℕ) → In (targets_of g c) e
+      → (a : PlainAssign) × In assigns a × In (target_in a) c × In (named_in a) e
   pub all : (c e : ℕ) (a : PlainAssign) → In assigns a → In (target_in a) c → In (named_in a) e → In (targets_of g c) e
 
 -- LINKS of the cells of a component, by its continuous assignments

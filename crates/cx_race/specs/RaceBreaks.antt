@@ -14,7 +14,8 @@ use Rattle.cx_race.specs.Races.{race_name}
 -- a race that is told of a statement, where there is one
 abbrev pub race_break : PlainComponent → Spot → Place → Option Race → List Broken
 race_break part spot place None = []
-race_break part spot place (Some race) = record { rule = rule.Race; spot = spot; place = place; name = race_name part race } ∷ []
+race_break part spot place (Some race) =
+    record { rule = rule.Race; spot = spot; place = place; name = race_name part race } ∷ []
 
 -- statement n of component k; the statements before it; the components before k
 abbrev pub IsAt : ℕ → ℕ → Spot → Type 0
@@ -36,4 +37,6 @@ pub record Looked (d : PlainDesign) (At : Spot → Type 0) (before after : Optio
   pub first : after ≡ first_of before found
   pub is_race : (b : Broken) → In found b → b.rule ≡ rule.Race
   pub breaks : (b : Broken) → In found b → OnStatement BreaksRace d b.spot b.place b.name
-  pub all : (spot : Spot) (place : Place) (name : List ℕ) → At spot → OnStatement BreaksRace d spot place name → (b : Broken) × In found b × (key b ≡ key_of rule.Race spot place)
+  pub all : (spot : Spot) (place : Place) (name : List ℕ) → At spot
+      → OnStatement BreaksRace d spot place name
+      → (b : Broken) × In found b × (key b ≡ key_of rule.Race spot place)

@@ -51,7 +51,8 @@ pub fn invoked_lists(
     part: &Component,
     arms: &[Statement],
 ) -> Result<Vec<Vec<u32>>, Memory>
-    ensures value { IfOk result (λ lists. edges_of lists.items ≡ map (invoked_by (plain_component part.now)) (map plain_statement arms.now)) }
+    ensures value { IfOk result (λ lists.
+        edges_of lists.items ≡ map (invoked_by (plain_component part.now)) (map plain_statement arms.now)) }
 {
     let mut lists = Vec::new(alloc);
     for arm in arms {
@@ -66,7 +67,8 @@ pub fn met_lists(
     part: &Component,
     arms: &[Statement],
 ) -> Result<Vec<Vec<u32>>, Memory>
-    ensures value { IfOk result (λ lists. edges_of lists.items ≡ map (met_by (plain_component part.now)) (map plain_statement arms.now)) }
+    ensures value { IfOk result (λ lists.
+        edges_of lists.items ≡ map (met_by (plain_component part.now)) (map plain_statement arms.now)) }
 {
     let mut lists = Vec::new(alloc);
     for arm in arms {

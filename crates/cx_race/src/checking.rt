@@ -32,7 +32,8 @@ pub fn check(alloc: Global, design: &Design) -> Result<(), Refusal>
 
 /// The first break of a design.
 fn first_break(alloc: Global, design: &Design) -> Result<FirstBreak, Memory>
-    ensures looked { IfOk result (Looked (plain_design design.now) (IsBeforeOf (length design.now.components.items)) None) }
+    ensures looked { IfOk result
+        (Looked (plain_design design.now) (IsBeforeOf (length design.now.components.items)) None) }
 {
     let mut first = FirstBreak::new();
     for number in 0..design.components.len() {
@@ -84,9 +85,11 @@ fn add_statement(
     requires within { number < length design.now.components.items }
     requires footprints { AreFootprints (component_at (plain_design design.now) number) footprints.now }
     requires clear { AreClear (length footprints.now.links.items) (length footprints.now.driven.items) tallies.old }
-    requires stands { slice_get (statements_in (component_at (plain_design design.now) number)) place ≡ Some (plain_visited visited) }
+    requires stands { slice_get (statements_in (component_at (plain_design design.now) number)) place ≡
+        Some (plain_visited visited) }
     ensures looked { OnOk result (Looked (plain_design design.now) (IsAt number place) first.old first.new) }
-    ensures clear { OnOk result (AreClear (length footprints.now.links.items) (length footprints.now.driven.items) tallies.new) }
+    ensures clear { OnOk result
+        (AreClear (length footprints.now.links.items) (length footprints.now.driven.items) tallies.new) }
 {
     let part = component(design, number);
     let race = find_race(alloc, part, footprints, tallies, arms(visited.form))?;

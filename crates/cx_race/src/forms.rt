@@ -120,7 +120,8 @@ fn add_comb(groups: &mut Vec<u32>, comb: Option<u32>) -> Result<(), Memory>
 }
 
 fn tests_by(alloc: Global, forms: &[&Form]) -> Result<Vec<PlacedPort>, Memory>
-    ensures value { IfOk result (λ tests. tests.items ≡ flat_map (λ form. option_list (test_in form)) (plain_forms forms.now)) }
+    ensures value { IfOk result
+        (λ tests. tests.items ≡ flat_map (λ form. option_list (test_in form)) (plain_forms forms.now)) }
 {
     let mut tests = Vec::new(alloc);
     for form in forms {
@@ -130,7 +131,8 @@ fn tests_by(alloc: Global, forms: &[&Form]) -> Result<Vec<PlacedPort>, Memory>
 }
 
 fn add_test(tests: &mut Vec<PlacedPort>, form: &Form) -> Result<(), Memory>
-    ensures value { IfOk result (λ _. tests.new.items ≡ tests.old.items ++ option_list (test_in (plain_form form.now))) }
+    ensures value { IfOk result
+        (λ _. tests.new.items ≡ tests.old.items ++ option_list (test_in (plain_form form.now))) }
 {
     if let Some(port) = test(form) {
         tests.push(port)?;
@@ -180,7 +182,8 @@ fn forms(alloc: Global, statement: &Statement) -> Result<Vec<&Form>, Memory>
 
 #[cycle(forms)]
 fn add_statement<'a>(forms: &mut Vec<&'a Form>, statement: &'a Statement) -> Result<(), Memory>
-    ensures value { IfOk result (λ _. plain_forms forms.new.items ≡ plain_forms forms.old.items ++ forms_of (plain_statement statement.now)) }
+    ensures value { IfOk result (λ _.
+        plain_forms forms.new.items ≡ plain_forms forms.old.items ++ forms_of (plain_statement statement.now)) }
 {
     forms.push(&statement.form)?;
     add_below(forms, &statement.form)
@@ -188,7 +191,8 @@ fn add_statement<'a>(forms: &mut Vec<&'a Form>, statement: &'a Statement) -> Res
 
 #[cycle(forms)]
 fn add_below<'a>(forms: &mut Vec<&'a Form>, form: &'a Form) -> Result<(), Memory>
-    ensures value { IfOk result (λ _. plain_forms forms.new.items ≡ plain_forms forms.old.items ++ forms_below (plain_form form.now)) }
+    ensures value { IfOk result (λ _.
+        plain_forms forms.new.items ≡ plain_forms forms.old.items ++ forms_below (plain_form form.now)) }
 {
     match form {
         Form::Empty | Form::Enable(_) | Form::StaticInvoke(_) | Form::Timed(_) => Ok(()),
@@ -208,7 +212,8 @@ fn add_below<'a>(forms: &mut Vec<&'a Form>, form: &'a Form) -> Result<(), Memory
 
 #[cycle(forms)]
 fn add_all<'a>(forms: &mut Vec<&'a Form>, parts: &'a [Statement]) -> Result<(), Memory>
-    ensures value { IfOk result (λ _. plain_forms forms.new.items ≡ plain_forms forms.old.items ++ forms_in (plain_statements parts.now)) }
+    ensures value { IfOk result (λ _.
+        plain_forms forms.new.items ≡ plain_forms forms.old.items ++ forms_in (plain_statements parts.now)) }
 {
     for part in parts {
         add_statement(forms, part)?;

@@ -15,7 +15,8 @@ use std::alloc::Global;
 
 /// The cells that the static invokes of a statement drive.
 pub fn invoked(alloc: Global, part: &Component, statement: &Statement) -> Result<Vec<u32>, Memory>
-    ensures value { IfOk result (λ cells. cells.items ≡ invoked_by (plain_component part.now) (plain_statement statement.now)) }
+    ensures value { IfOk result
+        (λ cells. cells.items ≡ invoked_by (plain_component part.now) (plain_statement statement.now)) }
 {
     let numbers = invokes(alloc, statement)?;
     let mut cells = Vec::new(alloc);
@@ -25,7 +26,8 @@ pub fn invoked(alloc: Global, part: &Component, statement: &Statement) -> Result
 
 /// The cells of a statement's conditions, and those that its static invokes drive or name.
 pub fn met(alloc: Global, part: &Component, statement: &Statement) -> Result<Vec<u32>, Memory>
-    ensures value { IfOk result (λ cells. cells.items ≡ met_by (plain_component part.now) (plain_statement statement.now)) }
+    ensures value { IfOk result
+        (λ cells. cells.items ≡ met_by (plain_component part.now) (plain_statement statement.now)) }
 {
     let numbers = invokes(alloc, statement)?;
     let mut cells = tested(alloc, statement)?;
@@ -36,7 +38,8 @@ pub fn met(alloc: Global, part: &Component, statement: &Statement) -> Result<Vec
 
 /// Adds the cells that static invokes drive.
 fn add_invoked(cells: &mut Vec<u32>, part: &Component, numbers: &[u32]) -> Result<(), Memory>
-    ensures value { IfOk result (λ _. cells.new.items ≡ cells.old.items ++ targets_in_invokes (plain_component part.now) numbers.now) }
+    ensures value { IfOk result (λ _.
+        cells.new.items ≡ cells.old.items ++ targets_in_invokes (plain_component part.now) numbers.now) }
 {
     for number in numbers {
         add_invoke_targets(cells, part, *number)?;
@@ -51,7 +54,8 @@ fn add_fed(
     part: &Component,
     numbers: &[u32],
 ) -> Result<(), Memory>
-    ensures value { IfOk result (λ _. cells.new.items ≡ cells.old.items ++ named_in_invokes (plain_component part.now) numbers.now) }
+    ensures value { IfOk result
+        (λ _. cells.new.items ≡ cells.old.items ++ named_in_invokes (plain_component part.now) numbers.now) }
 {
     for number in numbers {
         add_invoke_names(alloc, cells, part, *number)?;
@@ -60,7 +64,9 @@ fn add_fed(
 }
 
 fn add_invoke_targets(cells: &mut Vec<u32>, part: &Component, number: u32) -> Result<(), Memory>
-    ensures value { IfOk result (λ _. cells.new.items ≡ cells.old.items ++ targets_in_invoke (plain_component part.now) (invoke_at (plain_component part.now) number)) }
+    ensures value { IfOk result (λ _. cells.new.items ≡
+        cells.old.items
+        ++ targets_in_invoke (plain_component part.now) (invoke_at (plain_component part.now) number)) }
 {
     match invoke_of(part, number) {
         Some(invoke) => {
@@ -77,7 +83,9 @@ fn add_invoke_names(
     part: &Component,
     number: u32,
 ) -> Result<(), Memory>
-    ensures value { IfOk result (λ _. cells.new.items ≡ cells.old.items ++ named_in_invoke (plain_component part.now) (invoke_at (plain_component part.now) number)) }
+    ensures value { IfOk result (λ _. cells.new.items ≡
+        cells.old.items
+        ++ named_in_invoke (plain_component part.now) (invoke_at (plain_component part.now) number)) }
 {
     match invoke_of(part, number) {
         Some(invoke) => {
@@ -93,7 +101,8 @@ fn add_capture_targets(
     part: &Component,
     captures: Option<u32>,
 ) -> Result<(), Memory>
-    ensures value { IfOk result (λ _. cells.new.items ≡ cells.old.items ++ targets_in_capture (plain_component part.now) captures) }
+    ensures value { IfOk result
+        (λ _. cells.new.items ≡ cells.old.items ++ targets_in_capture (plain_component part.now) captures) }
 {
     match captures {
         Some(group) => add_targets(cells, assigns_of(part, group)),
@@ -107,7 +116,8 @@ fn add_capture_names(
     part: &Component,
     captures: Option<u32>,
 ) -> Result<(), Memory>
-    ensures value { IfOk result (λ _. cells.new.items ≡ cells.old.items ++ named_in_capture (plain_component part.now) captures) }
+    ensures value { IfOk result
+        (λ _. cells.new.items ≡ cells.old.items ++ named_in_capture (plain_component part.now) captures) }
 {
     match captures {
         Some(group) => add_assigns(alloc, cells, assigns_of(part, group)),
@@ -129,7 +139,8 @@ fn assigns_of(component: &Component, number: u32) -> &[Assign]
 /// The static invoke of a number, where the component has it.
 fn invoke_of(component: &Component, number: u32) -> Option<&StaticInvoke>
     ensures none { IfNone result (slice_get (plain_component component.now).invokes number ≡ None) }
-    ensures some { IfSome result (λ invoke. slice_get (plain_component component.now).invokes number ≡ Some (plain_invoke invoke.now)) }
+    ensures some { IfSome result (λ invoke.
+        slice_get (plain_component component.now).invokes number ≡ Some (plain_invoke invoke.now)) }
 {
     component.invokes.as_slice().get(number as usize)
 }

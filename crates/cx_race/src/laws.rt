@@ -10,10 +10,12 @@ ghost use Rattle.cx_race.specs.Links.{AreLinks};
 
 /// A statement reads exactly the cells that are reached, by the links of the cells, from those that it names.
 pub fn reads_by_links()
-    ensures { (part : PlainComponent) (g : Edges) (s : PlainStatement) (c : ℕ) → AreLinks part g → (Reads part s c ↔ IsReached g (named_by part s) c) }
+    ensures { (part : PlainComponent) (g : Edges) (s : PlainStatement) (c : ℕ) → AreLinks part g →
+        (Reads part s c ↔ IsReached g (named_by part s) c) }
 {}
 
 /// With its static invokes, a statement reads exactly the cells that are so reached from those that it drives or names.
 pub fn reads_all_by_links()
-    ensures { (part : PlainComponent) (g : Edges) (s : PlainStatement) (c : ℕ) → AreLinks part g → (ReadsAll part s c ↔ IsReached g (named_all_by part s) c) }
+    ensures { (part : PlainComponent) (g : Edges) (s : PlainStatement) (c : ℕ) → AreLinks part g →
+        (ReadsAll part s c ↔ IsReached g (named_all_by part s) c) }
 {}

@@ -18,7 +18,8 @@ use std::alloc::Global;
 /// The cells that the continuous assignments name which drive a port of a cell, for each cell of a component.
 pub fn links(alloc: Global, design: &Design, number: usize) -> Result<Vec<Vec<u32>>, Memory>
     requires within { number < length design.now.components.items }
-    ensures links { IfOk result (λ graph. AreLinks (component_at (plain_design design.now) number) (edges_of graph.items)) }
+    ensures links { IfOk result
+        (λ graph. AreLinks (component_at (plain_design design.now) number) (edges_of graph.items)) }
 {
     let part = component(design, number);
     let mut graph = no_edges(alloc, part.cells.len())?;
@@ -28,7 +29,8 @@ pub fn links(alloc: Global, design: &Design, number: usize) -> Result<Vec<Vec<u3
 
 /// Adds the edges of assignments.
 fn add_links(alloc: Global, graph: &mut Vec<Vec<u32>>, assigns: &[Assign]) -> Result<(), Memory>
-    requires within { (a : PlainAssign) → In (plain_assigns assigns.now) a → Within (length graph.old.items) (target_in a) }
+    requires within { (a : PlainAssign) → In (plain_assigns assigns.now) a →
+        Within (length graph.old.items) (target_in a) }
     requires none { HasLinks [] (edges_of graph.old.items) }
     ensures len { OnOk result (length graph.new.items ≡ length graph.old.items) }
     ensures links { OnOk result (HasLinks (plain_assigns assigns.now) (edges_of graph.new.items)) }
@@ -43,7 +45,9 @@ fn add_links(alloc: Global, graph: &mut Vec<Vec<u32>>, assigns: &[Assign]) -> Re
 fn add_link(alloc: Global, graph: &mut Vec<Vec<u32>>, assign: &Assign) -> Result<(), Memory>
     requires within { Within (length graph.old.items) (target_in (plain_assign assign.now)) }
     ensures len { OnOk result (length graph.new.items ≡ length graph.old.items) }
-    ensures value { OnOk result (edges_of graph.new.items ≡ linked (edges_of graph.old.items) (target_in (plain_assign assign.now)) (named_in (plain_assign assign.now))) }
+    ensures value { OnOk result (edges_of graph.new.items ≡
+        linked (edges_of graph.old.items) (target_in (plain_assign assign.now))
+        (named_in (plain_assign assign.now))) }
 {
     match assign.target {
         PortRef::Cell(cell, _) => {

@@ -55,8 +55,10 @@ pub fn find_race(
 ) -> Result<Option<Race>, Memory>
     requires within { AreWithin (plain_component part.now) footprints.now (map plain_statement arms.now) }
     requires clear { AreClear (length footprints.now.links.items) (length footprints.now.driven.items) tallies.old }
-    ensures race { IfOk result (λ race. AreFootprints (plain_component part.now) footprints.now → IsFirstRace (plain_component part.now) (map plain_statement arms.now) race) }
-    ensures clear { OnOk result (AreClear (length footprints.now.links.items) (length footprints.now.driven.items) tallies.new) }
+    ensures race { IfOk result (λ race. AreFootprints (plain_component part.now) footprints.now
+        → IsFirstRace (plain_component part.now) (map plain_statement arms.now) race) }
+    ensures clear { OnOk result
+        (AreClear (length footprints.now.links.items) (length footprints.now.driven.items) tallies.new) }
 {
     let cell = shared_cell(
         alloc,
@@ -85,10 +87,14 @@ fn shared_cell(
     requires driving { IsClear (length footprints.now.links.items) driving.old.owners.items driving.old.touched.items }
     requires reading { IsClear (length footprints.now.links.items) reading.old.owners.items reading.old.touched.items }
     requires groups { IsClear (length footprints.now.driven.items) groups.old.owners.items groups.old.touched.items }
-    ensures least { IfOk result (λ least. AreFootprints (plain_component part.now) footprints.now → IsLeastOf (IsShared (plain_component part.now) (map plain_statement arms.now)) least) }
-    ensures driving { OnOk result (IsClear (length footprints.now.links.items) driving.new.owners.items driving.new.touched.items) }
-    ensures reading { OnOk result (IsClear (length footprints.now.links.items) reading.new.owners.items reading.new.touched.items) }
-    ensures groups { OnOk result (IsClear (length footprints.now.driven.items) groups.new.owners.items groups.new.touched.items) }
+    ensures least { IfOk result (λ least. AreFootprints (plain_component part.now) footprints.now
+        → IsLeastOf (IsShared (plain_component part.now) (map plain_statement arms.now)) least) }
+    ensures driving { OnOk result
+        (IsClear (length footprints.now.links.items) driving.new.owners.items driving.new.touched.items) }
+    ensures reading { OnOk result
+        (IsClear (length footprints.now.links.items) reading.new.owners.items reading.new.touched.items) }
+    ensures groups { OnOk result
+        (IsClear (length footprints.now.driven.items) groups.new.owners.items groups.new.touched.items) }
 {
     let enabled = group_lists(alloc, arms)?;
     let enabled = enabled.as_slice();
@@ -120,9 +126,11 @@ fn group_enabled_twice(
     arms: &[Statement],
 ) -> Result<Option<u32>, Memory>
     requires clear { IsClear (length groups.old.owners.items) groups.old.owners.items groups.old.touched.items }
-    requires enabled { (s : PlainStatement) → In (map plain_statement arms.now) s → Within (length groups.old.owners.items) (enabled_in s) }
+    requires enabled { (s : PlainStatement) → In (map plain_statement arms.now) s →
+        Within (length groups.old.owners.items) (enabled_in s) }
     ensures least { IfOk result (IsLeastOf (IsEnabledTwice (map plain_statement arms.now))) }
-    ensures clear { OnOk result (IsClear (length groups.old.owners.items) groups.new.owners.items groups.new.touched.items) }
+    ensures clear { OnOk result
+        (IsClear (length groups.old.owners.items) groups.new.owners.items groups.new.touched.items) }
 {
     let lists = enabled_lists(alloc, arms)?;
     groups.tally(lists.as_slice())?;

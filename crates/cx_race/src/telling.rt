@@ -21,7 +21,8 @@ pub fn add_race(
     place: Place,
     race: Option<Race>,
 ) -> Result<(), Memory>
-    ensures value { IfOk result (λ _. first.new ≡ first_of first.old (race_break (plain_component component.now) (plain_spot spot) place race)) }
+    ensures value { IfOk result (λ _. first.new ≡
+        first_of first.old (race_break (plain_component component.now) (plain_spot spot) place race)) }
 {
     let Some(race) = race else {
         return Ok(());

@@ -55,7 +55,9 @@ module _ {S T F G : Type 0} (pace : Pace) (R : Tally → S → T → Type 0) (fa
 
   -- ONE MEANING CARRIES ANOTHER, from every two states that are related
   abbrev pub Carries : Counted S → Meaning S F → Meaning T G → Type 0
-  Carries counts old other = (before : Tally) (s : S) (z : T) (n m : ℕ) → Room pace n m → R before s z → Carried before (counts s n) (old s n) (other z m)
+  Carries counts old other =
+      (before : Tally) (s : S) (z : T) (n m : ℕ) → Room pace n m → R before s z
+      → Carried before (counts s n) (old s n) (other z m)
 
   -- a turn in which so much is counted where it goes on
   abbrev pub TurnCarried : Tally → Tally → Turn S F → Turn T G → Type 0

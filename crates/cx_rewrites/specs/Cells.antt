@@ -26,15 +26,20 @@ pub record CellAlike (i j : Instance) (held twin_held : Held) (act more : Active
 -- a cell of the other instance goes on where the first instance does: it is as a cell of the first, or goes on by itself
 pub data CellGoes (i j : Instance) (held twin_held : Held) (act more : Active) (s z : State) (e : ℕ) : Type 0 where
   as_cell : (c : ℕ) → CellAlike i j held twin_held act more s z c e → CellGoes i j held twin_held act more s z e
-  by_itself : (after : CellState) → comes_to j twin_held more z e ≡ Next after → CellGoes i j held twin_held act more s z e
+  by_itself : (after : CellState) → comes_to j twin_held more z e ≡ Next after
+      → CellGoes i j held twin_held act more s z e
 
 -- what one cell comes to, and what the other does: both go on, or both stop, and the fault of the one is told as that of the other
 abbrev pub OutcomeFollows : (Fault → Fault) → ℕ → Outcome → ℕ → Outcome → Type 0
 OutcomeFollows faults c (Next d) e o = (after : CellState) × (o ≡ Next after)
-OutcomeFollows faults c (Stops kind p) e o = (q : ℕ) × (o ≡ Stops kind q) × (faults (fault_at kind (ports.Cell c p)) ≡ fault_at kind (ports.Cell e q))
+OutcomeFollows faults c (Stops kind p) e o =
+    (q : ℕ) × (o ≡ Stops kind q)
+    × (faults (fault_at kind (ports.Cell c p)) ≡ fault_at kind (ports.Cell e q))
 
 -- n cells from c on, in their order, beside m cells from e on, between which cells stand that go on
 pub data OutcomesFollow (faults : Fault → Fault) (x y : ℕ → Outcome) : (c n e m : ℕ) → Type 0 where
   no_more : {c e : ℕ} → OutcomesFollow faults x y c 0 e 0
-  both : {c n e m : ℕ} → OutcomeFollows faults c (x c) e (y e) → OutcomesFollow faults x y (suc c) n (suc e) m → OutcomesFollow faults x y c (suc n) e (suc m)
-  new_one : {c n e m : ℕ} (after : CellState) → y e ≡ Next after → OutcomesFollow faults x y c n (suc e) m → OutcomesFollow faults x y c n e (suc m)
+  both : {c n e m : ℕ} → OutcomeFollows faults c (x c) e (y e)
+      → OutcomesFollow faults x y (suc c) n (suc e) m → OutcomesFollow faults x y c (suc n) e (suc m)
+  new_one : {c n e m : ℕ} (after : CellState) → y e ≡ Next after → OutcomesFollow faults x y c n (suc e) m
+      → OutcomesFollow faults x y c n e (suc m)

@@ -1,5 +1,5 @@
--- What the rules come to in a design without static components: no invoke binds inputs, lengths and footprints are those of groups, and counts
--- are those of what stands there.
+-- What the rules come to in a design without static components: no invoke binds inputs, lengths and footprints are
+-- those of groups, and counts are those of what stands there.
 use Rattle.std.specs.Prelude.{◌≡◌, ◌≢◌, ℕ, ◌<◌, ◌⊎◌, true, List, [], Some, length}
 use Rattle.cx_text.specs.declared.places.Place.{Place}
 use Rattle.cx_text.specs.declared.rules.Rule.{Rule}
@@ -27,7 +27,8 @@ use Rattle.cx_rules.specs.Flat.{IsFlat}
 abbrev pub BreaksLength : StatementRule
 BreaksLength i v place name =
     (is_static v.form ≡ true) × (form_has_length (part_of i) v.context v.form ≡ true)
-    × (((n : ℕ) × (written_length v.form ≡ Some n) × (n ≢ form_length (part_of i) v.form)) ⊎ (form_length (part_of i) v.form ≡ 0))
+    × (((n : ℕ) × (written_length v.form ≡ Some n) × (n ≢ form_length (part_of i) v.form)) ⊎
+    (form_length (part_of i) v.form ≡ 0))
     × Tells place name v.place []
 
 -- a cell that one arm drives and another reads
@@ -47,10 +48,12 @@ BreaksStatement i v place name =
     (limited : Limited) × (flat_limit (part_of i) v ≡ Some limited) × Tells place name v.place (word_of limited)
 
 abbrev pub BreaksCells : PlainDesign → Spot → Place → List ℕ → Type 0
-BreaksCells d spot place name = BreaksPart d OnCells (length (component_at d spot.component).cells) CELLS spot place name
+BreaksCells d spot place name =
+    BreaksPart d OnCells (length (component_at d spot.component).cells) CELLS spot place name
 
 abbrev pub BreaksGroups : PlainDesign → Spot → Place → List ℕ → Type 0
-BreaksGroups d spot place name = BreaksPart d OnGroups (length (component_at d spot.component).groups) GROUPS spot place name
+BreaksGroups d spot place name =
+    BreaksPart d OnGroups (length (component_at d spot.component).groups) GROUPS spot place name
 
 abbrev pub BreaksInstances : PlainDesign → Spot → Place → List ℕ → Type 0
 BreaksInstances d = BreaksTree d OnInstances (instances_below (tree_of d)) INSTANCES
@@ -64,10 +67,13 @@ BreaksWeight d = BreaksTree d OnWeight (weight_of d) WEIGHT
 -- THE TABLE
 abbrev pub Breaks : PlainDesign → Rule → Spot → Place → List ℕ → Type 0
 Breaks d Width spot place name = OnAssign BreaksWidth d spot place name
-Breaks d GuardWidth spot place name = OnAssign BreaksGuardWidth d spot place name ⊎ OnStatement TestBreaksGuardWidth d spot place name
-Breaks d Literal spot place name = OnAssign BreaksLiteral d spot place name ⊎ OnStatement TestBreaksLiteral d spot place name
+Breaks d GuardWidth spot place name =
+    OnAssign BreaksGuardWidth d spot place name ⊎ OnStatement TestBreaksGuardWidth d spot place name
+Breaks d Literal spot place name =
+    OnAssign BreaksLiteral d spot place name ⊎ OnStatement TestBreaksLiteral d spot place name
 Breaks d NotATarget spot place name = OnAssign BreaksNotATarget d spot place name
-Breaks d NotASource spot place name = OnAssign BreaksNotASource d spot place name ⊎ OnStatement TestBreaksNotASource d spot place name
+Breaks d NotASource spot place name =
+    OnAssign BreaksNotASource d spot place name ⊎ OnStatement TestBreaksNotASource d spot place name
 Breaks d NoDone spot place name = OnGroup BreaksNoDone d spot place name
 Breaks d DoneNotState spot place name = OnAssign BreaksDoneNotState d spot place name
 Breaks d AlwaysEnable spot place name = OnAssign BreaksAlwaysEnable d spot place name
@@ -76,7 +82,8 @@ Breaks d StaticGuard spot place name = OnAssign BreaksStaticGuard d spot place n
 Breaks d StaticShape spot place name =
     OnGroup GroupBreaksStaticShape d spot place name ⊎ OnStatement BreaksStaticControl d spot place name
     ⊎ OnStatement BreaksLength d spot place name ⊎ OnStatement BreaksStaticTest d spot place name
-Breaks d CallShape spot place name = OnAssign BreaksCallShape d spot place name ⊎ OnGroup GroupBreaksCallShape d spot place name
+Breaks d CallShape spot place name =
+    OnAssign BreaksCallShape d spot place name ⊎ OnGroup GroupBreaksCallShape d spot place name
 Breaks d OutputNotState spot place name = OnAssign BreaksOutputNotState d spot place name
 Breaks d CombCycle spot place name = BreaksCombCycle d spot place name ⊎ OnGroup GroupBreaksCombCycle d spot place name
 Breaks d Race spot place name = OnStatement BreaksRace d spot place name
@@ -87,7 +94,9 @@ Breaks d Limit spot place name =
 Breaks d _ spot place name = ⊥
 
 abbrev pub KeepsStage : ℕ → PlainDesign → Type 0
-KeepsStage stage d = (rule : Rule) (spot : Spot) (place : Place) (name : List ℕ) → stage_of rule ≡ stage → Breaks d rule spot place name → ⊥
+KeepsStage stage d =
+    (rule : Rule) (spot : Spot) (place : Place) (name : List ℕ) → stage_of rule ≡ stage
+    → Breaks d rule spot place name → ⊥
 
 -- ACCEPTED, and without static components
 pub record IsAccepted (d : PlainDesign) : Type 0 where

@@ -7,7 +7,8 @@ abbrev mutual
   unwrapped_form (Enable g) = Enable g
   unwrapped_form (Seq no_statements) = Seq no_statements
   unwrapped_form (Seq (a_statement (Placed form place) no_statements)) = unwrapped_form form
-  unwrapped_form (Seq (a_statement first (a_statement next rest))) = Seq (a_statement (unwrapped first) (a_statement (unwrapped next) (all_unwrapped rest)))
+  unwrapped_form (Seq (a_statement first (a_statement next rest))) =
+      Seq (a_statement (unwrapped first) (a_statement (unwrapped next) (all_unwrapped rest)))
   unwrapped_form (Par arms) = Par (all_unwrapped arms)
   unwrapped_form (If test comb a b) = If test comb (unwrapped a) (unwrapped b)
   unwrapped_form (While test comb a) = While test comb (unwrapped a)

@@ -45,6 +45,9 @@ module _ (number : PlainComponent → ℕ → ℕ) (counts : Row → Bool) where
 
     pub AreRenumbered : PlainComponent → Cells → ℕ → Instance → Type 0
     AreRenumbered part no_cells c j = Unit {0}
-    AreRenumbered part (a_primitive row rest) c j = (counts row ≡ true → cell_at (cells_of j) (number part c) ≡ OfRow row) × AreRenumbered part rest (suc c) j
+    AreRenumbered part (a_primitive row rest) c j =
+        (counts row ≡ true → cell_at (cells_of j) (number part c) ≡ OfRow row)
+        × AreRenumbered part rest (suc c) j
     AreRenumbered part (an_instance child rest) c j =
-        ((twin : Instance) × (cell_at (cells_of j) (number part c) ≡ OfInstance twin) × IsRenumbered child twin) × AreRenumbered part rest (suc c) j
+        ((twin : Instance) × (cell_at (cells_of j) (number part c) ≡ OfInstance twin) ×
+        IsRenumbered child twin) × AreRenumbered part rest (suc c) j

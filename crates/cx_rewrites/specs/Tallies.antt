@@ -66,7 +66,9 @@ module _ {S F : Type 0} where
   abbrev pub loop_count : ℕ → (S → S) → (S → Test F) → Meaning S F → Counted S → Counted S
   loop_count zero rest test body counts s n = none
   loop_count (suc tests) rest test body counts s n =
-      test_count rest test (λ s1 m. plus (counts s1 m) (then_count (body s1 m) m (loop_count tests rest test body counts))) (λ s1 m. none) s n
+      test_count rest test
+      (λ s1 m. plus (counts s1 m) (then_count (body s1 m) m (loop_count tests rest test body counts)))
+      (λ s1 m. none) s n
 
   abbrev pub rounds_count : ℕ → Meaning S F → Counted S → Counted S
   rounds_count zero body counts s n = none
@@ -102,19 +104,25 @@ abbrev mutual
 
   pub count_parts : {S F : Type 0} → Leaves S F → Counting S → PlainStatements → Counted S
   count_parts L C no_statements s n = none
-  count_parts L C (a_statement first later) s n = plus (count L C first s n) (then_count (run L first s n) n (count_parts L C later))
+  count_parts L C (a_statement first later) s n =
+      plus (count L C first s n) (then_count (run L first s n) n (count_parts L C later))
 
   pub count_arms : {S F : Type 0} → Leaves S F → Counting S → PlainStatements → Counted S
   count_arms L C no_statements s n = none
   count_arms L C (a_statement first later) s n = plus (count L C first s n) (count_arms L C later s n)
 
 -- AN ISLAND counts in each cycle what its active groups make
-abbrev pub island_count_from : (List Entry → Tally) → Instance → Held → List Occurrence → ℕ → ℕ → History → Counted State
+abbrev pub island_count_from : (List Entry → Tally) → Instance → Held → List Occurrence → ℕ → ℕ → History
+    → Counted State
 island_count_from made i held list zero t before s n = none
 island_count_from made i held list (suc left) t before s zero = none
 island_count_from made i held list (suc left) t before s (suc n) =
     let h : History = and_now before t (seen i held nothing s) in
-    turn_count (island_turn i held list t h s) (λ after. plus (made (active_in h t list)) (island_count_from made i held list left (suc t) h after n))
+    turn_count (island_turn i held list t h s)
+    (λ after.
+    plus (made (active_in h t list)) (island_count_from made i held list left (suc t) h after n))
 
 abbrev pub island_count : (List Entry → Tally) → Instance → Held → PlainForm → Counted State
-island_count made i held form s n = island_count_from made i held (form_flat (part_of i) form 0 []) (form_length (part_of i) form) 0 no_history s n
+island_count made i held form s n =
+    island_count_from made i held (form_flat (part_of i) form 0 [])
+    (form_length (part_of i) form) 0 no_history s n

@@ -30,7 +30,8 @@ pub fn groups_carry<W: Rewriting>()
 
 /// A condition says what another says, where their ports are seen alike.
 pub fn tests_carry<W: Rewriting>()
-    ensures { (pace : Pace) (faults : Fault → Fault) (i j : Instance) (held twin_held : Held) (p q : PortRef) (c d : Option ℕ)
+    ensures { (pace : Pace) (faults : Fault → Fault) (i j : Instance) (held twin_held : Held)
+        (p q : PortRef) (c d : Option ℕ)
         (before : Tally) (s z : State)
         → IsSeenAlike W.stands i j held twin_held (comb c) (comb d) p q → IsTold faults p q
         → W.stands before s z → TestCarried pace faults (test i held p c s) (test j twin_held q d z) }
@@ -60,22 +61,26 @@ pub fn islands_carry<W: Rewriting>()
         → ((g : ℕ) → group_length (part_of j) g ≡ group_length (part_of i) g)
         → AllFine W.groups W.inside (form_flat (part_of i) form 0 [])
         → IslandCarries pace W.stands faults move made W.inside i j held twin_held (form_flat (part_of i) form 0 [])
-        → Carries pace W.stands faults (island_count made i held form) (island i held form) (island j twin_held (moved_form move form)) }
+        → Carries pace W.stands faults (island_count made i held form) (island i held form)
+        (island j twin_held (moved_form move form)) }
 {}
 
 /// A cycle carries another, where each cell of the other goes on and what is left is related, at a pace that promises nothing of
 /// faults; and at every pace where the cells follow in their order, between which cells may stand that go on.
 pub fn cycles_carry<W: Rewriting>()
-    ensures ends { (pace : Pace) (faults : Fault → Fault) (one : Tally) (i j : Instance) (held twin_held : Held) (act more : Active)
+    ensures ends { (pace : Pace) (faults : Fault → Fault) (one : Tally) (i j : Instance)
+        (held twin_held : Held) (act more : Active)
         → IfExact pace ⊥
         → ((before : Tally) (s z : State) → W.stands before s z → (e : ℕ) → e < cell_count (cells_of j)
         → CellGoes i j held twin_held act more s z e)
         → ((before : Tally) (s z after : State) → W.stands before s z → cycle i held act s ≡ Goes after
         → W.stands (plus before one) after (left_by j twin_held more z))
         → CycleCarries pace W.stands faults one i j held twin_held act more }
-    ensures follows { (pace : Pace) (faults : Fault → Fault) (one : Tally) (i j : Instance) (held twin_held : Held) (act more : Active)
+    ensures follows { (pace : Pace) (faults : Fault → Fault) (one : Tally) (i j : Instance)
+        (held twin_held : Held) (act more : Active)
         → ((before : Tally) (s z : State) → W.stands before s z
-        → OutcomesFollow faults (comes_to i held act s) (comes_to j twin_held more z) 0 (cell_count (cells_of i)) 0 (cell_count (cells_of j)))
+        → OutcomesFollow faults (comes_to i held act s) (comes_to j twin_held more z) 0
+        (cell_count (cells_of i)) 0 (cell_count (cells_of j)))
         → ((before : Tally) (s z after : State) → W.stands before s z → cycle i held act s ≡ Goes after
         → W.stands (plus before one) after (left_by j twin_held more z))
         → CycleCarries pace W.stands faults one i j held twin_held act more }
@@ -90,7 +95,8 @@ pub fn enables_are_leaves()
         → group_length (part_of i) g ≡ None → called i g ≡ None
         → enable i kids held g s n ≡ turns_of (idle i) (group_turn i held g) s n }
     ensures call { (i : Instance) (kids : Children) (held : Held) (g c : ℕ) (s : State) (n : ℕ)
-        → group_length (part_of i) g ≡ None → called i g ≡ Some c → enable i kids held g s n ≡ call i kids held g c s n }
+        → group_length (part_of i) g ≡ None → called i g ≡ Some c
+        → enable i kids held g s n ≡ call i kids held g c s n }
     ensures island { (i : Instance) (kids : Children) (held : Held) (g k : ℕ) (s : State) (n : ℕ)
         → group_length (part_of i) g ≡ Some k → enable i kids held g s n ≡ island i held (Enable g) s n }
 {}

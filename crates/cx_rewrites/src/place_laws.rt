@@ -15,10 +15,12 @@ ghost use Rattle.cx_rewrites.specs.Places.{SameDesign};
 /// same turn with the same state, has the same fault in the same turn, or needs more turns, on all data and under each budget.
 /// One is accepted where the other is, and breaks the same rules at the same parts.
 pub fn places_do_not_matter()
-    ensures run { (d e : PlainDesign) (words : List (List ℕ)) (n : ℕ) → SameDesign d e → run_main d words n ≡ run_main e words n }
+    ensures run { (d e : PlainDesign) (words : List (List ℕ)) (n : ℕ) → SameDesign d e →
+        run_main d words n ≡ run_main e words n }
     ensures accepted { (d e : PlainDesign) → SameDesign d e → IsAccepted d → IsAccepted e }
     ensures breaks { (d e : PlainDesign) (rule : Rule) (spot : Spot) (place : Place) (name : List ℕ)
-        → SameDesign d e → Breaks d rule spot place name → (at : Place) × (called : List ℕ) × Breaks e rule spot at called }
+        → SameDesign d e → Breaks d rule spot place name
+        → (at : Place) × (called : List ℕ) × Breaks e rule spot at called }
     ensures words { (d e : PlainDesign) (s : State) → SameDesign d e → words_of (tree_of d) s ≡ words_of (tree_of e) s }
     ensures rows { (d e : PlainDesign) → SameDesign d e → external_rows d ≡ external_rows e }
 {}

@@ -21,18 +21,23 @@ use crate::rewriting::Rewriting;
 /// second: wherever its run ends, that of the second ends, at the pace, in a state that stands for its state. So does a
 /// statement whose ports are moved, where the leaves carry.
 pub fn run_carries<W: Rewriting>()
-    ensures statements { (pace : Pace) (faults : Fault → Fault) (L M : Leaves State Fault) (C : Counting State) (s t : PlainStatement)
+    ensures statements { (pace : Pace) (faults : Fault → Fault) (L M : Leaves State Fault)
+        (C : Counting State) (s t : PlainStatement)
         → Rests W.stands L.rest M.rest → Beside pace W.stands faults L C M s t
         → Carries pace W.stands faults (count L C s) (run L s) (run M t) }
-    ensures moved { (pace : Pace) (faults : Fault → Fault) (L M : Leaves State Fault) (C : Counting State) (move : PortRef → PortRef)
+    ensures moved { (pace : Pace) (faults : Fault → Fault) (L M : Leaves State Fault) (C : Counting State)
+        (move : PortRef → PortRef)
         (context : Context) (s : PlainStatement)
-        → LeavesCarry pace W.stands faults L C M move W.groups W.forms → Holds W.groups W.forms (groups_of s) (visit context s)
+        → LeavesCarry pace W.stands faults L C M move W.groups W.forms
+        → Holds W.groups W.forms (groups_of s) (visit context s)
         → Carries pace W.stands faults (count L C s) (run L s) (run M (moved_statement move s)) }
-    ensures ends { (pace : Pace) (faults : Fault → Fault) (L M : Leaves State Fault) (C : Counting State) (s t : PlainStatement)
+    ensures ends { (pace : Pace) (faults : Fault → Fault) (L M : Leaves State Fault) (C : Counting State)
+        (s t : PlainStatement)
         (before : Tally) (a b c : State) (n m k : ℕ)
         → Rests W.stands L.rest M.rest → Beside pace W.stands faults L C M s t
         → Room pace n m → W.stands before a b → run L s a n ≡ End c k
-        → (d : State) × (u : ℕ) × (run M t b m ≡ End d u) × Keeps pace u k × W.stands (plus before (count L C s a n)) c d }
+        → (d : State) × (u : ℕ) × (run M t b m ≡ End d u) × Keeps pace u k
+        × W.stands (plus before (count L C s a n)) c d }
 {}
 
 /// At the exact pace the second run follows the first: it ends in the same turn, in a state that stands for the first one's

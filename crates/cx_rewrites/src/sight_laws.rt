@@ -28,15 +28,18 @@ pub fn solved_is_seen<W: Rewriting>()
     ensures seen { (i : Instance) (held : Held) (act : Active) (s : State) (look : Look) (p : PortRef) (x : Seen)
         → Solves i held act s W.inside look → W.inside p → Sees i held act s p x → look p ≡ x }
     ensures found { (i : Instance) (held : Held) (act : Active) (s : State) (look : Look) (p : PortRef)
-        → IsAcyclic i act → AcyclicBelow (cells_of i) → Solves i held act s W.inside look → W.inside p → look p ≡ seen i held act s p }
+        → IsAcyclic i act → AcyclicBelow (cells_of i) → Solves i held act s W.inside look → W.inside p
+        → look p ≡ seen i held act s p }
 {}
 
 /// What a port is seen as in an instance, the port that it is moved to is seen as in the other.
 pub fn seen_moves<W: Rewriting>()
-    ensures seen { (move : PortRef → PortRef) (i j : Instance) (held twin_held : Held) (act more : Active) (s z : State) (p : PortRef) (x : Seen)
+    ensures seen { (move : PortRef → PortRef) (i j : Instance) (held twin_held : Held) (act more : Active)
+        (s z : State) (p : PortRef) (x : Seen)
         → Moves move i j held twin_held act more s z W.inside → IsAcyclic j more → AcyclicBelow (cells_of j)
         → W.inside p → Sees i held act s p x → seen j twin_held more z (move p) ≡ x }
-    ensures found { (move : PortRef → PortRef) (i j : Instance) (held twin_held : Held) (act more : Active) (s z : State) (p : PortRef)
+    ensures found { (move : PortRef → PortRef) (i j : Instance) (held twin_held : Held)
+        (act more : Active) (s z : State) (p : PortRef)
         → Moves move i j held twin_held act more s z W.inside → IsAcyclic j more → AcyclicBelow (cells_of j)
         → IsAcyclic i act → AcyclicBelow (cells_of i)
         → W.inside p → seen j twin_held more z (move p) ≡ seen i held act s p }
@@ -44,10 +47,12 @@ pub fn seen_moves<W: Rewriting>()
 
 /// What a port is seen as, the port of the renamed cell is seen as.
 pub fn seen_renamed<W: Rewriting>()
-    ensures seen { (cell : ℕ → ℕ) (i j : Instance) (held twin_held : Held) (act more : Active) (s z : State) (p : PortRef) (x : Seen)
+    ensures seen { (cell : ℕ → ℕ) (i j : Instance) (held twin_held : Held) (act more : Active)
+        (s z : State) (p : PortRef) (x : Seen)
         → Renames i j cell held twin_held act more s z W.inside → IsAcyclic j more → AcyclicBelow (cells_of j)
         → W.inside p → Sees i held act s p x → seen j twin_held more z (renamed cell p) ≡ x }
-    ensures found { (cell : ℕ → ℕ) (i j : Instance) (held twin_held : Held) (act more : Active) (s z : State) (p : PortRef)
+    ensures found { (cell : ℕ → ℕ) (i j : Instance) (held twin_held : Held) (act more : Active)
+        (s z : State) (p : PortRef)
         → Renames i j cell held twin_held act more s z W.inside → IsAcyclic j more → AcyclicBelow (cells_of j)
         → IsAcyclic i act → AcyclicBelow (cells_of i)
         → W.inside p → seen j twin_held more z (renamed cell p) ≡ seen i held act s p }

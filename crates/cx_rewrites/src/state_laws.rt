@@ -23,7 +23,8 @@ pub fn renumbered_states_stand()
     ensures back { (number : PlainComponent → ℕ → ℕ) (counts : Row → Bool) (part : PlainComponent) (cells : Cells)
         (c : ℕ) (kid : Instance) (own twin s z : State)
         → cell_at cells c ≡ OfInstance kid
-        → ((e : ℕ) (path : Path) → holds_below counts cells e path ≡ true → just (number part c) (number part e) ≡ just c e)
+        → ((e : ℕ) (path : Path) → holds_below counts cells e path ≡ true →
+        just (number part c) (number part e) ≡ just c e)
         → Stands number counts kid own twin → Stands number counts (Node part cells) s z
         → Stands number counts (Node part cells) (put c own s) (put (number part c) twin z) }
 {}

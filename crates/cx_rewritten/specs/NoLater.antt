@@ -10,9 +10,10 @@ use Rattle.cx_check.specs.Acceptance.{IsAcceptedTree}
 use Rattle.cx_flattening.specs.Ends.{NoneNamesDone}
 use Rattle.cx_promotion.specs.Made.{WholeQuickens}
 
--- the text has a tree that is accepted; the same words stand in the external memories. Where nothing in the design of this tree looks at the done
--- of a static component's cell, as in the design of every text, the external memories are the same, and where the run of this one ends, with
--- its static components, on all data and under each budget, that of the text's design ends under the budget, in no more turns, in the same state
+-- the text has a tree that is accepted; the same words stand in the external memories. Where nothing in the design of
+-- this tree looks at the done of a static component's cell, as in the design of every text, the external memories are
+-- the same, and where the run of this one ends, with its static components, on all data and under each budget, that
+-- of the text's design ends under the budget, in no more turns, in the same state
 pub record EndsNoLater (tree : PlainTree) (written : List ℕ) : Type 0 where
   pub again : PlainTree
   pub tokens : List Token

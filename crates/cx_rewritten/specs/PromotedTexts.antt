@@ -7,7 +7,9 @@ use Rattle.cx_promotion.specs.Rewriting.{IsPromotedTree}
 
 -- // promoted COMPONENT GROUP N
 abbrev pub row_line : PromotedRow → List ℕ
-row_line row = codes "// promoted" ++ (32 ∷ row.component) ++ (32 ∷ row.group) ++ (32 ∷ decimal row.cycles) ++ codes "\n"
+row_line row =
+    codes "// promoted" ++ (32 ∷ row.component) ++ (32 ∷ row.group) ++ (32 ∷ decimal row.cycles)
+    ++ codes "\n"
 
 abbrev pub lines : List PromotedRow → List ℕ
 lines rows = flat_map row_line rows

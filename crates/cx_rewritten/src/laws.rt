@@ -24,14 +24,18 @@ use cx_promote::laws::{promoted_is_accepted, promoted_trees_run_quicker};
 /// static components, ends in the same turn with the same words, has a fault of the same kind in the same turn, or needs more turns,
 /// where that of the tree does, if nothing in that looks at the done of a static component's cell, as in the design of every text.
 pub fn shared_texts_run_alike()
-    ensures read { (tree : PlainTree) (written : List ℕ) → IsTreeOfText tree → IsSharedText tree written → IsReadAs (shared_tree tree) written }
-    ensures runs { (tree : PlainTree) (written : List ℕ) → IsTreeOfText tree → IsAcceptedTree tree → IsDesign (design_of tree) → IsSharedText tree written → RunsAs tree written }
+    ensures read { (tree : PlainTree) (written : List ℕ) → IsTreeOfText tree → IsSharedText tree written →
+        IsReadAs (shared_tree tree) written }
+    ensures runs { (tree : PlainTree) (written : List ℕ) → IsTreeOfText tree → IsAcceptedTree tree →
+        IsDesign (design_of tree) → IsSharedText tree written → RunsAs tree written }
 {}
 
 /// The promoted tree has a text where the tree has one; its assignments and invokes stand in the order in which they stood.
 pub fn promoted_trees_are_printable()
-    ensures printable { (tree new : PlainTree) (rows : List PromotedRow) → IsPromotedTree tree new rows → IsPrintable tree → IsPrintable new }
-    ensures order { (tree new : PlainTree) (rows : List PromotedRow) → IsPromotedTree tree new rows → KeepsOrder tree new }
+    ensures printable { (tree new : PlainTree) (rows : List PromotedRow) → IsPromotedTree tree new rows →
+        IsPrintable tree → IsPrintable new }
+    ensures order { (tree new : PlainTree) (rows : List PromotedRow) → IsPromotedTree tree new rows →
+        KeepsOrder tree new }
 {}
 
 /// The lines of what is promoted in the tree of a text, and behind them the promoted tree as it is printed, are read as the promoted
@@ -39,8 +43,10 @@ pub fn promoted_trees_are_printable()
 /// the tree's design ends, with its static components, its design ends no later, in the same state, if nothing in the first looks at the
 /// done of a static component's cell, as in the design of every text.
 pub fn promoted_texts_end_no_later()
-    ensures read { (tree : PlainTree) (written : List ℕ) → IsTreeOfText tree → (p : IsPromotedText tree written) → IsReadAs p.new written }
-    ensures runs { (tree : PlainTree) (written : List ℕ) → IsTreeOfText tree → IsAcceptedTree tree → IsDesign (design_of tree) → IsPromotedText tree written → EndsNoLater tree written }
+    ensures read { (tree : PlainTree) (written : List ℕ) → IsTreeOfText tree →
+        (p : IsPromotedText tree written) → IsReadAs p.new written }
+    ensures runs { (tree : PlainTree) (written : List ℕ) → IsTreeOfText tree → IsAcceptedTree tree →
+        IsDesign (design_of tree) → IsPromotedText tree written → EndsNoLater tree written }
 {
     promoted_is_accepted();
     promoted_trees_run_quicker();

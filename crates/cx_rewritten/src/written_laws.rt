@@ -14,13 +14,15 @@ ghost use Rattle.cx_rewritten.specs.Written.{IsReadAs, IsWritten};
 
 /// In the tree of a text the places of assignments and of invokes rise in the order in which they are written.
 pub fn texts_are_in_order()
-    ensures { (text : List ℕ) (tokens : List Token) (tree : PlainTree) → Lex text tokens → Parse tokens tree → IsInOrder tree }
+    ensures { (text : List ℕ) (tokens : List Token) (tree : PlainTree) → Lex text tokens →
+        Parse tokens tree → IsInOrder tree }
 {}
 
 /// Trees that are in order, and the same apart from places, have designs that are the same apart from places, with their assignments in
 /// the same order.
 pub fn same_trees_have_same_designs()
-    ensures { (tree other : PlainTree) → without_places tree ≡ without_places other → IsInOrder tree → IsInOrder other → SameDesign (design_of tree) (design_of other) }
+    ensures { (tree other : PlainTree) → without_places tree ≡ without_places other → IsInOrder tree →
+        IsInOrder other → SameDesign (design_of tree) (design_of other) }
 {}
 
 /// What is written of a printable tree that keeps the order of the tree of a text is read as that tree, at other places.

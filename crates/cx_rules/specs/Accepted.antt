@@ -18,12 +18,16 @@ use Rattle.cx_rules.specs.LimitRule.{BreaksStatement, BreaksCells, BreaksGroups,
 abbrev pub Breaks : PlainDesign → Rule → Spot → Place → List ℕ → Type 0
 Breaks d Width spot place name = OnAssign BreaksWidth d spot place name ⊎ OnBind BreaksWidth d spot place name
 Breaks d GuardWidth spot place name =
-    OnAssign BreaksGuardWidth d spot place name ⊎ OnStatement TestBreaksGuardWidth d spot place name ⊎ OnBind BreaksGuardWidth d spot place name
+    OnAssign BreaksGuardWidth d spot place name ⊎ OnStatement TestBreaksGuardWidth d spot place name
+    ⊎ OnBind BreaksGuardWidth d spot place name
 Breaks d Literal spot place name =
-    OnAssign BreaksLiteral d spot place name ⊎ OnStatement TestBreaksLiteral d spot place name ⊎ OnBind BreaksLiteral d spot place name
-Breaks d NotATarget spot place name = OnAssign BreaksNotATarget d spot place name ⊎ OnBind BreaksNotATarget d spot place name
+    OnAssign BreaksLiteral d spot place name ⊎ OnStatement TestBreaksLiteral d spot place name
+    ⊎ OnBind BreaksLiteral d spot place name
+Breaks d NotATarget spot place name =
+    OnAssign BreaksNotATarget d spot place name ⊎ OnBind BreaksNotATarget d spot place name
 Breaks d NotASource spot place name =
-    OnAssign BreaksNotASource d spot place name ⊎ OnStatement TestBreaksNotASource d spot place name ⊎ OnBind BreaksNotASource d spot place name
+    OnAssign BreaksNotASource d spot place name ⊎ OnStatement TestBreaksNotASource d spot place name
+    ⊎ OnBind BreaksNotASource d spot place name
 Breaks d NoDone spot place name = OnGroup BreaksNoDone d spot place name
 Breaks d DoneNotState spot place name = OnAssign BreaksDoneNotState d spot place name
 Breaks d AlwaysEnable spot place name = OnAssign BreaksAlwaysEnable d spot place name
@@ -36,7 +40,8 @@ Breaks d StaticShape spot place name =
 Breaks d CallShape spot place name =
     OnAssign BreaksCallShape d spot place name ⊎ OnGroup GroupBreaksCallShape d spot place name
     ⊎ OnAssign BreaksStaticCell d spot place name ⊎ OnStatement BreaksInvoke d spot place name
-Breaks d OutputNotState spot place name = OnAssign BreaksOutputNotState d spot place name ⊎ OnAssign BreaksKept d spot place name
+Breaks d OutputNotState spot place name =
+    OnAssign BreaksOutputNotState d spot place name ⊎ OnAssign BreaksKept d spot place name
 Breaks d CombCycle spot place name = BreaksCombCycle d spot place name ⊎ OnGroup GroupBreaksCombCycle d spot place name
 Breaks d Race spot place name = OnStatement BreaksRace d spot place name
 Breaks d Limit spot place name =
@@ -131,14 +136,17 @@ comes_before (x ∷ xs) (y ∷ ys) = nat_lt x y || (nat_eq x y && comes_before x
 
 -- no rule of the stage is broken
 abbrev pub KeepsStage : ℕ → PlainDesign → Type 0
-KeepsStage stage d = (rule : Rule) (spot : Spot) (place : Place) (name : List ℕ) → stage_of rule ≡ stage → Breaks d rule spot place name → ⊥
+KeepsStage stage d =
+    (rule : Rule) (spot : Spot) (place : Place) (name : List ℕ) → stage_of rule ≡ stage
+    → Breaks d rule spot place name → ⊥
 
 -- the first break of a stage: no other break of the stage comes before it
 pub record IsFirstOf (stage : ℕ) (d : PlainDesign) (told : Diagnostic) : Type 0 where
   pub in_stage : stage_of told.rule ≡ stage
   pub spot : Spot
   pub breaks : Breaks d told.rule spot told.place told.name
-  pub first : (rule : Rule) (other : Spot) (place : Place) (name : List ℕ) → stage_of rule ≡ stage → Breaks d rule other place name
+  pub first : (rule : Rule) (other : Spot) (place : Place) (name : List ℕ) → stage_of rule ≡ stage
+      → Breaks d rule other place name
       → comes_before (key_of rule other place) (key_of told.rule spot told.place) ≡ false
 
 -- THE FIRST BREAK of a design: that of the first stage that has one

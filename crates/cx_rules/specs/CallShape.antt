@@ -102,7 +102,9 @@ is_right_go done (a ∷ b ∷ rest) = false
 -- an enable of a captured register: exactly one assignment, c.done without a guard or 1'd1 with the guard c.done
 abbrev pub is_right_enable : PortRef → List PlainAssign → Bool
 is_right_enable done [] = false
-is_right_enable done (a ∷ []) = (same_port a.source.port done && is_always a.guard) || (same_port a.source.port one && is_atom done a.guard)
+is_right_enable done (a ∷ []) =
+    (same_port a.source.port done && is_always a.guard)
+    || (same_port a.source.port one && is_atom done a.guard)
 is_right_enable done (a ∷ b ∷ rest) = false
 
 abbrev pub is_register_enable : PlainComponent → PortRef → Bool
@@ -119,7 +121,9 @@ added r false rest = rest
 
 abbrev pub captured_from : List PlainAssign → ℕ → List PlainCell → List ℕ
 captured_from assigns r [] = []
-captured_from assigns r (cell ∷ cells) = added r (is_reg_kind cell.kind && some_target (same_port (write_en_of r)) assigns) (captured_from assigns (suc r) cells)
+captured_from assigns r (cell ∷ cells) =
+    added r (is_reg_kind cell.kind && some_target (same_port (write_en_of r)) assigns)
+    (captured_from assigns (suc r) cells)
 
 abbrev pub captured : PlainComponent → List PlainAssign → List ℕ
 captured part assigns = captured_from assigns 0 part.cells
@@ -156,7 +160,8 @@ are_dones wanted (Some ps) = nat_eq (length ps) (length wanted) && list_all (λ 
 
 abbrev pub is_right_done_assign : List PortRef → PlainAssign → Bool
 is_right_done_assign wanted a =
-    (is_always a.guard && are_dones wanted (Some (a.source.port ∷ []))) || (same_port a.source.port one && are_dones wanted (conjuncts a.guard))
+    (is_always a.guard && are_dones wanted (Some (a.source.port ∷ [])))
+    || (same_port a.source.port one && are_dones wanted (conjuncts a.guard))
 
 -- the done: exactly one assignment, a port without a guard, or 1'd1 with a port or a conjunction of ports as its guard
 abbrev pub is_right_done : List PortRef → List PlainAssign → Bool
@@ -171,7 +176,8 @@ abbrev pub IsInput : Instance → ℕ → Type 0
 IsInput child p = (n : ℕ) × (part_port (part_of child) p ≡ AnInput n)
 
 abbrev pub IsOutputOrDone : Instance → ℕ → Type 0
-IsOutputOrDone child q = ((m : ℕ) × (part_port (part_of child) q ≡ AnOutput m)) ⊎ (part_port (part_of child) q ≡ ItsDone)
+IsOutputOrDone child q =
+    ((m : ℕ) × (part_port (part_of child) q ≡ AnOutput m)) ⊎ (part_port (part_of child) q ≡ ItsDone)
 
 -- THE FIVE CONDITIONS on a plain group g, asked for a component cell c that it drives, which is an instance child.
 -- First, it drives ports of no other component cell. Here it does, and each of its targets on a component cell breaks it
@@ -184,28 +190,36 @@ has_right_go i g c child = is_right_go (done_port c child) (with_target (go_port
 
 -- third, no input of c depends on an output or the done of c. Here input p does
 abbrev pub IsFedBack : Instance → ℕ → ℕ → Instance → ℕ → Type 0
-IsFedBack i g c child p = IsInput child p × ((q : ℕ) × IsOutputOrDone child q × Depends i (group g) (ports.Cell c p) (ports.Cell c q))
+IsFedBack i g c child p =
+    IsInput child p
+    × ((q : ℕ) × IsOutputOrDone child q × Depends i (group g) (ports.Cell c p) (ports.Cell c q))
 
 -- fourth, each enabling port of a primitive cell that it drives is the write_en of a std_reg, driven as said
 abbrev pub has_right_enable : Instance → ℕ → ℕ → Instance → PortRef → Bool
-has_right_enable i g c child port = is_register_enable (part_of i) port && is_right_enable (done_port c child) (with_target port (assigns_of i g))
+has_right_enable i g c child port =
+    is_register_enable (part_of i) port
+    && is_right_enable (done_port c child) (with_target port (assigns_of i g))
 
 -- fifth, it drives its done as said, by the registers that it captures
 abbrev pub has_right_done : Instance → ℕ → ℕ → Instance → Bool
 has_right_done i g c child =
-    is_right_done (wanted_dones (done_port c child) (captured (part_of i) (assigns_of i g))) (with_target (ports.Done g) (assigns_of i g))
+    is_right_done (wanted_dones (done_port c child) (captured (part_of i) (assigns_of i g)))
+    (with_target (ports.Done g) (assigns_of i g))
 
 -- a broken condition, and a port whose assignments break it
 pub data CallBreak (i : Instance) (g : ℕ) (c : ℕ) (child : Instance) : PortRef → Type 0 where
   another_cell : {target : PortRef} → CallsAnother i g c target → CallBreak i g c child target
   wrong_go : has_right_go i g c child ≡ false → CallBreak i g c child (go_port c)
   input_by_output : (p : ℕ) → IsFedBack i g c child p → CallBreak i g c child (ports.Cell c p)
-  wrong_enable : {target : PortRef} → is_primitive_enable i target ≡ true → has_right_enable i g c child target ≡ false → CallBreak i g c child target
+  wrong_enable : {target : PortRef} → is_primitive_enable i target ≡ true
+      → has_right_enable i g c child target ≡ false → CallBreak i g c child target
   wrong_done : has_right_done i g c child ≡ false → CallBreak i g c child (ports.Done g)
 
 -- an assignment that drives a port of a component cell and stands in no plain group
 abbrev pub IsOutside : Instance → Owned → Type 0
-IsOutside i a = (is_part_port i a.assign.target ≡ true) × ((a.owner ≡ None) ⊎ ((g : ℕ) × (a.owner ≡ Some g) × (is_plain (group_at (part_of i) g).kind ≡ false)))
+IsOutside i a =
+    (is_part_port i a.assign.target ≡ true)
+    × ((a.owner ≡ None) ⊎ ((g : ℕ) × (a.owner ≡ Some g) × (is_plain (group_at (part_of i) g).kind ≡ false)))
 
 -- an assignment of a plain group that breaks a condition
 pub record IsMisshapen (i : Instance) (a : Owned) : Type 0 where
@@ -217,7 +231,8 @@ pub record IsMisshapen (i : Instance) (a : Owned) : Type 0 where
   pub breaks : CallBreak i group cell calls.child a.assign.target
 
 abbrev pub BreaksCallShape : AssignRule
-BreaksCallShape i a place name = (IsOutside i a ⊎ IsMisshapen i a) × Tells place name a.assign.place (path_of i a.assign.target)
+BreaksCallShape i a place name =
+    (IsOutside i a ⊎ IsMisshapen i a) × Tells place name a.assign.place (path_of i a.assign.target)
 
 -- a plain group that drives a port of a component cell, and its go or the group's done not at all
 abbrev pub GroupBreaksCallShape : GroupRule

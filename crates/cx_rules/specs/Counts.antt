@@ -107,7 +107,8 @@ statement_count_of (Some x) captures = x.statements + (captures + captures)
 
 abbrev pub statements_for : PlainComponent → Inners → List ℕ → ℕ
 statements_for part below [] = 1
-statements_for part below (k ∷ ks) = statement_count_of (inner_for below (invoke_at part k)) (captures_in (invoke_at part k))
+statements_for part below (k ∷ ks) =
+    statement_count_of (inner_for below (invoke_at part k)) (captures_in (invoke_at part k))
 
 abbrev pub statements_counted : PlainComponent → Inners → List Visited → ℕ
 statements_counted part below [] = 0
@@ -131,7 +132,8 @@ abbrev mutual
   form_counted part below (StaticPar length arms) = counted_in part below arms
   form_counted part below (StaticIf length test a b) = counted part below a + counted part below b
   form_counted part below (StaticRepeat length count a) = counted part below a
-  form_counted part below (Timed k) = occurrence_count_of (inner_for below (invoke_at part k)) (captures_in (invoke_at part k))
+  form_counted part below (Timed k) =
+      occurrence_count_of (inner_for below (invoke_at part k)) (captures_in (invoke_at part k))
 
   pub counted : PlainComponent → Inners → PlainStatement → ℕ
   counted part below (Placed form place) = form_counted part below form
@@ -154,7 +156,8 @@ island_counted part below false form = 0
 
 abbrev pub occurrences_counted : PlainComponent → Inners → List Visited → ℕ
 occurrences_counted part below [] = 0
-occurrences_counted part below (v ∷ vs) = island_counted part below (is_any_island part v) v.form + occurrences_counted part below vs
+occurrences_counted part below (v ∷ vs) =
+    island_counted part below (is_any_island part v) v.form + occurrences_counted part below vs
 
 -- a component as those with a cell of it count it
 abbrev pub inner : PlainComponent → Inners → Inner
@@ -186,7 +189,8 @@ counted_groups (Node part cells) = length part.groups + groups_for (inners_of ce
 
 abbrev pub size_with : PlainComponent → Inners → ℕ
 size_with part below =
-    length part.inputs + length part.outputs + cells_in part.cells below + (groups_size part.groups + copies_for below part.invokes)
+    length part.inputs + length part.outputs + cells_in part.cells below
+    + (groups_size part.groups + copies_for below part.invokes)
     + (assigns_size part.always + always_in below)
     + statements_counted part below (statements_in part) + occurrences_counted part below (statements_in part)
 
@@ -206,7 +210,9 @@ unless_static (Some latency) n = 0
 abbrev pub weight_within : Cells → ℕ
 weight_within no_cells = 0
 weight_within (a_primitive row rest) = weight_within rest
-weight_within (an_instance (Node part cells) rest) = unless_static part.latency (size_with part (inners_of cells) + 1) + weight_within cells + weight_within rest
+weight_within (an_instance (Node part cells) rest) =
+    unless_static part.latency (size_with part (inners_of cells) + 1) + weight_within cells
+    + weight_within rest
 
 abbrev pub counted_weight : Instance → ℕ
 counted_weight (Node part cells) = size_with part (inners_of cells) + 1 + weight_within cells
@@ -215,7 +221,8 @@ counted_weight (Node part cells) = size_with part (inners_of cells) + 1 + weight
 abbrev pub instances_within : Cells → ℕ
 instances_within no_cells = 0
 instances_within (a_primitive row rest) = instances_within rest
-instances_within (an_instance (Node part cells) rest) = unless_static part.latency 1 + instances_within cells + instances_within rest
+instances_within (an_instance (Node part cells) rest) =
+    unless_static part.latency 1 + instances_within cells + instances_within rest
 
 abbrev pub counted_instances : Instance → ℕ
 counted_instances (Node part cells) = 1 + instances_within cells
@@ -224,7 +231,8 @@ counted_instances (Node part cells) = 1 + instances_within cells
 abbrev pub depth_within : Cells → ℕ
 depth_within no_cells = 0
 depth_within (a_primitive row rest) = depth_within rest
-depth_within (an_instance (Node part cells) rest) = max (unless_static part.latency 1 + depth_within cells) (depth_within rest)
+depth_within (an_instance (Node part cells) rest) =
+    max (unless_static part.latency 1 + depth_within cells) (depth_within rest)
 
 abbrev pub counted_depth : Instance → ℕ
 counted_depth (Node part cells) = 1 + depth_within cells
@@ -232,7 +240,8 @@ counted_depth (Node part cells) = 1 + depth_within cells
 -- S, which bounds the text of compile: the sum of size and 1 over the components that are not static, each once
 abbrev pub counted_sizes : PlainDesign → ℕ → ℕ
 counted_sizes d zero = 0
-counted_sizes d (suc k) = unless_static (component_at d k).latency (counted_size (component_of d k) + 1) + counted_sizes d k
+counted_sizes d (suc k) =
+    unless_static (component_at d k).latency (counted_size (component_of d k) + 1) + counted_sizes d k
 
 abbrev pub counted_design_size : PlainDesign → ℕ
 counted_design_size d = counted_sizes d (length d.components)

@@ -23,9 +23,11 @@ AssignNames a q = GuardNames a.guard q ⊎ (a.source.port ≡ q)
 -- its groups and in its conditions, and with each cell those named by continuous assignments that drive a port of it
 pub data Reads (part : PlainComponent) (s : PlainStatement) : ℕ → Type 0 where
   driven : {c : ℕ} → drives part s c ≡ true → Reads part s c
-  named : {c : ℕ} (p g : ℕ) (a : PlainAssign) → In (groups_of s) g → In (group_at part g).assigns a → AssignNames a (ports.Cell c p) → Reads part s c
+  named : {c : ℕ} (p g : ℕ) (a : PlainAssign) → In (groups_of s) g → In (group_at part g).assigns a
+      → AssignNames a (ports.Cell c p) → Reads part s c
   tested : {c : ℕ} (p : ℕ) (test : PlacedPort) → In (tests_of s) test → test.port ≡ ports.Cell c p → Reads part s c
-  through : {e : ℕ} (c p q : ℕ) (a : PlainAssign) → Reads part s c → In part.always a → a.target ≡ ports.Cell c p → AssignNames a (ports.Cell e q) → Reads part s e
+  through : {e : ℕ} (c p q : ℕ) (a : PlainAssign) → Reads part s c → In part.always a
+      → a.target ≡ ports.Cell c p → AssignNames a (ports.Cell e q) → Reads part s e
 
 -- RESTS ON STATE, the least relation that these rules give: literals, signature inputs and registered outputs do, among them
 -- every output and the done of a component cell. A combinational output does if no group drives an input that it reads,
@@ -33,12 +35,17 @@ pub data Reads (part : PlainComponent) (s : PlainStatement) : ℕ → Type 0 whe
 pub data Rests (i : Instance) : PortRef → Type 0 where
   literal_rests : {w v : ℕ} → Rests i (ports.Literal w v)
   input_rests : {n : ℕ} → Rests i (ports.Input n)
-  registered_rests : {c p : ℕ} (row : Row) → cell_at (cells_of i) c ≡ OfRow row → side_of row p ≡ sides.Registered → Rests i (ports.Cell c p)
-  output_rests : {c p : ℕ} (n : ℕ) (child : Instance) → cell_at (cells_of i) c ≡ OfInstance child → part_port (part_of child) p ≡ AnOutput n → Rests i (ports.Cell c p)
-  done_rests : {c p : ℕ} (child : Instance) → cell_at (cells_of i) c ≡ OfInstance child → part_port (part_of child) p ≡ ItsDone → Rests i (ports.Cell c p)
+  registered_rests : {c p : ℕ} (row : Row) → cell_at (cells_of i) c ≡ OfRow row
+      → side_of row p ≡ sides.Registered → Rests i (ports.Cell c p)
+  output_rests : {c p : ℕ} (n : ℕ) (child : Instance) → cell_at (cells_of i) c ≡ OfInstance child
+      → part_port (part_of child) p ≡ AnOutput n → Rests i (ports.Cell c p)
+  done_rests : {c p : ℕ} (child : Instance) → cell_at (cells_of i) c ≡ OfInstance child
+      → part_port (part_of child) p ≡ ItsDone → Rests i (ports.Cell c p)
   combinational_rests : {c p : ℕ} (row : Row) → cell_at (cells_of i) c ≡ OfRow row → side_of row p ≡ sides.Output
-      → ((m g : ℕ) (a : PlainAssign) → row.reads p m ≡ true → In (group_at (part_of i) g).assigns a → a.target ≡ ports.Cell c m → ⊥)
-      → ((m : ℕ) (a : PlainAssign) (q : PortRef) → row.reads p m ≡ true → In (part_of i).always a → a.target ≡ ports.Cell c m → AssignNames a q → Rests i q)
+      → ((m g : ℕ) (a : PlainAssign) → row.reads p m ≡ true → In (group_at (part_of i) g).assigns a →
+      a.target ≡ ports.Cell c m → ⊥)
+      → ((m : ℕ) (a : PlainAssign) (q : PortRef) → row.reads p m ≡ true → In (part_of i).always a →
+      a.target ≡ ports.Cell c m → AssignNames a q → Rests i q)
       → Rests i (ports.Cell c p)
 
 -- what the sources and guards of active assignments name

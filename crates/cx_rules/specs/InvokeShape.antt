@@ -28,12 +28,14 @@ is_static_port i (ports.Literal w v) = false
 
 -- an assignment that drives a port of a cell of a static component
 abbrev pub BreaksStaticCell : AssignRule
-BreaksStaticCell i a place name = (is_static_port i a.assign.target ≡ true) × Tells place name a.assign.place (path_of i a.assign.target)
+BreaksStaticCell i a place name =
+    (is_static_port i a.assign.target ≡ true) × Tells place name a.assign.place (path_of i a.assign.target)
 
 -- cell e leads to cell c: it is that cell, or a continuous assignment that drives a port of a cell to which e leads names c
 pub data LeadsToCell (part : PlainComponent) (e : ℕ) : ℕ → Type 0 where
   itself : LeadsToCell part e e
-  through : {c : ℕ} (m p q : ℕ) (a : PlainAssign) → LeadsToCell part e m → In part.always a → a.target ≡ ports.Cell m p → AssignNames a (ports.Cell c q)
+  through : {c : ℕ} (m p q : ℕ) (a : PlainAssign) → LeadsToCell part e m → In part.always a
+      → a.target ≡ ports.Cell m p → AssignNames a (ports.Cell c q)
       → LeadsToCell part e c
 
 -- the input n of the cell of a static component is its port n + 1, behind its go
@@ -44,10 +46,12 @@ input_port c n = ports.Cell c (suc n)
 -- source names a cell that leads to the invoked one
 pub data InvokeBreak (i : Instance) (w : PlainInvoke) : Type 0 where
   another_kind : w.latency ≡ None → InvokeBreak i w
-  unbound : (child : Instance) (n : ℕ) → cell_at (cells_of i) w.cell ≡ OfInstance child → n < length (part_of child).inputs
+  unbound : (child : Instance) (n : ℕ) → cell_at (cells_of i) w.cell ≡ OfInstance child
+      → n < length (part_of child).inputs
       → some_target (same_port (input_port w.cell n)) w.inputs ≡ false → InvokeBreak i w
   restless : (a : PlainAssign) (q : PortRef) → In w.inputs a → AssignNames a q → (Rests i q → ⊥) → InvokeBreak i w
-  fed_back : (a : PlainAssign) (e p : ℕ) → In w.inputs a → AssignNames a (ports.Cell e p) → LeadsToCell (part_of i) e w.cell → InvokeBreak i w
+  fed_back : (a : PlainAssign) (e p : ℕ) → In w.inputs a → AssignNames a (ports.Cell e p)
+      → LeadsToCell (part_of i) e w.cell → InvokeBreak i w
 
 abbrev pub BreaksInvoke : StatementRule
 BreaksInvoke i v place name =

@@ -93,7 +93,9 @@ invokes_cell part (k ∷ ks) c = is_cell_of (invoke_at part k) c || invokes_cell
 
 -- DRIVES, with static invokes: also the cells that they invoke, and those that the groups that capture drive a port of
 abbrev pub drives_all : PlainComponent → PlainStatement → Set
-drives_all part s c = drives part s c || (invokes_cell part (invokes_of s) c || groups_drive part (captures_of part (invokes_of s)) c)
+drives_all part s c =
+    drives part s c
+    || (invokes_cell part (invokes_of s) c || groups_drive part (captures_of part (invokes_of s)) c)
 
 -- an input of a static invoke of the statement
 pub record IsFed (part : PlainComponent) (s : PlainStatement) (a : PlainAssign) : Type 0 where
@@ -108,8 +110,11 @@ pub record IsFed (part : PlainComponent) (s : PlainStatement) (a : PlainAssign) 
 -- those named by continuous assignments that drive a port of it
 pub data ReadsAll (part : PlainComponent) (s : PlainStatement) : ℕ → Type 0 where
   driven : {c : ℕ} → drives_all part s c ≡ true → ReadsAll part s c
-  named : {c : ℕ} (p g : ℕ) (a : PlainAssign) → In (groups_of s) g → In (group_at part g).assigns a → AssignNames a (ports.Cell c p) → ReadsAll part s c
-  captured : {c : ℕ} (p g : ℕ) (a : PlainAssign) → In (captures_of part (invokes_of s)) g → In (group_at part g).assigns a → AssignNames a (ports.Cell c p) → ReadsAll part s c
+  named : {c : ℕ} (p g : ℕ) (a : PlainAssign) → In (groups_of s) g → In (group_at part g).assigns a
+      → AssignNames a (ports.Cell c p) → ReadsAll part s c
+  captured : {c : ℕ} (p g : ℕ) (a : PlainAssign) → In (captures_of part (invokes_of s)) g
+      → In (group_at part g).assigns a → AssignNames a (ports.Cell c p) → ReadsAll part s c
   fed : {c : ℕ} (p : ℕ) (a : PlainAssign) → IsFed part s a → AssignNames a (ports.Cell c p) → ReadsAll part s c
   tested : {c : ℕ} (p : ℕ) (test : PlacedPort) → In (tests_of s) test → test.port ≡ ports.Cell c p → ReadsAll part s c
-  through : {e : ℕ} (c p q : ℕ) (a : PlainAssign) → ReadsAll part s c → In part.always a → a.target ≡ ports.Cell c p → AssignNames a (ports.Cell e q) → ReadsAll part s e
+  through : {e : ℕ} (c p q : ℕ) (a : PlainAssign) → ReadsAll part s c → In part.always a
+      → a.target ≡ ports.Cell c p → AssignNames a (ports.Cell e q) → ReadsAll part s e

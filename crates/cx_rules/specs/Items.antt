@@ -118,7 +118,8 @@ pub record Visited : Type 0 where
 -- the statements of a statement in pre-order, itself first, each with where it stands
 abbrev mutual
   pub visit : Context → PlainStatement → List Visited
-  visit context (Placed form place) = record { context = context; form = form; place = place } ∷ visit_parts context form
+  visit context (Placed form place) =
+      record { context = context; form = form; place = place } ∷ visit_parts context form
 
   pub visit_parts : Context → PlainForm → List Visited
   visit_parts context Empty = []

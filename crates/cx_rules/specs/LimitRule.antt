@@ -76,11 +76,15 @@ first_limit many island occurring long =
     else None
 
 abbrev pub statement_limit : Instance → Visited → Option Limited
-statement_limit i v = first_limit (is_too_many (count_in v.form)) (is_any_island (part_of i) v) (occurrences_at i v.form) (form_lasts (part_of i) v.form)
+statement_limit i v =
+    first_limit (is_too_many (count_in v.form)) (is_any_island (part_of i) v) (occurrences_at i v.form)
+    (form_lasts (part_of i) v.form)
 
 -- the same without static components: of what stands in the component itself
 abbrev pub flat_limit : PlainComponent → Visited → Option Limited
-flat_limit part v = first_limit (is_too_many (count_in v.form)) (is_island part v) (form_occurrences part v.form) (form_length part v.form)
+flat_limit part v =
+    first_limit (is_too_many (count_in v.form)) (is_island part v) (form_occurrences part v.form)
+    (form_length part v.form)
 
 -- RULE limit, at a statement: of several limits that it exceeds the first is told
 abbrev pub BreaksStatement : StatementRule
@@ -88,20 +92,24 @@ BreaksStatement i v place name =
     (limited : Limited) × (statement_limit i v ≡ Some limited) × Tells place name v.place (word_of limited)
 
 -- at a component: its cells, and its groups with those of its invokes, those of its static components among them
-pub record BreaksPart (d : PlainDesign) (limited : Limited) (count limit : ℕ) (spot : Spot) (place : Place) (name : List ℕ) : Type 0 where
+pub record BreaksPart (d : PlainDesign) (limited : Limited) (count limit : ℕ) (spot : Spot)
+    (place : Place) (name : List ℕ) : Type 0 where
   pub within : spot.component < length d.components
   pub is : spot.part ≡ Itself (order_of limited)
   pub exceeds : limit < count
   pub tells : Tells place name (component_at d spot.component).place (word_of limited)
 
 abbrev pub BreaksCells : PlainDesign → Spot → Place → List ℕ → Type 0
-BreaksCells d spot place name = BreaksPart d OnCells (counted_cells (component_of d spot.component)) CELLS spot place name
+BreaksCells d spot place name =
+    BreaksPart d OnCells (counted_cells (component_of d spot.component)) CELLS spot place name
 
 abbrev pub BreaksGroups : PlainDesign → Spot → Place → List ℕ → Type 0
-BreaksGroups d spot place name = BreaksPart d OnGroups (counted_groups (component_of d spot.component)) GROUPS spot place name
+BreaksGroups d spot place name =
+    BreaksPart d OnGroups (counted_groups (component_of d spot.component)) GROUPS spot place name
 
 -- at main: over the instance tree, in which static components have no instances
-pub record BreaksTree (d : PlainDesign) (limited : Limited) (count limit : ℕ) (spot : Spot) (place : Place) (name : List ℕ) : Type 0 where
+pub record BreaksTree (d : PlainDesign) (limited : Limited) (count limit : ℕ) (spot : Spot)
+    (place : Place) (name : List ℕ) : Type 0 where
   pub at_main : spot.component ≡ d.main
   pub is : spot.part ≡ Whole (order_of limited)
   pub exceeds : limit < count

@@ -25,7 +25,8 @@ pub record BreaksCombCycle (d : PlainDesign) (spot : Spot) (place : Place) (name
 
 -- or under them with one group
 abbrev pub GroupBreaksCombCycle : GroupRule
-GroupBreaksCombCycle i g place name = HasCycle i (group g) × Tells place name (group_at (part_of i) g).place (group_at (part_of i) g).name
+GroupBreaksCombCycle i g place name =
+    HasCycle i (group g) × Tells place name (group_at (part_of i) g).place (group_at (part_of i) g).name
 
 -- the arms of a par and of a static par
 abbrev pub arms_of : PlainForm → List PlainStatement

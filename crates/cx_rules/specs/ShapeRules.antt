@@ -37,7 +37,8 @@ some_target test (a ∷ rest) = test a.target || some_target test rest
 -- RULE no-done: a plain group has no assignment of its done
 abbrev pub BreaksNoDone : GroupRule
 BreaksNoDone i g place name =
-    (is_plain (group_at (part_of i) g).kind ≡ true) × (some_target (is_hole_of g) (group_at (part_of i) g).assigns ≡ false)
+    (is_plain (group_at (part_of i) g).kind ≡ true)
+    × (some_target (is_hole_of g) (group_at (part_of i) g).assigns ≡ false)
     × Tells place name (group_at (part_of i) g).place (group_at (part_of i) g).name
 
 -- RULE done-not-state: a port that a done assignment names does not rest on state, in a group of any kind
@@ -49,7 +50,8 @@ BreaksDoneNotState i a place name =
 -- RULE always-enable: a continuous assignment drives an enabling port of a primitive cell
 abbrev pub BreaksAlwaysEnable : AssignRule
 BreaksAlwaysEnable i a place name =
-    (a.owner ≡ None) × (is_primitive_enable i a.assign.target ≡ true) × Tells place name a.assign.place (path_of i a.assign.target)
+    (a.owner ≡ None) × (is_primitive_enable i a.assign.target ≡ true)
+    × Tells place name a.assign.place (path_of i a.assign.target)
 
 -- RULE comb-enable: a comb group drives an enabling port, a port of a component cell, or a done
 abbrev pub BreaksCombEnable : AssignRule
@@ -76,7 +78,8 @@ BreaksStaticGuard i a place name =
 -- RULE static-shape: a static group that drives a done, or one of length 0
 abbrev pub GroupBreaksStaticShape : GroupRule
 GroupBreaksStaticShape i g place name =
-    (n : ℕ) × (group_length (part_of i) g ≡ Some n) × ((some_target is_hole (group_at (part_of i) g).assigns || nat_eq n 0) ≡ true)
+    (n : ℕ) × (group_length (part_of i) g ≡ Some n)
+    × ((some_target is_hole (group_at (part_of i) g).assigns || nat_eq n 0) ≡ true)
     × Tells place name (group_at (part_of i) g).place (group_at (part_of i) g).name
 
 -- the name of the group that a statement enables, or none
@@ -97,14 +100,16 @@ enabled_name part (Timed k) = []
 -- a statement in static control that may not stand there
 abbrev pub BreaksStaticControl : StatementRule
 BreaksStaticControl i v place name =
-    (is_in_static v.context ≡ true) × (may_stand (part_of i) v.context v.form ≡ false) × Tells place name v.place (enabled_name (part_of i) v.form)
+    (is_in_static v.context ≡ true) × (may_stand (part_of i) v.context v.form ≡ false)
+    × Tells place name v.place (enabled_name (part_of i) v.form)
 
 -- a static statement whose written length is not its length, or whose length is 0. One that holds what may not stand in
 -- static control has no length
 abbrev pub BreaksLength : StatementRule
 BreaksLength i v place name =
     (is_static v.form ≡ true) × (form_has_length (part_of i) v.context v.form ≡ true)
-    × (((n : ℕ) × (written_length v.form ≡ Some n) × (n ≢ form_lasts (part_of i) v.form)) ⊎ (form_lasts (part_of i) v.form ≡ 0))
+    × (((n : ℕ) × (written_length v.form ≡ Some n) × (n ≢ form_lasts (part_of i) v.form)) ⊎
+    (form_lasts (part_of i) v.form ≡ 0))
     × Tells place name v.place []
 
 -- a static invoke of a static component, at which the word static stands: its written length is not its length, or its length is 0
@@ -131,7 +136,8 @@ pub record BreaksPartLength (d : PlainDesign) (spot : Spot) (place : Place) (nam
 -- a static if whose port does not rest on state
 abbrev pub BreaksStaticTest : StatementRule
 BreaksStaticTest i v place name =
-    (length : Option ℕ) × (test : PlacedPort) × (a b : PlainStatement) × (v.form ≡ StaticIf length test a b) × (Rests i test.port → ⊥)
+    (length : Option ℕ) × (test : PlacedPort) × (a b : PlainStatement)
+    × (v.form ≡ StaticIf length test a b) × (Rests i test.port → ⊥)
     × Tells place name v.place []
 
 -- RULE output-not-state: a port that an assignment of a signature output names does not rest on state, or leads back to
@@ -141,12 +147,14 @@ LeadsToInput i q = (n : ℕ) × ((q ≡ ports.Input n) ⊎ Depends i nothing q (
 
 abbrev pub BreaksOutputNotState : AssignRule
 BreaksOutputNotState i a place name =
-    (n : ℕ) × (a.assign.target ≡ ports.Output n) × ((q : PortRef) × AssignNames a.assign q × ((Rests i q → ⊥) ⊎ LeadsToInput i q))
+    (n : ℕ) × (a.assign.target ≡ ports.Output n)
+    × ((q : PortRef) × AssignNames a.assign q × ((Rests i q → ⊥) ⊎ LeadsToInput i q))
     × Tells place name a.assign.place (path_of i a.assign.target)
 
 -- and in a static component, whose continuous assignments make the same of its state whoever runs it: a continuous assignment names
 -- a signature input
 abbrev pub BreaksKept : AssignRule
 BreaksKept i a place name =
-    (latency : ℕ) × ((part_of i).latency ≡ Some latency) × (a.owner ≡ None) × ((n : ℕ) × AssignNames a.assign (ports.Input n))
+    (latency : ℕ) × ((part_of i).latency ≡ Some latency) × (a.owner ≡ None)
+    × ((n : ℕ) × AssignNames a.assign (ports.Input n))
     × Tells place name a.assign.place (path_of i a.assign.target)

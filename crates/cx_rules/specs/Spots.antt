@@ -58,7 +58,8 @@ pub record OnBind (rule : AssignRule) (d : PlainDesign) (spot : Spot) (place : P
   pub breaks : rule (component_of d spot.component) (record { owner = None; assign = assign }) place name
 
 -- a statement of the design breaks the rule
-pub record OnStatement (rule : StatementRule) (d : PlainDesign) (spot : Spot) (place : Place) (name : List ℕ) : Type 0 where
+pub record OnStatement (rule : StatementRule) (d : PlainDesign) (spot : Spot) (place : Place)
+    (name : List ℕ) : Type 0 where
   pub within : spot.component < length d.components
   pub number : ℕ
   pub is : spot.part ≡ AStatement number

@@ -90,10 +90,13 @@ pub record IsBind (i : Instance) (c : ℕ) (a : PlainAssign) : Type 0 where
   pub source : IsThere i a.source.port
   pub no_hole : is_hole a.source.port ≡ false
 
--- the group that captures takes ports of the cell into registers and enables them, in one cycle; it has no name, and no statement enables it
+-- the group that captures takes ports of the cell into registers and enables them, in one cycle; it has no name, and
+-- no statement enables it
 pub data IsCapture (i : Instance) (c : ℕ) (a : PlainAssign) : Type 0 where
-  takes : (r q : ℕ) → is_register (part_of i) r ≡ true → a.target ≡ ports.Cell r 0 → a.guard ≡ Always → a.source.port ≡ ports.Cell c q → IsCapture i c a
-  enables : (r : ℕ) → is_register (part_of i) r ≡ true → a.target ≡ write_en_of r → a.guard ≡ Always → a.source.port ≡ one → IsCapture i c a
+  takes : (r q : ℕ) → is_register (part_of i) r ≡ true → a.target ≡ ports.Cell r 0 → a.guard ≡ Always
+      → a.source.port ≡ ports.Cell c q → IsCapture i c a
+  enables : (r : ℕ) → is_register (part_of i) r ≡ true → a.target ≡ write_en_of r → a.guard ≡ Always
+      → a.source.port ≡ one → IsCapture i c a
 
 pub record IsCapturing (i : Instance) (c g : ℕ) : Type 0 where
   pub there : g < length (part_of i).groups
@@ -107,7 +110,8 @@ pub record IsInvoke (i : Instance) (v : PlainInvoke) : Type 0 where
   pub cell : v.cell < length (part_of i).cells
   pub latency : v.latency ≡ latency_at (cell_at (cells_of i) v.cell)
   pub inputs : (a : PlainAssign) → In v.inputs a → IsBind i v.cell a
-  pub once : (m n : ℕ) (a b : PlainAssign) → slice_get v.inputs m ≡ Some a → slice_get v.inputs n ≡ Some b → a.target ≡ b.target → m ≡ n
+  pub once : (m n : ℕ) (a b : PlainAssign) → slice_get v.inputs m ≡ Some a → slice_get v.inputs n ≡ Some b
+      → a.target ≡ b.target → m ≡ n
   pub captures : (g : ℕ) → v.captures ≡ Some g → IsCapturing i v.cell g
 
 -- a row of a memory
@@ -132,7 +136,8 @@ IsKind d (OfComponent k) = k < length d.components
 
 -- an external cell is a memory of main with words of at most 64 bits
 abbrev pub IsExternal : PlainDesign → ℕ → PlainKind → Type 0
-IsExternal d k (OfPrimitive primitive) = (k ≡ d.main) × (is_memory (row_of primitive).shape ≡ true) × (first_number primitive.numbers ≤ 64)
+IsExternal d k (OfPrimitive primitive) =
+    (k ≡ d.main) × (is_memory (row_of primitive).shape ≡ true) × (first_number primitive.numbers ≤ 64)
 IsExternal d k (OfComponent j) = ⊥
 
 pub record IsCell (d : PlainDesign) (k : ℕ) (cell : PlainCell) : Type 0 where
@@ -141,7 +146,9 @@ pub record IsCell (d : PlainDesign) (k : ℕ) (cell : PlainCell) : Type 0 where
 
 -- no two entries of a list have one name that is not empty
 abbrev pub AreApart : List (List ℕ) → Type 0
-AreApart names = (m n : ℕ) (name : List ℕ) → slice_get names m ≡ Some name → slice_get names n ≡ Some name → name ≢ [] → m ≡ n
+AreApart names =
+    (m n : ℕ) (name : List ℕ) → slice_get names m ≡ Some name → slice_get names n ≡ Some name → name ≢ []
+    → m ≡ n
 
 -- a port of the signature: 1 to 128 bits wide, and none of the four that every component has
 pub record IsPort (decl : PortDecl) : Type 0 where
@@ -157,11 +164,13 @@ IsSignature decls = (decl : PortDecl) → In decls decl → IsPort decl
 
 pub record IsComponent (d : PlainDesign) (k : ℕ) : Type 0 where
   pub cells : (cell : PlainCell) → In (component_at d k).cells cell → IsCell d k cell
-  pub assigns : (owner : Option ℕ) (a : PlainAssign) → StandsIn (component_at d k) owner a → IsAssign (component_of d k) owner a
+  pub assigns : (owner : Option ℕ) (a : PlainAssign) → StandsIn (component_at d k) owner a
+      → IsAssign (component_of d k) owner a
   pub statements : (v : Visited) → In (statements_in (component_at d k)) v → IsStatement (component_of d k) v
   pub invokes : (v : PlainInvoke) → In (component_at d k).invokes v → IsInvoke (component_of d k) v
   pub invoked : (n : ℕ) → n < length (component_at d k).invokes → In (invokes_of (component_at d k).control) n
-  pub captures_apart : (m n g : ℕ) (v w : PlainInvoke) → slice_get (component_at d k).invokes m ≡ Some v → slice_get (component_at d k).invokes n ≡ Some w
+  pub captures_apart : (m n g : ℕ) (v w : PlainInvoke) → slice_get (component_at d k).invokes m ≡ Some v
+      → slice_get (component_at d k).invokes n ≡ Some w
       → v.captures ≡ Some g → w.captures ≡ Some g → m ≡ n
   pub inputs : IsSignature (component_at d k).inputs
   pub outputs : IsSignature (component_at d k).outputs
@@ -172,7 +181,8 @@ pub record IsComponent (d : PlainDesign) (k : ℕ) : Type 0 where
 
 -- component k has a cell of component j, or a cell of one that leads to it
 pub data LeadsTo (d : PlainDesign) : ℕ → ℕ → Type 0 where
-  by_cell : {k : ℕ} (j : ℕ) (cell : PlainCell) → In (component_at d k).cells cell → cell.kind ≡ OfComponent j → LeadsTo d k j
+  by_cell : {k : ℕ} (j : ℕ) (cell : PlainCell) → In (component_at d k).cells cell
+      → cell.kind ≡ OfComponent j → LeadsTo d k j
   by_way_of : {k j : ℕ} (m : ℕ) → LeadsTo d k m → LeadsTo d m j → LeadsTo d k j
 
 -- WHAT EVERY DESIGN KEEPS
@@ -182,6 +192,7 @@ pub record IsDesign (d : PlainDesign) : Type 0 where
   pub main_dynamic : (component_at d d.main).latency ≡ None
   pub main_bare : ((component_at d d.main).inputs ≡ []) × ((component_at d d.main).outputs ≡ [])
   pub components : (k : ℕ) → k < length d.components → IsComponent d k
-  pub component_names : (j k : ℕ) → j < length d.components → k < length d.components → (component_at d j).name ≡ (component_at d k).name → j ≡ k
+  pub component_names : (j k : ℕ) → j < length d.components → k < length d.components
+      → (component_at d j).name ≡ (component_at d k).name → j ≡ k
   pub not_recursive : (k : ℕ) → LeadsTo d k k → ⊥
   pub few_parts : design_size d < 2 ^ 32

@@ -12,5 +12,6 @@ ghost use Rattle.cx_rules.specs.OneBreak.{IsPlaced};
 pub fn first_break_is_one()
     ensures rule { (d : PlainDesign) (a b : Diagnostic) → FirstBreak d a → FirstBreak d b → a.rule ≡ b.rule }
     ensures place { (d : PlainDesign) (a b : Diagnostic) → FirstBreak d a → FirstBreak d b → a.place ≡ b.place }
-    ensures name { (d : PlainDesign) (a b : Diagnostic) → (a.rule ≡ NotASource → IsPlaced d) → FirstBreak d a → FirstBreak d b → a.name ≡ b.name }
+    ensures name { (d : PlainDesign) (a b : Diagnostic) → (a.rule ≡ NotASource → IsPlaced d) →
+        FirstBreak d a → FirstBreak d b → a.name ≡ b.name }
 {}

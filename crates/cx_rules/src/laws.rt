@@ -34,17 +34,20 @@ pub fn found_solves_steps()
 
 /// What a port of a frame is seen as depends on the frame alone, a conflict or undefined too.
 pub fn sees_by_frame()
-    ensures { (i : Instance) (held other_held : Held) (act other : Active) (s t : State) (set : PortRef → Bool) (p : PortRef) (x : Seen)
+    ensures { (i : Instance) (held other_held : Held) (act other : Active) (s t : State)
+        (set : PortRef → Bool) (p : PortRef) (x : Seen)
         → IsFrame i held other_held act other s t set → set p ≡ true
         → Sees i held act s p x → Sees i other_held other t p x }
 {}
 
 /// A cell whose ports are all in a frame comes to the same in a cycle: the same next state, or the same fault.
 pub fn steps_by_frame()
-    ensures { (i : Instance) (held other_held : Held) (act other : Active) (s t : State) (set : PortRef → Bool) (c : ℕ) (row : Row)
+    ensures { (i : Instance) (held other_held : Held) (act other : Active) (s t : State)
+        (set : PortRef → Bool) (c : ℕ) (row : Row)
         → IsFrame i held other_held act other s t set → IsAcyclic i act → IsAcyclic i other → AcyclicBelow (cells_of i)
         → ((p : ℕ) → set (Cell c p) ≡ true)
-        → cell_outcome (seen i held act s) c row (s (c ∷ [])) ≡ cell_outcome (seen i other_held other t) c row (t (c ∷ [])) }
+        → cell_outcome (seen i held act s) c row (s (c ∷ [])) ≡
+        cell_outcome (seen i other_held other t) c row (t (c ∷ [])) }
 {}
 
 /// In an accepted design nothing leads in a circle: in no instance of its tree, under its continuous assignments and in

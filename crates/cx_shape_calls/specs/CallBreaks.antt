@@ -19,11 +19,13 @@ InComponent d k rule spot place name = CallShapeBreaks d rule spot place name ×
 -- of one component those of assignments and groups, and those of statements
 abbrev pub ShapesIn : PlainDesign → ℕ → Rule → Spot → Place → List ℕ → Type 0
 ShapesIn d k rule spot place name =
-    ((rule ≡ rules.CallShape) × (OnAssign BreaksCallShape d spot place name ⊎ OnGroup GroupBreaksCallShape d spot place name ⊎ OnAssign BreaksStaticCell d spot place name))
+    ((rule ≡ rules.CallShape) × (OnAssign BreaksCallShape d spot place name ⊎
+    OnGroup GroupBreaksCallShape d spot place name ⊎ OnAssign BreaksStaticCell d spot place name))
     × (spot.component ≡ k)
 
 abbrev pub InvokesIn : PlainDesign → ℕ → Rule → Spot → Place → List ℕ → Type 0
-InvokesIn d k rule spot place name = ((rule ≡ rules.CallShape) × OnStatement BreaksInvoke d spot place name) × (spot.component ≡ k)
+InvokesIn d k rule spot place name =
+    ((rule ≡ rules.CallShape) × OnStatement BreaksInvoke d spot place name) × (spot.component ≡ k)
 
 abbrev pub Before : PlainDesign → ℕ → Rule → Spot → Place → List ℕ → Type 0
 Before d k rule spot place name = CallShapeBreaks d rule spot place name × (spot.component < k)

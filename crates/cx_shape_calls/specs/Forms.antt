@@ -60,11 +60,14 @@ registers_in part found (a ∷ rest) = registers_in part (with_register found (r
 
 -- the done is not as said for one of the called cells
 abbrev pub is_wrong_done : List PlainCallee → List ℕ → List PlainAssign → Bool
-is_wrong_done called registers dones = list_any (λ k. not (is_right_done (wanted_dones (done_of k) registers) dones)) called
+is_wrong_done called registers dones =
+    list_any (λ k. not (is_right_done (wanted_dones (done_of k) registers) dones)) called
 
 -- the go of a called cell, or the done of the group, is not driven
 abbrev pub lacks_go_or_done : List PlainCallee → ℕ → List PlainAssign → Bool
-lacks_go_or_done called g assigns = list_any (λ k. not (some_target (same_port (go_port k.cell)) assigns && some_target (is_hole_of g) assigns)) called
+lacks_go_or_done called g assigns =
+    list_any (λ k.
+    not (some_target (same_port (go_port k.cell)) assigns && some_target (is_hole_of g) assigns)) called
 
 abbrev pub is_none : List PlainCallee → Bool
 is_none [] = true
@@ -79,7 +82,8 @@ pub record IsFormOf (i : Instance) (g : ℕ) (group : PlainGroup) (form : CallFo
   pub calling : is_calling i group ≡ true
   pub called : map plain_callee form.called.items ≡ called_of i group.assigns
   pub driven : (c p : ℕ) → times form.driven c p ≡ length (with_target (ports.Cell c p) group.assigns)
-  pub wrong_done : form.wrong_done ≡ is_wrong_done (called_of i group.assigns) (captured (part_of i) group.assigns) (with_target (ports.Done g) group.assigns)
+  pub wrong_done : form.wrong_done ≡ is_wrong_done (called_of i group.assigns)
+      (captured (part_of i) group.assigns) (with_target (ports.Done g) group.assigns)
   pub lacks : form.lacks ≡ lacks_go_or_done (called_of i group.assigns) g group.assigns
 
 abbrev pub IsForm : Instance → ℕ → PlainGroup → Option CallForm → Type 0

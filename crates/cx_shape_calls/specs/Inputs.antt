@@ -25,7 +25,8 @@ pub record IsDependent (i : Instance) (g : ℕ) (port : PortRef) : Type 0 where
   pub number : ℕ
   pub is_input : part_port (part_of child) input ≡ AnInput number
   pub output : ℕ
-  pub is_output : ((m : ℕ) × (part_port (part_of child) output ≡ AnOutput m)) ⊎ (part_port (part_of child) output ≡ ItsDone)
+  pub is_output : ((m : ℕ) × (part_port (part_of child) output ≡ AnOutput m))
+      ⊎ (part_port (part_of child) output ≡ ItsDone)
   pub depends : Depends i (group g) (ports.Cell cell input) (ports.Cell cell output)
 
 -- a port is an input of a component cell
@@ -48,7 +49,9 @@ IsInputOf i port k = (callee_of i port ≡ Some k) × (is_input k.part port ≡ 
 -- those of the targets of a list of assignments are counted, and no others
 abbrev pub AreDependent : Instance → ℕ → List PlainAssign → (ℕ → ℕ → ℕ) → Type 0
 AreDependent i g assigns times =
-    (a : PlainAssign) (c p : ℕ) → In assigns a → a.target ≡ ports.Cell c p → (nat_eq (times c p) 0 ≡ false → IsDependent i g a.target) × (IsDependent i g a.target → nat_eq (times c p) 0 ≡ false)
+    (a : PlainAssign) (c p : ℕ) → In assigns a → a.target ≡ ports.Cell c p
+    → (nat_eq (times c p) 0 ≡ false → IsDependent i g a.target)
+    × (IsDependent i g a.target → nat_eq (times c p) 0 ≡ false)
 
 -- what is kept of a component: its nodes, what leads to what under its continuous assignments, no edges of a group, and the room of
 -- searches, in which no node is marked

@@ -64,7 +64,8 @@ IsMarkOf i w b = (b ≡ true → InvokeBreak i w) × (InvokeBreak i w → b ≡ 
 
 pub record AreMarksOf (i : Instance) (count : ℕ) (marks : List Bool) : Type 0 where
   pub many : length marks ≡ count
-  pub tell : (k : ℕ) (w : PlainInvoke) → k < count → invoke_at (part_of i) k ≡ Some w → (b : Bool) × (slice_get marks k ≡ Some b) × IsMarkOf i w b
+  pub tell : (k : ℕ) (w : PlainInvoke) → k < count → invoke_at (part_of i) k ≡ Some w
+      → (b : Bool) × (slice_get marks k ≡ Some b) × IsMarkOf i w b
 
 abbrev pub or_false : Option Bool → Bool
 or_false None = false
@@ -77,7 +78,10 @@ invoked_name part (Some w) = cell_name part.cells w.cell
 
 abbrev pub invoke_breaks : PlainComponent → List Bool → Spot → Place → List ℕ → List Broken
 invoke_breaks part marks spot place [] = []
-invoke_breaks part marks spot place (k ∷ ks) = told_if (or_false (slice_get marks k)) spot place (invoked_name part (invoke_at part k))
+invoke_breaks part marks spot place (k ∷ ks) =
+    told_if (or_false (slice_get marks k)) spot place (invoked_name part (invoke_at part k))
 
 abbrev pub statement_breaks_at : PlainDesign → ℕ → List Bool → ℕ → Visited → List Broken
-statement_breaks_at d k marks n v = invoke_breaks (component_at d k) marks (record { component = k; part = AStatement n }) v.place (invoke_in v.form)
+statement_breaks_at d k marks n v =
+    invoke_breaks (component_at d k) marks (record { component = k; part = AStatement n }) v.place
+    (invoke_in v.form)

@@ -32,7 +32,8 @@ pub fn is_wrong_in(
     assign: &Assign,
 ) -> bool
     requires within { number < length design.now.components.items }
-    ensures value { result ≡ decisions.is_wrong_in (component_of (plain_design design.now) number) shapes.now owner (plain_assign assign.now) }
+    ensures value { result ≡ decisions.is_wrong_in
+        (component_of (plain_design design.now) number) shapes.now owner (plain_assign assign.now) }
 {
     match owner {
         Some(place) => is_wrong_by(design, number, place, shape_at(shapes, place), assign),
@@ -53,7 +54,8 @@ pub fn is_static_port(design: &Design, number: usize, port: PortRef) -> bool
 
 fn is_static_cell(design: &Design, number: usize, cell: u32) -> bool
     requires within { number < length design.now.components.items }
-    ensures value { result ≡ is_some (invokes.latency_at (cell_at (cells_of (component_of (plain_design design.now) number)) cell)) }
+    ensures value { result ≡ is_some
+        (invokes.latency_at (cell_at (cells_of (component_of (plain_design design.now) number)) cell)) }
 {
     match stands_at(design, number, cell) {
         At::Part(part) => part.latency.is_some(),
@@ -83,7 +85,8 @@ fn is_wrong_by(
     assign: &Assign,
 ) -> bool
     requires within { number < length design.now.components.items }
-    ensures value { result ≡ decisions.is_wrong_by (component_of (plain_design design.now) number) place (plain_assign assign.now) (option_map (λ s. s.now) shape.entry) }
+    ensures value { result ≡ decisions.is_wrong_by (component_of (plain_design design.now) number) place
+        (plain_assign assign.now) (option_map (λ s. s.now) shape.entry) }
 {
     match shape {
         Some(shape) => is_wrong(design, number, place, shape, assign),
@@ -100,7 +103,10 @@ fn is_wrong(
     assign: &Assign,
 ) -> bool
     requires within { number < length design.now.components.items }
-    ensures value { result ≡ decisions.is_wrong (component_of (plain_design design.now) number) place (map plain_callee shape.now.form.called.items) (forms.times shape.now.form.driven) (forms.times shape.now.dependent) shape.now.form.wrong_done (plain_assign assign.now) assign.now.target }
+    ensures value { result ≡ decisions.is_wrong (component_of (plain_design design.now) number) place
+        (map plain_callee shape.now.form.called.items) (forms.times shape.now.form.driven)
+        (forms.times shape.now.dependent) shape.now.form.wrong_done
+        (plain_assign assign.now) assign.now.target }
 {
     match callee_of(design, number, assign.target) {
         Some(callee) => {
@@ -125,7 +131,10 @@ fn calls_other(called: &[Callee<'_>], cell: u32) -> bool
 
 /// Whether an assignment of a port of a called cell breaks a condition: of its go, or of an input.
 fn is_wrong_port(shape: &GroupShape<'_>, callee: Callee<'_>, assign: &Assign) -> bool
-    ensures value { let k = plain_callee callee.entry in let p = decisions.port_number assign.now.target in result ≡ decisions.wrong_port (forms.times shape.now.form.driven) (forms.times shape.now.dependent) (plain_assign assign.now) k p (part_port k.part p) }
+    ensures value { let k = plain_callee callee.entry in
+        let p = decisions.port_number assign.now.target in
+        result ≡ decisions.wrong_port (forms.times shape.now.form.driven) (forms.times shape.now.dependent)
+        (plain_assign assign.now) k p (part_port k.part p) }
 {
     let port = port_number(assign.target);
     match part_port(callee.part, port) {
@@ -166,7 +175,10 @@ fn is_wrong_bare(
     assign: &Assign,
 ) -> bool
     requires within { number < length design.now.components.items }
-    ensures value { result ≡ decisions.wrong_bare (component_of (plain_design design.now) number) place (map plain_callee shape.now.form.called.items) (forms.times shape.now.form.driven) shape.now.form.wrong_done (plain_assign assign.now) assign.now.target }
+    ensures value { result ≡ decisions.wrong_bare (component_of (plain_design design.now) number) place
+        (map plain_callee shape.now.form.called.items)
+        (forms.times shape.now.form.driven) shape.now.form.wrong_done
+        (plain_assign assign.now) assign.now.target }
 {
     if is_primitive_enable(design, number, assign.target) {
         is_wrong_enable(component(design, number), shape, assign)
@@ -189,7 +201,9 @@ fn is_done_of(group: usize, port: PortRef) -> bool
 
 /// Whether an enabling port is not the `write_en` of a `std_reg` that the done of each called cell enables.
 fn is_wrong_enable(component: &Component, shape: &GroupShape<'_>, assign: &Assign) -> bool
-    ensures value { result ≡ decisions.wrong_enable_of (plain_component component.now) (map plain_callee shape.now.form.called.items) (forms.times shape.now.form.driven) (plain_assign assign.now) assign.now.target }
+    ensures value { result ≡ decisions.wrong_enable_of (plain_component component.now)
+        (map plain_callee shape.now.form.called.items) (forms.times shape.now.form.driven)
+        (plain_assign assign.now) assign.now.target }
 {
     let target = assign.target;
     let alone = is_register_enable(component, target)
@@ -206,7 +220,9 @@ fn is_register_enable(component: &Component, port: PortRef) -> bool
 
 /// Whether an assignment is not the one that enables a captured register for each of the called cells.
 fn is_wrong_for_one(called: &[Callee<'_>], alone: bool, assign: &Assign) -> bool
-    ensures value { result ≡ list_any (λ k. not (alone && call.is_right_enable (done_of k) (plain_assign assign.now ∷ []))) (map plain_callee called.now) }
+    ensures value { result ≡ list_any
+        (λ k. not (alone && call.is_right_enable (done_of k) (plain_assign assign.now ∷ [])))
+        (map plain_callee called.now) }
 {
     for callee in called {
         if !alone || !is_right_enable(*callee, assign) {

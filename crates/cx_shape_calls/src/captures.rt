@@ -16,7 +16,8 @@ pub fn captured(
     component: &Component,
     assigns: &[Assign],
 ) -> Result<Vec<u32>, Memory>
-    ensures value { IfOk result (λ list. list.items ≡ shape.captured (plain_component component.now) (plain_assigns assigns.now)) }
+    ensures value { IfOk result
+        (λ list. list.items ≡ shape.captured (plain_component component.now) (plain_assigns assigns.now)) }
 {
     let mut found = BTreeSet::new(alloc);
     for assign in assigns {

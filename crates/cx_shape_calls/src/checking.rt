@@ -30,7 +30,9 @@ use std::alloc::Global;
 
 /// Looks at all assignments, groups and statements of a design.
 pub fn add_breaks(alloc: Global, first: &mut FirstBreak, design: &Design) -> Result<(), Memory>
-    ensures value { IfOk result (λ _. (found : List Broken) × AreBreaksBy (CallShapeBreaks (plain_design design.now)) found × (first.new ≡ first_of first.old found)) }
+    ensures value { IfOk result (λ _. (found : List Broken)
+        × AreBreaksBy (CallShapeBreaks (plain_design design.now)) found
+        × (first.new ≡ first_of first.old found)) }
 {
     for number in 0..design.components.len() {
         add_component(alloc, first, design, number)?;
@@ -46,7 +48,9 @@ fn add_component(
     number: usize,
 ) -> Result<(), Memory>
     requires within { number < length design.now.components.items }
-    ensures value { IfOk result (λ _. (found : List Broken) × AreBreaksBy (InComponent (plain_design design.now) number) found × (first.new ≡ first_of first.old found)) }
+    ensures value { IfOk result (λ _. (found : List Broken)
+        × AreBreaksBy (InComponent (plain_design design.now) number) found
+        × (first.new ≡ first_of first.old found)) }
 {
     let shapes = shapes(alloc, design, number)?;
     let marks = wrong_invokes(alloc, design, number)?;
@@ -65,7 +69,9 @@ fn add_assigns(
     shapes: &[Option<GroupShape<'_>>],
 ) -> Result<(), Memory>
     requires within { number < length design.now.components.items }
-    ensures value { IfOk result (λ _. let d = plain_design design.now in first.new ≡ first_of first.old (numbered (assign_breaks_at d number shapes.now) 0 (active.source_order (component_at d number)))) }
+    ensures value { IfOk result (λ _. let d = plain_design design.now in
+        first.new ≡ first_of first.old
+        (numbered (assign_breaks_at d number shapes.now) 0 (active.source_order (component_at d number)))) }
 {
     let assigns = source_order(alloc, component(design, number))?;
     for place in 0..assigns.len() {
@@ -88,7 +94,9 @@ fn add_assign(
     owned: OwnedAssign<'_>,
 ) -> Result<(), Memory>
     requires within { spot.component < length design.now.components.items }
-    ensures value { IfOk result (λ _. first.new ≡ first_of first.old (assign_breaks (component_of (plain_design design.now) spot.component) shapes.now (plain_spot spot) (plain_owned owned.entry))) }
+    ensures value { IfOk result (λ _. first.new ≡
+        first_of first.old (assign_breaks (component_of (plain_design design.now) spot.component) shapes.now
+        (plain_spot spot) (plain_owned owned.entry))) }
 {
     let assign = owned.assign;
     if !is_static_port(design, spot.component, assign.target)
@@ -117,7 +125,9 @@ fn add_groups(
     shapes: &[Option<GroupShape<'_>>],
 ) -> Result<(), Memory>
     requires within { number < length design.now.components.items }
-    ensures value { IfOk result (λ _. let d = plain_design design.now in first.new ≡ first_of first.old (numbered (group_breaks_at number shapes.now) 0 (component_at d number).groups)) }
+    ensures value { IfOk result (λ _. let d = plain_design design.now in
+        first.new ≡
+        first_of first.old (numbered (group_breaks_at number shapes.now) 0 (component_at d number).groups)) }
 {
     let groups = component(design, number).groups.as_slice();
     for place in 0..groups.len() {
@@ -149,7 +159,9 @@ fn add_group(
     spot: Spot,
     group: &Group,
 ) -> Result<(), Memory>
-    ensures value { IfOk result (λ _. first.new ≡ first_of first.old (decisions.told_if lacks (plain_spot spot) group.now.place (plain_group group.now).name)) }
+    ensures value { IfOk result (λ _. first.new ≡
+        first_of first.old
+        (decisions.told_if lacks (plain_spot spot) group.now.place (plain_group group.now).name)) }
 {
     if lacks && first.is_first(Rule::CallShape, spot, group.place) {
         let name = Name::from_bytes(alloc, group.name.bytes())?;
@@ -172,7 +184,9 @@ fn add_statements(
     marks: &[bool],
 ) -> Result<(), Memory>
     requires within { number < length design.now.components.items }
-    ensures value { IfOk result (λ _. let d = plain_design design.now in first.new ≡ first_of first.old (numbered (statement_breaks_at d number marks.now) 0 (statements_in (component_at d number)))) }
+    ensures value { IfOk result (λ _. let d = plain_design design.now in
+        first.new ≡ first_of first.old
+        (numbered (statement_breaks_at d number marks.now) 0 (statements_in (component_at d number)))) }
 {
     let list = statements(alloc, component(design, number))?;
     for place in 0..list.len() {

@@ -28,7 +28,8 @@ fn are_dones(
     captured: &[u32],
     ports: &[PortRef],
 ) -> Result<bool, Memory>
-    ensures value { IfOk result (λ right. right ≡ shape.are_dones (wanted_dones (done_of (plain_callee callee.entry)) captured.now) (Some ports.now)) }
+    ensures value { IfOk result (λ right. right ≡
+        shape.are_dones (wanted_dones (done_of (plain_callee callee.entry)) captured.now) (Some ports.now)) }
 {
     if captured.is_empty() {
         return Ok(is_done_alone(callee, ports));
@@ -69,7 +70,9 @@ fn is_right_done_assign(
     captured: &[u32],
     assign: &Assign,
 ) -> Result<bool, Memory>
-    ensures value { IfOk result (λ right. right ≡ shape.is_right_done_assign (wanted_dones (done_of (plain_callee callee.entry)) captured.now) (plain_assign assign.now)) }
+    ensures value { IfOk result (λ right. right ≡
+        shape.is_right_done_assign (wanted_dones (done_of (plain_callee callee.entry)) captured.now)
+        (plain_assign assign.now)) }
 {
     if is_always(&assign.guard) {
         return are_dones(alloc, callee, captured, &[assign.source.port]);
@@ -89,7 +92,8 @@ pub fn dones<'a>(
     group: usize,
     assigns: &'a [Assign],
 ) -> Result<Vec<&'a Assign>, Memory>
-    ensures value { IfOk result (λ list. map (λ a. plain_assign a.now) list.items ≡ with_target (refs.Done group) (plain_assigns assigns.now)) }
+    ensures value { IfOk result (λ list.
+        map (λ a. plain_assign a.now) list.items ≡ with_target (refs.Done group) (plain_assigns assigns.now)) }
 {
     let mut list = Vec::new(alloc);
     for assign in assigns {
@@ -120,7 +124,9 @@ pub fn is_wrong_done(
     captured: &[u32],
     dones: &[&Assign],
 ) -> Result<bool, Memory>
-    ensures value { IfOk result (λ wrong. wrong ≡ forms.is_wrong_done (map plain_callee called.now) captured.now (map (λ a. plain_assign a.now) dones.now)) }
+    ensures value { IfOk result (λ wrong. wrong ≡
+        forms.is_wrong_done (map plain_callee called.now) captured.now
+        (map (λ a. plain_assign a.now) dones.now)) }
 {
     if captured.is_empty() {
         return is_wrong_for_one(alloc, called, captured, dones);
@@ -137,7 +143,9 @@ fn is_wrong_for_one(
     captured: &[u32],
     dones: &[&Assign],
 ) -> Result<bool, Memory>
-    ensures value { IfOk result (λ wrong. wrong ≡ forms.is_wrong_done (map plain_callee called.now) captured.now (map (λ a. plain_assign a.now) dones.now)) }
+    ensures value { IfOk result (λ wrong. wrong ≡
+        forms.is_wrong_done (map plain_callee called.now) captured.now
+        (map (λ a. plain_assign a.now) dones.now)) }
 {
     for callee in called {
         if !is_right_done(alloc, *callee, captured, dones)? {
@@ -153,7 +161,9 @@ fn is_right_done(
     captured: &[u32],
     dones: &[&Assign],
 ) -> Result<bool, Memory>
-    ensures value { IfOk result (λ right. right ≡ shape.is_right_done (wanted_dones (done_of (plain_callee callee.entry)) captured.now) (map (λ a. plain_assign a.now) dones.now)) }
+    ensures value { IfOk result (λ right. right ≡
+        shape.is_right_done (wanted_dones (done_of (plain_callee callee.entry)) captured.now)
+        (map (λ a. plain_assign a.now) dones.now)) }
 {
     match dones {
         [assign] => is_right_done_assign(alloc, callee, captured, assign),

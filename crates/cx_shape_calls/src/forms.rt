@@ -41,7 +41,8 @@ pub fn form<'a>(
     group: &Group,
 ) -> Result<Option<CallForm<'a>>, Memory>
     requires within { number < length design.now.components.items }
-    ensures value { IfOk result (λ form. IsForm (component_of (plain_design design.now) number) place (plain_group group.now) form) }
+    ensures value { IfOk result
+        (λ form. IsForm (component_of (plain_design design.now) number) place (plain_group group.now) form) }
 {
     let assigns = group.assigns.as_slice();
     let called = called(alloc, design, number, assigns)?;
@@ -75,7 +76,9 @@ fn is_plain(group: &Group) -> bool
 
 /// Whether the done, or the go of one of the called cells, is not driven.
 fn lacks(called: &[Callee<'_>], driven: &PortTally, has_done: bool) -> bool
-    ensures value { result ≡ list_any (λ k. not (not (nat_eq (forms.times driven.now k.cell 0) 0) && has_done)) (map plain_callee called.now) }
+    ensures value { result ≡ list_any
+        (λ k. not (not (nat_eq (forms.times driven.now k.cell 0) 0) && has_done))
+        (map plain_callee called.now) }
 {
     for callee in called {
         if times(driven, callee.cell, 0) == 0 || !has_done {

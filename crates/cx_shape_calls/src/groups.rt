@@ -29,7 +29,8 @@ pub fn shapes<'a>(
     number: usize,
 ) -> Result<Vec<Option<GroupShape<'a>>>, Memory>
     requires within { number < length design.now.components.items }
-    ensures value { IfOk result (λ list. AreShapesOf (component_of (plain_design design.now) number) (length (component_at (plain_design design.now) number).groups) list.items) }
+    ensures value { IfOk result (λ list. AreShapesOf (component_of (plain_design design.now) number)
+        (length (component_at (plain_design design.now) number).groups) list.items) }
 {
     let mut paths = Paths::new(alloc, design, number)?;
     let groups = component(design, number).groups.as_slice();
@@ -55,7 +56,8 @@ fn shape<'a>(
     requires group { place < length (component_at (plain_design design.now) number).groups }
     requires is { plain_group group.now ≡ group_at (component_at (plain_design design.now) number) place }
     ensures paths { OnOk result (ArePathsOf (component_of (plain_design design.now) number) paths.new) }
-    ensures value { IfOk result (IsShapeOf (component_of (plain_design design.now) number) place (plain_group group.now)) }
+    ensures value { IfOk result
+        (IsShapeOf (component_of (plain_design design.now) number) place (plain_group group.now)) }
 {
     let Some(form) = form(alloc, design, number, place, group)? else {
         return Ok(None);

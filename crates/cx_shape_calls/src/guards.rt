@@ -70,7 +70,8 @@ pub fn is_right_go(callee: Callee<'_>, assign: &Assign) -> bool
 
 /// Whether an assignment, as the only one, drives the enable of a captured register as it has to be.
 pub fn is_right_enable(callee: Callee<'_>, assign: &Assign) -> bool
-    ensures value { result ≡ shape.is_right_enable (done_of (plain_callee callee.entry)) (plain_assign assign.now ∷ []) }
+    ensures value { result ≡
+        shape.is_right_enable (done_of (plain_callee callee.entry)) (plain_assign assign.now ∷ []) }
 {
     callee.is_done(assign.source.port) && is_always(&assign.guard)
         || is_one(assign.source.port) && is_done(callee, &assign.guard)
@@ -100,7 +101,8 @@ fn is_conjunction(guard: &Guard) -> bool
 
 /// The ports of which a guard is the conjunction, where it is one.
 pub fn conjuncts(alloc: Global, guard: &Guard) -> Result<Option<Vec<PortRef>>, Memory>
-    ensures value { IfOk result (λ found. option_map (λ list. list.items) found ≡ shape.conjuncts (plain_guard guard.now)) }
+    ensures value { IfOk result
+        (λ found. option_map (λ list. list.items) found ≡ shape.conjuncts (plain_guard guard.now)) }
 {
     if !is_conjunction(guard) {
         return Ok(None);

@@ -63,7 +63,9 @@ impl Paths {
         requires group { place < length (component_at (plain_design design.now) number).groups }
         requires is { plain_group group.now ≡ group_at (component_at (plain_design design.now) number) place }
         ensures paths { OnOk result (ArePathsOf (component_of (plain_design design.now) number) self.new) }
-        ensures value { IfOk result (λ tally. AreDependent (component_of (plain_design design.now) number) place (plain_group group.now).assigns (times tally)) }
+        ensures value { IfOk result (λ tally. AreDependent
+            (component_of (plain_design design.now) number) place (plain_group group.now).assigns
+            (times tally)) }
     {
         self.leads
             .add_group(alloc, design, number, &self.nodes, place)?;
@@ -83,8 +85,13 @@ impl Paths {
     ) -> Result<Vec<PortRef>, Memory>
         requires within { number < length design.now.components.items }
         requires paths { (g : ℕ) × HasPaths (component_of (plain_design design.now) number) g self.old }
-        ensures paths { OnOk result ((g : ℕ) → HasPaths (component_of (plain_design design.now) number) g self.old → HasPaths (component_of (plain_design design.now) number) g self.new) }
-        ensures value { IfOk result (λ ports. (g : ℕ) → HasPaths (component_of (plain_design design.now) number) g self.old → AreDependentPorts (component_of (plain_design design.now) number) g (plain_assigns assigns.now) ports.items) }
+        ensures paths { OnOk result ((g : ℕ) →
+            HasPaths (component_of (plain_design design.now) number) g self.old →
+            HasPaths (component_of (plain_design design.now) number) g self.new) }
+        ensures value { IfOk result (λ ports. (g : ℕ)
+            → HasPaths (component_of (plain_design design.now) number) g self.old
+            → AreDependentPorts (component_of (plain_design design.now) number) g
+            (plain_assigns assigns.now) ports.items) }
     {
         let mut ports = Vec::new(alloc);
         for assign in assigns {
@@ -104,8 +111,12 @@ impl Paths {
     ) -> Result<bool, Memory>
         requires within { number < length design.now.components.items }
         requires paths { (g : ℕ) × HasPaths (component_of (plain_design design.now) number) g self.old }
-        ensures paths { OnOk result ((g : ℕ) → HasPaths (component_of (plain_design design.now) number) g self.old → HasPaths (component_of (plain_design design.now) number) g self.new) }
-        ensures value { IfOk result (λ found. (g : ℕ) → HasPaths (component_of (plain_design design.now) number) g self.old → (IsTrue found ↔ IsDependent (component_of (plain_design design.now) number) g port)) }
+        ensures paths { OnOk result ((g : ℕ) →
+            HasPaths (component_of (plain_design design.now) number) g self.old →
+            HasPaths (component_of (plain_design design.now) number) g self.new) }
+        ensures value { IfOk result (λ found. (g : ℕ)
+            → HasPaths (component_of (plain_design design.now) number) g self.old
+            → (IsTrue found ↔ IsDependent (component_of (plain_design design.now) number) g port)) }
     {
         let Some(callee) = input_of(design, number, port) else {
             return Ok(false);
@@ -131,8 +142,10 @@ impl Paths {
 /// The component cell of which a port is an input.
 fn input_of(design: &Design, number: usize, port: PortRef) -> Option<Callee<'_>>
     requires within { number < length design.now.components.items }
-    ensures none { IfNone result ((k : PlainCallee) → IsInputOf (component_of (plain_design design.now) number) port k → ⊥) }
-    ensures some { IfSome result (λ callee. IsInputOf (component_of (plain_design design.now) number) port (plain_callee callee)) }
+    ensures none { IfNone result
+        ((k : PlainCallee) → IsInputOf (component_of (plain_design design.now) number) port k → ⊥) }
+    ensures some { IfSome result
+        (λ callee. IsInputOf (component_of (plain_design design.now) number) port (plain_callee callee)) }
 {
     let callee = callee_of(design, number, port)?;
     if is_input(callee.part, port) {

@@ -28,7 +28,8 @@ use std::alloc::Global;
 /// For each static invoke of a component whether it breaks the rule.
 pub fn wrong_invokes(alloc: Global, design: &Design, number: usize) -> Result<Vec<bool>, Memory>
     requires within { number < length design.now.components.items }
-    ensures marks { IfOk result (λ marks. AreMarksOf (component_of (plain_design design.now) number) (length (component_at (plain_design design.now) number).invokes) marks.items) }
+    ensures marks { IfOk result (λ marks. AreMarksOf (component_of (plain_design design.now) number)
+        (length (component_at (plain_design design.now) number).invokes) marks.items) }
 {
     if component(design, number).invokes.is_empty() {
         return Ok(Vec::new(alloc));
@@ -49,7 +50,8 @@ fn marks(
     requires within { number < length design.now.components.items }
     requires tells { Tells (component_of (plain_design design.now) number) resting.now }
     requires links { AreLinks (component_at (plain_design design.now) number) (edges_of links.now) }
-    ensures marks { IfOk result (λ marks. AreMarksOf (component_of (plain_design design.now) number) (length (component_at (plain_design design.now) number).invokes) marks.items) }
+    ensures marks { IfOk result (λ marks. AreMarksOf (component_of (plain_design design.now) number)
+        (length (component_at (plain_design design.now) number).invokes) marks.items) }
 {
     let invokes = component(design, number).invokes.as_slice();
     let mut tally = Tally::new(alloc, links.len())?;
@@ -100,7 +102,8 @@ fn is_wrong_invoke(
 /// How many inputs the component of a cell has; none where it is another cell.
 fn input_count(design: &Design, number: usize, cell: u32) -> usize
     requires within { number < length design.now.components.items }
-    ensures value { result ≡ invokes.input_count (cell_at (cells_of (component_of (plain_design design.now) number)) cell) }
+    ensures value { result ≡
+        invokes.input_count (cell_at (cells_of (component_of (plain_design design.now) number)) cell) }
 {
     match stands_at(design, number, cell) {
         At::Part(part) => part.inputs.len(),
@@ -153,7 +156,9 @@ fn no_marks(alloc: Global, count: usize) -> Result<Vec<bool>, Memory>
 
 /// Marks the input of a cell that a port is, where it is one: input n is port n + 1, behind the go.
 fn mark_input(marks: &mut Vec<bool>, cell: u32, port: PortRef)
-    ensures value { (inputs : List PlainAssign) (a : PlainAssign) → a.target ≡ port → AreBound cell inputs (length marks.old.items) marks.old.items → AreBound cell (inputs ++ a ∷ []) (length marks.old.items) marks.new.items }
+    ensures value { (inputs : List PlainAssign) (a : PlainAssign) → a.target ≡ port →
+        AreBound cell inputs (length marks.old.items) marks.old.items →
+        AreBound cell (inputs ++ a ∷ []) (length marks.old.items) marks.new.items }
 {
     let Some(input) = input_number(cell, port) else {
         return;
@@ -189,7 +194,9 @@ fn is_restless(
 ) -> Result<bool, Memory>
     requires within { number < length design.now.components.items }
     requires tells { Tells (component_of (plain_design design.now) number) resting.now }
-    ensures value { IfOk result (λ restless. restless ≡ invokes.is_restless (component_of (plain_design design.now) number) (plain_assigns inputs.now)) }
+    ensures value { IfOk result (λ restless.
+        restless ≡
+        invokes.is_restless (component_of (plain_design design.now) number) (plain_assigns inputs.now)) }
 {
     for input in inputs {
         if !all_rest(alloc, design, number, resting, true, input)? {
@@ -213,7 +220,9 @@ fn is_fed_back(
     requires tally { IsClear (length links.now) tally.old.owners.items tally.old.touched.items }
     requires stands { In (component_at (plain_design design.now) number).invokes (plain_invoke invoke.now) }
     ensures tally { OnOk result (IsClear (length links.now) tally.new.owners.items tally.new.touched.items) }
-    ensures value { IfOk result (λ fed_back. IsTrue fed_back ↔ FeedsBack (component_at (plain_design design.now) number) (plain_invoke invoke.now).inputs invoke.now.cell) }
+    ensures value { IfOk result (λ fed_back.
+        IsTrue fed_back ↔ FeedsBack (component_at (plain_design design.now) number)
+        (plain_invoke invoke.now).inputs invoke.now.cell) }
 {
     let mut named = Vec::new(alloc);
     add_assigns(alloc, &mut named, invoke.inputs.as_slice())?;

@@ -22,7 +22,9 @@ pub fn add_statement(
     spot: Spot,
     visited: Visited<'_>,
 ) -> Result<(), Memory>
-    ensures value { IfOk result (λ _. first.new ≡ first_of first.old (invokes.invoke_breaks (plain_component part.now) marks.now (plain_spot spot) visited.entry.place (rules.invoke_in (plain_form visited.entry.form.now)))) }
+    ensures value { IfOk result (λ _. first.new ≡
+        first_of first.old (invokes.invoke_breaks (plain_component part.now) marks.now
+        (plain_spot spot) visited.entry.place (rules.invoke_in (plain_form visited.entry.form.now)))) }
 {
     let Some(number) = invoke_in(visited.form) else {
         return Ok(());
@@ -72,7 +74,8 @@ fn invoke_in(form: &Form) -> Option<u32>
 
 /// The name of the cell of a static invoke, which is empty where there is none.
 fn invoked_name(part: &Component, number: u32) -> &[u8]
-    ensures value { result.now ≡ invokes.invoked_name (plain_component part.now) (invoke_at (plain_component part.now) number) }
+    ensures value { result.now ≡
+        invokes.invoked_name (plain_component part.now) (invoke_at (plain_component part.now) number) }
 {
     match part.invokes.as_slice().get(number as usize) {
         Some(invoke) => cell_name(part, invoke.cell),

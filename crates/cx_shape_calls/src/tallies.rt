@@ -30,7 +30,9 @@ pub fn tally(alloc: Global, ports: &[PortRef]) -> Result<PortTally, Memory>
 /// Counts a port, where it is one of a cell.
 fn count(tally: &mut PortTally, port: PortRef) -> Result<(), Memory>
     requires room { (c p : ℕ) → forms.times tally.old c p + 1 < 2 ^ 64 }
-    ensures value { IfOk result (λ _. (c p : ℕ) → forms.times tally.new c p ≡ forms.times tally.old c p + (if same_port port (refs.Cell c p) then 1 else 0)) }
+    ensures value { IfOk result (λ _. (c p : ℕ)
+        → forms.times tally.new c p ≡
+        forms.times tally.old c p + (if same_port port (refs.Cell c p) then 1 else 0)) }
 {
     if let PortRef::Cell(cell, port) = port {
         let before = times(tally, cell, port);
@@ -48,7 +50,8 @@ pub fn times(tally: &PortTally, cell: u32, port: u32) -> u64
 
 /// How often assignments drive each port of a cell.
 pub fn tally_targets(alloc: Global, assigns: &[Assign]) -> Result<PortTally, Memory>
-    ensures value { IfOk result (λ tally. (c p : ℕ) → forms.times tally c p ≡ length (with_target (refs.Cell c p) (plain_assigns assigns.now))) }
+    ensures value { IfOk result (λ tally.
+        (c p : ℕ) → forms.times tally c p ≡ length (with_target (refs.Cell c p) (plain_assigns assigns.now))) }
 {
     let targets = targets(alloc, assigns)?;
     let driven = tally(alloc, targets.as_slice())?;

@@ -46,7 +46,9 @@ abbrev pub is_bad_static : PlainGroup → Bool
 is_bad_static g = is_bad_length (kind_length g.kind) (some_target is_hole g.assigns)
 
 abbrev pub group_breaks : Spot → ℕ → PlainGroup → List Broken
-group_breaks spot n g = told_if (lacks_done n g) rules.NoDone spot g.place g.name ++ told_if (is_bad_static g) rules.StaticShape spot g.place g.name
+group_breaks spot n g =
+    told_if (lacks_done n g) rules.NoDone spot g.place g.name
+    ++ told_if (is_bad_static g) rules.StaticShape spot g.place g.name
 
 -- ASSIGNMENTS
 abbrev pub is_always_enable : Instance → Owned → Bool
@@ -57,7 +59,9 @@ is_owned_by_comb part None = false
 is_owned_by_comb part (Some g) = is_comb (group_at part g).kind
 
 abbrev pub is_comb_enable : Instance → Owned → Bool
-is_comb_enable i a = is_owned_by_comb (part_of i) a.owner && (is_primitive_enable i a.assign.target || is_part_port i a.assign.target || is_hole a.assign.target)
+is_comb_enable i a =
+    is_owned_by_comb (part_of i) a.owner
+    && (is_primitive_enable i a.assign.target || is_part_port i a.assign.target || is_hole a.assign.target)
 
 abbrev pub some_bad : Option ℕ → List Range → Bool
 some_bad length [] = false
@@ -88,7 +92,9 @@ abbrev pub is_wrong : Option ℕ → ℕ → Bool
 is_wrong written cycles = is_other written cycles || nat_eq cycles 0
 
 abbrev pub has_wrong_length : PlainComponent → Visited → Bool
-has_wrong_length part v = is_static v.form && form_has_length part v.context v.form && is_wrong (written_length v.form) (form_lasts part v.form)
+has_wrong_length part v =
+    is_static v.form && form_has_length part v.context v.form
+    && is_wrong (written_length v.form) (form_lasts part v.form)
 
 -- of a static invoke
 abbrev pub is_wrong_invoke : Option PlainInvoke → Bool
@@ -120,7 +126,8 @@ abbrev pub is_wrong_control : PlainComponent → Option ℕ → Bool
 is_wrong_control part None = false
 is_wrong_control part (Some latency) =
     not (may_stand part InStatic (form_of part.control))
-    || (form_has_length part InStatic (form_of part.control) && is_other (Some latency) (form_lasts part (form_of part.control)))
+    || (form_has_length part InStatic (form_of part.control) &&
+    is_other (Some latency) (form_lasts part (form_of part.control)))
 
 abbrev pub has_wrong_control : PlainComponent → Bool
 has_wrong_control part = is_wrong_control part part.latency

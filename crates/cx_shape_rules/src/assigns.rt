@@ -30,7 +30,9 @@ pub fn add_assign(
     owned: OwnedAssign<'_>,
 ) -> Result<(), Memory>
     requires within { spot.component < length design.now.components.items }
-    ensures value { IfOk result (λ _. first.new ≡ first_of first.old (assign_breaks (component_of (plain_design design.now) spot.component) (plain_spot spot) (plain_owned owned.entry))) }
+    ensures value { IfOk result (λ _. first.new ≡
+        first_of first.old (assign_breaks (component_of (plain_design design.now) spot.component)
+        (plain_spot spot) (plain_owned owned.entry))) }
 {
     let assign = owned.assign;
     let always = is_always_enable(design, spot.component, owned);
@@ -52,7 +54,8 @@ pub fn add_assign(
 /// Whether a continuous assignment drives an enabling port of a primitive cell.
 fn is_always_enable(design: &Design, number: usize, owned: OwnedAssign<'_>) -> bool
     requires within { number < length design.now.components.items }
-    ensures value { result ≡ breaks.is_always_enable (component_of (plain_design design.now) number) (plain_owned owned.entry) }
+    ensures value { result ≡
+        breaks.is_always_enable (component_of (plain_design design.now) number) (plain_owned owned.entry) }
 {
     owned.owner.is_none() && is_primitive_enable(design, number, owned.assign.target)
 }
@@ -61,7 +64,8 @@ fn is_always_enable(design: &Design, number: usize, owned: OwnedAssign<'_>) -> b
 #[tactic(auto, using(cx_meaning::proofs::DesignsLemmas::same_part))]
 fn is_comb_enable(design: &Design, number: usize, owned: OwnedAssign<'_>) -> bool
     requires within { number < length design.now.components.items }
-    ensures value { result ≡ breaks.is_comb_enable (component_of (plain_design design.now) number) (plain_owned owned.entry) }
+    ensures value { result ≡
+        breaks.is_comb_enable (component_of (plain_design design.now) number) (plain_owned owned.entry) }
 {
     let target = owned.assign.target;
     is_owned_by_comb(component(design, number), owned.owner)
@@ -79,7 +83,8 @@ fn is_bad_guard(
     owned: OwnedAssign<'_>,
 ) -> Result<bool, Memory>
     requires within { number < length design.now.components.items }
-    ensures value { IfOk result (λ bad. bad ≡ breaks.is_bad_guard (component_of (plain_design design.now) number) (plain_owned owned.entry)) }
+    ensures value { IfOk result (λ bad.
+        bad ≡ breaks.is_bad_guard (component_of (plain_design design.now) number) (plain_owned owned.entry)) }
 {
     let length = owner_length(component(design, number), owned.owner);
     let ranges = ranges(alloc, &owned.assign.guard)?;

@@ -58,7 +58,8 @@ fn add_assigns(
     number: usize,
 ) -> Result<(), Memory>
     requires within { number < length design.now.components.items }
-    ensures value { IfOk result (λ _. first.new ≡ first_of first.old (assigns_breaks (plain_design design.now) number)) }
+    ensures value { IfOk result
+        (λ _. first.new ≡ first_of first.old (assigns_breaks (plain_design design.now) number)) }
 {
     let assigns = source_order(alloc, component(design, number))?;
     for place in 0..assigns.len() {
@@ -79,7 +80,8 @@ fn add_statements(
     number: usize,
 ) -> Result<(), Memory>
     requires within { number < length design.now.components.items }
-    ensures value { IfOk result (λ _. first.new ≡ first_of first.old (statements_breaks (plain_design design.now) number)) }
+    ensures value { IfOk result
+        (λ _. first.new ≡ first_of first.old (statements_breaks (plain_design design.now) number)) }
 {
     let part = component(design, number);
     let list = statements(alloc, part)?;

@@ -24,7 +24,8 @@ pub fn add_control(
     number: usize,
 ) -> Result<(), Memory>
     requires within { number < length design.now.components.items }
-    ensures value { IfOk result (λ _. first.new ≡ first_of first.old (control_breaks_at (plain_design design.now) number)) }
+    ensures value { IfOk result
+        (λ _. first.new ≡ first_of first.old (control_breaks_at (plain_design design.now) number)) }
 {
     let spot = Spot {
         component: number,
@@ -40,7 +41,8 @@ fn add_part(
     spot: Spot,
     part: &Component,
 ) -> Result<(), Memory>
-    ensures value { IfOk result (λ _. first.new ≡ first_of first.old (control_breaks (plain_spot spot) (plain_component part.now))) }
+    ensures value { IfOk result
+        (λ _. first.new ≡ first_of first.old (control_breaks (plain_spot spot) (plain_component part.now))) }
 {
     let wrong = has_wrong_control(alloc, part)?;
     add_named(

@@ -25,7 +25,8 @@ pub fn add_group(
     number: usize,
     group: &Group,
 ) -> Result<(), Memory>
-    ensures value { IfOk result (λ _. first.new ≡ first_of first.old (group_breaks (plain_spot spot) number (plain_group group.now))) }
+    ensures value { IfOk result (λ _.
+        first.new ≡ first_of first.old (group_breaks (plain_spot spot) number (plain_group group.now))) }
 {
     let lacks_done = lacks_done(number, group);
     let name = group.name.bytes();

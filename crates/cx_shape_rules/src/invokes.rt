@@ -12,7 +12,8 @@ use cx_design::{Component, StaticInvoke};
 /// The static invoke of a number, where the component has it.
 pub fn invoke_of(part: &Component, number: usize) -> Option<&StaticInvoke>
     ensures none { IfNone result (invoke_at (plain_component part.now) number ≡ None) }
-    ensures some { IfSome result (λ invoke. invoke_at (plain_component part.now) number ≡ Some (plain_invoke invoke.now)) }
+    ensures some { IfSome result
+        (λ invoke. invoke_at (plain_component part.now) number ≡ Some (plain_invoke invoke.now)) }
 {
     part.invokes.as_slice().get(number)
 }

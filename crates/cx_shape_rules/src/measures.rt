@@ -34,7 +34,8 @@ pub struct Totals {
 
 /// The measures of the statements of a component, in pre-order.
 pub fn measures(alloc: Global, part: &Component) -> Result<Vec<Measure>, Memory>
-    ensures value { IfOk result (λ list. list.items ≡ map (measure_of (plain_component part.now)) (statements_in (plain_component part.now))) }
+    ensures value { IfOk result (λ list.
+        list.items ≡ map (measure_of (plain_component part.now)) (statements_in (plain_component part.now))) }
 {
     let mut list = Vec::new(alloc);
     add_statement(&mut list, part, Context::Dynamic, &part.control)?;
@@ -43,7 +44,8 @@ pub fn measures(alloc: Global, part: &Component) -> Result<Vec<Measure>, Memory>
 
 /// The measure of the control of a component, as it stands in static control.
 pub fn control_measure(alloc: Global, part: &Component) -> Result<Measure, Memory>
-    ensures value { IfOk result (λ measure. measure ≡ measure_in (plain_component part.now) InStatic (form_of (plain_component part.now).control)) }
+    ensures value { IfOk result (λ measure.
+        measure ≡ measure_in (plain_component part.now) InStatic (form_of (plain_component part.now).control)) }
 {
     let mut list = Vec::new(alloc);
     add_statement(&mut list, part, Context::InStatic, &part.control)
@@ -113,8 +115,12 @@ fn add_statement(
     context: Context,
     statement: &Statement,
 ) -> Result<Measure, Memory>
-    ensures list { IfOk result (λ _. list.new.items ≡ list.old.items ++ map (measure_of (plain_component part.now)) (visit (plain_context context) (plain_statement statement.now))) }
-    ensures value { IfOk result (λ measure. measure ≡ measure_in (plain_component part.now) (plain_context context) (form_of (plain_statement statement.now))) }
+    ensures list { IfOk result (λ _. list.new.items ≡
+        list.old.items ++ map (measure_of (plain_component part.now))
+        (visit (plain_context context) (plain_statement statement.now))) }
+    ensures value { IfOk result (λ measure.
+        measure ≡ measure_in (plain_component part.now) (plain_context context)
+        (form_of (plain_statement statement.now))) }
 {
     let place = list.len();
     list.push(none())?;
@@ -132,8 +138,11 @@ fn add_form(
     context: Context,
     form: &Form,
 ) -> Result<Measure, Memory>
-    ensures list { IfOk result (λ _. list.new.items ≡ list.old.items ++ map (measure_of (plain_component part.now)) (visit_parts (plain_context context) (plain_form form.now))) }
-    ensures value { IfOk result (λ measure. measure ≡ measure_in (plain_component part.now) (plain_context context) (plain_form form.now)) }
+    ensures list { IfOk result (λ _. list.new.items ≡
+        list.old.items ++ map (measure_of (plain_component part.now))
+        (visit_parts (plain_context context) (plain_form form.now))) }
+    ensures value { IfOk result (λ measure.
+        measure ≡ measure_in (plain_component part.now) (plain_context context) (plain_form form.now)) }
 {
     match form {
         Form::Empty => Ok(Measure {
@@ -196,7 +205,9 @@ fn add_static(
     part: &Component,
     parts: &[Statement],
 ) -> Result<Totals, Memory>
-    ensures list { IfOk result (λ _. list.new.items ≡ list.old.items ++ map (measure_of (plain_component part.now)) (items.visit_all InStatic (plain_statements parts.now))) }
+    ensures list { IfOk result (λ _. list.new.items ≡
+        list.old.items ++ map (measure_of (plain_component part.now))
+        (items.visit_all InStatic (plain_statements parts.now))) }
     ensures value { IfOk result (λ totals. totals ≡ totals_of (plain_component part.now) (plain_statements parts.now)) }
 {
     let mut all_have_length = true;
@@ -223,7 +234,9 @@ fn add_all(
     context: Context,
     parts: &[Statement],
 ) -> Result<(), Memory>
-    ensures list { IfOk result (λ _. list.new.items ≡ list.old.items ++ map (measure_of (plain_component part.now)) (items.visit_all (plain_context context) (plain_statements parts.now))) }
+    ensures list { IfOk result (λ _. list.new.items ≡
+        list.old.items ++ map (measure_of (plain_component part.now))
+        (items.visit_all (plain_context context) (plain_statements parts.now))) }
 {
     for statement in parts {
         add_statement(list, part, context, statement)?;

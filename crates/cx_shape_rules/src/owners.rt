@@ -13,7 +13,8 @@ use cx_design::{Component, Group, GroupKind};
 /// The group of a number, where the component has it.
 fn group_of(part: &Component, number: usize) -> Option<&Group>
     ensures none { IfNone result (slice_get (plain_component part.now).groups number ≡ None) }
-    ensures some { IfSome result (λ group. slice_get (plain_component part.now).groups number ≡ Some (plain_group group.now)) }
+    ensures some { IfSome result
+        (λ group. slice_get (plain_component part.now).groups number ≡ Some (plain_group group.now)) }
 {
     part.groups.as_slice().get(number)
 }

@@ -31,7 +31,9 @@ pub fn add_statement(
     measure: Measure,
 ) -> Result<(), Memory>
     requires measured { measure ≡ measure_of (plain_component part.now) (plain_visited visited) }
-    ensures value { IfOk result (λ _. first.new ≡ first_of first.old (statement_breaks (plain_component part.now) (plain_spot spot) (plain_visited visited.entry))) }
+    ensures value { IfOk result (λ _. first.new ≡
+        first_of first.old
+        (statement_breaks (plain_component part.now) (plain_spot spot) (plain_visited visited.entry))) }
 {
     let amiss = is_amiss(part, visited);
     let name = enabled_name(part, visited.form);
@@ -84,7 +86,8 @@ fn is_in_static(context: Context) -> bool
 
 /// Whether a form may stand in static control.
 pub fn may_stand(part: &Component, context: Context, form: &Form) -> bool
-    ensures value { result ≡ control.may_stand (plain_component part.now) (plain_context context) (plain_form form.now) }
+    ensures value { result ≡
+        control.may_stand (plain_component part.now) (plain_context context) (plain_form form.now) }
 {
     match form {
         Form::Empty => is_branch(context),

@@ -21,7 +21,8 @@ pub fn add_named(
     place: Place,
     name: &[u8],
 ) -> Result<(), Memory>
-    ensures value { IfOk result (λ _. first.new ≡ first_of first.old (told_if found rule (plain_spot spot) place name.now)) }
+    ensures value { IfOk result
+        (λ _. first.new ≡ first_of first.old (told_if found rule (plain_spot spot) place name.now)) }
 {
     if found && first.is_first(rule, spot, place) {
         let name = Name::from_bytes(alloc, name)?;
@@ -46,7 +47,9 @@ pub fn add_target(
     assign: &Assign,
 ) -> Result<(), Memory>
     requires within { spot.component < length design.now.components.items }
-    ensures value { IfOk result (λ _. first.new ≡ first_of first.old (told_if found rule (plain_spot spot) assign.now.place (path_of (component_of (plain_design design.now) spot.component) assign.now.target))) }
+    ensures value { IfOk result (λ _. first.new ≡
+        first_of first.old (told_if found rule (plain_spot spot) assign.now.place
+        (path_of (component_of (plain_design design.now) spot.component) assign.now.target))) }
 {
     if found && first.is_first(rule, spot, assign.place) {
         let name = path(alloc, design, spot.component, assign.target)?;

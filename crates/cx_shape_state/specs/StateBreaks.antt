@@ -22,7 +22,8 @@ use Rattle.cx_shape_state.specs.Resting.{rests_at}
 abbrev pub StateBreaks : PlainDesign → Rule → Spot → Place → List ℕ → Type 0
 StateBreaks d rule.DoneNotState spot place name = OnAssign BreaksDoneNotState d spot place name
 StateBreaks d rule.StaticShape spot place name = OnStatement BreaksStaticTest d spot place name
-StateBreaks d rule.OutputNotState spot place name = OnAssign BreaksOutputNotState d spot place name ⊎ OnAssign BreaksKept d spot place name
+StateBreaks d rule.OutputNotState spot place name =
+    OnAssign BreaksOutputNotState d spot place name ⊎ OnAssign BreaksKept d spot place name
 StateBreaks d _ spot place name = ⊥
 
 abbrev pub break_unless : Bool → Rule → Spot → Place → List ℕ → List Broken
@@ -34,10 +35,14 @@ all_rest i inputs ps = list_all (λ p. rests_at i inputs p.port) ps
 
 -- of an assignment of a group's done, and of one of a signature output
 abbrev pub done_break : Instance → Spot → PlainAssign → ℕ → List Broken
-done_break i spot a g = break_unless (all_rest i true (sources_of a)) rule.DoneNotState spot a.place (group_at (part_of i) g).name
+done_break i spot a g =
+    break_unless (all_rest i true (sources_of a)) rule.DoneNotState spot a.place
+    (group_at (part_of i) g).name
 
 abbrev pub output_break : Instance → Spot → PlainAssign → ℕ → List Broken
-output_break i spot a n = break_unless (all_rest i false (sources_of a)) rule.OutputNotState spot a.place (path_of i (ports.Output n))
+output_break i spot a n =
+    break_unless (all_rest i false (sources_of a)) rule.OutputNotState spot a.place
+    (path_of i (ports.Output n))
 
 abbrev pub target_breaks : Instance → Spot → PlainAssign → PortRef → List Broken
 target_breaks i spot a (ports.Cell c p) = []
@@ -66,7 +71,10 @@ is_kept (Some latency) None ps = none_input ps
 is_kept (Some latency) (Some g) ps = true
 
 abbrev pub kept_breaks : Instance → Spot → Owned → List Broken
-kept_breaks i spot a = break_unless (is_kept (part_of i).latency a.owner (sources_of a.assign)) rule.OutputNotState spot a.assign.place (path_of i a.assign.target)
+kept_breaks i spot a =
+    break_unless
+    (is_kept (part_of i).latency a.owner (sources_of a.assign)) rule.OutputNotState spot a.assign.place
+    (path_of i a.assign.target)
 
 abbrev pub assign_breaks : Instance → Spot → Owned → List Broken
 assign_breaks i spot a = target_breaks i spot a.assign a.assign.target ++ kept_breaks i spot a
@@ -95,10 +103,14 @@ abbrev pub assign_breaks_at : PlainDesign → ℕ → ℕ → Owned → List Bro
 assign_breaks_at d k n a = assign_breaks (component_of d k) (record { component = k; part = AnAssign n }) a
 
 abbrev pub test_breaks_at : PlainDesign → ℕ → ℕ → Visited → List Broken
-test_breaks_at d k n v = test_breaks (component_of d k) (record { component = k; part = AStatement n }) v.place (static_test v.form)
+test_breaks_at d k n v =
+    test_breaks (component_of d k) (record { component = k; part = AStatement n }) v.place
+    (static_test v.form)
 
 abbrev pub component_breaks : PlainDesign → ℕ → List Broken
-component_breaks d k = numbered (assign_breaks_at d k) 0 (source_order (component_at d k)) ++ numbered (test_breaks_at d k) 0 (statements_in (component_at d k))
+component_breaks d k =
+    numbered (assign_breaks_at d k) 0 (source_order (component_at d k))
+    ++ numbered (test_breaks_at d k) 0 (statements_in (component_at d k))
 
 -- THE BREAKS of a design
 abbrev pub state_breaks : PlainDesign → List Broken

@@ -71,7 +71,9 @@ if_reader (Some d) c waits = if nat_eq d c then waits else []
 
 -- cell c waits for what continuous assignments of inputs that are read name; where a group drives one it never rests
 abbrev pub always_waits : Instance → Bool → ℕ → PlainAssign → List ℕ
-always_waits i inputs c a = if_reader (reader_of i a.target) c (flat_map (λ p. waits_on c (basis_of i inputs p.port)) (sources_of a))
+always_waits i inputs c a =
+    if_reader (reader_of i a.target) c
+    (flat_map (λ p. waits_on c (basis_of i inputs p.port)) (sources_of a))
 
 abbrev pub group_waits : Instance → ℕ → PlainAssign → List ℕ
 group_waits i c a = if_reader (reader_of i a.target) c (c ∷ [])

@@ -33,7 +33,9 @@ pub fn add_assign(
 ) -> Result<(), Memory>
     requires within { spot.component < length design.now.components.items }
     requires tells { Tells (component_of (plain_design design.now) spot.component) resting.now }
-    ensures value { IfOk result (λ _. first.new ≡ first_of first.old (assign_breaks (component_of (plain_design design.now) spot.component) (plain_spot spot) (plain_owned owned.entry))) }
+    ensures value { IfOk result (λ _. first.new ≡
+        first_of first.old (assign_breaks (component_of (plain_design design.now) spot.component)
+        (plain_spot spot) (plain_owned owned.entry))) }
 {
     add_target(alloc, first, design, resting, spot, owned.assign)?;
     add_kept(alloc, first, design, spot, owned)?;
@@ -51,7 +53,9 @@ fn add_target(
 ) -> Result<(), Memory>
     requires within { spot.component < length design.now.components.items }
     requires tells { Tells (component_of (plain_design design.now) spot.component) resting.now }
-    ensures value { IfOk result (λ _. first.new ≡ first_of first.old (target_breaks (component_of (plain_design design.now) spot.component) (plain_spot spot) (plain_assign assign.now) assign.now.target)) }
+    ensures value { IfOk result (λ _. first.new ≡
+        first_of first.old (target_breaks (component_of (plain_design design.now) spot.component)
+        (plain_spot spot) (plain_assign assign.now) assign.now.target)) }
 {
     match assign.target {
         PortRef::Done(group) => add_done(alloc, first, design, resting, spot, assign, group),
@@ -72,7 +76,9 @@ fn add_done(
 ) -> Result<(), Memory>
     requires within { spot.component < length design.now.components.items }
     requires tells { Tells (component_of (plain_design design.now) spot.component) resting.now }
-    ensures value { IfOk result (λ _. first.new ≡ first_of first.old (done_break (component_of (plain_design design.now) spot.component) (plain_spot spot) (plain_assign assign.now) group)) }
+    ensures value { IfOk result (λ _. first.new ≡
+        first_of first.old (done_break (component_of (plain_design design.now) spot.component)
+        (plain_spot spot) (plain_assign assign.now) group)) }
 {
     let rests = all_rest(alloc, design, spot.component, resting, true, assign)?;
     if !rests && first.is_first(Rule::DoneNotState, spot, assign.place) {
@@ -100,7 +106,9 @@ fn add_output(
 ) -> Result<(), Memory>
     requires within { spot.component < length design.now.components.items }
     requires tells { Tells (component_of (plain_design design.now) spot.component) resting.now }
-    ensures value { IfOk result (λ _. first.new ≡ first_of first.old (output_break (component_of (plain_design design.now) spot.component) (plain_spot spot) (plain_assign assign.now) port)) }
+    ensures value { IfOk result (λ _. first.new ≡
+        first_of first.old (output_break (component_of (plain_design design.now) spot.component)
+        (plain_spot spot) (plain_assign assign.now) port)) }
 {
     let rests = all_rest(alloc, design, spot.component, resting, false, assign)?;
     if !rests && first.is_first(Rule::OutputNotState, spot, assign.place) {
@@ -124,7 +132,9 @@ fn add_kept(
     owned: OwnedAssign<'_>,
 ) -> Result<(), Memory>
     requires within { spot.component < length design.now.components.items }
-    ensures value { IfOk result (λ _. first.new ≡ first_of first.old (kept_breaks (component_of (plain_design design.now) spot.component) (plain_spot spot) (plain_owned owned.entry))) }
+    ensures value { IfOk result (λ _. first.new ≡
+        first_of first.old (kept_breaks (component_of (plain_design design.now) spot.component)
+        (plain_spot spot) (plain_owned owned.entry))) }
 {
     let assign = owned.assign;
     let latency = component(design, spot.component).latency;
@@ -199,7 +209,9 @@ pub fn all_rest(
 ) -> Result<bool, Memory>
     requires within { number < length design.now.components.items }
     requires tells { Tells (component_of (plain_design design.now) number) resting.now }
-    ensures value { IfOk result (λ all. all ≡ breaks.all_rest (component_of (plain_design design.now) number) inputs (sources_of (plain_assign assign.now))) }
+    ensures value { IfOk result (λ all. all ≡
+        breaks.all_rest (component_of (plain_design design.now) number) inputs
+        (sources_of (plain_assign assign.now))) }
 {
     let operands = operands(alloc, &assign.guard)?;
     Ok(

@@ -45,7 +45,8 @@ fn input_basis(inputs: bool) -> Basis
 
 fn cell_basis(design: &Design, number: usize, cell: u32, port: u32) -> Basis
     requires within { number < length design.now.components.items }
-    ensures value { result ≡ waits.cell_basis cell port (cell_at (cells_of (component_of (plain_design design.now) number)) cell) }
+    ensures value { result ≡
+        waits.cell_basis cell port (cell_at (cells_of (component_of (plain_design design.now) number)) cell) }
 {
     match stands_at(design, number, cell) {
         At::Nothing => Basis::Nothing,

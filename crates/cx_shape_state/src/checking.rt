@@ -39,7 +39,8 @@ fn add_component(
     number: usize,
 ) -> Result<(), Memory>
     requires within { number < length design.now.components.items }
-    ensures value { IfOk result (λ _. first.new ≡ first_of first.old (component_breaks (plain_design design.now) number)) }
+    ensures value { IfOk result
+        (λ _. first.new ≡ first_of first.old (component_breaks (plain_design design.now) number)) }
 {
     let resting = Resting::of(alloc, design, number)?;
     add_assigns(alloc, first, design, &resting, number)?;
@@ -58,7 +59,9 @@ fn add_assigns(
 ) -> Result<(), Memory>
     requires within { number < length design.now.components.items }
     requires tells { Tells (component_of (plain_design design.now) number) resting.now }
-    ensures value { IfOk result (λ _. let d = plain_design design.now in first.new ≡ first_of first.old (numbered (assign_breaks_at d number) 0 (active.source_order (component_at d number)))) }
+    ensures value { IfOk result (λ _. let d = plain_design design.now in
+        first.new ≡ first_of first.old
+        (numbered (assign_breaks_at d number) 0 (active.source_order (component_at d number)))) }
 {
     let assigns = source_order(alloc, component(design, number))?;
     for place in 0..assigns.len() {
@@ -82,7 +85,9 @@ fn add_statements(
 ) -> Result<(), Memory>
     requires within { number < length design.now.components.items }
     requires tells { Tells (component_of (plain_design design.now) number) resting.now }
-    ensures value { IfOk result (λ _. let d = plain_design design.now in first.new ≡ first_of first.old (numbered (test_breaks_at d number) 0 (statements_in (component_at d number)))) }
+    ensures value { IfOk result (λ _. let d = plain_design design.now in
+        first.new ≡
+        first_of first.old (numbered (test_breaks_at d number) 0 (statements_in (component_at d number)))) }
 {
     let list = statements(alloc, component(design, number))?;
     for place in 0..list.len() {

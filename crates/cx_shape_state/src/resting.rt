@@ -70,7 +70,8 @@ fn marks(alloc: Global, design: &Design, number: usize, inputs: bool) -> Result<
 
 fn rests_by(marks: &[bool], basis: Basis) -> bool
     requires within { IsWithin (length marks.now) basis }
-    ensures value { (i : Instance) (inputs : Bool) (port : PortRef) → AreMarks i inputs marks.now → basis ≡ waits.basis_of i inputs port → result ≡ rests_at i inputs port }
+    ensures value { (i : Instance) (inputs : Bool) (port : PortRef) → AreMarks i inputs marks.now →
+        basis ≡ waits.basis_of i inputs port → result ≡ rests_at i inputs port }
 {
     match basis {
         Basis::State => true,

@@ -26,7 +26,9 @@ pub fn add_statement(
 ) -> Result<(), Memory>
     requires within { spot.component < length design.now.components.items }
     requires tells { Tells (component_of (plain_design design.now) spot.component) resting.now }
-    ensures value { IfOk result (λ _. first.new ≡ first_of first.old (test_breaks (component_of (plain_design design.now) spot.component) (plain_spot spot) visited.entry.place (breaks.static_test (plain_form visited.entry.form.now)))) }
+    ensures value { IfOk result (λ _. first.new ≡
+        first_of first.old (test_breaks (component_of (plain_design design.now) spot.component)
+        (plain_spot spot) visited.entry.place (breaks.static_test (plain_form visited.entry.form.now)))) }
 {
     let Some(test) = static_test(visited.form) else {
         return Ok(());

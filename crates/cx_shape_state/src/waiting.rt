@@ -26,7 +26,8 @@ pub fn waits(
     inputs: bool,
 ) -> Result<Vec<Vec<usize>>, Memory>
     requires within { number < length design.now.components.items }
-    ensures value { IfOk result (λ graph. edges_of graph.items ≡ waits.waits (component_of (plain_design design.now) number) inputs) }
+    ensures value { IfOk result
+        (λ graph. edges_of graph.items ≡ waits.waits (component_of (plain_design design.now) number) inputs) }
 {
     let part = component(design, number);
     let mut graph = no_edges(alloc, part.cells.len())?;
@@ -54,7 +55,9 @@ fn add_always(
     requires within { number < length design.now.components.items }
     requires count { length graph.old.items ≡ cell_count (cells_of (component_of (plain_design design.now) number)) }
     ensures count { OnOk result (length graph.new.items ≡ length graph.old.items) }
-    ensures value { IfOk result (λ _. let i = component_of (plain_design design.now) number in edges_of graph.new.items ≡ joined (edges_of graph.old.items) 0 (λ c. flat_map (always_waits i inputs c) (plain_assigns assigns.now))) }
+    ensures value { IfOk result (λ _. let i = component_of (plain_design design.now) number in
+        edges_of graph.new.items ≡ joined (edges_of graph.old.items) 0
+        (λ c. flat_map (always_waits i inputs c) (plain_assigns assigns.now))) }
 {
     for assign in assigns {
         add_assign(alloc, graph, design, number, inputs, assign)?;
@@ -74,7 +77,9 @@ fn add_assign(
     requires within { number < length design.now.components.items }
     requires count { length graph.old.items ≡ cell_count (cells_of (component_of (plain_design design.now) number)) }
     ensures count { OnOk result (length graph.new.items ≡ length graph.old.items) }
-    ensures value { IfOk result (λ _. let i = component_of (plain_design design.now) number in edges_of graph.new.items ≡ joined (edges_of graph.old.items) 0 (λ c. always_waits i inputs c (plain_assign assign.now))) }
+    ensures value { IfOk result (λ _. let i = component_of (plain_design design.now) number in
+        edges_of graph.new.items ≡
+        joined (edges_of graph.old.items) 0 (λ c. always_waits i inputs c (plain_assign assign.now))) }
 {
     let Some(cell) = reader(design, number, assign.target) else {
         return Ok(());
@@ -101,7 +106,9 @@ fn add_waits(
     requires within { number < length design.now.components.items }
     requires cell { cell < length graph.old.items }
     ensures count { OnOk result (length graph.new.items ≡ length graph.old.items) }
-    ensures value { IfOk result (λ _. let i = component_of (plain_design design.now) number in edges_of graph.new.items ≡ with_edges (edges_of graph.old.items) cell (flat_map (λ p. waits_on cell (waits.basis_of i inputs p.port)) ports.now)) }
+    ensures value { IfOk result (λ _. let i = component_of (plain_design design.now) number in
+        edges_of graph.new.items ≡ with_edges (edges_of graph.old.items) cell
+        (flat_map (λ p. waits_on cell (waits.basis_of i inputs p.port)) ports.now)) }
 {
     for port in ports {
         add_wait(graph, cell, basis_of(design, number, inputs, port.port))?;
@@ -113,7 +120,8 @@ fn add_waits(
 fn add_wait(graph: &mut Vec<Vec<usize>>, cell: usize, basis: Basis) -> Result<(), Memory>
     requires cell { cell < length graph.old.items }
     ensures count { OnOk result (length graph.new.items ≡ length graph.old.items) }
-    ensures value { IfOk result (λ _. edges_of graph.new.items ≡ with_edges (edges_of graph.old.items) cell (waits_on cell basis)) }
+    ensures value { IfOk result
+        (λ _. edges_of graph.new.items ≡ with_edges (edges_of graph.old.items) cell (waits_on cell basis)) }
 {
     match basis {
         Basis::State => Ok(()),
@@ -137,7 +145,9 @@ fn add_groups(
 ) -> Result<(), Memory>
     requires within { number < length design.now.components.items }
     requires count { length graph.old.items ≡ cell_count (cells_of (component_of (plain_design design.now) number)) }
-    ensures value { IfOk result (λ _. let i = component_of (plain_design design.now) number in edges_of graph.new.items ≡ joined (edges_of graph.old.items) 0 (λ c. flat_map (λ g. flat_map (group_waits i c) g.assigns) (map plain_group groups.now))) }
+    ensures value { IfOk result (λ _. let i = component_of (plain_design design.now) number in
+        edges_of graph.new.items ≡ joined (edges_of graph.old.items) 0
+        (λ c. flat_map (λ g. flat_map (group_waits i c) g.assigns) (map plain_group groups.now))) }
 {
     for group in groups {
         add_group(graph, design, number, group.assigns.as_slice())?;
@@ -154,7 +164,9 @@ fn add_group(
     requires within { number < length design.now.components.items }
     requires count { length graph.old.items ≡ cell_count (cells_of (component_of (plain_design design.now) number)) }
     ensures count { OnOk result (length graph.new.items ≡ length graph.old.items) }
-    ensures value { IfOk result (λ _. let i = component_of (plain_design design.now) number in edges_of graph.new.items ≡ joined (edges_of graph.old.items) 0 (λ c. flat_map (group_waits i c) (plain_assigns assigns.now))) }
+    ensures value { IfOk result (λ _. let i = component_of (plain_design design.now) number in
+        edges_of graph.new.items ≡
+        joined (edges_of graph.old.items) 0 (λ c. flat_map (group_waits i c) (plain_assigns assigns.now))) }
 {
     for assign in assigns {
         add_driven(graph, design, number, assign)?;
@@ -172,7 +184,9 @@ fn add_driven(
     requires within { number < length design.now.components.items }
     requires count { length graph.old.items ≡ cell_count (cells_of (component_of (plain_design design.now) number)) }
     ensures count { OnOk result (length graph.new.items ≡ length graph.old.items) }
-    ensures value { IfOk result (λ _. let i = component_of (plain_design design.now) number in edges_of graph.new.items ≡ joined (edges_of graph.old.items) 0 (λ c. group_waits i c (plain_assign assign.now))) }
+    ensures value { IfOk result (λ _. let i = component_of (plain_design design.now) number in
+        edges_of graph.new.items ≡
+        joined (edges_of graph.old.items) 0 (λ c. group_waits i c (plain_assign assign.now))) }
 {
     let Some(cell) = reader(design, number, assign.target) else {
         return Ok(());

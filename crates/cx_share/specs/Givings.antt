@@ -17,7 +17,8 @@ no_kept = record { cell = 0; given = [] }
 -- the marks of a kept one are those of the cells that meet it or one that was given to it
 pub record IsNear (part : PlainComponent) (k : Kept) : Type 0 where
   pub count : length k.near ≡ length part.cells
-  pub marks : (c : ℕ) → c < length part.cells → get_or k.near c false ≡ (meet part k.cell c || list_any (λ x. meet part x c) k.given.items)
+  pub marks : (c : ℕ) → c < length part.cells
+      → get_or k.near c false ≡ (meet part k.cell c || list_any (λ x. meet part x c) k.given.items)
 
 abbrev pub AllNear : PlainComponent → List Kept → Type 0
 AllNear part [] = Unit {0}
@@ -41,7 +42,8 @@ IsWithin one other = (c : ℕ) → get_or one c false ≡ true → get_or other 
 -- sets of cells that each of 64 kept ones refuses: of the first 64, of the next 64, and so on
 pub record AreRefused (kept : List Kept) (refused : List (List Bool)) : Type 0 where
   pub few : length refused * 64 ≤ length kept
-  pub each : (b k : ℕ) → b < length refused → b * 64 ≤ k → k < b * 64 + 64 → IsWithin (get_or refused b []) (near_of kept k)
+  pub each : (b k : ℕ) → b < length refused → b * 64 ≤ k → k < b * 64 + 64
+      → IsWithin (get_or refused b []) (near_of kept k)
 
 -- a kept cell and those that were given to it are below a bound
 pub record Within (n : ℕ) (k : giving.Kept) : Type 0 where

@@ -31,7 +31,9 @@ pub(crate) fn shared_components(
 ) -> Result<Vec<ComponentItem>, Memory>
     requires alike { map (λ part. length part.cells.items) parts.now ≡ map (λ item. length item.cells.items) items.now }
     requires keepers { AllKeepers (map plain_component parts.now) (lists_of keepers.now) }
-    ensures value { IfOk result (λ components. map ast.plain_component components.items ≡ shared.shared_components (map plain_component parts.now) (map ast.plain_component items.now)) }
+    ensures value { IfOk result (λ components.
+        map ast.plain_component components.items ≡
+        shared.shared_components (map plain_component parts.now) (map ast.plain_component items.now)) }
 {
     let mut components = Vec::with_capacity(alloc, items.len())?;
     for (number, item) in items.iter().enumerate() {
@@ -53,7 +55,9 @@ fn shared_component(
 ) -> Result<ComponentItem, Memory>
     requires keepers { AreKeepers (plain_component part.now) keepers.now }
     requires count { length item.now.cells.items ≡ length part.now.cells.items }
-    ensures value { IfOk result (λ component. ast.plain_component component ≡ shared.shared_component (plain_component part.now) (ast.plain_component item.now)) }
+    ensures value { IfOk result (λ component.
+        ast.plain_component component ≡
+        shared.shared_component (plain_component part.now) (ast.plain_component item.now)) }
 {
     let names = kept_names(alloc, part, keepers)?;
     let attributes = copied_attributes(alloc, item.attributes.as_slice())?;
@@ -81,7 +85,8 @@ fn shared_component(
 /// The cells that stay.
 fn left_cells(alloc: Global, keepers: &[usize], cells: &[CellItem]) -> Result<Vec<CellItem>, Memory>
     requires count { length keepers.now ≡ length cells.now }
-    ensures value { IfOk result (λ left. (part : PlainComponent) → AreKeepers part keepers.now → map ast.plain_cell left.items ≡ shared.left_cells part 0 (map ast.plain_cell cells.now)) }
+    ensures value { IfOk result (λ left. (part : PlainComponent) → AreKeepers part keepers.now
+        → map ast.plain_cell left.items ≡ shared.left_cells part 0 (map ast.plain_cell cells.now)) }
 {
     let mut left = Vec::new(alloc);
     for (number, cell) in cells.iter().enumerate() {
@@ -99,7 +104,10 @@ fn named_control(
     names: &KeptNames,
     control: &Option<Block>,
 ) -> Result<Option<Block>, Memory>
-    ensures value { IfOk result (λ named. option_map plain_block named ≡ option_map (naming.named_block (λ cell. name_by (number_in names.now.numbers cell) names.now.names.items cell)) (option_map plain_block control.now)) }
+    ensures value { IfOk result (λ named. option_map plain_block named ≡
+        option_map
+        (naming.named_block (λ cell. name_by (number_in names.now.numbers cell) names.now.names.items cell))
+        (option_map plain_block control.now)) }
 {
     match control {
         None => Ok(None),

@@ -94,7 +94,8 @@ fn give(
     requires refused { AreRefused kept.old.items refused.now }
     requires count { length row.now ≡ length part.now.cells.items }
     requires row { AreMarks row.now (meet (plain_component part.now) cell) }
-    ensures value { OnOk result (map plain_kept kept.new.items ≡ giving.give (plain_component part.now) cell (map plain_kept kept.old.items)) }
+    ensures value { OnOk result (map plain_kept kept.new.items ≡
+        giving.give (plain_component part.now) cell (map plain_kept kept.old.items)) }
     ensures near { OnOk result (AllNear (plain_component part.now) kept.new.items) }
     ensures refused { OnOk result (AreRefused kept.new.items refused.now) }
 {
@@ -154,9 +155,12 @@ fn first_taker(kept: &[Kept], refused: &[Marks], part: &Component, cell: usize) 
     requires near { AllNear (plain_component part.now) kept.now }
     requires refused { AreRefused kept.now refused.now }
     ensures within { IfSome result (λ i. i < length kept.now) }
-    ensures takes { IfSome result (λ i. giving.takes (plain_component part.now) cell (get_or (map plain_kept kept.now) i no_kept) ≡ true) }
-    ensures first { IfSome result (λ i. (k : ℕ) → k < i → giving.takes (plain_component part.now) cell (get_or (map plain_kept kept.now) k no_kept) ≡ false) }
-    ensures none { IfNone result ((k : ℕ) → k < length kept.now → giving.takes (plain_component part.now) cell (get_or (map plain_kept kept.now) k no_kept) ≡ false) }
+    ensures takes { IfSome result (λ i.
+        giving.takes (plain_component part.now) cell (get_or (map plain_kept kept.now) i no_kept) ≡ true) }
+    ensures first { IfSome result (λ i. (k : ℕ) → k < i
+        → giving.takes (plain_component part.now) cell (get_or (map plain_kept kept.now) k no_kept) ≡ false) }
+    ensures none { IfNone result ((k : ℕ) → k < length kept.now →
+        giving.takes (plain_component part.now) cell (get_or (map plain_kept kept.now) k no_kept) ≡ false) }
 {
     for (block, cells) in refused.iter().enumerate() {
         if cells.has(cell) {
@@ -178,9 +182,12 @@ fn taker_from(kept: &[Kept], part: &Component, cell: usize, from: usize, to: usi
     requires range { from ≤ to }
     requires to { to ≤ length kept.now }
     ensures within { IfSome result (λ i. i < to) }
-    ensures takes { IfSome result (λ i. giving.takes (plain_component part.now) cell (get_or (map plain_kept kept.now) i no_kept) ≡ true) }
-    ensures first { IfSome result (λ i. (k : ℕ) → from ≤ k → k < i → giving.takes (plain_component part.now) cell (get_or (map plain_kept kept.now) k no_kept) ≡ false) }
-    ensures none { IfNone result ((k : ℕ) → from ≤ k → k < to → giving.takes (plain_component part.now) cell (get_or (map plain_kept kept.now) k no_kept) ≡ false) }
+    ensures takes { IfSome result (λ i.
+        giving.takes (plain_component part.now) cell (get_or (map plain_kept kept.now) i no_kept) ≡ true) }
+    ensures first { IfSome result (λ i. (k : ℕ) → from ≤ k → k < i
+        → giving.takes (plain_component part.now) cell (get_or (map plain_kept kept.now) k no_kept) ≡ false) }
+    ensures none { IfNone result ((k : ℕ) → from ≤ k → k < to →
+        giving.takes (plain_component part.now) cell (get_or (map plain_kept kept.now) k no_kept) ≡ false) }
 {
     for number in from..to {
         if takes(&kept[number], part, cell) {

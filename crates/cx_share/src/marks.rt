@@ -130,7 +130,8 @@ fn join_words(words: &mut Vec<u64>, others: &[u64])
 fn keep_words(words: &mut Vec<u64>, others: &[u64])
     requires count { length others.now ≡ length words.old.items }
     ensures count { length words.new.items ≡ length words.old.items }
-    ensures value { (k : ℕ) → get_or words.new.items k 0 ≡ bit_and (get_or words.old.items k 0) (get_or others.now k 0) }
+    ensures value { (k : ℕ) →
+        get_or words.new.items k 0 ≡ bit_and (get_or words.old.items k 0) (get_or others.now k 0) }
 {
     for (number, other) in others.iter().enumerate() {
         words[number] &= *other;

@@ -41,7 +41,8 @@ pub(crate) fn meeting(alloc: Global, part: &Component) -> Result<Vec<Marks>, Mem
 fn add_groups(part: &Component, used: &[Marks], table: &mut Vec<Marks>)
     requires used { used.now ≡ group_marks (plain_component part.now) }
     requires table { IsTable (length part.now.cells.items) table.old.items }
-    ensures value { Joins table.old.items table.new.items (pairs_of (λ g. has_both (assigns_use g.assigns)) (plain_component part.now).groups) }
+    ensures value { Joins table.old.items table.new.items
+        (pairs_of (λ g. has_both (assigns_use g.assigns)) (plain_component part.now).groups) }
 {
     for cells in used {
         add_pairs(table, cells, cells);
@@ -58,7 +59,8 @@ fn add_forms(
 ) -> Result<(), Memory>
     requires used { used.now ≡ group_marks (plain_component part.now) }
     requires table { IsTable (length part.now.cells.items) table.old.items }
-    ensures value { OnOk result (Joins table.old.items table.new.items (pairs_of (λ v. form_meets (plain_component part.now) v.form) (map plain_visited statements.now))) }
+    ensures value { OnOk result (Joins table.old.items table.new.items
+        (pairs_of (λ v. form_meets (plain_component part.now) v.form) (map plain_visited statements.now))) }
 {
     for statement in statements {
         add_form(alloc, part, used, table, statement.form)?;
@@ -76,7 +78,8 @@ fn add_form(
 ) -> Result<(), Memory>
     requires used { used.now ≡ group_marks (plain_component part.now) }
     requires table { IsTable (length part.now.cells.items) table.old.items }
-    ensures value { OnOk result (Joins table.old.items table.new.items (form_meets (plain_component part.now) (plain_form form.now))) }
+    ensures value { OnOk result (Joins table.old.items table.new.items
+        (form_meets (plain_component part.now) (plain_form form.now))) }
 {
     match form {
         Form::If { test, comb, .. } | Form::While { test, comb, .. } => {
@@ -107,7 +110,8 @@ fn add_test(
 ) -> Result<(), Memory>
     requires used { used.now ≡ group_marks (plain_component part.now) }
     requires table { IsTable (length part.now.cells.items) table.old.items }
-    ensures value { OnOk result (Joins table.old.items table.new.items (has_both (test_uses (plain_component part.now) test comb))) }
+    ensures value { OnOk result
+        (Joins table.old.items table.new.items (has_both (test_uses (plain_component part.now) test comb))) }
 {
     let mut marks = Marks::new(alloc, part.cells.len())?;
     add_port(&mut marks, test.port);
@@ -138,7 +142,8 @@ fn add_arms(
 ) -> Result<(), Memory>
     requires used { used.now ≡ group_marks (plain_component part.now) }
     requires table { IsTable (length part.now.cells.items) table.old.items }
-    ensures value { OnOk result (Joins table.old.items table.new.items (arms_meet (plain_component part.now) (list_of (plain_statements arms.now)))) }
+    ensures value { OnOk result (Joins table.old.items table.new.items
+        (arms_meet (plain_component part.now) (list_of (plain_statements arms.now)))) }
 {
     let cells = used_by_arms(alloc, part, used, arms)?;
     add_later(alloc, table, cells.as_slice(), part.cells.len())?;

@@ -51,7 +51,9 @@ pub(crate) fn kept_names(
     keepers: &[usize],
 ) -> Result<KeptNames, Memory>
     requires keepers { AreKeepers (plain_component part.now) keepers.now }
-    ensures value { IfOk result (λ kept. (cell : List ℕ) → name_by (number_in kept.numbers cell) kept.names.items cell ≡ kept_name (plain_component part.now) cell) }
+    ensures value { IfOk result (λ kept. (cell : List ℕ)
+        → name_by (number_in kept.numbers cell) kept.names.items cell ≡
+        kept_name (plain_component part.now) cell) }
 {
     let numbers = cell_numbers(alloc, part.cells.as_slice())?;
     let names = keeper_names(alloc, part, keepers)?;
@@ -72,7 +74,8 @@ fn cell_numbers(alloc: Global, cells: &[Cell]) -> Result<Numbers, Memory>
 /// For each cell the name of the cell that stands for it.
 fn keeper_names(alloc: Global, part: &Component, keepers: &[usize]) -> Result<Vec<Name>, Memory>
     requires keepers { AreKeepers (plain_component part.now) keepers.now }
-    ensures value { IfOk result (λ names. AreKeeperNames (plain_component part.now) (length part.now.cells.items) names.items) }
+    ensures value { IfOk result
+        (λ names. AreKeeperNames (plain_component part.now) (length part.now.cells.items) names.items) }
 {
     let mut names = Vec::with_capacity(alloc, keepers.len())?;
     for keeper in keepers {

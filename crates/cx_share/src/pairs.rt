@@ -38,7 +38,8 @@ fn add_word(table: &mut Vec<Marks>, ones: &Marks, others: &Marks, word: usize)
     requires table { IsTable (length others.now) table.old.items }
     requires ones { length ones.now ≡ length others.now }
     requires word { word < 2 ^ 58 }
-    ensures value { Joins table.old.items table.new.items (between (word * 64) (word * 64 + 64) (marked_pairs ones.now others.now)) }
+    ensures value { Joins table.old.items table.new.items
+        (between (word * 64) (word * 64 + 64) (marked_pairs ones.now others.now)) }
 {
     for bit in 0..64 {
         add_row(table, ones, others, word * 64 + bit);

@@ -87,7 +87,8 @@ pub(crate) fn used_by_arms(
     arms: &[Statement],
 ) -> Result<Vec<Marks>, Memory>
     requires used { used.now ≡ group_marks (plain_component part.now) }
-    ensures value { IfOk result (λ cells. cells.items ≡ arm_marks (plain_component part.now) (map plain_statement arms.now)) }
+    ensures value { IfOk result
+        (λ cells. cells.items ≡ arm_marks (plain_component part.now) (map plain_statement arms.now)) }
 {
     let mut cells = Vec::with_capacity(alloc, arms.len())?;
     for arm in arms {
@@ -104,7 +105,9 @@ fn used_by_statement(
     statement: &Statement,
 ) -> Result<Marks, Memory>
     requires used { used.now ≡ group_marks (plain_component part.now) }
-    ensures value { IfOk result (λ marks. marks ≡ marks_by (length part.now.cells.items) (uses (plain_component part.now) (plain_statement statement.now))) }
+    ensures value { IfOk result (λ marks. marks ≡
+        marks_by (length part.now.cells.items)
+        (uses (plain_component part.now) (plain_statement statement.now))) }
 {
     let groups = groups(alloc, statement)?;
     let tested = tested(alloc, statement)?;

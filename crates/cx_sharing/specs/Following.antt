@@ -1,4 +1,5 @@
--- What the run of a shared design keeps of the run of the design: the states of all cells that hold something, and the fault, by new numbers.
+-- What the run of a shared design keeps of the run of the design: the states of all cells that hold something, and
+-- the fault, by new numbers.
 use Rattle.std.specs.Prelude.{Bool, not}
 use Rattle.cx_prim.specs.Rows.{Row}
 use Rattle.cx_meaning.specs.Instances.{Instance, State, instance_at, part_of}

@@ -21,13 +21,16 @@ same_numbers (a ∷ xs) (b ∷ ys) = nat_eq a b && same_numbers xs ys
 
 -- the same primitive with the same numbers
 abbrev pub same_kind : PlainKind → PlainKind → Bool
-same_kind (OfPrimitive p) (OfPrimitive q) = same_name (name_text p.name) (name_text q.name) && same_numbers p.numbers q.numbers
+same_kind (OfPrimitive p) (OfPrimitive q) =
+    same_name (name_text p.name) (name_text q.name) && same_numbers p.numbers q.numbers
 same_kind (OfPrimitive p) (OfComponent k) = false
 same_kind (OfComponent j) k = false
 
 -- a kept cell takes one of its kind that meets neither it nor any that was given to it
 abbrev pub takes : PlainComponent → ℕ → Kept → Bool
-takes part c k = same_kind (kind_in part.cells k.cell) (kind_in part.cells c) && list_all (λ x. not (meet part x c)) (k.cell ∷ k.given)
+takes part c k =
+    same_kind (kind_in part.cells k.cell) (kind_in part.cells c)
+    && list_all (λ x. not (meet part x c)) (k.cell ∷ k.given)
 
 abbrev pub give : PlainComponent → ℕ → List Kept → List Kept
 give part c [] = record { cell = c; given = [] } ∷ []

@@ -13,7 +13,8 @@ has_both set x y = set x && set y
 abbrev pub arms_meet : PlainComponent → List PlainStatement → ℕ → ℕ → Bool
 arms_meet part [] x y = false
 arms_meet part (arm ∷ later) x y =
-    (uses part arm x && list_any (λ s. uses part s y) later) || (uses part arm y && list_any (λ s. uses part s x) later) || arms_meet part later x y
+    (uses part arm x && list_any (λ s. uses part s y) later)
+    || (uses part arm y && list_any (λ s. uses part s x) later) || arms_meet part later x y
 
 -- in a statement, but for its parts: by the condition and comb group of an if or a while, and by the arms of a par or a static par.
 -- A condition and a branch are never active together, nor are two parts of a seq
@@ -33,4 +34,6 @@ form_meets part (Timed k) x y = false
 
 -- MEET: one group uses both, also one that nothing enables, or they meet in some statement
 abbrev pub meet : PlainComponent → ℕ → ℕ → Bool
-meet part x y = list_any (λ g. has_both (assigns_use g.assigns) x y) part.groups || list_any (λ v. form_meets part v.form x y) (statements_in part)
+meet part x y =
+    list_any (λ g. has_both (assigns_use g.assigns) x y) part.groups
+    || list_any (λ v. form_meets part v.form x y) (statements_in part)

@@ -50,7 +50,9 @@ is_plain_side Output = false
 is_plain_side Registered = false
 
 abbrev pub is_combinational : PlainKind → Bool
-is_combinational (OfPrimitive primitive) = is_stateless (row_of primitive).shape && list_any (λ port. is_plain_side port.side) (row_of primitive).ports
+is_combinational (OfPrimitive primitive) =
+    is_stateless (row_of primitive).shape
+    && list_any (λ port. is_plain_side port.side) (row_of primitive).ports
 is_combinational (OfComponent k) = false
 
 -- the kind of a cell by its number; a number that names none has that of no primitive
@@ -62,4 +64,5 @@ kind_in (cell ∷ cells) (suc c) = kind_in cells c
 -- CANDIDATE: a combinational cell of which some group drives a port, and of which no continuous assignment names one
 abbrev pub is_candidate : PlainComponent → Set
 is_candidate part c =
-    is_combinational (kind_in part.cells c) && list_any (λ g. assigns_drive g.assigns c) part.groups && not (assigns_use part.always c)
+    is_combinational (kind_in part.cells c) && list_any (λ g. assigns_drive g.assigns c) part.groups
+    && not (assigns_use part.always c)

@@ -19,7 +19,9 @@ total_before tallies (cell ∷ cells) (suc c) = instances_at tallies cell.kind +
 
 -- each component cell has an instance
 abbrev pub HaveSome : List LimitTally → List PlainCell → Type 0
-HaveSome tallies cells = (cell : PlainCell) (k : ℕ) → In cells cell → cell.kind ≡ OfComponent k → 1 ≤ instances_at tallies cell.kind
+HaveSome tallies cells =
+    (cell : PlainCell) (k : ℕ) → In cells cell → cell.kind ≡ OfComponent k
+    → 1 ≤ instances_at tallies cell.kind
 
 -- a number for each cell: that of the next instance
 abbrev pub numbered : List LimitTally → List PlainCell → ℕ → List ℕ
@@ -29,9 +31,11 @@ numbered tallies (cell ∷ cells) next = next ∷ numbered tallies cells (next +
 -- the rows, with those of the instances at the cells of an instance, from its cell c on
 abbrev pub row_placed : PlainKind → ℕ → ℕ → ℕ → List InstanceRow → List InstanceRow
 row_placed (OfPrimitive p) number c next rows = rows
-row_placed (OfComponent k) number c next rows = set rows next (record { component = k; parent = number; cell = c; first = 0 })
+row_placed (OfComponent k) number c next rows =
+    set rows next (record { component = k; parent = number; cell = c; first = 0 })
 
 abbrev pub placed : List LimitTally → List PlainCell → ℕ → ℕ → ℕ → List InstanceRow → List InstanceRow
 placed tallies [] number c next rows = rows
 placed tallies (cell ∷ cells) number c next rows =
-    placed tallies cells number (suc c) (next + instances_at tallies cell.kind) (row_placed cell.kind number c next rows)
+    placed tallies cells number (suc c) (next + instances_at tallies cell.kind)
+    (row_placed cell.kind number c next rows)

@@ -6,4 +6,5 @@ use Rattle.cx_rules.specs.FullPaths.{full_path}
 
 -- of an instance by its number in pre-order of the tree
 abbrev pub TellsPort : Instance → ℕ → PortRef → List ℕ → Type 0
-TellsPort tree instance port name = (path : Path) → slice_get (paths_of tree) instance ≡ Some path → name ≡ full_path tree path port
+TellsPort tree instance port name =
+    (path : Path) → slice_get (paths_of tree) instance ≡ Some path → name ≡ full_path tree path port

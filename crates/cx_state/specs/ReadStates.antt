@@ -16,7 +16,8 @@ abbrev mutual
   held_from (a_primitive row rest) own rows n zero path = unwrap_or (own 0) Stateless
   held_from (a_primitive row rest) own rows n (suc c) path = held_from rest (λ k. own (suc k)) rows n c path
   held_from (an_instance child rest) own rows n zero path = state_from child rows n path
-  held_from (an_instance child rest) own rows n (suc c) path = held_from rest (λ k. own (suc k)) rows (n + instances_below child) c path
+  held_from (an_instance child rest) own rows n (suc c) path =
+      held_from rest (λ k. own (suc k)) rows (n + instances_below child) c path
 
 -- each primitive cell of the tree holds what stands in its row
 abbrev pub state_in : Instance → List PlainInstance → State

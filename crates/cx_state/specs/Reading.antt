@@ -23,7 +23,9 @@ words_among (cell ∷ cells) (h ∷ hs) = words_before cell.external h (words_am
 -- a cell is a memory that has as many words as there are here
 abbrev pub CanRead : PlainKind → Option CellState → List ℕ → Type 0
 CanRead (OfPrimitive p) None words = ⊥
-CanRead (OfPrimitive p) (Some held) words = IsState (row_of p).shape held × TakesWords (row_of p).shape (words_of held) × (length words ≡ length (words_of held))
+CanRead (OfPrimitive p) (Some held) words =
+    IsState (row_of p).shape held × TakesWords (row_of p).shape (words_of held)
+    × (length words ≡ length (words_of held))
 CanRead (OfComponent k) held words = ⊥
 
 -- so is each external cell, with one memory for each of them

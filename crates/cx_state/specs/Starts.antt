@@ -31,7 +31,8 @@ kind_started (OfComponent k) words = None
 -- what cells hold at the start
 abbrev pub started : List PlainCell → List (List ℕ) → List (Option CellState)
 started [] ws = []
-started (cell ∷ cells) ws = kind_started cell.kind (words_for cell.external ws) ∷ started cells (words_past cell.external ws)
+started (cell ∷ cells) ws =
+    kind_started cell.kind (words_for cell.external ws) ∷ started cells (words_past cell.external ws)
 
 -- the memories take their words
 abbrev pub RowTakes : Row → Option (List ℕ) → Type 0
@@ -44,7 +45,8 @@ KindTakes (OfComponent k) words = Unit {0}
 
 abbrev pub TakeWords : List PlainCell → List (List ℕ) → Type 0
 TakeWords [] ws = Unit {0}
-TakeWords (cell ∷ cells) ws = KindTakes cell.kind (words_for cell.external ws) × TakeWords cells (words_past cell.external ws)
+TakeWords (cell ∷ cells) ws =
+    KindTakes cell.kind (words_for cell.external ws) × TakeWords cells (words_past cell.external ws)
 
 -- the words are those of main alone
 abbrev pub words_of_main : ℕ → List (List ℕ) → List (List ℕ)
@@ -60,4 +62,5 @@ pub record IsStarted (part : PlainComponent) (ws : List (List ℕ)) (i : PlainIn
 -- the first n instances at their starts
 pub record AreStarted (d : PlainDesign) (ws : List (List ℕ)) (n : ℕ) (rows : List PlainInstance) : Type 0 where
   pub count : length rows ≡ n
-  pub each : (m : ℕ) (path : Path) → m < n → IsNumber d m path → IsStarted (part_of (instance_at (tree_of d) path)) (words_of_main m ws) (instance_state rows m)
+  pub each : (m : ℕ) (path : Path) → m < n → IsNumber d m path
+      → IsStarted (part_of (instance_at (tree_of d) path)) (words_of_main m ws) (instance_state rows m)

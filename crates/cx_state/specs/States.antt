@@ -42,7 +42,9 @@ inputs_held rows n input = get_or (instance_state rows n).held input Undefined
 
 -- THE STATE THAT ROWS STAND FOR: each primitive cell of each instance of the tree holds what stands in its row
 abbrev pub StandsFor : Instance → List PlainInstance → meaning.State → Type 0
-StandsFor tree rows s = (n c : ℕ) (path : Path) (held : CellState) → slice_get (paths_of tree) n ≡ Some path → cell_held rows n c ≡ Some held → s (path ++ c ∷ []) ≡ held
+StandsFor tree rows s =
+    (n c : ℕ) (path : Path) (held : CellState) → slice_get (paths_of tree) n ≡ Some path
+    → cell_held rows n c ≡ Some held → s (path ++ c ∷ []) ≡ held
 
 -- the state of the instance at a path, and the state with another one there
 abbrev pub under_path : Path → meaning.State → meaning.State
@@ -68,11 +70,13 @@ HoldCells (cell ∷ cells) (h ∷ hs) = HoldsKind cell.kind h × HoldCells cells
 pub record FitsPart (part : PlainComponent) (i : PlainInstance) : Type 0 where
   pub cells : HoldCells part.cells i.cells
   pub inputs : length i.held ≡ length part.inputs
-  pub widths : (n : ℕ) (b : BitVector) → slice_get i.held n ≡ Some (Value b) → declared_width part.inputs n ≡ Some b.width
+  pub widths : (n : ℕ) (b : BitVector) → slice_get i.held n ≡ Some (Value b)
+      → declared_width part.inputs n ≡ Some b.width
 
 pub record IsStateOf (d : PlainDesign) (rows : List PlainInstance) : Type 0 where
   pub count : length rows ≡ length (paths_of (tree_of d))
-  pub fits : (n : ℕ) (path : Path) → IsNumber d n path → FitsPart (part_of (instance_at (tree_of d) path)) (instance_state rows n)
+  pub fits : (n : ℕ) (path : Path) → IsNumber d n path
+      → FitsPart (part_of (instance_at (tree_of d) path)) (instance_state rows n)
 
 -- every input is held as undefined
 abbrev pub IsUnheld : List PlainInstance → Type 0
@@ -80,7 +84,9 @@ IsUnheld rows = (n input : ℕ) → inputs_held rows n input ≡ Undefined
 
 -- one input held as something else
 abbrev pub with_held : List PlainInstance → ℕ → ℕ → Seen → List PlainInstance
-with_held rows n input seen = set rows n (record { cells = (instance_state rows n).cells; held = set (instance_state rows n).held input seen })
+with_held rows n input seen =
+    set rows n
+    (record { cells = (instance_state rows n).cells; held = set (instance_state rows n).held input seen })
 
 -- the words of what is loaded
 abbrev pub words_in : List LoadedMemory → List (List ℕ)

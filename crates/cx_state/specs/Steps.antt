@@ -17,7 +17,8 @@ component_in (OfComponent k) = k
 abbrev pub step_below : List LimitTally → List PlainCell → ℕ → ℕ → Option Step
 step_below tallies [] c left = None
 step_below tallies (cell ∷ cells) c left =
-    if nat_lt left (instances_at tallies cell.kind) then Some (record { cell = c; component = component_in cell.kind; left = left })
+    if nat_lt left (instances_at tallies cell.kind)
+    then Some (record { cell = c; component = component_in cell.kind; left = left })
     else step_below tallies cells (suc c) (left - instances_at tallies cell.kind)
 
 abbrev pub next_step : List LimitTally → List PlainCell → ℕ → Option Step

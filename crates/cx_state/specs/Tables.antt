@@ -27,8 +27,11 @@ IsAbove d instance path = (above : Path) × IsNumber d instance.parent above × 
 pub record IsTable (d : PlainDesign) (rows : List InstanceRow) (children : List ℕ) : Type 0 where
   pub count : length rows ≡ length (paths_of (tree_of d))
   pub there : (n : ℕ) → n < length rows → (row_at rows n).component < length d.components
-  pub component : (n : ℕ) (path : Path) → IsNumber d n path → instance_at (tree_of d) path ≡ component_of d (row_at rows n).component
+  pub component : (n : ℕ) (path : Path) → IsNumber d n path
+      → instance_at (tree_of d) path ≡ component_of d (row_at rows n).component
   pub above : (n : ℕ) (path : Path) → IsNumber d (suc n) path → IsAbove d (row_at rows (suc n)) path
-  pub cells : (n : ℕ) (path : Path) → IsNumber d n path → (row_at rows n).first + length (part_of (instance_at (tree_of d) path)).cells ≤ length children
-  pub child : (n c : ℕ) (path : Path) (child : Instance) → IsNumber d n path → cell_at (cells_of (instance_at (tree_of d) path)) c ≡ OfInstance child
+  pub cells : (n : ℕ) (path : Path) → IsNumber d n path
+      → (row_at rows n).first + length (part_of (instance_at (tree_of d) path)).cells ≤ length children
+  pub child : (n c : ℕ) (path : Path) (child : Instance) → IsNumber d n path
+      → cell_at (cells_of (instance_at (tree_of d) path)) c ≡ OfInstance child
       → IsNumber d (child_of rows children n c) (path ++ c ∷ [])

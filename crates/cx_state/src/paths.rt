@@ -21,7 +21,8 @@ use std::alloc::Global;
 /// Appends the name of a cell, and a point.
 fn append_cell(text: &mut Vec<u8>, part: &Component, cell: usize) -> Result<(), Memory>
     requires within { cell < length part.now.cells.items }
-    ensures { IfOk result (λ done. text.new.items ≡ text.old.items ++ cell_name (plain_component part.now).cells cell ++ codes ".") }
+    ensures { IfOk result (λ done.
+        text.new.items ≡ text.old.items ++ cell_name (plain_component part.now).cells cell ++ codes ".") }
 {
     text.extend_from_slice(part.cells.as_slice()[cell].name.bytes())?;
     text.push(b'.')?;
@@ -39,8 +40,10 @@ fn without_point(name: &[u8]) -> Option<&[u8]>
 
 /// The name of an output of a static component, where a port is one of its wire.
 fn output_of_wire(part: &Component, port: PortRef) -> Option<&[u8]>
-    ensures none { IfNone result ((i : Instance) → part_of i ≡ plain_component part.now → full_paths.own_path i port ≡ path_of i port) }
-    ensures some { IfSome result (λ name. (i : Instance) → part_of i ≡ plain_component part.now → full_paths.own_path i port ≡ name.now) }
+    ensures none { IfNone result ((i : Instance) → part_of i ≡ plain_component part.now →
+        full_paths.own_path i port ≡ path_of i port) }
+    ensures some { IfSome result (λ name.
+        (i : Instance) → part_of i ≡ plain_component part.now → full_paths.own_path i port ≡ name.now) }
 {
     match port {
         PortRef::Cell(cell, _) => {
@@ -56,7 +59,8 @@ fn output_of_wire(part: &Component, port: PortRef) -> Option<&[u8]>
 /// A port by its own name in its component, the wire of an output by that of the output.
 fn own_path(alloc: Global, design: &Design, component: usize, port: PortRef) -> Result<Name, Memory>
     requires within { component < length design.now.components.items }
-    ensures value { IfOk result (λ name. name ≡ full_paths.own_path (component_of (plain_design design.now) component) port) }
+    ensures value { IfOk result
+        (λ name. name ≡ full_paths.own_path (component_of (plain_design design.now) component) port) }
 {
     match output_of_wire(&design.components.as_slice()[component], port) {
         Some(name) => Name::from_bytes(alloc, name),

@@ -31,7 +31,8 @@ fn start_primitive(
     next: usize,
 ) -> Result<PrimState, Memory>
     requires takes { RowTakes (row_of primitive.now) (words_for external (drop next (words_in memories.now))) }
-    ensures value { IfOk result (λ held. held ≡ row_started (row_of primitive.now) (words_for external (drop next (words_in memories.now)))) }
+    ensures value { IfOk result (λ held.
+        held ≡ row_started (row_of primitive.now) (words_for external (drop next (words_in memories.now)))) }
     ensures fits { IfOk result (λ held. IsState (row_of primitive.now).shape held) }
 {
     if external && next < memories.len() {
@@ -48,8 +49,11 @@ fn start_cell(
     memories: &[LoadedMemory],
     next: usize,
 ) -> Result<Option<PrimState>, Memory>
-    requires takes { KindTakes (plain_kind cell.now.kind) (words_for cell.now.external (drop next (words_in memories.now))) }
-    ensures value { IfOk result (λ held. held ≡ kind_started (plain_kind cell.now.kind) (words_for cell.now.external (drop next (words_in memories.now)))) }
+    requires takes { KindTakes (plain_kind cell.now.kind)
+        (words_for cell.now.external (drop next (words_in memories.now))) }
+    ensures value { IfOk result (λ held. held ≡
+        kind_started (plain_kind cell.now.kind)
+        (words_for cell.now.external (drop next (words_in memories.now)))) }
     ensures fits { IfOk result (λ held. HoldsKind (plain_kind cell.now.kind) held) }
 {
     match &cell.kind {
@@ -98,7 +102,8 @@ fn start_instance(
     memories: &[LoadedMemory],
 ) -> Result<InstanceState, Memory>
     requires takes { TakeWords (plain_component component.now).cells (words_in memories.now) }
-    ensures value { IfOk result (λ held. IsStarted (plain_component component.now) (words_in memories.now) (plain_instance held)) }
+    ensures value { IfOk result
+        (λ held. IsStarted (plain_component component.now) (words_in memories.now) (plain_instance held)) }
 {
     let cells = start_cells(alloc, component.cells.as_slice(), memories)?;
     let held = vec![in alloc; Seen::Undefined; component.inputs.len()]?;
@@ -121,7 +126,8 @@ fn start_instances(
 ) -> Result<State, Memory>
     requires table { IsTable (plain_design design.now) table.now.rows.items table.now.children.items }
     requires takes { TakeWords (component_at (plain_design design.now) design.now.main).cells (words_in memories.now) }
-    ensures { IfOk result (λ state. AreStarted (plain_design design.now) (words_in memories.now) (length (paths_of (tree_of (plain_design design.now)))) (plain_state state)) }
+    ensures { IfOk result (λ state. AreStarted (plain_design design.now) (words_in memories.now)
+        (length (paths_of (tree_of (plain_design design.now)))) (plain_state state)) }
 {
     let rows = table.rows.as_slice();
     let components = design.components.as_slice();
@@ -144,7 +150,8 @@ pub fn start_state(
     requires table { IsTable (plain_design design.now) table.now.rows.items table.now.children.items }
     requires fits { FitsRows (external_rows (plain_design design.now)) (map plain_memory memories.now) }
     ensures fits { IfOk result (λ state. IsStateOf (plain_design design.now) (plain_state state)) }
-    ensures value { IfOk result (λ state. StandsFor (tree_of (plain_design design.now)) (plain_state state) (meaning.start (tree_of (plain_design design.now)) (words_in memories.now))) }
+    ensures value { IfOk result (λ state. StandsFor (tree_of (plain_design design.now))
+        (plain_state state) (meaning.start (tree_of (plain_design design.now)) (words_in memories.now))) }
     ensures held { IfOk result (λ state. IsUnheld (plain_state state)) }
 {
     let state = start_instances(alloc, design, table, memories)?;

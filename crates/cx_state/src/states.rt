@@ -36,7 +36,9 @@ impl State {
         requires flat { IsFlat (plain_design design.now) }
         requires fits { FitsRows (external_rows (plain_design design.now)) (plain_loaded loaded.now) }
         ensures fits { IfOk result (λ state. IsStateOf (plain_design design.now) (plain_state state)) }
-        ensures value { IfOk result (λ state. StandsFor (tree_of (plain_design design.now)) (plain_state state) (meaning.start (tree_of (plain_design design.now)) (words_in loaded.now.memories.items))) }
+        ensures value { IfOk result (λ state. StandsFor (tree_of (plain_design design.now))
+            (plain_state state)
+            (meaning.start (tree_of (plain_design design.now)) (words_in loaded.now.memories.items))) }
         ensures held { IfOk result (λ state. IsUnheld (plain_state state)) }
     {
         let table = instances(alloc, design)?;

@@ -89,8 +89,11 @@ fn add_cells(
 ) -> Result<(), Memory>
     requires some { HaveSome tallies.now (map plain_cell cells.now) }
     requires room { number + 1 + total tallies.now (map plain_cell cells.now) ≤ length rows.old }
-    ensures children { IfOk result (λ done. children.new.items ≡ children.old.items ++ numbered tallies.now (map plain_cell cells.now) (number + 1)) }
-    ensures rows { IfOk result (λ done. rows.new ≡ placed tallies.now (map plain_cell cells.now) number 0 (number + 1) rows.old) }
+    ensures children { IfOk result (λ done.
+        children.new.items ≡
+        children.old.items ++ numbered tallies.now (map plain_cell cells.now) (number + 1)) }
+    ensures rows { IfOk result
+        (λ done. rows.new ≡ placed tallies.now (map plain_cell cells.now) number 0 (number + 1) rows.old) }
 {
     let mut next = number + 1;
     for cell in 0..cells.len() {

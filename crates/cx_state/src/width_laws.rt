@@ -32,7 +32,8 @@ pub fn states_hold_widths()
 
 /// So each value that is found there has the width of its port, where the design is accepted and nothing leads in a circle.
 pub fn state_seen_has_width()
-    ensures { (d : PlainDesign) (rows : List PlainInstance) (s : State) (n : ℕ) (path : Path) (act : Active) (p : PortRef) (b : BitVector)
+    ensures { (d : PlainDesign) (rows : List PlainInstance) (s : State) (n : ℕ) (path : Path)
+        (act : Active) (p : PortRef) (b : BitVector)
         → IsDesign d → IsAccepted d → IsAcyclic (instance_at (tree_of d) path) act
         → IsStateOf d rows → StandsFor (tree_of d) rows s → IsNumber d n path
         → IsThere (instance_at (tree_of d) path) p → (IsBadLiteral p → ⊥)

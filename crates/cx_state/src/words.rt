@@ -30,7 +30,8 @@ fn write_words(kind: &CellKind, held: &Option<PrimState>, words: &mut [u64])
 /// Writes the words of the external ones among cells over those of as many memories.
 fn write_cells(cells: &[Cell], held: &[Option<PrimState>], memories: &mut [LoadedMemory])
     requires { AreReadable (map plain_cell cells.now) held.now (map plain_memory memories.old) }
-    ensures { map plain_memory memories.new ≡ with_words (map plain_memory memories.old) (words_among (map plain_cell cells.now) held.now) }
+    ensures { map plain_memory memories.new ≡
+        with_words (map plain_memory memories.old) (words_among (map plain_cell cells.now) held.now) }
 {
     let mut next = 0;
     for n in 0..cells.len() {
@@ -48,7 +49,8 @@ pub fn external_words(design: &Design, state: &State, into: &mut Loaded)
     requires state { IsStateOf (plain_design design.now) (plain_state state.now) }
     requires fits { FitsRows (external_rows (plain_design design.now)) (plain_loaded into.old) }
     ensures words { (s : StateOf) → StandsFor (tree_of (plain_design design.now)) (plain_state state.now) s
-        → plain_loaded into.new ≡ with_words (plain_loaded into.old) (meaning.words_of (tree_of (plain_design design.now)) s) }
+        → plain_loaded into.new ≡
+        with_words (plain_loaded into.old) (meaning.words_of (tree_of (plain_design design.now)) s) }
     ensures fits { FitsRows (external_rows (plain_design design.now)) (plain_loaded into.new) }
 {
     let main = component(design, design.main as usize);

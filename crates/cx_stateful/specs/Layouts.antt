@@ -5,4 +5,5 @@ use Rattle.cx_stateful.specs.declared.layout.Layout.{Layout}
 
 -- a row at the width, the sizes and the address widths of a layout
 abbrev pub row_at_layout : (ℕ → List ℕ → List ℕ → Row) → Layout → Row
-row_at_layout make layout = make layout.width (take layout.dimensions layout.sizes) (take layout.dimensions layout.address_widths)
+row_at_layout make layout =
+    make layout.width (take layout.dimensions layout.sizes) (take layout.dimensions layout.address_widths)

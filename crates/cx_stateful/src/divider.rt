@@ -47,7 +47,8 @@ impl Divider {
     pub fn edge(&self, state: &mut DividerState, inputs: &[Option<Bits>])
         requires state_fits { IsState (divider_row self.now.width).shape (divider_shown state.old) }
         requires inputs_fit { FitsPorts (divider_row self.now.width).ports inputs.now }
-        ensures value { divider_shown state.new ≡ (divider_row self.now.width).next (divider_shown state.old) inputs.now }
+        ensures value { divider_shown state.new ≡
+            (divider_row self.now.width).next (divider_shown state.old) inputs.now }
         ensures fits { IsState (divider_row self.now.width).shape (divider_shown state.new) }
     {
         if !is_on(inputs, 0) {

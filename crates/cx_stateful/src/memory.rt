@@ -32,7 +32,8 @@ impl CombinationalMemory {
     pub fn edge(&self, state: &mut MemoryState, inputs: &[Option<Bits>])
         requires state_fits { IsState (row_at_layout memory_row self.now.layout).shape (memory_shown state.old) }
         requires inputs_fit { FitsPorts (row_at_layout memory_row self.now.layout).ports inputs.now }
-        ensures value { memory_shown state.new ≡ (row_at_layout memory_row self.now.layout).next (memory_shown state.old) inputs.now }
+        ensures value { memory_shown state.new ≡
+            (row_at_layout memory_row self.now.layout).next (memory_shown state.old) inputs.now }
         ensures fits { IsState (row_at_layout memory_row self.now.layout).shape (memory_shown state.new) }
     {
         state.done = is_on(inputs, self.layout.dimensions + 1);

@@ -45,7 +45,8 @@ impl Multiplier {
     pub fn edge(&self, state: &mut MultiplierState, inputs: &[Option<Bits>])
         requires state_fits { IsState (multiplier_row self.now.width).shape (multiplier_shown state.old) }
         requires inputs_fit { FitsPorts (multiplier_row self.now.width).ports inputs.now }
-        ensures value { multiplier_shown state.new ≡ (multiplier_row self.now.width).next (multiplier_shown state.old) inputs.now }
+        ensures value { multiplier_shown state.new ≡
+            (multiplier_row self.now.width).next (multiplier_shown state.old) inputs.now }
         ensures fits { IsState (multiplier_row self.now.width).shape (multiplier_shown state.new) }
     {
         if !is_on(inputs, 0) {

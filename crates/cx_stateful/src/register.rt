@@ -44,7 +44,8 @@ impl Register {
     pub fn edge(&self, state: &mut RegisterState, inputs: &[Option<Bits>])
         requires state_fits { IsState (register_row self.now.width).shape (register_shown state.old) }
         requires inputs_fit { FitsPorts (register_row self.now.width).ports inputs.now }
-        ensures value { register_shown state.new ≡ (register_row self.now.width).next (register_shown state.old) inputs.now }
+        ensures value { register_shown state.new ≡
+            (register_row self.now.width).next (register_shown state.old) inputs.now }
         ensures fits { IsState (register_row self.now.width).shape (register_shown state.new) }
     {
         state.done = is_on(inputs, 1);

@@ -42,10 +42,14 @@ impl SequentialState {
 impl SequentialMemory {
     /// The edge of a cycle. At an address out of range 0 is read and no word is written.
     pub fn edge(&self, state: &mut SequentialState, inputs: &[Option<Bits>])
-        requires state_fits { IsState (row_at_layout sequential_memory_row self.now.layout).shape (sequential_shown state.old) }
+        requires state_fits { IsState (row_at_layout sequential_memory_row self.now.layout).shape
+            (sequential_shown state.old) }
         requires inputs_fit { FitsPorts (row_at_layout sequential_memory_row self.now.layout).ports inputs.now }
-        ensures value { sequential_shown state.new ≡ (row_at_layout sequential_memory_row self.now.layout).next (sequential_shown state.old) inputs.now }
-        ensures fits { IsState (row_at_layout sequential_memory_row self.now.layout).shape (sequential_shown state.new) }
+        ensures value { sequential_shown state.new ≡
+            (row_at_layout sequential_memory_row self.now.layout).next
+            (sequential_shown state.old) inputs.now }
+        ensures fits { IsState (row_at_layout sequential_memory_row self.now.layout).shape
+            (sequential_shown state.new) }
     {
         state.done = is_on(inputs, self.layout.dimensions);
         if !state.done {

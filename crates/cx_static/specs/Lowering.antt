@@ -69,7 +69,9 @@ with_occurrence group x (Some n) g = record {
   cells = g.cells;
   timers = g.timers;
   points = g.points;
-  occurrences = g.occurrences ++ record { group = group; timer = x.timer; from = x.at; to = x.at + n; samples = x.samples } ∷ [];
+  occurrences =
+      g.occurrences
+      ++ record { group = group; timer = x.timer; from = x.at; to = x.at + n; samples = x.samples } ∷ [];
 }
 
 -- THE LISTS OF AN ISLAND, behind those that are gathered. The parts of a seq follow each other, the arms of a par and the

@@ -26,7 +26,8 @@ pub fn lower(alloc: Global, design: &Checked) -> Result<Lowered, Memory>
 
 /// Lowers components, in order.
 fn lower_components(alloc: Global, parts: &[Component]) -> Result<Vec<LoweredComponent>, Memory>
-    ensures value { IfOk result (λ all. map plain_lowered all.items ≡ map lowered_component (map plain_component parts.now)) }
+    ensures value { IfOk result
+        (λ all. map plain_lowered all.items ≡ map lowered_component (map plain_component parts.now)) }
 {
     let mut all = Vec::with_capacity(alloc, parts.len())?;
     for part in parts {

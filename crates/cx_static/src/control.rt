@@ -23,8 +23,10 @@ pub(crate) fn lower_statement(
     statement: &Statement,
     lowering: &mut Lowering,
 ) -> Result<Statement, Memory>
-    ensures value { IfOk result (λ s. plain_statement s ≡ lowered (plain_component part.now) (plain_statement statement.now) (plain_lowering lowering.old)) }
-    ensures after { OnOk result (plain_lowering lowering.new ≡ after (plain_component part.now) (plain_statement statement.now) (plain_lowering lowering.old)) }
+    ensures value { IfOk result (λ s. plain_statement s ≡
+        lowered (plain_component part.now) (plain_statement statement.now) (plain_lowering lowering.old)) }
+    ensures after { OnOk result (plain_lowering lowering.new ≡
+        after (plain_component part.now) (plain_statement statement.now) (plain_lowering lowering.old)) }
 {
     let form = lower_form(alloc, part, &statement.form, lowering)?;
     let place = statement.place;
@@ -39,8 +41,10 @@ fn lower_form(
     form: &Form,
     lowering: &mut Lowering,
 ) -> Result<Form, Memory>
-    ensures value { IfOk result (λ f. plain_form f ≡ lowered_form (plain_component part.now) (plain_form form.now) (plain_lowering lowering.old)) }
-    ensures after { OnOk result (plain_lowering lowering.new ≡ form_after (plain_component part.now) (plain_form form.now) (plain_lowering lowering.old)) }
+    ensures value { IfOk result (λ f. plain_form f ≡
+        lowered_form (plain_component part.now) (plain_form form.now) (plain_lowering lowering.old)) }
+    ensures after { OnOk result (plain_lowering lowering.new ≡
+        form_after (plain_component part.now) (plain_form form.now) (plain_lowering lowering.old)) }
 {
     match form {
         Form::Empty => Ok(Form::Empty),
@@ -96,7 +100,8 @@ fn add_island(
     lowering: &mut Lowering,
 ) -> Result<Form, Memory>
     ensures value { IfOk result (λ f. plain_form f ≡ timed (plain_lowering lowering.old)) }
-    ensures after { OnOk result (plain_lowering lowering.new ≡ with_island (plain_component part.now) (plain_form form.now) (plain_lowering lowering.old)) }
+    ensures after { OnOk result (plain_lowering lowering.new ≡
+        with_island (plain_component part.now) (plain_form form.now) (plain_lowering lowering.old)) }
 {
     let island = number(lowering.islands.len())?;
     let length = static_length(part, form)?;
@@ -120,8 +125,10 @@ fn lower_boxed(
     statement: &Statement,
     lowering: &mut Lowering,
 ) -> Result<Box<Statement>, Memory>
-    ensures value { IfOk result (λ s. plain_statement s.value ≡ lowered (plain_component part.now) (plain_statement statement.now) (plain_lowering lowering.old)) }
-    ensures after { OnOk result (plain_lowering lowering.new ≡ after (plain_component part.now) (plain_statement statement.now) (plain_lowering lowering.old)) }
+    ensures value { IfOk result (λ s. plain_statement s.value ≡
+        lowered (plain_component part.now) (plain_statement statement.now) (plain_lowering lowering.old)) }
+    ensures after { OnOk result (plain_lowering lowering.new ≡
+        after (plain_component part.now) (plain_statement statement.now) (plain_lowering lowering.old)) }
 {
     let statement = lower_statement(alloc, part, statement, lowering)?;
     Ok(Box::new(alloc, statement)?)
@@ -135,8 +142,10 @@ fn lower_parts(
     parts: &[Statement],
     lowering: &mut Lowering,
 ) -> Result<Vec<Statement>, Memory>
-    ensures value { IfOk result (λ all. plain_statements all.items ≡ lowered_parts (plain_component part.now) (plain_statements parts.now) (plain_lowering lowering.old)) }
-    ensures after { OnOk result (plain_lowering lowering.new ≡ parts_after (plain_component part.now) (plain_statements parts.now) (plain_lowering lowering.old)) }
+    ensures value { IfOk result (λ all. plain_statements all.items ≡
+        lowered_parts (plain_component part.now) (plain_statements parts.now) (plain_lowering lowering.old)) }
+    ensures after { OnOk result (plain_lowering lowering.new ≡
+        parts_after (plain_component part.now) (plain_statements parts.now) (plain_lowering lowering.old)) }
 {
     let mut all = Vec::with_capacity(alloc, parts.len())?;
     for statement in parts {

@@ -24,7 +24,8 @@ pub(crate) fn gather_island(
     cells: Vec<Cell>,
 ) -> Result<Gathering, Memory>
     requires { length ≡ plain.form_length (plain_component part.now) (plain_form form.now) }
-    ensures { IfOk result (λ lists. plain_gathering lists ≡ island_gathered (plain_component part.now) (plain_form form.now) (map plain_cell cells.items)) }
+    ensures { IfOk result (λ lists. plain_gathering lists ≡
+        island_gathered (plain_component part.now) (plain_form form.now) (map plain_cell cells.items)) }
 {
     let mut lists = Gathering {
         cells,
@@ -52,7 +53,8 @@ fn add_timer(
     to: u64,
     lists: &mut Gathering,
 ) -> Result<(), Memory>
-    ensures { OnOk result (plain_gathering lists.new ≡ with_timer place length outer from to (plain_gathering lists.old)) }
+    ensures { OnOk result
+        (plain_gathering lists.new ≡ with_timer place length outer from to (plain_gathering lists.old)) }
 {
     let cell = number(lists.cells.len())?;
     lists.cells.push(Cell {
@@ -79,7 +81,9 @@ fn gather_form(
     start: &Start,
     lists: &mut Gathering,
 ) -> Result<(), Memory>
-    ensures { OnOk result (plain_gathering lists.new ≡ form_gathered (plain_component part.now) (plain_form form.now) (plain_start start.now) (plain_gathering lists.old)) }
+    ensures { OnOk result (plain_gathering lists.new ≡
+        form_gathered (plain_component part.now) (plain_form form.now) (plain_start start.now)
+        (plain_gathering lists.old)) }
 {
     match form {
         Form::Enable(group) => add_occurrence(alloc, part, *group, start, lists),
@@ -113,7 +117,9 @@ fn add_occurrence(
     start: &Start,
     lists: &mut Gathering,
 ) -> Result<(), Memory>
-    ensures { OnOk result (plain_gathering lists.new ≡ with_occurrence group (plain_start start.now) (plain.group_length (plain_component part.now) group) (plain_gathering lists.old)) }
+    ensures { OnOk result (plain_gathering lists.new ≡
+        with_occurrence group (plain_start start.now) (plain.group_length (plain_component part.now) group)
+        (plain_gathering lists.old)) }
 {
     let Some(length) = group_length(part, group) else {
         return Ok(());
@@ -135,7 +141,8 @@ fn add_point(
     start: &Start,
     lists: &mut Gathering,
 ) -> Result<(), Memory>
-    ensures { OnOk result (plain_gathering lists.new ≡ with_point port (plain_start start.now) (plain_gathering lists.old)) }
+    ensures { OnOk result
+        (plain_gathering lists.new ≡ with_point port (plain_start start.now) (plain_gathering lists.old)) }
 {
     lists.points.push(SamplePoint {
         port,
@@ -155,7 +162,9 @@ fn gather(
     start: &Start,
     lists: &mut Gathering,
 ) -> Result<(), Memory>
-    ensures { OnOk result (plain_gathering lists.new ≡ gathered (plain_component part.now) (plain_statement statement.now) (plain_start start.now) (plain_gathering lists.old)) }
+    ensures { OnOk result (plain_gathering lists.new ≡
+        gathered (plain_component part.now) (plain_statement statement.now) (plain_start start.now)
+        (plain_gathering lists.old)) }
 {
     gather_form(alloc, part, &statement.form, start, lists)
 }
@@ -171,7 +180,9 @@ fn gather_branch(
     wanted: bool,
     lists: &mut Gathering,
 ) -> Result<(), Memory>
-    ensures { OnOk result (plain_gathering lists.new ≡ gathered (plain_component part.now) (plain_statement branch.now) (if_sampled point wanted (plain_start start.now)) (plain_gathering lists.old)) }
+    ensures { OnOk result (plain_gathering lists.new ≡
+        gathered (plain_component part.now) (plain_statement branch.now)
+        (if_sampled point wanted (plain_start start.now)) (plain_gathering lists.old)) }
 {
     let mut samples = Vec::from_slice(alloc, start.samples)?;
     samples.push(Sample { point, wanted })?;
@@ -193,7 +204,9 @@ fn gather_rounds(
     start: &Start,
     lists: &mut Gathering,
 ) -> Result<(), Memory>
-    ensures { OnOk result (plain_gathering lists.new ≡ rounds_gathered (plain_component part.now) count (plain_statement body.now) (plain_start start.now) (plain_gathering lists.old)) }
+    ensures { OnOk result (plain_gathering lists.new ≡
+        rounds_gathered (plain_component part.now) count (plain_statement body.now) (plain_start start.now)
+        (plain_gathering lists.old)) }
 {
     let timer = number(lists.timers.len())?;
     let length = static_length(part, &body.form)?;
@@ -224,7 +237,9 @@ fn gather_parts(
     start: &Start,
     lists: &mut Gathering,
 ) -> Result<(), Memory>
-    ensures { OnOk result (plain_gathering lists.new ≡ parts_gathered (plain_component part.now) (plain_statements parts.now) (plain_start start.now) (plain_gathering lists.old)) }
+    ensures { OnOk result (plain_gathering lists.new ≡
+        parts_gathered (plain_component part.now) (plain_statements parts.now) (plain_start start.now)
+        (plain_gathering lists.old)) }
 {
     let mut at = start.at;
     for statement in parts {
@@ -248,7 +263,9 @@ fn gather_arms(
     start: &Start,
     lists: &mut Gathering,
 ) -> Result<(), Memory>
-    ensures { OnOk result (plain_gathering lists.new ≡ arms_gathered (plain_component part.now) (plain_statements arms.now) (plain_start start.now) (plain_gathering lists.old)) }
+    ensures { OnOk result (plain_gathering lists.new ≡
+        arms_gathered (plain_component part.now) (plain_statements arms.now) (plain_start start.now)
+        (plain_gathering lists.old)) }
 {
     for statement in arms {
         gather(alloc, part, statement, start, lists)?;

@@ -8,7 +8,9 @@ start = record { line = 1; column = 1 }
 
 -- the place after a byte: behind a line feed the next line begins
 abbrev pub after_byte : Place → ℕ → Place
-after_byte p b = if b == 10 then record { line = p.line + 1; column = 1 } else record { line = p.line; column = p.column + 1 }
+after_byte p b =
+    if b == 10 then record { line = p.line + 1; column = 1 }
+    else record { line = p.line; column = p.column + 1 }
 
 -- the place after bytes that begin at a place
 abbrev pub after_bytes : Place → List ℕ → Place

@@ -6,7 +6,9 @@ use Rattle.cx_trial.specs.TrialControl.{whole_control}
 
 -- two registers and two adders
 abbrev pub arm_cells : ℕ → List PlainCell
-arm_cells arm = cell (codes "r") arm (codes "std_reg") ∷ cell (codes "s") arm (codes "std_reg") ∷ cell (codes "a") arm (codes "std_add") ∷ cell (codes "b") arm (codes "std_add") ∷ []
+arm_cells arm =
+    cell (codes "r") arm (codes "std_reg") ∷ cell (codes "s") arm (codes "std_reg")
+    ∷ cell (codes "a") arm (codes "std_add") ∷ cell (codes "b") arm (codes "std_add") ∷ []
 
 abbrev pub all_cells : List PlainCell
 all_cells = memory_cell ∷ up_to arm_cells 16
@@ -17,7 +19,10 @@ step_groups seed arm = up_to (λ step. step_group seed arm step ∷ []) 8
 
 -- those of an arm: its steps, the group that counts, and the store
 abbrev pub arm_groups : ℕ → ℕ → List PlainWire
-arm_groups seed arm = step_groups seed arm ++ sum_group (indexed (codes "h") arm) (indexed (codes "b") arm) (indexed (codes "s") arm) 1 ∷ store_group arm ∷ []
+arm_groups seed arm =
+    step_groups seed arm
+    ++ sum_group (indexed (codes "h") arm) (indexed (codes "b") arm) (indexed (codes "s") arm) 1
+    ∷ store_group arm ∷ []
 
 abbrev pub all_groups : ℕ → List PlainWire
 all_groups seed = up_to (arm_groups seed) 16

@@ -93,7 +93,8 @@ fn step_group(alloc: Global, seed: u64, arm: u64, step: u64) -> Result<WireItem,
 #[tactic(auto, using(crate::proofs::LoopLemmas::ended))]
 fn push_steps(alloc: Global, wires: &mut Vec<WireItem>, seed: u64, arm: u64) -> Result<(), Memory>
     requires arm { arm < 16 }
-    ensures { IfOk result (λ _. map plain_wire wires.new.items ≡ map plain_wire wires.old.items ++ trees.step_groups seed arm) }
+    ensures { IfOk result
+        (λ _. map plain_wire wires.new.items ≡ map plain_wire wires.old.items ++ trees.step_groups seed arm) }
 {
     for step in 0..STEPS {
         wires.push(step_group(alloc, seed, arm, step)?)?;
@@ -104,7 +105,8 @@ fn push_steps(alloc: Global, wires: &mut Vec<WireItem>, seed: u64, arm: u64) -> 
 /// Appends the groups of an arm.
 fn push_arm(alloc: Global, wires: &mut Vec<WireItem>, seed: u64, arm: u64) -> Result<(), Memory>
     requires arm { arm < 16 }
-    ensures { IfOk result (λ _. map plain_wire wires.new.items ≡ map plain_wire wires.old.items ++ trees.arm_groups seed arm) }
+    ensures { IfOk result
+        (λ _. map plain_wire wires.new.items ≡ map plain_wire wires.old.items ++ trees.arm_groups seed arm) }
 {
     push_steps(alloc, wires, seed, arm)?;
     let name = indexed(alloc, b"h", arm)?;

@@ -64,7 +64,8 @@ pub(crate) fn drive(
     port: &[u8],
     source: OperandItem,
 ) -> Result<(), Memory>
-    ensures { IfOk result (λ _. map plain_assign assigns.new.items ≡ map plain_assign assigns.old.items ++ trial.drive cell.now port.now source ∷ []) }
+    ensures { IfOk result (λ _. map plain_assign assigns.new.items ≡
+        map plain_assign assigns.old.items ++ trial.drive cell.now port.now source ∷ []) }
 {
     let target = port_of(alloc, cell, port)?;
     assigns.push(AssignItem {
@@ -84,7 +85,8 @@ pub(crate) fn finish(
     group: &[u8],
     cell: &[u8],
 ) -> Result<(), Memory>
-    ensures { IfOk result (λ _. map plain_assign assigns.new.items ≡ map plain_assign assigns.old.items ++ trial.finish group.now cell.now ∷ []) }
+    ensures { IfOk result (λ _. map plain_assign assigns.new.items ≡
+        map plain_assign assigns.old.items ++ trial.finish group.now cell.now ∷ []) }
 {
     let group = Name::from_bytes(alloc, group)?;
     let hole = Name::from_bytes(alloc, b"done")?;
@@ -110,7 +112,8 @@ pub(crate) fn push_cell(
     arm: u64,
     kind: &[u8],
 ) -> Result<(), Memory>
-    ensures { IfOk result (λ _. map plain_cell cells.new.items ≡ map plain_cell cells.old.items ++ trial.cell letter.now arm kind.now ∷ []) }
+    ensures { IfOk result (λ _. map plain_cell cells.new.items ≡
+        map plain_cell cells.old.items ++ trial.cell letter.now arm kind.now ∷ []) }
 {
     let name = indexed(alloc, letter, arm)?;
     let kind = Name::from_bytes(alloc, kind)?;

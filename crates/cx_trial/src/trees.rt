@@ -38,7 +38,8 @@ fn memory_cell(alloc: Global) -> Result<CellItem, Memory>
 /// Appends the cells of an arm.
 #[tactic(auto, using(crate::proofs::LoopLemmas::four_more))]
 fn push_arm_cells(alloc: Global, cells: &mut Vec<CellItem>, arm: u64) -> Result<(), Memory>
-    ensures { IfOk result (λ _. map plain_cell cells.new.items ≡ map plain_cell cells.old.items ++ trial.arm_cells arm) }
+    ensures { IfOk result
+        (λ _. map plain_cell cells.new.items ≡ map plain_cell cells.old.items ++ trial.arm_cells arm) }
 {
     push_cell(alloc, cells, b"r", arm, b"std_reg")?;
     push_cell(alloc, cells, b"s", arm, b"std_reg")?;

@@ -41,7 +41,9 @@ pub record AreTables (d : PlainDesign) (tables : List GroupTable) : Type 0 where
 -- a table for each component, and in it a row for each group, which is that of the group in each of its instances
 pub record AreGroups (d : PlainDesign) (rows : List InstanceRow) (tables : List GroupTable) : Type 0 where
   pub count : length tables ≡ length d.components
-  pub each : (n : ℕ) (path : Path) (table : GroupTable) → IsNumber d n path → slice_get tables (row_at rows n).component ≡ Some table
+  pub each : (n : ℕ) (path : Path) (table : GroupTable) → IsNumber d n path
+      → slice_get tables (row_at rows n).component ≡ Some table
       → length table.rows.items ≡ length (part_of (instance_at (tree_of d) path)).groups
-  pub right : (n g : ℕ) (path : Path) (table : GroupTable) (row : GroupRow) → IsNumber d n path → slice_get tables (row_at rows n).component ≡ Some table → slice_get table.rows.items g ≡ Some row
+  pub right : (n g : ℕ) (path : Path) (table : GroupTable) (row : GroupRow) → IsNumber d n path
+      → slice_get tables (row_at rows n).component ≡ Some table → slice_get table.rows.items g ≡ Some row
       → IsGroup (instance_at (tree_of d) path) g row

@@ -15,7 +15,8 @@ use Rattle.cx_state.specs.States.{PlainInstance, inputs_held, StandsFor, under_p
 
 -- a form that is an island where it stands in the dynamic control of instance n
 abbrev pub IsIsland : PlainDesign → ℕ → PlainForm → Type 0
-IsIsland d n form = (path : Path) → IsNumber d n path → is_island_form (part_of (instance_at (tree_of d) path)) form ≡ true
+IsIsland d n form =
+    (path : Path) → IsNumber d n path → is_island_form (part_of (instance_at (tree_of d) path)) form ≡ true
 
 -- the component of instance n
 abbrev pub HasPart : PlainDesign → ℕ → PlainComponent → Type 0
@@ -32,8 +33,10 @@ TellsUnclear n None x = x ≡ None
 TellsUnclear n (Some told) x = (x ≡ Some (fault_at told.kind told.port)) × (told.instance ≡ n)
 
 -- the static ifs that begin in cycle t have been seen, from samples to the next
-pub record SamplesTaken (d : PlainDesign) (rows : List PlainInstance) (n : ℕ) (part : PlainComponent) (form : PlainForm) (t : ℕ) (kept next : Samples) (fault : Option PortFault) : Type 0 where
+pub record SamplesTaken (d : PlainDesign) (rows : List PlainInstance) (n : ℕ) (part : PlainComponent)
+    (form : PlainForm) (t : ℕ) (kept next : Samples) (fault : Option PortFault) : Type 0 where
   pub look : Look
-  pub sees : (path : Path) (s : State) → IsNumber d n path → StandsFor (tree_of d) rows s → look ≡ seen (instance_at (tree_of d) path) (inputs_held rows n) nothing (under_path path s)
+  pub sees : (path : Path) (s : State) → IsNumber d n path → StandsFor (tree_of d) rows s
+      → look ≡ seen (instance_at (tree_of d) path) (inputs_held rows n) nothing (under_path path s)
   pub taken : next ≡ samples_after part (says look) t form kept
   pub unclear : TellsUnclear n fault (first_unclear look (begun_by part next t form))

@@ -43,10 +43,14 @@ IsInstance d n = n < length (paths_of (tree_of d))
 
 -- statements of the dynamic control of instance n
 abbrev pub StandsIn : PlainDesign → ℕ → PlainStatement → Type 0
-StandsIn d n statement = (path : Path) (v : Visited) → IsNumber d n path → In (visit Dynamic statement) v → In (statements_in (part_of (instance_at (tree_of d) path))) v
+StandsIn d n statement =
+    (path : Path) (v : Visited) → IsNumber d n path → In (visit Dynamic statement) v
+    → In (statements_in (part_of (instance_at (tree_of d) path))) v
 
 abbrev pub StandIn : PlainDesign → ℕ → PlainStatements → Type 0
-StandIn d n parts = (path : Path) (v : Visited) → IsNumber d n path → In (visit_all Dynamic parts) v → In (statements_in (part_of (instance_at (tree_of d) path))) v
+StandIn d n parts =
+    (path : Path) (v : Visited) → IsNumber d n path → In (visit_all Dynamic parts) v
+    → In (statements_in (part_of (instance_at (tree_of d) path))) v
 
 -- a form of the dynamic control of instance n
 abbrev pub FormStands : PlainDesign → ℕ → PlainForm → Type 0

@@ -24,7 +24,9 @@ path_of d n = get_or (paths_of (tree_of d)) n []
 
 -- what the ports of instance n are seen as under the continuous assignments alone, in the state that is read off its rows
 abbrev pub look_in : PlainDesign → List PlainInstance → ℕ → Look
-look_in d rows n = seen (instance_at (tree_of d) (path_of d n)) (inputs_held rows n) nothing (under_path (path_of d n) (state_in (tree_of d) rows))
+look_in d rows n =
+    seen (instance_at (tree_of d) (path_of d n)) (inputs_held rows n) nothing
+    (under_path (path_of d n) (state_in (tree_of d) rows))
 
 abbrev pub sight_look : Sight → Look
 sight_look sight = look_in (plain_design sight.evaluator) (plain_state sight.state) sight.instance

@@ -12,5 +12,6 @@ pub record IsReady (given : Design) (words : List (List ℕ)) (begun : Begun) : 
   pub design : begun.plan.design.now ≡ given
   pub plan : IsPlan begun.plan
   pub machine : IsAt begun.plan begun.machine
-  pub stands : StandsFor (tree_of (plain_design given)) (rows_of begun.machine) (start (tree_of (plain_design given)) words)
+  pub stands : StandsFor (tree_of (plain_design given)) (rows_of begun.machine)
+      (start (tree_of (plain_design given)) words)
   pub unheld : IsUnheld (rows_of begun.machine)

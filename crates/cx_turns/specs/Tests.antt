@@ -20,7 +20,8 @@ use Rattle.cx_eval.specs.Evaluated.{fault_along}
 abbrev pub TellsTest : PlainDesign → Path → Result Bool PortFault → Test Fault → Type 0
 TellsTest d path (Ok true) x = x ≡ Holds
 TellsTest d path (Ok false) x = x ≡ Fails
-TellsTest d path (Err told) x = (fault : Fault) × TellsFault (tree_of d) (fault_along path fault) told × (x ≡ Unclear fault)
+TellsTest d path (Err told) x =
+    (fault : Fault) × TellsFault (tree_of d) (fault_along path fault) told × (x ≡ Unclear fault)
 
 -- A TEST IN INSTANCE n, in every state that the rows stand for
 abbrev pub Tested : PlainDesign → List PlainInstance → ℕ → PortRef → Option ℕ → Result Bool PortFault → Type 0

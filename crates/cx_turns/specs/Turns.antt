@@ -31,21 +31,30 @@ rested listed i s (c ∷ []) = if listed c then idle i s (c ∷ []) else s (c �
 rested listed i s (c ∷ e ∷ below) = s (c ∷ e ∷ below)
 
 -- what a turn tells: it is the last, or goes on to a state, or stops at a fault
-abbrev pub TellsTurn : PlainDesign → Path → State → List PlainInstance → List PlainInstance → Set → Turn → answers.Turn State Fault → Type 0
+abbrev pub TellsTurn : PlainDesign → Path → State → List PlainInstance → List PlainInstance → Set → Turn
+    → answers.Turn State Fault → Type 0
 TellsTurn d path s old new driven turns.Ends x = (x ≡ answers.Ends) × (new ≡ old)
-TellsTurn d path s old new driven turns.Goes x = (after : State) × (x ≡ answers.Goes after) × StandsFor (tree_of d) new (put_path path after s) × IsBusy driven (under_path path s) after × HeldAlike old new
-TellsTurn d path s old new driven (turns.Faults fault) x = (f : Fault) × TellsFault (tree_of d) (fault_along path f) fault × (x ≡ answers.Faults f) × (new ≡ old)
+TellsTurn d path s old new driven turns.Goes x =
+    (after : State) × (x ≡ answers.Goes after) × StandsFor (tree_of d) new (put_path path after s)
+    × IsBusy driven (under_path path s) after × HeldAlike old new
+TellsTurn d path s old new driven (turns.Faults fault) x =
+    (f : Fault) × TellsFault (tree_of d) (fault_along path f) fault × (x ≡ answers.Faults f) × (new ≡ old)
 
 -- A TURN in instance n, in each state that differs from a settled one in driven cells alone
-pub record Taken (d : PlainDesign) (old new : List PlainInstance) (n g : ℕ) (driving : Driving) (turn : Turn) : Type 0 where
-  pub tells : (path : Path) (s now : State) → IsNumber d n path → IsSettled (tree_of d) s → IsBusy (driving (instance_at (tree_of d) path)) (under_path path s) now
+pub record Taken (d : PlainDesign) (old new : List PlainInstance) (n g : ℕ) (driving : Driving)
+    (turn : Turn) : Type 0 where
+  pub tells : (path : Path) (s now : State) → IsNumber d n path → IsSettled (tree_of d) s
+      → IsBusy (driving (instance_at (tree_of d) path)) (under_path path s) now
       → StandsFor (tree_of d) old (put_path path now s)
-      → TellsTurn d path s old new (driving (instance_at (tree_of d) path)) turn (group_turn (instance_at (tree_of d) path) (inputs_held old n) g now)
+      → TellsTurn d path s old new (driving (instance_at (tree_of d) path)) turn
+      (group_turn (instance_at (tree_of d) path) (inputs_held old n) g now)
   pub fits : IsStateOf d new
 
 -- LISTED CELLS of instance n have taken their idle edges
 pub record Rested (d : PlainDesign) (old new : List PlainInstance) (n : ℕ) (listed : Set) : Type 0 where
-  pub stands : (path : Path) (s : State) → IsNumber d n path → StandsFor (tree_of d) old s → StandsFor (tree_of d) new (put_path path (rested listed (instance_at (tree_of d) path) (under_path path s)) s)
+  pub stands : (path : Path) (s : State) → IsNumber d n path → StandsFor (tree_of d) old s
+      → StandsFor (tree_of d) new
+      (put_path path (rested listed (instance_at (tree_of d) path) (under_path path s)) s)
   pub held : HeldAlike old new
   pub fits : IsStateOf d new
 
@@ -58,5 +67,7 @@ cycle_as (Err fault) = turns.Faults fault
 abbrev pub HoleTurn : ℕ → ℕ → Truth → Turn → Type 0
 HoleTurn n g One turn = turn ≡ turns.Ends
 HoleTurn n g Zero turn = ⊥
-HoleTurn n g truths.Conflict turn = turn ≡ turns.Faults (record { kind = faults.Conflict; instance = n; port = ports.Done g })
-HoleTurn n g truths.Undefined turn = turn ≡ turns.Faults (record { kind = faults.Undefined; instance = n; port = ports.Done g })
+HoleTurn n g truths.Conflict turn =
+    turn ≡ turns.Faults (record { kind = faults.Conflict; instance = n; port = ports.Done g })
+HoleTurn n g truths.Undefined turn =
+    turn ≡ turns.Faults (record { kind = faults.Undefined; instance = n; port = ports.Done g })

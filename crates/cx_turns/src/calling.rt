@@ -14,7 +14,8 @@ use cx_design_parts::is_primitive_enable;
 /// The first component cell of which assignments of a component drive a port.
 pub(crate) fn first_callee(design: &Design, number: usize, assigns: &[Assign]) -> Option<u32>
     requires within { number < length design.now.components.items }
-    ensures value { result ≡ called_in (cells_of (component_of (plain_design design.now) number)) (plain_assigns assigns.now) }
+    ensures value { result ≡
+        called_in (cells_of (component_of (plain_design design.now) number)) (plain_assigns assigns.now) }
 {
     for assign in assigns {
         if let Some(callee) = callee_of(design, number, assign.target) {
@@ -27,7 +28,8 @@ pub(crate) fn first_callee(design: &Design, number: usize, assigns: &[Assign]) -
 /// Whether assignments of a component drive an enabling port of a primitive cell.
 pub(crate) fn drive_enables(design: &Design, number: usize, assigns: &[Assign]) -> bool
     requires within { number < length design.now.components.items }
-    ensures value { result ≡ captures_in (cells_of (component_of (plain_design design.now) number)) (plain_assigns assigns.now) }
+    ensures value { result ≡
+        captures_in (cells_of (component_of (plain_design design.now) number)) (plain_assigns assigns.now) }
 {
     for assign in assigns {
         if is_primitive_enable(design, number, assign.target) {

@@ -53,7 +53,8 @@ fn hold_input(
     requires child { HasChild (design_of plan.now) instance cell child }
     requires input { IsInputOf (design_of plan.now) child input }
     ensures machine { IsAt plan.now machine.new }
-    ensures held { HoldsInput (design_of plan.now) (rows_of machine.old) (rows_of machine.new) instance group cell child input }
+    ensures held { HoldsInput (design_of plan.now) (rows_of machine.old)
+        (rows_of machine.new) instance group cell child input }
 {
     accepted_group_is_acyclic();
     rows_stand();
@@ -82,7 +83,8 @@ pub fn hold_inputs(
     requires part { IsPart (design_of plan.now) instance cell }
     requires child { HasChild (design_of plan.now) instance cell child }
     ensures machine { IsAt plan.now machine.new }
-    ensures held { HoldsCall (design_of plan.now) (rows_of machine.old) (rows_of machine.new) instance group cell child }
+    ensures held { HoldsCall (design_of plan.now) (rows_of machine.old)
+        (rows_of machine.new) instance group cell child }
 {
     let count = instance_part(plan, child).inputs.len();
     for input in 0..count {

@@ -12,7 +12,8 @@ use std::collections::BTreeSet;
 
 /// The cells of which assignments drive a port, ascending, each once.
 pub(crate) fn driven_cells(alloc: Global, assigns: &[Assign]) -> Result<Vec<u32>, Memory>
-    ensures cells { IfOk result (λ list. (c : ℕ) → listed_in list.items c ≡ assigns_drive (plain_assigns assigns.now) c) }
+    ensures cells { IfOk result
+        (λ list. (c : ℕ) → listed_in list.items c ≡ assigns_drive (plain_assigns assigns.now) c) }
     ensures ascending { IfOk result (λ list. IsAscending list.items) }
 {
     let mut found = BTreeSet::new(alloc);

@@ -56,7 +56,8 @@ pub fn rest(plan: &Plan<'_>, machine: &mut Machine<'_>, instance: usize, listed:
     requires ascending { IsAscending listed.now }
     ensures evaluator { machine.new.sight.evaluator ≡ machine.old.sight.evaluator }
     ensures room { machine.new.room ≡ machine.old.room }
-    ensures rested { Rested (design_of plan.now) (rows_of machine.old) (rows_of machine.new) instance (listed_in listed.now) }
+    ensures rested { Rested (design_of plan.now) (rows_of machine.old) (rows_of machine.new) instance
+        (listed_in listed.now) }
 {
     one_row_changes();
     let number = plan.table.rows[instance].component as usize;

@@ -101,7 +101,9 @@ fn component_tables(alloc: Global, design: &Design) -> Result<Vec<GroupTable>, M
 /// What is known of the groups of each component, which is that of the groups of each of its instances, as a table of the
 /// instances tells their components.
 pub fn group_tables(alloc: Global, design: &Design) -> Result<Vec<GroupTable>, Memory>
-    ensures value { IfOk result (λ tables. (rows : List InstanceRow) (children : List ℕ) → IsTable (plain_design design.now) rows children → AreGroups (plain_design design.now) rows tables.items) }
+    ensures value { IfOk result (λ tables. (rows : List InstanceRow) (children : List ℕ)
+        → IsTable (plain_design design.now) rows children
+        → AreGroups (plain_design design.now) rows tables.items) }
 {
     component_tables(alloc, design)
 }

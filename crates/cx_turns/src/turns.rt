@@ -64,7 +64,8 @@ pub fn take_turn(
     requires listed { ListGroup (design_of plan.now) instance group cells.now }
     ensures evaluator { machine.new.sight.evaluator ≡ machine.old.sight.evaluator }
     ensures room { machine.new.room ≡ machine.old.room }
-    ensures taken { Taken (design_of plan.now) (rows_of machine.old) (rows_of machine.new) instance group (group_driving group) result }
+    ensures taken { Taken (design_of plan.now) (rows_of machine.old) (rows_of machine.new) instance group
+        (group_driving group) result }
 {
     listed_cells_suffice();
     let _ = plan;

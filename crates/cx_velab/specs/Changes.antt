@@ -33,11 +33,14 @@ numbered_stores first (x ∷ items) = item_stores first x ++ numbered_stores (fi
 
 -- the set of a numbered assign in an instance that begins there
 abbrev pub IsSet : Numbering → NetPosition → Set → ℕ × PlainAssign → Type 0
-IsSet nets place x p = option_map (λ k. record { net = place.nets + k; code = p.0; place = place }) (nets p.1.name) ≡ Some x
+IsSet nets place x p =
+    option_map (λ k. record { net = place.nets + k; code = p.0; place = place }) (nets p.1.name) ≡ Some x
 
 abbrev pub IsStore : Numbering → NetPosition → Store → ℕ × PlainStore → Type 0
 IsStore arrays place x p =
-    option_map (λ a. record { array = place.arrays + a; guard = p.0; index = p.0 + 1; value = p.0 + 2; place = place }) (arrays p.1.array) ≡ Some x
+    option_map (λ a.
+    record { array = place.arrays + a; guard = p.0; index = p.0 + 1; value = p.0 + 2; place = place })
+    (arrays p.1.array) ≡ Some x
 
 abbrev pub AddsSets : Numbering → NetPosition → List Set → List Set → List (ℕ × PlainAssign) → Type 0
 AddsSets nets place old new assigns = Adds (IsSet nets place) old new assigns

@@ -32,12 +32,16 @@ AddsCodes nets arrays old new exprs = Adds (IsCode nets arrays) old new exprs
 -- all names in an item have numbers
 abbrev pub ItemHasNumbers : Numbering → Numbering → PlainItem → Type 0
 ItemHasNumbers nets arrays (SetTo a) = HasNumbers nets arrays a.value
-ItemHasNumbers nets arrays (StoreTo s) = HasNumbers nets arrays s.guard × HasNumbers nets arrays s.index × HasNumbers nets arrays s.value
+ItemHasNumbers nets arrays (StoreTo s) =
+    HasNumbers nets arrays s.guard × HasNumbers nets arrays s.index × HasNumbers nets arrays s.value
 
 abbrev pub AssignsHaveNumbers : Numbering → Numbering → List PlainAssign → Type 0
-AssignsHaveNumbers nets arrays assigns = (j : ℕ) (a : PlainAssign) → slice_get assigns j ≡ Some a → HasNumbers nets arrays a.value
+AssignsHaveNumbers nets arrays assigns =
+    (j : ℕ) (a : PlainAssign) → slice_get assigns j ≡ Some a → HasNumbers nets arrays a.value
 
 -- all names in the branches have numbers
 abbrev pub EdgeHasNumbers : Numbering → Numbering → Option PlainEdge → Type 0
 EdgeHasNumbers nets arrays None = Unit {0}
-EdgeHasNumbers nets arrays (Some e) = AssignsHaveNumbers nets arrays e.reset × ((j : ℕ) (x : PlainItem) → slice_get e.step j ≡ Some x → ItemHasNumbers nets arrays x)
+EdgeHasNumbers nets arrays (Some e) =
+    AssignsHaveNumbers nets arrays e.reset
+    × ((j : ℕ) (x : PlainItem) → slice_get e.step j ≡ Some x → ItemHasNumbers nets arrays x)

@@ -12,7 +12,9 @@ use Rattle.cx_velab.specs.Ties.{tied_ports, given_nets}
 -- the net has an origin, and its number a driver that is this origin
 abbrev pub IsRight : List Placed → List Code → List Driver → ℕ → ℕ → Type 0
 IsRight tree codes drivers i k = (name : List ℕ) → slice_get (nets_at tree i) k ≡ Some name
-    → (o : Origin) × (origin_of tree i name ≡ Some o) × ((x : Driver) × (slice_get drivers (nets_before tree i + k) ≡ Some x) × DriverStands tree codes i o x)
+    → (o : Origin) × (origin_of tree i name ≡ Some o)
+    ×
+    ((x : Driver) × (slice_get drivers (nets_before tree i + k) ≡ Some x) × DriverStands tree codes i o x)
 
 -- what was right stays right
 abbrev pub KeepsRight : List Placed → List Code → List Driver → List Driver → Type 0
@@ -20,7 +22,9 @@ KeepsRight tree codes old new = (i k : ℕ) → IsRight tree codes old i k → I
 
 -- no instance has two nets of one name
 abbrev pub NetsAreApart : List Placed → Type 0
-NetsAreApart tree = (i k h : ℕ) (name : List ℕ) → slice_get (nets_at tree i) k ≡ Some name → slice_get (nets_at tree i) h ≡ Some name → k ≡ h
+NetsAreApart tree =
+    (i k h : ℕ) (name : List ℕ) → slice_get (nets_at tree i) k ≡ Some name
+    → slice_get (nets_at tree i) h ≡ Some name → k ≡ h
 
 -- there is a driver for each net of the tree
 abbrev pub IsWhole : List Placed → List Driver → Type 0
@@ -45,13 +49,20 @@ IsTied tree codes drivers i holder k number false = IsRight tree codes drivers i
 
 -- ports that are tied keep what is right, and are right
 abbrev pub TiesAreRight : Type 0
-TiesAreRight = (tree : List Placed) (codes : List Code) (i holder : ℕ) (ports : List PlainPort) (conns : List PlainConn) (drivers : List Driver)
+TiesAreRight =
+    (tree : List Placed) (codes : List Code) (i holder : ℕ) (ports : List PlainPort)
+    (conns : List PlainConn) (drivers : List Driver)
     → NetsAreApart tree → IsWhole tree drivers
-    → ((k : ℕ) (port : PlainPort) (c : PlainConn) → slice_get ports k ≡ Some port → slice_get conns k ≡ Some c → IsConnected tree i holder k port c)
-    → KeepsRight tree codes drivers (tied_ports (position (nets_at tree holder)) (nets_before tree i) (nets_before tree holder) 0 ports conns drivers)
-    × IsWhole tree (tied_ports (position (nets_at tree holder)) (nets_before tree i) (nets_before tree holder) 0 ports conns drivers)
-    × ((k : ℕ) (port : PlainPort) (c : PlainConn) (n : ℕ) → slice_get ports k ≡ Some port → slice_get conns k ≡ Some c → position (nets_at tree holder) c.net ≡ Some n
-    → IsTied tree codes (tied_ports (position (nets_at tree holder)) (nets_before tree i) (nets_before tree holder) 0 ports conns drivers) i holder k n port.output)
+    → ((k : ℕ) (port : PlainPort) (c : PlainConn) → slice_get ports k ≡ Some port →
+    slice_get conns k ≡ Some c → IsConnected tree i holder k port c)
+    → KeepsRight tree codes drivers (tied_ports (position (nets_at tree holder)) (nets_before tree i)
+    (nets_before tree holder) 0 ports conns drivers)
+    × IsWhole tree (tied_ports (position (nets_at tree holder)) (nets_before tree i)
+    (nets_before tree holder) 0 ports conns drivers)
+    × ((k : ℕ) (port : PlainPort) (c : PlainConn) (n : ℕ) → slice_get ports k ≡ Some port →
+    slice_get conns k ≡ Some c → position (nets_at tree holder) c.net ≡ Some n
+    → IsTied tree codes (tied_ports (position (nets_at tree holder)) (nets_before tree i)
+    (nets_before tree holder) 0 ports conns drivers) i holder k n port.output)
 
 -- an assign is the origin of its net, and the code of this number is its expression
 pub record IsGiven (tree : List Placed) (codes : List Code) (i code : ℕ) (a : PlainAssign) : Type 0 where
@@ -62,7 +73,9 @@ pub record IsGiven (tree : List Placed) (codes : List Code) (i code : ℕ) (a : 
 
 -- nets that codes are given to keep what is right, and are right
 abbrev pub GivensAreRight : Type 0
-GivensAreRight = (tree : List Placed) (codes : List Code) (i first : ℕ) (assigns : List PlainAssign) (drivers : List Driver)
+GivensAreRight =
+    (tree : List Placed) (codes : List Code) (i first : ℕ) (assigns : List PlainAssign)
+    (drivers : List Driver)
     → NetsAreApart tree → IsWhole tree drivers
     → ((j : ℕ) (a : PlainAssign) → slice_get assigns j ≡ Some a → IsGiven tree codes i (first + j) a)
     → KeepsRight tree codes drivers (given_nets (position (nets_at tree i)) (place_of tree i) first assigns drivers)

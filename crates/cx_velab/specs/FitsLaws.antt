@@ -25,8 +25,10 @@ pub use Rattle.cx_vlaws.specs.Widths.{scope_at}
 -- what is stored has the widths of the nets and the arrays
 pub record StoredHasWidths (tree : List Placed) (s : Stored) : Type 0 where
   pub count : length s.nets.items ≡ nets_before tree (length tree)
-  pub nets : (i k w : ℕ) → slice_get (widths_at tree i) k ≡ Some w → width_at s.nets.items (nets_before tree i + k) ≡ Some w
-  pub arrays : (i a w : ℕ) → slice_get (array_widths (decls_at tree i)) a ≡ Some w → array_width s.arrays.items (arrays_before tree i + a) ≡ Some w
+  pub nets : (i k w : ℕ) → slice_get (widths_at tree i) k ≡ Some w
+      → width_at s.nets.items (nets_before tree i + k) ≡ Some w
+  pub arrays : (i a w : ℕ) → slice_get (array_widths (decls_at tree i)) a ≡ Some w
+      → array_width s.arrays.items (arrays_before tree i + a) ≡ Some w
   pub even : IsEven s.arrays.items
 
 -- an expression names what is there, and its widths fit and give this one
@@ -36,18 +38,23 @@ IsSound scope e w = (misnames scope e ≡ false) × (fitting_width scope e ≡ S
 -- what gives a net of this width its value is as wide
 abbrev pub IsAsWide : List Placed → ℕ → ℕ → Origin → Type 0
 IsAsWide tree i w Outside = Unit {0}
-IsAsWide tree i w (Tied j net) = (h : ℕ) × (position (nets_at tree j) net ≡ Some h) × (slice_get (widths_at tree j) h ≡ Some w)
+IsAsWide tree i w (Tied j net) =
+    (h : ℕ) × (position (nets_at tree j) net ≡ Some h) × (slice_get (widths_at tree j) h ≡ Some w)
 IsAsWide tree i w (Held v) = Unit {0}
 IsAsWide tree i w (Given e) = IsSound (scope_at tree i) e w
 
 -- what gives each net its value is as wide
 abbrev pub OriginsAreAsWide : List Placed → Type 0
-OriginsAreAsWide tree = (i k w : ℕ) (name : List ℕ) (o : Origin) → slice_get (nets_at tree i) k ≡ Some name → slice_get (widths_at tree i) k ≡ Some w
+OriginsAreAsWide tree =
+    (i k w : ℕ) (name : List ℕ) (o : Origin) → slice_get (nets_at tree i) k ≡ Some name
+    → slice_get (widths_at tree i) k ≡ Some w
     → origin_of tree i name ≡ Some o → IsAsWide tree i w o
 
 -- nets that stand for those of a tree fit what is stored
 abbrev pub NetsFit : Type 0
-NetsFit = (tree : List Placed) (n : Nets) (s : Stored) → NetsStand tree n → StoredHasWidths tree s → OriginsAreAsWide tree → Fits n s
+NetsFit =
+    (tree : List Placed) (n : Nets) (s : Stored) → NetsStand tree n → StoredHasWidths tree s
+    → OriginsAreAsWide tree → Fits n s
 
 -- a register takes a value of its width
 pub record SetIsAsWide (tree : List Placed) (i : ℕ) (a : PlainAssign) : Type 0 where
@@ -58,11 +65,15 @@ pub record SetIsAsWide (tree : List Placed) (i : ℕ) (a : PlainAssign) : Type 0
   pub value : IsSound (scope_at tree i) a.value width
 
 abbrev pub SetsAreAsWide : List Placed → ℕ → Type 0
-SetsAreAsWide tree reset = (i j : ℕ) (a : PlainAssign) → slice_get (acting_sets reset (edge_at tree i)) j ≡ Some a → SetIsAsWide tree i a
+SetsAreAsWide tree reset =
+    (i j : ℕ) (a : PlainAssign) → slice_get (acting_sets reset (edge_at tree i)) j ≡ Some a
+    → SetIsAsWide tree i a
 
 -- sets that stand for those of a tree fit what is stored
 abbrev pub AllSetsFit : Type 0
-AllSetsFit = (tree : List Placed) (table : List Code) (s : Stored) (sets : List Set) (reset : ℕ) → SetsStand tree table reset sets → StoredHasWidths tree s → SetsAreAsWide tree reset
+AllSetsFit =
+    (tree : List Placed) (table : List Code) (s : Stored) (sets : List Set) (reset : ℕ)
+    → SetsStand tree table reset sets → StoredHasWidths tree s → SetsAreAsWide tree reset
     → SetsFit table s.nets.items s.arrays.items sets
 
 -- a word takes a value of its width, by a guard of one bit and an index of some width
@@ -77,13 +88,19 @@ pub record StoreIsAsWide (tree : List Placed) (i : ℕ) (a : PlainStore) : Type 
   pub value : IsSound (scope_at tree i) a.value width
 
 abbrev pub StoresAreAsWide : List Placed → ℕ → Type 0
-StoresAreAsWide tree reset = (i j : ℕ) (a : PlainStore) → slice_get (acting_stores reset (edge_at tree i)) j ≡ Some a → StoreIsAsWide tree i a
+StoresAreAsWide tree reset =
+    (i j : ℕ) (a : PlainStore) → slice_get (acting_stores reset (edge_at tree i)) j ≡ Some a
+    → StoreIsAsWide tree i a
 
 -- stores that stand for those of a tree fit what is stored
 abbrev pub AllStoresFit : Type 0
-AllStoresFit = (tree : List Placed) (table : List Code) (s : Stored) (stores : List Store) (reset : ℕ) → StoresStand tree table reset stores → StoredHasWidths tree s → StoresAreAsWide tree reset
+AllStoresFit =
+    (tree : List Placed) (table : List Code) (s : Stored) (stores : List Store) (reset : ℕ)
+    → StoresStand tree table reset stores → StoredHasWidths tree s → StoresAreAsWide tree reset
     → StoresFit table s.nets.items s.arrays.items stores
 
 -- zeros have the widths of the nets and the arrays
 abbrev pub ZerosFit : Type 0
-ZerosFit = (tree : List Placed) (s : Stored) → s.nets.items ≡ all_zeros tree → map plain_words s.arrays.items ≡ all_zero_arrays tree → StoredHasWidths tree s
+ZerosFit =
+    (tree : List Placed) (s : Stored) → s.nets.items ≡ all_zeros tree
+    → map plain_words s.arrays.items ≡ all_zero_arrays tree → StoredHasWidths tree s

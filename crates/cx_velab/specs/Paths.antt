@@ -24,4 +24,6 @@ all_dotted tree (i ∷ is) = dotted tree i ++ all_dotted tree is
 
 -- the names of the instances down to this one, without `main`, and of the net, joined by dots
 abbrev pub path_of : List Placed → ℕ → ℕ → List ℕ
-path_of tree instance net = all_dotted tree (reverse (up tree instance instance)) ++ unwrap_or (slice_get (nets_at tree instance) net) []
+path_of tree instance net =
+    all_dotted tree (reverse (up tree instance instance))
+    ++ unwrap_or (slice_get (nets_at tree instance) net) []

@@ -19,12 +19,16 @@ tied_by false port net drivers = slice_set drivers port (Tied net)
 abbrev pub tied_ports : Numbering → ℕ → ℕ → ℕ → List PlainPort → List PlainConn → List Driver → List Driver
 tied_ports nets inner outer k [] conns drivers = drivers
 tied_ports nets inner outer k (p ∷ ps) [] drivers = drivers
-tied_ports nets inner outer k (p ∷ ps) (c ∷ cs) drivers = tied_ports nets inner outer (k + 1) ps cs (tied_by p.output (inner + k) (outer + number_or_0 nets c.net) drivers)
+tied_ports nets inner outer k (p ∷ ps) (c ∷ cs) drivers =
+    tied_ports nets inner outer (k + 1) ps cs
+    (tied_by p.output (inner + k) (outer + number_or_0 nets c.net) drivers)
 
 -- the nets of an instance that expressions are assigned to, whose codes are numbered from `first` on
 abbrev pub given_nets : Numbering → NetPosition → ℕ → List PlainAssign → List Driver → List Driver
 given_nets nets place first [] drivers = drivers
-given_nets nets place first (a ∷ rest) drivers = given_nets nets place (first + 1) rest (slice_set drivers (place.nets + number_or_0 nets a.name) (Given first place))
+given_nets nets place first (a ∷ rest) drivers =
+    given_nets nets place (first + 1) rest
+    (slice_set drivers (place.nets + number_or_0 nets a.name) (Given first place))
 
 -- what is numbered from `start` on has its place among so many
 abbrev pub AreWithin : Numbering → ℕ → ℕ → Type 0

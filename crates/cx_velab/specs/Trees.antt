@@ -12,7 +12,9 @@ pub record PlainPending : Type 0 where
 -- all instances that they stand for, from number `number` on
 abbrev pub trees : List PlainPending → ℕ → List Placed
 trees [] number = []
-trees (p ∷ ps) number = let t = below (tree_from (reverse p.before)) p.holder number p.instances in t ++ trees ps (number + length t)
+trees (p ∷ ps) number =
+    let t = below (tree_from (reverse p.before)) p.holder number p.instances in
+    t ++ trees ps (number + length t)
 
 -- the module of a name and those before it, where the modules stand the last one first
 abbrev pub found_from : List PlainModule → List ℕ → Option (PlainModule × List PlainModule)
@@ -26,7 +28,8 @@ costs cost (i ∷ rest) = cost i + costs cost rest
 
 abbrev pub cost_from : List PlainModule → PlainInstance → ℕ
 cost_from [] i = 1
-cost_from (m ∷ before) i = if same_name m.name i.kind then 2 + costs (cost_from before) m.instances else cost_from before i
+cost_from (m ∷ before) i =
+    if same_name m.name i.kind then 2 + costs (cost_from before) m.instances else cost_from before i
 
 abbrev pub work : List PlainPending → ℕ
 work [] = 0

@@ -16,7 +16,9 @@ widths_at tree i = net_widths (ports_at tree i) (decls_at tree i)
 
 -- the number of a net has a zero of its width
 abbrev pub ZerosHaveWidths : Type 0
-ZerosHaveWidths = (tree : List Placed) (i k w : ℕ) → slice_get (widths_at tree i) k ≡ Some w → slice_get (all_zeros tree) (nets_before tree i + k) ≡ Some (zero_of w)
+ZerosHaveWidths =
+    (tree : List Placed) (i k w : ℕ) → slice_get (widths_at tree i) k ≡ Some w
+    → slice_get (all_zeros tree) (nets_before tree i + k) ≡ Some (zero_of w)
 
 -- all registers, words and inputs are 0
 abbrev pub zero_moment : Moment
@@ -26,9 +28,13 @@ zero_moment =
 
 -- the inputs of `main` have one bit
 abbrev pub InputsAreBits : List Placed → Type 0
-InputsAreBits tree = (i k : ℕ) (name : List ℕ) → slice_get (nets_at tree i) k ≡ Some name → origin_of tree i name ≡ Some Outside → slice_get (widths_at tree i) k ≡ Some 1
+InputsAreBits tree =
+    (i k : ℕ) (name : List ℕ) → slice_get (nets_at tree i) k ≡ Some name
+    → origin_of tree i name ≡ Some Outside → slice_get (widths_at tree i) k ≡ Some 1
 
 -- zeros stand for a cycle in which all is 0
 abbrev pub ZerosStand : Type 0
-ZerosStand = (tree : List Placed) (s : Stored) → AreApart tree → InputsAreBits tree → s.nets.items ≡ all_zeros tree → map plain_words s.arrays.items ≡ all_zero_arrays tree
+ZerosStand =
+    (tree : List Placed) (s : Stored) → AreApart tree → InputsAreBits tree → s.nets.items ≡ all_zeros tree
+    → map plain_words s.arrays.items ≡ all_zero_arrays tree
     → StoredStands tree zero_moment s

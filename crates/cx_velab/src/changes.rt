@@ -36,7 +36,8 @@ pub fn push_sets(
     requires named { AreNamed (nets_by numbers.now) (map plain_assign assigns.now) }
     requires small { AreSmall (nets_by numbers.now) place.nets }
     requires codes { first + length assigns.now < 2 ^ 32 }
-    ensures { OnOk result (AddsSets (nets_by numbers.now) place sets.old.items sets.new.items (numbered first (map plain_assign assigns.now))) }
+    ensures { OnOk result (AddsSets (nets_by numbers.now) place sets.old.items sets.new.items
+        (numbered first (map plain_assign assigns.now))) }
 {
     let mut code = first;
     for assign in assigns {
@@ -76,8 +77,11 @@ fn push_item(
     requires arrays { AreSmall (arrays_by numbers.now) place.arrays }
     requires codes { code + length (item_exprs (plain_item item.now)) < 2 ^ 32 }
     ensures next { IfOk result (λ n. n ≡ code + length (item_exprs (plain_item item.now))) }
-    ensures sets { OnOk result (AddsSets (nets_by numbers.now) place sets.old.items sets.new.items (item_sets code (plain_item item.now))) }
-    ensures stores { OnOk result (AddsStores (arrays_by numbers.now) place stores.old.items stores.new.items (item_stores code (plain_item item.now))) }
+    ensures sets { OnOk result (AddsSets (nets_by numbers.now) place sets.old.items sets.new.items
+        (item_sets code (plain_item item.now))) }
+    ensures stores { OnOk result (AddsStores
+        (arrays_by numbers.now) place stores.old.items stores.new.items
+        (item_stores code (plain_item item.now))) }
 {
     match item {
         EdgeItem::Set(assign) => {
@@ -104,8 +108,11 @@ pub fn push_items(
     requires nets { AreSmall (nets_by numbers.now) place.nets }
     requires arrays { AreSmall (arrays_by numbers.now) place.arrays }
     requires codes { first + length (items_exprs (map plain_item items.now)) < 2 ^ 32 }
-    ensures sets { OnOk result (AddsSets (nets_by numbers.now) place sets.old.items sets.new.items (numbered_sets first (map plain_item items.now))) }
-    ensures stores { OnOk result (AddsStores (arrays_by numbers.now) place stores.old.items stores.new.items (numbered_stores first (map plain_item items.now))) }
+    ensures sets { OnOk result (AddsSets (nets_by numbers.now) place sets.old.items sets.new.items
+        (numbered_sets first (map plain_item items.now))) }
+    ensures stores { OnOk result (AddsStores
+        (arrays_by numbers.now) place stores.old.items stores.new.items
+        (numbered_stores first (map plain_item items.now))) }
 {
     let mut code = first;
     for item in items {

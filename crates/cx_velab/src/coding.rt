@@ -20,7 +20,8 @@ fn push_code(
     expr: &Expr,
 ) -> Result<(), Memory>
     requires { HasNumbers (nets_by numbers.now) (arrays_by numbers.now) (plain_expr expr.now) }
-    ensures { OnOk result (AddsCodes (nets_by numbers.now) (arrays_by numbers.now) codes.old.items codes.new.items (plain_expr expr.now ∷ [])) }
+    ensures { OnOk result (AddsCodes (nets_by numbers.now)
+        (arrays_by numbers.now) codes.old.items codes.new.items (plain_expr expr.now ∷ [])) }
 {
     let made = code(alloc, numbers, expr)?;
     codes.push(made)?;
@@ -35,7 +36,8 @@ fn push_assigns(
     assigns: &[NetAssign],
 ) -> Result<(), Memory>
     requires { AssignsHaveNumbers (nets_by numbers.now) (arrays_by numbers.now) (map plain_assign assigns.now) }
-    ensures { OnOk result (AddsCodes (nets_by numbers.now) (arrays_by numbers.now) codes.old.items codes.new.items (values_of (map plain_assign assigns.now))) }
+    ensures { OnOk result (AddsCodes (nets_by numbers.now)
+        (arrays_by numbers.now) codes.old.items codes.new.items (values_of (map plain_assign assigns.now))) }
 {
     for assign in assigns {
         push_code(alloc, codes, numbers, &assign.value)?;
@@ -51,7 +53,8 @@ fn push_item(
     item: &EdgeItem,
 ) -> Result<(), Memory>
     requires { ItemHasNumbers (nets_by numbers.now) (arrays_by numbers.now) (plain_item item.now) }
-    ensures { OnOk result (AddsCodes (nets_by numbers.now) (arrays_by numbers.now) codes.old.items codes.new.items (item_exprs (plain_item item.now))) }
+    ensures { OnOk result (AddsCodes (nets_by numbers.now)
+        (arrays_by numbers.now) codes.old.items codes.new.items (item_exprs (plain_item item.now))) }
 {
     match item {
         EdgeItem::Set(assign) => {
@@ -79,8 +82,10 @@ fn push_items(
     numbers: &ModuleNumbers<'_>,
     items: &[EdgeItem],
 ) -> Result<(), Memory>
-    requires { (j : ℕ) (x : PlainItem) → slice_get (map plain_item items.now) j ≡ Some x → ItemHasNumbers (nets_by numbers.now) (arrays_by numbers.now) x }
-    ensures { OnOk result (AddsCodes (nets_by numbers.now) (arrays_by numbers.now) codes.old.items codes.new.items (items_exprs (map plain_item items.now))) }
+    requires { (j : ℕ) (x : PlainItem) → slice_get (map plain_item items.now) j ≡ Some x →
+        ItemHasNumbers (nets_by numbers.now) (arrays_by numbers.now) x }
+    ensures { OnOk result (AddsCodes (nets_by numbers.now)
+        (arrays_by numbers.now) codes.old.items codes.new.items (items_exprs (map plain_item items.now))) }
 {
     for item in items {
         push_item(alloc, codes, numbers, item)?;
@@ -96,7 +101,8 @@ fn push_edge(
     edge: &Option<Edge>,
 ) -> Result<(), Memory>
     requires { EdgeHasNumbers (nets_by numbers.now) (arrays_by numbers.now) (option_map plain_edge edge.now) }
-    ensures { OnOk result (AddsCodes (nets_by numbers.now) (arrays_by numbers.now) codes.old.items codes.new.items (edge_exprs (option_map plain_edge edge.now))) }
+    ensures { OnOk result (AddsCodes (nets_by numbers.now)
+        (arrays_by numbers.now) codes.old.items codes.new.items (edge_exprs (option_map plain_edge edge.now))) }
 {
     match edge {
         None => Ok(()),
@@ -117,7 +123,8 @@ pub(crate) fn push_module(
 ) -> Result<(), Memory>
     requires assigns { AssignsHaveNumbers (nets_by numbers.now) (arrays_by numbers.now) (plain_module part.now).assigns }
     requires edge { EdgeHasNumbers (nets_by numbers.now) (arrays_by numbers.now) (plain_module part.now).edge }
-    ensures { OnOk result (AddsCodes (nets_by numbers.now) (arrays_by numbers.now) codes.old.items codes.new.items (module_exprs (plain_module part.now))) }
+    ensures { OnOk result (AddsCodes (nets_by numbers.now)
+        (arrays_by numbers.now) codes.old.items codes.new.items (module_exprs (plain_module part.now))) }
 {
     push_assigns(alloc, codes, numbers, &part.assigns)?;
     push_edge(alloc, codes, numbers, &part.edge)?;

@@ -66,7 +66,8 @@ pub fn find<'a>(
     kind: &Name,
 ) -> Option<(&'a Module, usize)>
     requires { HasLast last.now (plain_modules modules.now) }
-    ensures { option_map (plain_found (plain_modules modules.now)) result ≡ found_from (reverse (take count (plain_modules modules.now))) kind.now }
+    ensures { option_map (plain_found (plain_modules modules.now)) result ≡
+        found_from (reverse (take count (plain_modules modules.now))) kind.now }
 {
     let Some(number) = last.get(kind.bytes()) else {
         return None;

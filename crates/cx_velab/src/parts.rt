@@ -68,8 +68,10 @@ fn part_number<'a>(
     requires named { ModulesAreNamed (map placed_of rows.now) }
     requires can { AllCanCode (map placed_of rows.now) }
     requires found { AreFound (map placed_of rows.now) found.old list.old.items codes.old.items }
-    ensures number { IfOk result (λ j. (p : Placed) → slice_get (map placed_of rows.now) i ≡ Some p → HasPart list.new.items codes.new.items j p.part) }
-    ensures kept { OnOk result ((j : ℕ) (m : PlainModule) → HasPart list.old.items codes.old.items j m → HasPart list.new.items codes.new.items j m) }
+    ensures number { IfOk result (λ j. (p : Placed) → slice_get (map placed_of rows.now) i ≡ Some p
+        → HasPart list.new.items codes.new.items j p.part) }
+    ensures kept { OnOk result ((j : ℕ) (m : PlainModule) → HasPart list.old.items codes.old.items j m →
+        HasPart list.new.items codes.new.items j m) }
     ensures found { OnOk result (AreFound (map placed_of rows.now) found.new list.new.items codes.new.items) }
 {
     let part = rows[i].module;

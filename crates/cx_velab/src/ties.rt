@@ -36,7 +36,8 @@ pub fn tie_ports(
     requires inner { inner + length ports.now ≤ length drivers.old }
     requires outer { AreWithin (nets_by numbers.now) outer (length drivers.old) }
     requires small { length drivers.old < 2 ^ 32 }
-    ensures { drivers.new ≡ tied_ports (nets_by numbers.now) inner outer 0 (map plain_port ports.now) (map plain_conn conns.now) drivers.old }
+    ensures { drivers.new ≡ tied_ports (nets_by numbers.now) inner outer 0 (map plain_port ports.now)
+        (map plain_conn conns.now) drivers.old }
 {
     for (k, port) in ports.iter().enumerate() {
         let net = outer + numbers.net(&conns[k].net);

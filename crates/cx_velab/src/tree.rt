@@ -38,8 +38,15 @@ fn step<'a>(
     top: Pending<'a>,
 ) -> Result<(), Memory>
     requires { HasLast last.now (plain_modules modules.now) }
-    ensures tree { OnOk result (map placed_of rows.new.items ++ trees (reverse (map (plain_pending (plain_modules modules.now)) pending.new.items)) (length rows.new.items) ≡ map placed_of rows.old.items ++ trees (plain_pending (plain_modules modules.now) top.entry ∷ reverse (map (plain_pending (plain_modules modules.now)) pending.old.items)) (length rows.old.items)) }
-    ensures less { OnOk result (work (reverse (map (plain_pending (plain_modules modules.now)) pending.new.items)) < work (plain_pending (plain_modules modules.now) top.entry ∷ reverse (map (plain_pending (plain_modules modules.now)) pending.old.items))) }
+    ensures tree { OnOk result (map placed_of rows.new.items ++
+        trees (reverse (map (plain_pending (plain_modules modules.now)) pending.new.items))
+        (length rows.new.items) ≡ map placed_of rows.old.items
+        ++ trees (plain_pending (plain_modules modules.now) top.entry ∷
+        reverse (map (plain_pending (plain_modules modules.now)) pending.old.items)) (length rows.old.items)) }
+    ensures less { OnOk result (work
+        (reverse (map (plain_pending (plain_modules modules.now)) pending.new.items)) <
+        work (plain_pending (plain_modules modules.now) top.entry ∷
+        reverse (map (plain_pending (plain_modules modules.now)) pending.old.items))) }
 {
     if let Some((instance, rest)) = top.instances.split_first() {
         pending.push(Pending {
@@ -71,7 +78,8 @@ pub fn rows<'a>(
     modules: &'a [Module],
     instances: &'a [Instance],
 ) -> Result<Vec<Row<'a>>, Memory>
-    ensures { IfOk result (λ rows. map placed_of rows.items ≡ below (tree_from (reverse (plain_modules modules.now))) 0 0 (map plain_instance instances.now)) }
+    ensures { IfOk result (λ rows. map placed_of rows.items ≡
+        below (tree_from (reverse (plain_modules modules.now))) 0 0 (map plain_instance instances.now)) }
 {
     let last = last_numbers(alloc, modules)?;
     let mut rows = Vec::new(alloc);

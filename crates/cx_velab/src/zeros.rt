@@ -30,7 +30,8 @@ fn zero(width: u8) -> Bits
 /// Appends a zero for each port.
 fn push_ports(nets: &mut Vec<Bits>, ports: &[ModulePort]) -> Result<(), Memory>
     requires { (j : ℕ) (p : PlainPort) → slice_get (map plain_port ports.now) j ≡ Some p → IsWidth p.width }
-    ensures { OnOk result (nets.new.items ≡ nets.old.items ++ map zero_of (map (λ p. p.width) (map plain_port ports.now))) }
+    ensures { OnOk result
+        (nets.new.items ≡ nets.old.items ++ map zero_of (map (λ p. p.width) (map plain_port ports.now))) }
 {
     for port in ports {
         nets.push(zero(port.width))?;
@@ -41,7 +42,8 @@ fn push_ports(nets: &mut Vec<Bits>, ports: &[ModulePort]) -> Result<(), Memory>
 /// Appends a zero for each wire and register.
 fn push_decls(nets: &mut Vec<Bits>, decls: &[Decl]) -> Result<(), Memory>
     requires { (j : ℕ) (d : PlainDecl) → slice_get (map plain_decl decls.now) j ≡ Some d → IsWidth (decl_width d) }
-    ensures { OnOk result (nets.new.items ≡ nets.old.items ++ map zero_of (declared_widths (map plain_decl decls.now))) }
+    ensures { OnOk result
+        (nets.new.items ≡ nets.old.items ++ map zero_of (declared_widths (map plain_decl decls.now))) }
 {
     for decl in decls {
         match decl {
@@ -55,7 +57,8 @@ fn push_decls(nets: &mut Vec<Bits>, decls: &[Decl]) -> Result<(), Memory>
 /// An array of zeros.
 fn zero_words(alloc: Global, width: u8, length: u64) -> Result<Words, Memory>
     requires { IsWidth width }
-    ensures { IfOk result (λ x. plain_words x ≡ record { zero = zero_of width; words = replicate length (zero_of width) }) }
+    ensures { IfOk result
+        (λ x. plain_words x ≡ record { zero = zero_of width; words = replicate length (zero_of width) }) }
 {
     let zero = zero(width);
     let mut words = Vec::new(alloc);
@@ -68,7 +71,8 @@ fn zero_words(alloc: Global, width: u8, length: u64) -> Result<Words, Memory>
 /// Appends the arrays.
 fn push_arrays(alloc: Global, arrays: &mut Vec<Words>, decls: &[Decl]) -> Result<(), Memory>
     requires { (j : ℕ) (d : PlainDecl) → slice_get (map plain_decl decls.now) j ≡ Some d → IsWidth (decl_width d) }
-    ensures { OnOk result (map plain_words arrays.new.items ≡ map plain_words arrays.old.items ++ zero_arrays (map plain_decl decls.now)) }
+    ensures { OnOk result (map plain_words arrays.new.items ≡
+        map plain_words arrays.old.items ++ zero_arrays (map plain_decl decls.now)) }
 {
     for decl in decls {
         if let Decl::Array { width, length, .. } = decl {

@@ -6,8 +6,10 @@ use Rattle.cx_vtree.specs.InstanceTree.{same_name}
 -- the ports of `main`
 abbrev pub main_ports : List PlainPort
 main_ports =
-    record { output = false; name = codes "clk"; width = 1 } ∷ record { output = false; name = codes "reset"; width = 1 }
-    ∷ record { output = false; name = codes "go"; width = 1 } ∷ record { output = true; name = codes "done"; width = 1 } ∷ []
+    record { output = false; name = codes "clk"; width = 1 }
+    ∷ record { output = false; name = codes "reset"; width = 1 }
+    ∷ record { output = false; name = codes "go"; width = 1 }
+    ∷ record { output = true; name = codes "done"; width = 1 } ∷ []
 
 -- the expression reads the net of this name
 abbrev pub reads_net : PlainExpr → List ℕ → Bool

@@ -12,7 +12,8 @@ pub fn counts_are_bounded()
     ensures nets { (source : PlainSource) → is_sound source ≡ true → nets_count (instances_of source) ≤ 4194304 }
     ensures instances { (source : PlainSource) → is_sound source ≡ true → length (instances_of source) ≤ 131072 }
     ensures words { (source : PlainSource) → is_sound source ≡ true → words_count (instances_of source) ≤ 4194304 }
-    ensures arrays { (source : PlainSource) → is_sound source ≡ true → arrays_count (instances_of source) ≤ words_count (instances_of source) }
+    ensures arrays { (source : PlainSource) → is_sound source ≡ true →
+        arrays_count (instances_of source) ≤ words_count (instances_of source) }
 {}
 
 /// An array has 1 to 4,194,304 words.
@@ -27,6 +28,7 @@ pub fn counts_go_by_instances()
         → f (length tree) ≡ nets_count tree }
     ensures arrays { (tree : List Placed) (f : ℕ → ℕ) → f 0 ≡ 0 → ((i : ℕ) → f (suc i) ≡ f i + length (arrays_at tree i))
         → f (length tree) ≡ arrays_count tree }
-    ensures words { (tree : List Placed) (f : ℕ → ℕ) → f 0 ≡ 0 → ((i : ℕ) → f (suc i) ≡ f i + declared_words (decls_at tree i))
+    ensures words { (tree : List Placed) (f : ℕ → ℕ) → f 0 ≡ 0 →
+        ((i : ℕ) → f (suc i) ≡ f i + declared_words (decls_at tree i))
         → f (length tree) ≡ words_count tree }
 {}

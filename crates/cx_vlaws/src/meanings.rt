@@ -11,9 +11,11 @@ ghost use Rattle.cx_vlaws.specs.Origins.{IsNet, width_at};
 /// The name of a port or a declaration stands for it.
 pub fn names_stand_for_their_parts()
     ensures ports { (source : PlainSource) (i k : ℕ) (p : PlainPort) → is_sound source ≡ true
-        → slice_get (ports_at (instances_of source) i) k ≡ Some p → scope_at (instances_of source) i p.name ≡ port_meaning p }
+        → slice_get (ports_at (instances_of source) i) k ≡ Some p
+        → scope_at (instances_of source) i p.name ≡ port_meaning p }
     ensures decls { (source : PlainSource) (i k : ℕ) (d : PlainDecl) → is_sound source ≡ true
-        → slice_get (decls_at (instances_of source) i) k ≡ Some d → scope_at (instances_of source) i (decl_name d) ≡ decl_meaning d }
+        → slice_get (decls_at (instances_of source) i) k ≡ Some d
+        → scope_at (instances_of source) i (decl_name d) ≡ decl_meaning d }
 {}
 
 /// What a name that is read or driven stands for is there: a net, or an array.
@@ -29,8 +31,10 @@ pub fn widths_are_bounded()
     ensures ports { (source : PlainSource) (i k : ℕ) (p : PlainPort) → is_sound source ≡ true
         → slice_get (ports_at (instances_of source) i) k ≡ Some p → (0 < p.width) × (p.width ≤ 128) }
     ensures decls { (source : PlainSource) (i k : ℕ) (d : PlainDecl) → is_sound source ≡ true
-        → slice_get (decls_at (instances_of source) i) k ≡ Some d → (0 < width_of (decl_meaning d)) × (width_of (decl_meaning d) ≤ 128) }
-    ensures nets { (source : PlainSource) (i : ℕ) (n : List ℕ) → is_sound source ≡ true → IsNet (instances_of source) i n
+        → slice_get (decls_at (instances_of source) i) k ≡ Some d
+        → (0 < width_of (decl_meaning d)) × (width_of (decl_meaning d) ≤ 128) }
+    ensures nets { (source : PlainSource) (i : ℕ) (n : List ℕ) → is_sound source ≡ true →
+        IsNet (instances_of source) i n
         → (0 < width_at (instances_of source) i n) × (width_at (instances_of source) i n ≤ 128) }
 {}
 

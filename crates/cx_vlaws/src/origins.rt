@@ -12,7 +12,8 @@ ghost use Rattle.cx_vlaws.specs.Drivers.{IsDriven};
 /// Each net has an origin: the net that it is tied to is there and is as wide, an expression names what is there and is as
 /// wide, and only `main` has inputs from outside.
 pub fn nets_have_origins()
-    ensures { (source : PlainSource) (i : ℕ) (name : List ℕ) → is_sound source ≡ true → IsNet (instances_of source) i name
+    ensures { (source : PlainSource) (i : ℕ) (name : List ℕ) → is_sound source ≡ true →
+        IsNet (instances_of source) i name
         → (o : Origin) × (origin_of (instances_of source) i name ≡ Some o)
         × IsThere (instances_of source) i (width_at (instances_of source) i name) o }
 {}

@@ -22,7 +22,8 @@ address _ = codes "addr3"
 
 -- address n is below its size, where not every number of its width is
 abbrev pub below : ℕ → ℕ → ℕ → PlainExpr
-below n size width = if nat_le (2 ^ width) size then literal 1 1 else Applied Less (net (address n)) (literal width size)
+below n size width =
+    if nat_le (2 ^ width) size then literal 1 1 else Applied Less (net (address n)) (literal width size)
 
 -- each address from n on is below its size
 abbrev pub in_range : ℕ → List ℕ → List ℕ → PlainExpr
@@ -33,12 +34,15 @@ in_range n _ _ = literal 1 1
 -- address n, cut to the width of the index or with zeros above
 abbrev pub fitted : ℕ → ℕ → ℕ → PlainExpr
 fitted n width index_width =
-    if nat_le index_width width then part (address n) (index_width - 1) 0 else Joined (literal (index_width - width) 0) (net (address n))
+    if nat_le index_width width then part (address n) (index_width - 1) 0
+    else Joined (literal (index_width - width) 0) (net (address n))
 
 -- the number of the word, in row-major order: each address from n on times the number of words of the dimensions behind it
 abbrev pub index : ℕ → ℕ → List ℕ → List ℕ → PlainExpr
 index n index_width (size ∷ sizes) (width ∷ widths) =
     if length sizes == 0
     then fitted n width index_width
-    else Applied Add (Applied Multiply (fitted n width index_width) (literal index_width (word_count sizes))) (index (n + 1) index_width sizes widths)
+    else Applied Add
+    (Applied Multiply (fitted n width index_width) (literal index_width (word_count sizes)))
+    (index (n + 1) index_width sizes widths)
 index n index_width _ _ = literal index_width 0

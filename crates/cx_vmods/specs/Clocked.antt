@@ -13,7 +13,9 @@ done_after enable = Register (codes "finished") 1 (net enable) ∷ Output (codes
 
 -- with `write_en` a register takes `in`
 abbrev pub taking : ℕ → List Piece
-taking width = Register (codes "held") width (Chosen (net (codes "write_en")) (net (codes "in")) (net (codes "held"))) ∷ []
+taking width =
+    Register (codes "held") width (Chosen (net (codes "write_en")) (net (codes "in")) (net (codes "held")))
+    ∷ []
 
 abbrev pub register : ℕ → List Piece
 register width = taking width ++ done_after (codes "write_en") ++ Output (codes "out") (net (codes "held")) ∷ []
@@ -81,22 +83,29 @@ operands width =
 
 -- the divisor goes into the remainder with one more bit, of which the highest is cut off
 abbrev pub takes : ℕ → PlainExpr
-takes width = Applied Or (part (codes "rest_now") (width - 1) (width - 1)) (Applied AtLeast (net (codes "longer")) (net (codes "divisor_now")))
+takes width =
+    Applied Or (part (codes "rest_now") (width - 1) (width - 1))
+    (Applied AtLeast (net (codes "longer")) (net (codes "divisor_now")))
 
 -- the remainder with the next bit of the dividend below it
 abbrev pub longer : ℕ → List Piece
 longer width =
-    Wire (codes "longer") width (Applied Add (shifted ShiftLeft (codes "rest_now") width 1) (shifted ShiftRight (codes "digits_now") width (width - 1)))
+    Wire (codes "longer") width (Applied Add (shifted ShiftLeft (codes "rest_now") width 1)
+    (shifted ShiftRight (codes "digits_now") width (width - 1)))
     ∷ Wire (codes "takes") 1 (takes width)
     ∷ []
 
 -- the divisor is taken off where it goes into it
 abbrev pub rest_next : PlainExpr
-rest_next = Chosen (net (codes "takes")) (Applied Subtract (net (codes "longer")) (net (codes "divisor_now"))) (net (codes "longer"))
+rest_next =
+    Chosen (net (codes "takes")) (Applied Subtract (net (codes "longer")) (net (codes "divisor_now")))
+    (net (codes "longer"))
 
 -- the bits of the dividend that are left, and below them those of the quotient so far
 abbrev pub digits_next : ℕ → PlainExpr
-digits_next width = Applied Add (shifted ShiftLeft (codes "digits_now") width 1) (Chosen (net (codes "takes")) (literal width 1) (literal width 0))
+digits_next width =
+    Applied Add (shifted ShiftLeft (codes "digits_now") width 1)
+    (Chosen (net (codes "takes")) (literal width 1) (literal width 0))
 
 abbrev pub one_bit : ℕ → List Piece
 one_bit width = Wire (codes "rest_next") width rest_next ∷ Wire (codes "digits_next") width (digits_next width) ∷ []

@@ -23,7 +23,9 @@ slice out_width = giving (part (codes "in") (out_width - 1) 0)
 
 -- zeros above; where no bit is added there are none
 abbrev pub pad : ℕ → ℕ → List Piece
-pad width out_width = if nat_le out_width width then wire else giving (Joined (literal (out_width - width) 0) (net (codes "in")))
+pad width out_width =
+    if nat_le out_width width then wire
+    else giving (Joined (literal (out_width - width) 0) (net (codes "in")))
 
 abbrev pub operator : Operator → List Piece
 operator op = giving (Applied op (net (codes "left")) (net (codes "right")))

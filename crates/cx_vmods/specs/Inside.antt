@@ -32,7 +32,8 @@ abbrev pub value_of : PlainModule → Kept → List Known → PlainExpr → Opti
 value_of m kept ks e = expr_in (found ks) (word_in kept.word m.decls) e
 
 -- a register has what is kept, and a net that is driven has the value of what is assigned to it
-abbrev pub value_by : (PlainExpr → Option BitVector) → (List ℕ → ℕ) → List ℕ → Option PlainExpr → Option NetKind → Option BitVector
+abbrev pub value_by : (PlainExpr → Option BitVector) → (List ℕ → ℕ) → List ℕ → Option PlainExpr
+    → Option NetKind → Option BitVector
 value_by value register name given None = None
 value_by value register name given (Some Input) = None
 value_by value register name given (Some Driven) = option_and_then value given
@@ -40,7 +41,9 @@ value_by value register name given (Some (Stored w)) = Some (record { width = w;
 
 -- the value of a net by one rule from the known ones
 abbrev pub value_in : PlainModule → Kept → List Known → List ℕ → Option BitVector
-value_in m kept ks name = value_by (value_of m kept ks) kept.register name (assigned m.assigns name) (kind_in m.ports m.decls name)
+value_in m kept ks name =
+    value_by (value_of m kept ks) kept.register name (assigned m.assigns name)
+    (kind_in m.ports m.decls name)
 
 -- what an edge gives a register that it sets, where the reset is this number
 abbrev pub set_in : ℕ → PlainModule → Kept → List Known → List ℕ → Option BitVector

@@ -7,4 +7,6 @@ use Rattle.cx_vmods.specs.Built.{IsBuilt}
 
 -- under each name the module of each primitive of the table does what its row says
 abbrev pub EachIsBuilt : Type 0
-EachIsBuilt = (p : PrimitiveRow) (name : List ℕ) → HasRow p → IsBuilt (module_of p name) (row_of p) (StandsFor (slice_index p.numbers 0))
+EachIsBuilt =
+    (p : PrimitiveRow) (name : List ℕ) → HasRow p
+    → IsBuilt (module_of p name) (row_of p) (StandsFor (slice_index p.numbers 0))

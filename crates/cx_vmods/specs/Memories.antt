@@ -23,21 +23,27 @@ read width = Chosen (net (codes "in_range")) (word (codes "words") (net (codes "
 
 -- where the guard is 1 and no address is out of range the word becomes `write_data`
 abbrev pub write : PlainExpr → List Piece
-write guard = Store (Applied And guard (net (codes "in_range"))) (codes "words") (net (codes "index")) (net (codes "write_data")) ∷ []
+write guard =
+    Store (Applied And guard (net (codes "in_range"))) (codes "words") (net (codes "index"))
+    (net (codes "write_data")) ∷ []
 
 abbrev pub reading : ℕ → List Piece
 reading width = Output (codes "read_data") (read width) ∷ []
 
 -- a read takes the word, and a write leaves what was read
 abbrev pub next : ℕ → PlainExpr
-next width = Chosen (net (codes "content_en")) (Chosen (net (codes "write_en")) (net (codes "held")) (read width)) (net (codes "held"))
+next width =
+    Chosen (net (codes "content_en")) (Chosen (net (codes "write_en")) (net (codes "held")) (read width))
+    (net (codes "held"))
 
 abbrev pub holding_read : ℕ → List Piece
 holding_read width = Register (codes "held") width (next width) ∷ Output (codes "read_data") (net (codes "held")) ∷ []
 
 -- read data follows the addresses; done follows a write
 unfoldable pub combinational : ℕ → List ℕ → List ℕ → List Piece
-combinational width sizes widths = words width sizes widths ++ write (net (codes "write_en")) ++ reading width ++ done_after (codes "write_en")
+combinational width sizes widths =
+    words width sizes widths ++ write (net (codes "write_en")) ++ reading width
+    ++ done_after (codes "write_en")
 
 -- read data is registered; done follows a read or a write
 unfoldable pub sequential : ℕ → List ℕ → List ℕ → List Piece

@@ -35,7 +35,9 @@ divided_by run = record { width = run.count; value = run.right }
 pub record IsDividing (width : ℕ) (kept : Kept) (run : PipeRun) : Type 0 where
   pub has_divisor : kept.register (spelled (codes "divisor")) ≡ run.right
   pub has_rest : kept.register (spelled (codes "rest")) ≡ (remainder_of (taken width run) (divided_by run)).value
-  pub has_digits : kept.register (spelled (codes "digits")) ≡ run.left % 2 ^ (width - run.count) * 2 ^ run.count + (quotient_of (taken width run) (divided_by run)).value
+  pub has_digits : kept.register (spelled (codes "digits")) ≡
+      run.left % 2 ^ (width - run.count) * 2 ^ run.count
+      + (quotient_of (taken width run) (divided_by run)).value
 
 -- a pipe that has gone no cycle takes its operands anew, so what it holds is of no account
 pub record HoldsProduct (kept : Kept) (run : PipeRun) (product : ℕ) : Type 0 where
@@ -52,10 +54,16 @@ pub record HoldsQuotient (width : ℕ) (kept : Kept) (run : PipeRun) (quotient r
 -- the registers and the words stand for a state of a primitive of this width
 abbrev pub StandsFor : ℕ → Kept → CellState → Type 0
 StandsFor width kept Stateless = Unit {0}
-StandsFor width kept (Register value done) = (kept.register (spelled (codes "held")) ≡ value) × (kept.register (spelled (codes "finished")) ≡ (bit_of done).value)
-StandsFor width kept (Memory words done) = HasWords kept words × (kept.register (spelled (codes "finished")) ≡ (bit_of done).value)
+StandsFor width kept (Register value done) =
+    (kept.register (spelled (codes "held")) ≡ value)
+    × (kept.register (spelled (codes "finished")) ≡ (bit_of done).value)
+StandsFor width kept (Memory words done) =
+    HasWords kept words × (kept.register (spelled (codes "finished")) ≡ (bit_of done).value)
 StandsFor width kept (SequentialMemory words read_data done) =
-    HasWords kept words × (kept.register (spelled (codes "held")) ≡ read_data) × (kept.register (spelled (codes "finished")) ≡ (bit_of done).value)
+    HasWords kept words × (kept.register (spelled (codes "held")) ≡ read_data)
+    × (kept.register (spelled (codes "finished")) ≡ (bit_of done).value)
 StandsFor width kept (Multiplier run product) = HoldsProduct kept run product
 StandsFor width kept (Divider run quotient remainder) = HoldsQuotient width kept run quotient remainder
-StandsFor width kept (Timer count done) = (kept.register (spelled (codes "count")) ≡ count) × (kept.register (spelled (codes "finished")) ≡ (bit_of done).value)
+StandsFor width kept (Timer count done) =
+    (kept.register (spelled (codes "count")) ≡ count)
+    × (kept.register (spelled (codes "finished")) ≡ (bit_of done).value)

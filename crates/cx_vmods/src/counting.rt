@@ -41,7 +41,8 @@ impl Parts {
     /// Counts the cycles with `go`, up to `last` and from 0 again. `done` follows the last one.
     pub fn count_to(&mut self, alloc: Global, width: u8, last: u32) -> Result<(), Memory>
         requires { IsWidth width }
-        ensures value { OnOk result (parts_shown self.new ≡ with_pieces (parts_shown self.old) (plain.counting width last)) }
+        ensures value { OnOk result
+            (parts_shown self.new ≡ with_pieces (parts_shown self.old) (plain.counting width last)) }
     {
         self.wire(alloc, "ends", 1, is_at(alloc, width, last)?)?;
         let finishes = binary_nets(alloc, Operator::And, "go", "ends")?;
@@ -61,7 +62,8 @@ impl Parts {
 
     /// `done` follows a cycle in which an enabling port is 1.
     pub fn done_after(&mut self, alloc: Global, enable: &str) -> Result<(), Memory>
-        ensures value { OnOk result (parts_shown self.new ≡ with_pieces (parts_shown self.old) (plain.done_after enable.now)) }
+        ensures value { OnOk result
+            (parts_shown self.new ≡ with_pieces (parts_shown self.old) (plain.done_after enable.now)) }
     {
         let next = net(alloc, enable)?;
         self.register(alloc, "finished", 1, next)?;
@@ -78,7 +80,8 @@ impl Parts {
         value: Expr,
     ) -> Result<(), Memory>
         requires { IsWidth width }
-        ensures value { OnOk result (parts_shown self.new ≡ with_pieces (parts_shown self.old) (plain.answering name.now width (plain_expr value))) }
+        ensures value { OnOk result (parts_shown self.new ≡
+            with_pieces (parts_shown self.old) (plain.answering name.now width (plain_expr value))) }
     {
         let next = choice_by(alloc, "finishes", value, net(alloc, name)?)?;
         self.register(alloc, name, width, next)?;

@@ -68,7 +68,8 @@ impl Parts {
         first: Expr,
         held: &str,
     ) -> Result<(), Memory>
-        ensures value { OnOk result (parts_shown self.new ≡ with_pieces (parts_shown self.old) (plain.current name.now width (plain_expr first) held.now)) }
+        ensures value { OnOk result (parts_shown self.new ≡
+            with_pieces (parts_shown self.old) (plain.current name.now width (plain_expr first) held.now)) }
     {
         let value = choice_by(alloc, "starts", first, net(alloc, held)?)?;
         self.wire(alloc, name, width, value)
@@ -147,7 +148,8 @@ impl Parts {
         output: &str,
     ) -> Result<(), Memory>
         requires { IsWidth width }
-        ensures value { OnOk result (parts_shown self.new ≡ with_pieces (parts_shown self.old) (plain.result name.now width from.now output.now)) }
+        ensures value { OnOk result (parts_shown self.new ≡
+            with_pieces (parts_shown self.old) (plain.result name.now width from.now output.now)) }
     {
         let value = net(alloc, from)?;
         self.answer(alloc, name, width, value)?;

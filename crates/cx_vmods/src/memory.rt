@@ -35,7 +35,8 @@ impl Parts {
         widths: &[u64],
     ) -> Result<(), Memory>
         requires { IsLayout width sizes.now widths.now }
-        ensures value { OnOk result (parts_shown self.new ≡ with_pieces (parts_shown self.old) (plain.words width sizes.now widths.now)) }
+        ensures value { OnOk result (parts_shown self.new ≡
+            with_pieces (parts_shown self.old) (plain.words width sizes.now widths.now)) }
     {
         let count = word_count(sizes);
         let index_width = bits_for(count as u32);
@@ -47,7 +48,8 @@ impl Parts {
 
     /// The word in range takes `write_data` where the guard is 1.
     fn write(&mut self, alloc: Global, guard: Expr) -> Result<(), Memory>
-        ensures value { OnOk result (parts_shown self.new ≡ with_pieces (parts_shown self.old) (plain.write (plain_expr guard))) }
+        ensures value { OnOk result
+            (parts_shown self.new ≡ with_pieces (parts_shown self.old) (plain.write (plain_expr guard))) }
     {
         let guard = binary(alloc, Operator::And, guard, net(alloc, "in_range")?)?;
         let value = net(alloc, "write_data")?;
@@ -68,7 +70,8 @@ impl Parts {
     /// Read data that is registered.
     fn holding_read(&mut self, alloc: Global, width: u8) -> Result<(), Memory>
         requires { IsWidth width }
-        ensures value { OnOk result (parts_shown self.new ≡ with_pieces (parts_shown self.old) (plain.holding_read width)) }
+        ensures value { OnOk result
+            (parts_shown self.new ≡ with_pieces (parts_shown self.old) (plain.holding_read width)) }
     {
         let next = next(alloc, width)?;
         self.register(alloc, "held", width, next)?;
@@ -96,7 +99,8 @@ pub fn combinational(
     widths: &[u64],
 ) -> Result<Parts, Memory>
     requires { IsLayout width sizes.now widths.now }
-    ensures value { IfOk result (λ parts. parts_shown parts ≡ made_of (plain.combinational width sizes.now widths.now)) }
+    ensures value { IfOk result
+        (λ parts. parts_shown parts ≡ made_of (plain.combinational width sizes.now widths.now)) }
 {
     let writes = net(alloc, "write_en")?;
     let mut parts = Parts::none(alloc);

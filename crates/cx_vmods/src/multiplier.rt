@@ -16,7 +16,8 @@ impl Parts {
     /// A register that takes an input in the first cycle.
     fn operand(&mut self, alloc: Global, name: &str, width: u8, input: &str) -> Result<(), Memory>
         requires { IsWidth width }
-        ensures value { OnOk result (parts_shown self.new ≡ with_pieces (parts_shown self.old) (plain.operand name.now width input.now)) }
+        ensures value { OnOk result (parts_shown self.new ≡
+            with_pieces (parts_shown self.old) (plain.operand name.now width input.now)) }
     {
         let next = choice_by(alloc, "starts", net(alloc, input)?, net(alloc, name)?)?;
         self.register(alloc, name, width, next)

@@ -24,7 +24,8 @@ pub struct Parts {
 
 /// A name of the module with the value of an expression.
 fn assign(alloc: Global, name: &str, value: Expr) -> Result<NetAssign, Memory>
-    ensures value { IfOk result (λ a. plain_assign a ≡ record { name = plain.spelled name.now; value = plain_expr value }) }
+    ensures value { IfOk result
+        (λ a. plain_assign a ≡ record { name = plain.spelled name.now; value = plain_expr value }) }
 {
     let name = spelled(alloc, name)?;
     Ok(NetAssign { name, value })
@@ -46,7 +47,8 @@ impl Parts {
     /// Adds a wire with its value.
     #[tactic(auto, unfolding(crate::specs::Parts::with_piece))]
     pub fn wire(&mut self, alloc: Global, name: &str, width: u8, value: Expr) -> Result<(), Memory>
-        ensures value { OnOk result (parts_shown self.new ≡ with_piece (parts_shown self.old) (Wire name.now width (plain_expr value))) }
+        ensures value { OnOk result (parts_shown self.new ≡
+            with_piece (parts_shown self.old) (Wire name.now width (plain_expr value))) }
     {
         let own = spelled(alloc, name)?;
         self.decls.push(Decl::Wire { name: own, width })?;
@@ -57,7 +59,8 @@ impl Parts {
     /// Gives an output its value.
     #[tactic(auto, unfolding(crate::specs::Parts::with_piece))]
     pub fn output(&mut self, alloc: Global, name: &str, value: Expr) -> Result<(), Memory>
-        ensures value { OnOk result (parts_shown self.new ≡ with_piece (parts_shown self.old) (Output name.now (plain_expr value))) }
+        ensures value { OnOk result
+            (parts_shown self.new ≡ with_piece (parts_shown self.old) (Output name.now (plain_expr value))) }
     {
         self.assigns.push(assign(alloc, name, value)?)?;
         Ok(())
@@ -65,7 +68,8 @@ impl Parts {
 
     /// Gives an output the value of a net.
     pub fn output_net(&mut self, alloc: Global, name: &str, from: &str) -> Result<(), Memory>
-        ensures value { OnOk result (parts_shown self.new ≡ with_piece (parts_shown self.old) (Output name.now (plain.net from.now))) }
+        ensures value { OnOk result (parts_shown self.new ≡
+            with_piece (parts_shown self.old) (Output name.now (plain.net from.now))) }
     {
         let value = net(alloc, from)?;
         self.output(alloc, name, value)
@@ -81,7 +85,8 @@ impl Parts {
         next: Expr,
     ) -> Result<(), Memory>
         requires { IsWidth width }
-        ensures value { OnOk result (parts_shown self.new ≡ with_piece (parts_shown self.old) (Register name.now width (plain_expr next))) }
+        ensures value { OnOk result (parts_shown self.new ≡
+            with_piece (parts_shown self.old) (Register name.now width (plain_expr next))) }
     {
         let own = spelled(alloc, name)?;
         self.decls.push(Decl::Register { name: own, width })?;
@@ -93,7 +98,8 @@ impl Parts {
     /// Adds an array of so many words.
     #[tactic(auto, unfolding(crate::specs::Parts::with_piece))]
     pub fn array(&mut self, alloc: Global, name: &str, width: u8, length: u64) -> Result<(), Memory>
-        ensures value { OnOk result (parts_shown self.new ≡ with_piece (parts_shown self.old) (Array name.now width length)) }
+        ensures value { OnOk result
+            (parts_shown self.new ≡ with_piece (parts_shown self.old) (Array name.now width length)) }
     {
         let name = spelled(alloc, name)?;
         self.decls.push(Decl::Array {
@@ -114,7 +120,9 @@ impl Parts {
         index: &str,
         value: Expr,
     ) -> Result<(), Memory>
-        ensures value { OnOk result (parts_shown self.new ≡ with_piece (parts_shown self.old) (Store (plain_expr guard) array.now (plain.net index.now) (plain_expr value))) }
+        ensures value { OnOk result (parts_shown self.new ≡
+            with_piece (parts_shown self.old)
+            (Store (plain_expr guard) array.now (plain.net index.now) (plain_expr value))) }
     {
         let array = spelled(alloc, array)?;
         let index = net(alloc, index)?;

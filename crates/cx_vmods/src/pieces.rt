@@ -161,7 +161,8 @@ fn sequential_parts(alloc: Global, dimensions: usize, numbers: &[u64]) -> Result
     requires row { IsSome (memory_at dimensions sequential_memory_row numbers.now) }
     requires some { 1 ≤ dimensions }
     requires few { dimensions ≤ 4 }
-    ensures value { IfOk result (λ parts. parts_shown parts ≡ made_of (plain.sequential_pieces dimensions numbers.now)) }
+    ensures value { IfOk result
+        (λ parts. parts_shown parts ≡ made_of (plain.sequential_pieces dimensions numbers.now)) }
 {
     let Some((width, rest)) = numbers.split_first() else {
         unreachable!()

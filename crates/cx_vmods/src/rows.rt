@@ -38,7 +38,8 @@ fn input(alloc: Global, name: &str) -> Result<ModulePort, Memory>
 
 /// One port of the row more.
 fn push(alloc: Global, ports: &mut Vec<ModulePort>, row: PortRow) -> Result<(), Memory>
-    ensures value { OnOk result (map plain.plain_port ports.new.items ≡ map plain.plain_port ports.old.items ++ port_of row ∷ []) }
+    ensures value { OnOk result
+        (map plain.plain_port ports.new.items ≡ map plain.plain_port ports.old.items ++ port_of row ∷ []) }
 {
     let output = match row.side {
         Side::Enable | Side::Plain => false,

@@ -38,12 +38,16 @@ HasWidths widths list = (k w : ℕ) → slice_get list k ≡ Some w → widths k
 
 -- where each name stands as it may, all have numbers
 abbrev pub NamesHaveNumbers : Type 0
-NamesHaveNumbers = (ports : List PlainPort) (decls : List PlainDecl) (e : PlainExpr) → misnames (meant_in ports decls) e ≡ false
+NamesHaveNumbers =
+    (ports : List PlainPort) (decls : List PlainDecl) (e : PlainExpr)
+    → misnames (meant_in ports decls) e ≡ false
     → HasNumbers (net_numbering ports decls) (array_numbering decls) e
 
 -- a code has the width of its expression, where widths fit there
 abbrev pub CodesHaveWidths : Type 0
-CodesHaveWidths = (ports : List PlainPort) (decls : List PlainDecl) (nets arrays : ℕ → Option ℕ) (c : Code) (e : PlainExpr) (w : ℕ)
+CodesHaveWidths =
+    (ports : List PlainPort) (decls : List PlainDecl) (nets arrays : ℕ → Option ℕ) (c : Code)
+    (e : PlainExpr) (w : ℕ)
     → HasWidths nets (net_widths ports decls) → HasWidths arrays (array_widths decls)
     → misnames (meant_in ports decls) e ≡ false → fitting_width (meant_in ports decls) e ≡ Some w
     → IsCode (net_numbering ports decls) (array_numbering decls) c e → code_width nets arrays c ≡ Some w

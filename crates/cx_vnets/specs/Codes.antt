@@ -12,10 +12,14 @@ code_in nets words (Net k) = nets k
 code_in nets words (Literal b) = Some b
 code_in nets words (Slice k high low) = option_map (part_of high low) (nets k)
 code_in nets words (Item' a p i) = option_map (λ x. words a x.value) (code_in nets words i)
-code_in nets words (Binary' op p a q b) = option_and_then (λ x. option_map (operate op x) (code_in nets words b)) (code_in nets words a)
+code_in nets words (Binary' op p a q b) =
+    option_and_then (λ x. option_map (operate op x) (code_in nets words b)) (code_in nets words a)
 code_in nets words (Not' p a) = option_map inverted (code_in nets words a)
-code_in nets words (Choose' p c q a r b) = option_and_then (λ t. if t.value == 0 then code_in nets words b else code_in nets words a) (code_in nets words c)
-code_in nets words (Cat' p a q b) = option_and_then (λ x. option_map (joined x) (code_in nets words b)) (code_in nets words a)
+code_in nets words (Choose' p c q a r b) =
+    option_and_then (λ t. if t.value == 0 then code_in nets words b else code_in nets words a)
+    (code_in nets words c)
+code_in nets words (Cat' p a q b) =
+    option_and_then (λ x. option_map (joined x) (code_in nets words b)) (code_in nets words a)
 
 -- the width of a code, where its nets and arrays have these; None where widths do not fit, or a net or an array is not there
 abbrev pub code_width : (ℕ → Option ℕ) → (ℕ → Option ℕ) → Code → Option ℕ
@@ -23,8 +27,14 @@ code_width nets arrays (Net k) = nets k
 code_width nets arrays (Literal b) = Some b.width
 code_width nets arrays (Slice k high low) = option_and_then (λ w. part_width w high low) (nets k)
 code_width nets arrays (Item' a p i) = option_and_then (λ v. arrays a) (code_width nets arrays i)
-code_width nets arrays (Binary' op p a q b) = option_and_then (λ v. option_and_then (applied_width op v) (code_width nets arrays b)) (code_width nets arrays a)
+code_width nets arrays (Binary' op p a q b) =
+    option_and_then (λ v. option_and_then (applied_width op v) (code_width nets arrays b))
+    (code_width nets arrays a)
 code_width nets arrays (Not' p a) = code_width nets arrays a
 code_width nets arrays (Choose' p c q a r b) =
-    option_and_then (λ t. option_and_then (λ v. option_and_then (chosen_width t v) (code_width nets arrays b)) (code_width nets arrays a)) (code_width nets arrays c)
-code_width nets arrays (Cat' p a q b) = option_and_then (λ v. option_and_then (joined_width v) (code_width nets arrays b)) (code_width nets arrays a)
+    option_and_then (λ t. option_and_then
+    (λ v. option_and_then (chosen_width t v) (code_width nets arrays b)) (code_width nets arrays a))
+    (code_width nets arrays c)
+code_width nets arrays (Cat' p a q b) =
+    option_and_then (λ v. option_and_then (joined_width v) (code_width nets arrays b))
+    (code_width nets arrays a)

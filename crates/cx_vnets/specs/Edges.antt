@@ -24,9 +24,11 @@ numbered codes values arrays p c = option_and_then (code_of values arrays p) (sl
 abbrev pub after_sets : List Code → List BitVector → List Words → List Set → List BitVector → List BitVector
 after_sets codes values arrays [] registers = registers
 after_sets codes values arrays (x ∷ xs) registers =
-    after_sets codes values arrays xs (option_map_or (λ v. slice_set registers x.net v) (numbered codes values arrays x.place x.code) registers)
+    after_sets codes values arrays xs (option_map_or (λ v. slice_set registers x.net v)
+    (numbered codes values arrays x.place x.code) registers)
 
 -- the code of a set is there, and has the width of its net
 abbrev pub SetsFit : List Code → List BitVector → List Words → List Set → Type 0
 SetsFit codes values arrays sets = (j : ℕ) (x : Set) → slice_get sets j ≡ Some x
-    → (c : Code) × (slice_get codes x.code ≡ Some c) × ((w : ℕ) × (width_of values arrays x.place c ≡ Some w) × (width_at values x.net ≡ Some w))
+    → (c : Code) × (slice_get codes x.code ≡ Some c)
+    × ((w : ℕ) × (width_of values arrays x.place c ≡ Some w) × (width_at values x.net ≡ Some w))

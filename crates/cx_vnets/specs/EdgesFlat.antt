@@ -27,23 +27,33 @@ pub record SetsStand (tree : List Placed) (table : List Code) (reset : ℕ) (set
   pub each : (i j : ℕ) (a : PlainAssign) → slice_get (acting_sets reset (edge_at tree i)) j ≡ Some a
       → (h : ℕ) × (x : Set) × (slice_get sets h ≡ Some x) × SetStands tree table i a x
   pub only : (h : ℕ) (x : Set) → slice_get sets h ≡ Some x
-      → (i : ℕ) × (j : ℕ) × (a : PlainAssign) × (slice_get (acting_sets reset (edge_at tree i)) j ≡ Some a) × SetStands tree table i a x
+      → (i : ℕ) × (j : ℕ) × (a : PlainAssign)
+      × (slice_get (acting_sets reset (edge_at tree i)) j ≡ Some a) × SetStands tree table i a x
 
 pub record StoresStand (tree : List Placed) (table : List Code) (reset : ℕ) (stores : List Store) : Type 0 where
   pub each : (i j : ℕ) (s : PlainStore) → slice_get (acting_stores reset (edge_at tree i)) j ≡ Some s
       → (h : ℕ) × (x : Store) × (slice_get stores h ≡ Some x) × StoreStands tree table i s x
   pub only : (h : ℕ) (x : Store) → slice_get stores h ≡ Some x
-      → (i : ℕ) × (j : ℕ) × (s : PlainStore) × (slice_get (acting_stores reset (edge_at tree i)) j ≡ Some s) × StoreStands tree table i s x
+      → (i : ℕ) × (j : ℕ) × (s : PlainStore)
+      × (slice_get (acting_stores reset (edge_at tree i)) j ≡ Some s) × StoreStands tree table i s x
 
 -- no instance has two nets or two arrays of one name
 pub record AreApart (tree : List Placed) : Type 0 where
-  pub nets : (i k h : ℕ) (name : List ℕ) → slice_get (nets_at tree i) k ≡ Some name → slice_get (nets_at tree i) h ≡ Some name → k ≡ h
-  pub arrays : (i a b : ℕ) (name : List ℕ) → slice_get (arrays_at tree i) a ≡ Some name → slice_get (arrays_at tree i) b ≡ Some name → a ≡ b
+  pub nets : (i k h : ℕ) (name : List ℕ) → slice_get (nets_at tree i) k ≡ Some name
+      → slice_get (nets_at tree i) h ≡ Some name → k ≡ h
+  pub arrays : (i a b : ℕ) (name : List ℕ) → slice_get (arrays_at tree i) a ≡ Some name
+      → slice_get (arrays_at tree i) b ≡ Some name → a ≡ b
 
 -- an edge sets registers, each once at most, and stores into an array once at most
 pub record EdgesAreApart (tree : List Placed) : Type 0 where
-  pub registers : (reset i j : ℕ) (a : PlainAssign) → slice_get (acting_sets reset (edge_at tree i)) j ≡ Some a → (w : ℕ) × (origin_of tree i a.name ≡ Some (Held w))
-  pub sets : (reset i j h : ℕ) (a b : PlainAssign) → slice_get (acting_sets reset (edge_at tree i)) j ≡ Some a → slice_get (acting_sets reset (edge_at tree i)) h ≡ Some b
+  pub registers : (reset i j : ℕ) (a : PlainAssign)
+      → slice_get (acting_sets reset (edge_at tree i)) j ≡ Some a
+      → (w : ℕ) × (origin_of tree i a.name ≡ Some (Held w))
+  pub sets : (reset i j h : ℕ) (a b : PlainAssign)
+      → slice_get (acting_sets reset (edge_at tree i)) j ≡ Some a
+      → slice_get (acting_sets reset (edge_at tree i)) h ≡ Some b
       → a.name ≡ b.name → j ≡ h
-  pub stores : (reset i j h : ℕ) (s t : PlainStore) → slice_get (acting_stores reset (edge_at tree i)) j ≡ Some s → slice_get (acting_stores reset (edge_at tree i)) h ≡ Some t
+  pub stores : (reset i j h : ℕ) (s t : PlainStore)
+      → slice_get (acting_stores reset (edge_at tree i)) j ≡ Some s
+      → slice_get (acting_stores reset (edge_at tree i)) h ≡ Some t
       → s.array ≡ t.array → j ≡ h

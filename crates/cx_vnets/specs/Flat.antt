@@ -12,7 +12,9 @@ use Rattle.cx_vnets.specs.Numbers.{arrays_at, nets_before, net_number, place_of}
 
 -- the code of a number, among `table`, is an expression of the instance
 abbrev pub CodeStands : List Placed → List Code → ℕ → ℕ → PlainExpr → Type 0
-CodeStands tree table i c e = (code : Code) × (slice_get table c ≡ Some code) × IsCode (position (nets_at tree i)) (position (arrays_at tree i)) code e
+CodeStands tree table i c e =
+    (code : Code) × (slice_get table c ≡ Some code)
+    × IsCode (position (nets_at tree i)) (position (arrays_at tree i)) code e
 
 -- what drives a net of the instance by its number gives it what its origin does
 abbrev pub DriverStands : List Placed → List Code → ℕ → Origin → Driver → Type 0
@@ -26,4 +28,6 @@ DriverStands tree table i o x = ⊥
 pub record NetsStand (tree : List Placed) (n : Nets) : Type 0 where
   pub count : length n.drivers.items ≡ nets_before tree (length tree)
   pub each : (i k : ℕ) (name : List ℕ) → slice_get (nets_at tree i) k ≡ Some name
-      → (o : Origin) × (origin_of tree i name ≡ Some o) × ((x : Driver) × (slice_get n.drivers.items (nets_before tree i + k) ≡ Some x) × DriverStands tree n.codes.items i o x)
+      → (o : Origin) × (origin_of tree i name ≡ Some o)
+      × ((x : Driver) × (slice_get n.drivers.items (nets_before tree i + k) ≡ Some x) ×
+      DriverStands tree n.codes.items i o x)

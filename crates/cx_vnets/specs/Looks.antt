@@ -29,9 +29,11 @@ look nets words (Net k) = nets k
 look nets words (Literal b) = Worth b
 look nets words (Slice k high low) = found_map (part_of high low) (nets k)
 look nets words (Item' a p i) = found_map (λ x. words a x.value) (look nets words i)
-look nets words (Binary' op p a q b) = found_and_then (λ x. found_map (operate op x) (look nets words b)) (look nets words a)
+look nets words (Binary' op p a q b) =
+    found_and_then (λ x. found_map (operate op x) (look nets words b)) (look nets words a)
 look nets words (Not' p a) = found_map inverted (look nets words a)
-look nets words (Choose' p c q a r b) = found_and_then (λ t. if t.value == 0 then look nets words b else look nets words a) (look nets words c)
+look nets words (Choose' p c q a r b) =
+    found_and_then (λ t. if t.value == 0 then look nets words b else look nets words a) (look nets words c)
 look nets words (Cat' p a q b) = found_and_then (λ x. found_map (joined x) (look nets words b)) (look nets words a)
 
 abbrev pub marked : Option NetMark → Option BitVector → ℕ → FoundValue
@@ -64,13 +66,15 @@ look_stored (Some v) f = Worth v
 
 abbrev pub look_code : Stored → List NetMark → List BitVector → ℕ → ℕ → ℕ → Option Code → FoundValue
 look_code s marks values f nets arrays None = Waits f
-look_code s marks values f nets arrays (Some c) = look (seen_from marks values nets) (words_from s.arrays.items arrays) c
+look_code s marks values f nets arrays (Some c) =
+    look (seen_from marks values nets) (words_from s.arrays.items arrays) c
 
 abbrev pub look_driver : Nets → Stored → List NetMark → List BitVector → ℕ → Option Driver → FoundValue
 look_driver n s marks values f None = Waits f
 look_driver n s marks values f (Some Held) = look_stored (slice_get s.nets.items f) f
 look_driver n s marks values f (Some (Tied g)) = seen marks values g
-look_driver n s marks values f (Some (Given c p)) = look_code s marks values f p.nets p.arrays (slice_get n.codes.items c)
+look_driver n s marks values f (Some (Given c p)) =
+    look_code s marks values f p.nets p.arrays (slice_get n.codes.items c)
 
 -- what a net's driver gives
 abbrev pub look_net : Nets → Stored → List NetMark → List BitVector → ℕ → FoundValue

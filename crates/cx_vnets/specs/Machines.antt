@@ -11,9 +11,12 @@ use Rattle.cx_vnets.specs.Search.{SameWidths}
 use Rattle.cx_vnets.specs.Stores.{plain_words, write_of, after_writes}
 
 -- what is stored after an edge: registers and words all change at once, by the values before it
-pub record IsAfter (codes : List Code) (sets : List Set) (stores : List Store) (values : List BitVector) (before after : Stored) : Type 0 where
+pub record IsAfter (codes : List Code) (sets : List Set) (stores : List Store) (values : List BitVector)
+    (before after : Stored) : Type 0 where
   pub registers : after.nets.items ≡ after_sets codes values before.arrays.items sets before.nets.items
-  pub words : map plain_words after.arrays.items ≡ after_writes stores (map (write_of codes values before.arrays.items) stores) (map plain_words before.arrays.items)
+  pub words : map plain_words after.arrays.items ≡
+      after_writes stores (map (write_of codes values before.arrays.items) stores)
+      (map plain_words before.arrays.items)
 
 -- all widths stay
 pub record KeepsWidths (before after : Stored) : Type 0 where

@@ -16,10 +16,13 @@ pub record WordsStand (words : List ℕ → ℕ → ℕ) (decls : List PlainDecl
 
 -- registers, inputs of `main` and arrays have the values of the cycle, and there are no other arrays
 pub record StoredStands (tree : List Placed) (m : Moment) (s : Stored) : Type 0 where
-  pub registers : (i k w : ℕ) (name : List ℕ) → slice_get (nets_at tree i) k ≡ Some name → origin_of tree i name ≡ Some (Held w)
+  pub registers : (i k w : ℕ) (name : List ℕ) → slice_get (nets_at tree i) k ≡ Some name
+      → origin_of tree i name ≡ Some (Held w)
       → slice_get s.nets.items (nets_before tree i + k) ≡ Some (record { width = w; value = m.state.register i name })
-  pub inputs : (i k : ℕ) (name : List ℕ) → slice_get (nets_at tree i) k ≡ Some name → origin_of tree i name ≡ Some Outside
+  pub inputs : (i k : ℕ) (name : List ℕ) → slice_get (nets_at tree i) k ≡ Some name
+      → origin_of tree i name ≡ Some Outside
       → slice_get s.nets.items (nets_before tree i + k) ≡ Some (outside_value m name)
   pub arrays : (i a : ℕ) (name : List ℕ) → slice_get (arrays_at tree i) a ≡ Some name
-      → (x : Words) × (slice_get s.arrays.items (arrays_before tree i + a) ≡ Some x) × WordsStand (m.state.word i) (decls_at tree i) name x
+      → (x : Words) × (slice_get s.arrays.items (arrays_before tree i + a) ≡ Some x)
+      × WordsStand (m.state.word i) (decls_at tree i) name x
   pub count : length s.arrays.items ≡ arrays_before tree (length tree)

@@ -16,7 +16,8 @@ IsCode nets arrays (Slice k high low) (Part n h l) = (nets n ≡ Some k) × (hig
 IsCode nets arrays (Item' a p i) (Word n j) = (arrays n ≡ Some a) × IsCode nets arrays i j
 IsCode nets arrays (Binary' op p a q b) (Applied o x y) = (op ≡ o) × IsCode nets arrays a x × IsCode nets arrays b y
 IsCode nets arrays (Not' p a) (Inverted x) = IsCode nets arrays a x
-IsCode nets arrays (Choose' p c q a r b) (Chosen z x y) = IsCode nets arrays c z × IsCode nets arrays a x × IsCode nets arrays b y
+IsCode nets arrays (Choose' p c q a r b) (Chosen z x y) =
+    IsCode nets arrays c z × IsCode nets arrays a x × IsCode nets arrays b y
 IsCode nets arrays (Cat' p a q b) (Joined x y) = IsCode nets arrays a x × IsCode nets arrays b y
 IsCode nets arrays c e = ⊥
 

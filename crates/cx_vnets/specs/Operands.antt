@@ -17,7 +17,8 @@ abbrev pub choice : Option BitVector → Option BitVector → Option BitVector �
 choice test one other = option_and_then (λ t. if t.value == 0 then other else one) test
 
 abbrev pub chosen_from : Option ℕ → Option ℕ → Option ℕ → Option ℕ
-chosen_from test one other = option_and_then (λ t. option_and_then (λ v. option_and_then (chosen_width t v) other) one) test
+chosen_from test one other =
+    option_and_then (λ t. option_and_then (λ v. option_and_then (chosen_width t v) other) one) test
 
 -- the first above the second
 abbrev pub above : Option BitVector → Option BitVector → Option BitVector

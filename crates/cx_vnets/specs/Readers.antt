@@ -24,7 +24,8 @@ use Rattle.cx_vnets.specs.Watches.{CodeHears, NetHears, IsNoted, NotesGrow, row_
 abbrev pub IsListed : Edges → ℕ → ℕ → Type 0
 IsListed rows f from = from < length rows → In (targets_of rows from) f
 
--- the net stands in the row of another and a value, of so many rows; where it tells on which side of the value the other is, in the other's own row too
+-- the net stands in the row of another and a value, of so many rows; where it tells on which side of the value the
+-- other is, in the other's own row too
 abbrev pub IsRowed : Edges → ℕ → ℕ → ℕ → BitVector → Bool → Type 0
 IsRowed rows count f net v sided = IsListed rows f (row_of net v count) × (sided ≡ true → IsListed rows f net)
 
@@ -34,7 +35,8 @@ IsWatch w count f net v sided = IsRowed (edges_of w.rows.items) count f net v si
 
 -- the net stands in the rows of all that it reads, but where it compares a net with a literal, in those of the comparison
 abbrev pub IsFound : Nets → Edges → Edges → Watches → ℕ → ℕ → Type 0
-IsFound n of_nets of_arrays watches count f = NetHears n (IsListed of_nets f) (IsListed of_arrays f) (IsWatch watches count f) f
+IsFound n of_nets of_arrays watches count f =
+    NetHears n (IsListed of_nets f) (IsListed of_arrays f) (IsWatch watches count f) f
 
 -- rows that only grow
 pub record Grows (old new : Edges) : Type 0 where
@@ -48,10 +50,12 @@ pub record WatchesGrow (old new : Watches) : Type 0 where
 -- the net stands in the rows of all that a code of an instance hears of
 abbrev pub IsHeard : Edges → Edges → Watches → ℕ → NetPosition → ℕ → Code → Type 0
 IsHeard of_nets of_arrays watches count p f c =
-    CodeHears (λ k. IsListed of_nets f (p.nets + k)) (λ a. IsListed of_arrays f (p.arrays + a)) (λ k v sided. IsWatch watches count f (p.nets + k) v sided) c
+    CodeHears (λ k. IsListed of_nets f (p.nets + k)) (λ a. IsListed of_arrays f (p.arrays + a))
+    (λ k v sided. IsWatch watches count f (p.nets + k) v sided) c
 
 -- rows that grew stand for a code of an instance too
-pub record ListsCode (old_nets old_arrays : Edges) (old_watches : Watches) (new_nets new_arrays : Edges) (new_watches : Watches) (count : ℕ) (p : NetPosition) (f : ℕ) (c : Code) : Type 0 where
+pub record ListsCode (old_nets old_arrays : Edges) (old_watches : Watches) (new_nets new_arrays : Edges)
+    (new_watches : Watches) (count : ℕ) (p : NetPosition) (f : ℕ) (c : Code) : Type 0 where
   pub nets : Grows old_nets new_nets
   pub arrays : Grows old_arrays new_arrays
   pub watches : WatchesGrow old_watches new_watches
@@ -64,7 +68,8 @@ pub record AreBehind (n : Nets) (order ranks : List ℕ) (count : ℕ) : Type 0 
 
 -- each of the first nets of the order has its place as its rank
 abbrev pub HaveRanks : List ℕ → List ℕ → ℕ → Type 0
-HaveRanks order ranks count = (k f : ℕ) → k < count → slice_get order k ≡ Some f → (f < length ranks) × (rank_at ranks f ≡ k)
+HaveRanks order ranks count =
+    (k f : ℕ) → k < count → slice_get order k ≡ Some f → (f < length ranks) × (rank_at ranks f ≡ k)
 
 -- ranks are places in the order, and each net reads nets of lower ranks alone
 pub record IsRanked (n : Nets) (order ranks : List ℕ) : Type 0 where
@@ -72,25 +77,29 @@ pub record IsRanked (n : Nets) (order ranks : List ℕ) : Type 0 where
   pub ranks_long : length ranks ≡ length n.drivers.items
   pub placed : (f : ℕ) → f < length n.drivers.items → slice_get order (rank_at ranks f) ≡ Some f
   pub back : (k f : ℕ) → slice_get order k ≡ Some f → (f < length n.drivers.items) × (rank_at ranks f ≡ k)
-  pub lower : (f : ℕ) → f < length n.drivers.items → NetReads n (λ g. rank_at ranks g < rank_at ranks f) (λ a. Unit {0}) f
+  pub lower : (f : ℕ) → f < length n.drivers.items
+      → NetReads n (λ g. rank_at ranks g < rank_at ranks f) (λ a. Unit {0}) f
 
 -- each net is found by what it reads; and where the table says so, nets are ranked
 pub record ReadersStand (n : Nets) (order : List ℕ) (t : Readers) : Type 0 where
   pub rows : length (edges_of t.of_nets.items) ≡ length n.drivers.items
   pub watch_rows : length (edges_of t.watches.rows.items) ≡ length n.drivers.items
   pub notes : length t.watches.compared.items ≡ length n.drivers.items
-  pub found : (f : ℕ) → f < length n.drivers.items → IsFound n (edges_of t.of_nets.items) (edges_of t.of_arrays.items) t.watches (length n.drivers.items) f
+  pub found : (f : ℕ) → f < length n.drivers.items
+      → IsFound n (edges_of t.of_nets.items) (edges_of t.of_arrays.items) t.watches (length n.drivers.items) f
   pub gates : GatesStand n t.gates.items
   pub spans : SpansStand t.gates.items (edges_of t.of_nets.items) t.spans
   pub ranked : t.ranked ≡ true → IsRanked n order t.ranks.items
 
--- the net stands in no row of comparisons of a net that had a value and has another: it compares it with neither, and tells no side of it where a value lies between
+-- the net stands in no row of comparisons of a net that had a value and has another: it compares it with neither, and
+-- tells no side of it where a value lies between
 pub record Passes (t : Readers) (count net : ℕ) (old new : BitVector) (f : ℕ) : Type 0 where
   pub lost : In (targets_of (edges_of t.watches.rows.items) (row_of net old count)) f → ⊥
   pub won : In (targets_of (edges_of t.watches.rows.items) (row_of net new count)) f → ⊥
   pub next : In (targets_of (edges_of t.watches.rows.items) net) f → new.value ≡ old.value + 1
 
--- the net hears nothing of a net that had a value and has another, now that these nets are known to be 0: it reads it only where its own gate is 0, and where that is compared, stands in none of its rows
+-- the net hears nothing of a net that had a value and has another, now that these nets are known to be 0: it reads it
+-- only where its own gate is 0, and where that is compared, stands in none of its rows
 pub record HearsNot (t : Readers) (nonzero : List ℕ) (count net : ℕ) (old new : BitVector) (f : ℕ) : Type 0 where
   pub reads : In (targets_of (edges_of t.of_nets.items) net) f → IsShut t.gates.items nonzero net f
   pub compares : get_or t.watches.compared.items net false ≡ true → Passes t count net old new f
@@ -101,17 +110,21 @@ Agrees n s values f = rule n s (slice_get values) f ≡ slice_get values f
 
 -- each net without a mark agrees
 abbrev pub UnmarkedAgree : Nets → Stored → List ℕ → List ℕ → List BitVector → Type 0
-UnmarkedAgree n s ranks stale values = (f : ℕ) → f < length n.drivers.items → is_stale stale (rank_at ranks f) ≡ false → Agrees n s values f
+UnmarkedAgree n s ranks stale values =
+    (f : ℕ) → f < length n.drivers.items → is_stale stale (rank_at ranks f) ≡ false → Agrees n s values f
 
 abbrev pub SameWords : Stored → Stored → ℕ → Type 0
 SameWords s t a = (i : ℕ) → word_at s.arrays.items a i ≡ word_at t.arrays.items a i
 
 -- what is stored for a net has stayed, and so have the words of the arrays that it reads
 abbrev pub Stays : Stored → Stored → Edges → ℕ → Type 0
-Stays s t of_arrays f = (slice_get s.nets.items f ≡ slice_get t.nets.items f) × ((a : ℕ) → IsListed of_arrays f a → SameWords s t a)
+Stays s t of_arrays f =
+    (slice_get s.nets.items f ≡ slice_get t.nets.items f)
+    × ((a : ℕ) → IsListed of_arrays f a → SameWords s t a)
 
 -- nets of the ranks below `k` have been looked at
-pub record Sweeping (n : Nets) (s : Stored) (ranks : List ℕ) (stale : List ℕ) (values : List BitVector) (k : ℕ) : Type 0 where
+pub record Sweeping (n : Nets) (s : Stored) (ranks : List ℕ) (stale : List ℕ) (values : List BitVector)
+    (k : ℕ) : Type 0 where
   pub long : length stale ≡ length n.drivers.items
   pub widths : SameWidths values s.nets.items
   pub agree : UnmarkedAgree n s ranks stale values

@@ -25,7 +25,8 @@ abbrev pub DriverReads : List Code → (ℕ → Type 0) → (ℕ → Type 0) →
 DriverReads codes net array None = Unit {0}
 DriverReads codes net array (Some Held) = Unit {0}
 DriverReads codes net array (Some (Tied g)) = net g
-DriverReads codes net array (Some (Given c p)) = OptionReads (λ k. net (p.nets + k)) (λ a. array (p.arrays + a)) (slice_get codes c)
+DriverReads codes net array (Some (Given c p)) =
+    OptionReads (λ k. net (p.nets + k)) (λ a. array (p.arrays + a)) (slice_get codes c)
 
 -- each net that the driver of a net names is so, and each array
 abbrev pub NetReads : Nets → (ℕ → Type 0) → (ℕ → Type 0) → ℕ → Type 0

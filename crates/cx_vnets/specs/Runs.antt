@@ -63,13 +63,20 @@ IsLooked m s cycle values (Some More) = ⊥
 -- the cycles from `cycle` on, of which `left` may follow: a loop is looked for before `done`
 pub data FlatFrom (m : Machine) : Stored → ℕ → ℕ → Outcome → Type 0 where
   loops : {s : Stored} {cycle left f : ℕ} → IsFirstWithout m.nets s f → FlatFrom m s cycle left (LoopOf f)
-  ends : {s : Stored} {cycle left : ℕ} (values : List BitVector) → AreValues m s values → is_done m values ≡ true → FlatFrom m s cycle left (DoneIn cycle (map plain_words s.arrays.items))
-  spent : {s : Stored} {cycle : ℕ} (values : List BitVector) → AreValues m s values → is_done m values ≡ false → FlatFrom m s cycle 0 NotDone
-  goes_on : {s : Stored} {cycle left : ℕ} {o : Outcome} (values : List BitVector) (next : Stored) → AreValues m s values → is_done m values ≡ false
-      → IsAfter m.nets.codes.items m.sets.items m.stores.items values s next → FlatFrom m next (cycle + 1) left o → FlatFrom m s cycle (suc left) o
+  ends : {s : Stored} {cycle left : ℕ} (values : List BitVector) → AreValues m s values
+      → is_done m values ≡ true → FlatFrom m s cycle left (DoneIn cycle (map plain_words s.arrays.items))
+  spent : {s : Stored} {cycle : ℕ} (values : List BitVector) → AreValues m s values
+      → is_done m values ≡ false → FlatFrom m s cycle 0 NotDone
+  goes_on : {s : Stored} {cycle left : ℕ} {o : Outcome} (values : List BitVector) (next : Stored)
+      → AreValues m s values → is_done m values ≡ false
+      → IsAfter m.nets.codes.items m.sets.items m.stores.items values s next
+      → FlatFrom m next (cycle + 1) left o → FlatFrom m s cycle (suc left) o
 
 -- the run in which the cycles 0 to `last` may be looked at. The cycle of the edge with reset is looked at for a loop, and not for `done`.
 pub data FlatRun (m : Machine) (start : Stored) (last : ℕ) : Outcome → Type 0 where
-  loops_in_reset : {f : ℕ} (s : Stored) → WithInputs m true start s → IsFirstWithout m.nets s f → FlatRun m start last (LoopOf f)
-  after_reset : {o : Outcome} (s next first : Stored) (values : List BitVector) → WithInputs m true start s → AreValues m s values
-      → IsAfter m.nets.codes.items m.resets.items [] values s next → WithInputs m false next first → FlatFrom m first 0 last o → FlatRun m start last o
+  loops_in_reset : {f : ℕ} (s : Stored) → WithInputs m true start s → IsFirstWithout m.nets s f
+      → FlatRun m start last (LoopOf f)
+  after_reset : {o : Outcome} (s next first : Stored) (values : List BitVector)
+      → WithInputs m true start s → AreValues m s values
+      → IsAfter m.nets.codes.items m.resets.items [] values s next → WithInputs m false next first
+      → FlatFrom m first 0 last o → FlatRun m start last o

@@ -34,12 +34,14 @@ pub record IsMemory (tree : List Placed) (e : PlainExternal) (j : ℕ) : Type 0 
   pub size : array_size (decls_at tree j) (first_array (decls_at tree j)) ≡ word_count e.sizes
 
 abbrev pub MemoriesStand : PlainSource → Type 0
-MemoriesStand s = (k : ℕ) (e : PlainExternal) → slice_get s.externals k ≡ Some e → (j : ℕ) × IsMemory (instances_of s) e j
+MemoriesStand s =
+    (k : ℕ) (e : PlainExternal) → slice_get s.externals k ≡ Some e → (j : ℕ) × IsMemory (instances_of s) e j
 
 -- these words of an external memory are those of its array
 abbrev pub AreWordsOf : List Placed → List PlainWords → PlainExternal → List ℕ → Type 0
 AreWordsOf tree arrays e words =
-    (j : ℕ) × (a : ℕ) × (x : PlainWords) × (instance_named tree 0 e.instance ≡ Some j) × (array_number tree j (first_array (decls_at tree j)) ≡ Some a)
+    (j : ℕ) × (a : ℕ) × (x : PlainWords) × (instance_named tree 0 e.instance ≡ Some j)
+    × (array_number tree j (first_array (decls_at tree j)) ≡ Some a)
     × (slice_get arrays a ≡ Some x) × (words ≡ map (λ b. b.value) x.words)
 
 abbrev pub AreAllWords : List Placed → List PlainWords → List PlainExternal → List (List ℕ) → Type 0
@@ -56,7 +58,8 @@ pub record IsNet (tree : List Placed) (f instance net : ℕ) : Type 0 where
 
 -- an outcome of the machine is one of the source
 abbrev pub OutcomeStands : PlainSource → flat.Outcome → source.Outcome → Type 0
-OutcomeStands s (flat.DoneIn t arrays) (source.DoneAt u words) = (t ≡ u) × AreAllWords (instances_of s) arrays s.externals words
+OutcomeStands s (flat.DoneIn t arrays) (source.DoneAt u words) =
+    (t ≡ u) × AreAllWords (instances_of s) arrays s.externals words
 OutcomeStands s (flat.LoopOf f) (source.LoopAt i k) = IsNet (instances_of s) f i k
 OutcomeStands s flat.NotDone source.NotDone = Unit {0}
 OutcomeStands s o p = ⊥

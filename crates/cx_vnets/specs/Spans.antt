@@ -24,10 +24,12 @@ IsSpan gates row net span = (f : ℕ) → In row f → In span.plain.items f ⊎
 
 -- each net that has a gate stands in the row of its gate, where there is one
 abbrev pub GatedStand : List (Option ℕ) → Edges → Type 0
-GatedStand gates gated = (f gate : ℕ) → slice_get gates f ≡ Some (Some gate) → gate < length gated → In (targets_of gated gate) f
+GatedStand gates gated =
+    (f gate : ℕ) → slice_get gates f ≡ Some (Some gate) → gate < length gated → In (targets_of gated gate) f
 
 pub record SpansStand (gates : List (Option ℕ)) (rows : Edges) (t : Spans) : Type 0 where
-  pub spanned : (net : ℕ) (span : Span) → slice_get t.of_nets.items net ≡ Some (Some span) → IsSpan gates (targets_of rows net) net span
+  pub spanned : (net : ℕ) (span : Span) → slice_get t.of_nets.items net ≡ Some (Some span)
+      → IsSpan gates (targets_of rows net) net span
   pub gated : GatedStand gates (edges_of t.gated.items)
 
 -- there are a byte and a row for each net of a span
@@ -38,4 +40,5 @@ pub record IsInTables (t : Spans) (nonzero : List ℕ) (span : Span) : Type 0 wh
 
 -- where a gate of the net lies from one net up to another, it is known to be 0
 abbrev pub NotBehind : Edges → List ℕ → ℕ → ℕ → ℕ → Type 0
-NotBehind gated nonzero low high f = (gate : ℕ) → low ≤ gate → gate < high → In (targets_of gated gate) f → IsKnownZero nonzero gate
+NotBehind gated nonzero low high f =
+    (gate : ℕ) → low ≤ gate → gate < high → In (targets_of gated gate) f → IsKnownZero nonzero gate

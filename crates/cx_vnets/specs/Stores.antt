@@ -27,7 +27,8 @@ guarded (Some g) (Some i) (Some v) = if g.value == 0 then None else Some (record
 -- what a store writes, by the values and the words before the edge; None where its guard is 0
 abbrev pub write_of : List Code → List BitVector → List Words → Store → Option Write
 write_of codes values arrays x =
-    guarded (numbered codes values arrays x.place x.guard) (numbered codes values arrays x.place x.index) (numbered codes values arrays x.place x.value)
+    guarded (numbered codes values arrays x.place x.guard) (numbered codes values arrays x.place x.index)
+    (numbered codes values arrays x.place x.value)
 
 -- an array after a write; as it was where it has no such word
 abbrev pub written : PlainWords → Write → PlainWords
@@ -52,12 +53,15 @@ pub record StoreFits (codes : List Code) (values : List BitVector) (arrays : Lis
   pub guard : HasCode codes values arrays x.place x.guard
   pub index : HasCode codes values arrays x.place x.index
   pub value : HasCode codes values arrays x.place x.value
-  pub wide : (c : Code) → slice_get codes x.value ≡ Some c → width_of values arrays x.place c ≡ array_width arrays x.array
+  pub wide : (c : Code) → slice_get codes x.value ≡ Some c
+      → width_of values arrays x.place c ≡ array_width arrays x.array
 
 abbrev pub StoresFit : List Code → List BitVector → List Words → List Store → Type 0
-StoresFit codes values arrays stores = (j : ℕ) (x : Store) → slice_get stores j ≡ Some x → StoreFits codes values arrays x
+StoresFit codes values arrays stores =
+    (j : ℕ) (x : Store) → slice_get stores j ≡ Some x → StoreFits codes values arrays x
 
 -- what is written has the width of its array
 abbrev pub WritesFit : List Words → List Store → List (Option Write) → Type 0
 WritesFit arrays stores writes =
-    (j : ℕ) (x : Store) (w : Write) → slice_get stores j ≡ Some x → slice_get writes j ≡ Some (Some w) → array_width arrays x.array ≡ Some w.value.width
+    (j : ℕ) (x : Store) (w : Write) → slice_get stores j ≡ Some x → slice_get writes j ≡ Some (Some w)
+    → array_width arrays x.array ≡ Some w.value.width

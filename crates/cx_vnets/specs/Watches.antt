@@ -58,20 +58,25 @@ CodeHears net array watch (Literal b) = Unit {0}
 CodeHears net array watch (Slice k high low) = net k
 CodeHears net array watch (Item' a p i) = array a × CodeHears net array watch i
 CodeHears net array watch (Binary' op p a q b) =
-    (CodeHears net array watch a × CodeHears net array watch b) ⊎ ((k : ℕ) × (v : BitVector) × (sided : Bool) × IsComparison op a b k v sided × watch k v sided)
+    (CodeHears net array watch a × CodeHears net array watch b)
+    ⊎ ((k : ℕ) × (v : BitVector) × (sided : Bool) × IsComparison op a b k v sided × watch k v sided)
 CodeHears net array watch (Not' p a) = CodeHears net array watch a
-CodeHears net array watch (Choose' p c q a r b) = CodeHears net array watch c × CodeHears net array watch a × CodeHears net array watch b
+CodeHears net array watch (Choose' p c q a r b) =
+    CodeHears net array watch c × CodeHears net array watch a × CodeHears net array watch b
 CodeHears net array watch (Cat' p a q b) = CodeHears net array watch a × CodeHears net array watch b
 
 abbrev pub OptionHears : (ℕ → Type 0) → (ℕ → Type 0) → (ℕ → BitVector → Bool → Type 0) → Option Code → Type 0
 OptionHears net array watch None = Unit {0}
 OptionHears net array watch (Some c) = CodeHears net array watch c
 
-abbrev pub DriverHears : List Code → (ℕ → Type 0) → (ℕ → Type 0) → (ℕ → BitVector → Bool → Type 0) → Option Driver → Type 0
+abbrev pub DriverHears : List Code → (ℕ → Type 0) → (ℕ → Type 0) → (ℕ → BitVector → Bool → Type 0)
+    → Option Driver → Type 0
 DriverHears codes net array watch None = Unit {0}
 DriverHears codes net array watch (Some Held) = Unit {0}
 DriverHears codes net array watch (Some (Tied g)) = net g
-DriverHears codes net array watch (Some (Given c p)) = OptionHears (λ k. net (p.nets + k)) (λ a. array (p.arrays + a)) (λ k v sided. watch (p.nets + k) v sided) (slice_get codes c)
+DriverHears codes net array watch (Some (Given c p)) =
+    OptionHears (λ k. net (p.nets + k)) (λ a. array (p.arrays + a))
+    (λ k v sided. watch (p.nets + k) v sided) (slice_get codes c)
 
 -- the same of what drives a net
 abbrev pub NetHears : Nets → (ℕ → Type 0) → (ℕ → Type 0) → (ℕ → BitVector → Bool → Type 0) → ℕ → Type 0

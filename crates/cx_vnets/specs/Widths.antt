@@ -9,5 +9,7 @@ use Rattle.cx_vnets.specs.Edges.{code_of, width_of}
 
 -- a value of a code is as wide as the code
 abbrev pub HaveWidths : Type 0
-HaveWidths = (values : List BitVector) (arrays : List Words) (p : NetPosition) (c : Code) (w : ℕ) (v : BitVector) → IsEven arrays
+HaveWidths =
+    (values : List BitVector) (arrays : List Words) (p : NetPosition) (c : Code) (w : ℕ) (v : BitVector)
+    → IsEven arrays
     → width_of values arrays p c ≡ Some w → code_of values arrays p c ≡ Some v → v.width ≡ w

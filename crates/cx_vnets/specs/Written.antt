@@ -8,4 +8,5 @@ use Rattle.cx_vnets.specs.Readers.{IsListed}
 -- no array of the first stores that write has the net among its readers
 abbrev pub ReadsNoWritten : Edges → List Store → List (Option Write) → ℕ → ℕ → Type 0
 ReadsNoWritten of_arrays stores writes count f =
-    (j : ℕ) (x : Store) (w : Write) → j < count → slice_get stores j ≡ Some x → slice_get writes j ≡ Some (Some w) → IsListed of_arrays f x.array → ⊥
+    (j : ℕ) (x : Store) (w : Write) → j < count → slice_get stores j ≡ Some x
+    → slice_get writes j ≡ Some (Some w) → IsListed of_arrays f x.array → ⊥

@@ -45,7 +45,8 @@ pub(crate) fn span_at<'a>(
 /// Marks the nets of ranks from `from` on whose gate is a net.
 fn mark_gated(ranks: &[u32], gated: &[Vec<u32>], gate: usize, from: usize, stale: &mut [u8])
     requires within { gate < length gated.now }
-    ensures tells { Tells ranks.now stale.old stale.new (λ f. from ≤ rank_at ranks.now f → In (targets_of (edges_of gated.now) gate) f → ⊥) }
+    ensures tells { Tells ranks.now stale.old stale.new
+        (λ f. from ≤ rank_at ranks.now f → In (targets_of (edges_of gated.now) gate) f → ⊥) }
     ensures below { SameBelow from stale.old stale.new }
 {
     mark_row(ranks, from, stale, &gated[gate]);
@@ -64,7 +65,8 @@ fn mark_behind(
     requires order { low ≤ high }
     requires bytes { high ≤ length nonzero.now }
     requires rows { high ≤ length gated.now }
-    ensures tells { Tells ranks.now stale.old stale.new (λ f. from ≤ rank_at ranks.now f → NotBehind (edges_of gated.now) nonzero.now low high f) }
+    ensures tells { Tells ranks.now stale.old stale.new
+        (λ f. from ≤ rank_at ranks.now f → NotBehind (edges_of gated.now) nonzero.now low high f) }
     ensures below { SameBelow from stale.old stale.new }
 {
     let mut at = low;
@@ -88,7 +90,9 @@ pub(crate) fn mark_spanned(
     stale: &mut [u8],
 )
     requires tables { IsInTables spans.now nonzero.now span.now }
-    ensures tells { Tells ranks.now stale.old stale.new (λ f. from ≤ rank_at ranks.now f → (In span.now.plain.items f → ⊥) × NotBehind (edges_of spans.now.gated.items) nonzero.now span.now.low span.now.high f) }
+    ensures tells { Tells ranks.now stale.old stale.new
+        (λ f. from ≤ rank_at ranks.now f → (In span.now.plain.items f → ⊥)
+        × NotBehind (edges_of spans.now.gated.items) nonzero.now span.now.low span.now.high f) }
     ensures below { SameBelow from stale.old stale.new }
 {
     mark_row(ranks, from, stale, &span.plain);

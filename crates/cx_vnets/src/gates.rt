@@ -155,7 +155,8 @@ fn mark_open(
     stale: &mut [u8],
     net: usize,
 )
-    ensures tells { Tells ranks.now stale.old stale.new (λ f. from ≤ rank_at ranks.now f → f ≡ net → IsShut gates.now nonzero.now changed f) }
+    ensures tells { Tells ranks.now stale.old stale.new
+        (λ f. from ≤ rank_at ranks.now f → f ≡ net → IsShut gates.now nonzero.now changed f) }
     ensures below { SameBelow from stale.old stale.new }
 {
     if is_shut(gates, nonzero, changed, net) {
@@ -174,7 +175,8 @@ pub(crate) fn mark_open_row(
     stale: &mut [u8],
     row: &[u32],
 )
-    ensures tells { Tells ranks.now stale.old stale.new (λ f. from ≤ rank_at ranks.now f → In row.now f → IsShut gates.now nonzero.now changed f) }
+    ensures tells { Tells ranks.now stale.old stale.new
+        (λ f. from ≤ rank_at ranks.now f → In row.now f → IsShut gates.now nonzero.now changed f) }
     ensures below { SameBelow from stale.old stale.new }
 {
     for net in row {

@@ -106,7 +106,8 @@ fn have_ranks(order: &[u32], ranks: &[u32]) -> bool
 
 /// Whether there are as many ranks and places in the order as nets.
 fn are_as_many(nets: &Nets, order: &[u32], ranks: &[u32]) -> bool
-    ensures { result ≡ true → (length order.now ≡ length nets.now.drivers.items) × (length ranks.now ≡ length nets.now.drivers.items) }
+    ensures { result ≡ true → (length order.now ≡ length nets.now.drivers.items)
+        × (length ranks.now ≡ length nets.now.drivers.items) }
 {
     order.len() == nets.drivers.len() && ranks.len() == nets.drivers.len()
 }

@@ -104,7 +104,9 @@ fn list_code(
     net: u32,
 ) -> Result<(), Memory>
     requires some { 0 < count }
-    ensures { OnOk result (ListsCode (edges_of of_nets.old.items) (edges_of of_arrays.old.items) watches.old (edges_of of_nets.new.items) (edges_of of_arrays.new.items) watches.new count place net code.now) }
+    ensures { OnOk result (ListsCode (edges_of of_nets.old.items)
+        (edges_of of_arrays.old.items) watches.old (edges_of of_nets.new.items)
+        (edges_of of_arrays.new.items) watches.new count place net code.now) }
 {
     match code {
         Code::Net(read) => list(of_nets, place.nets as usize + *read as usize, net),
@@ -149,7 +151,8 @@ fn list_net(
     ensures nets { OnOk result (Grows (edges_of of_nets.old.items) (edges_of of_nets.new.items)) }
     ensures arrays { OnOk result (Grows (edges_of of_arrays.old.items) (edges_of of_arrays.new.items)) }
     ensures watches { OnOk result (WatchesGrow watches.old watches.new) }
-    ensures found { OnOk result (IsFound nets.now (edges_of of_nets.new.items) (edges_of of_arrays.new.items) watches.new (length nets.now.drivers.items) net) }
+    ensures found { OnOk result (IsFound nets.now (edges_of of_nets.new.items)
+        (edges_of of_arrays.new.items) watches.new (length nets.now.drivers.items) net) }
 {
     let number = narrow(net)?;
     let count = nets.drivers.len();

@@ -8,5 +8,6 @@ ghost use Rattle.cx_vnets.specs.Runs.{IsReady};
 
 /// A machine that fits what is stored fits whatever has the same widths.
 pub fn machines_stay_ready()
-    ensures { (m : Machine) (before after : Stored) (b : Bench) → KeepsWidths before after → IsReady m before b → IsReady m after b }
+    ensures { (m : Machine) (before after : Stored) (b : Bench) → KeepsWidths before after →
+        IsReady m before b → IsReady m after b }
 {}

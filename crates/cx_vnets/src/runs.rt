@@ -59,7 +59,8 @@ fn put_inputs(machine: &Machine, bench: &mut Bench, stored: &mut Stored, reset: 
     requires resets { machine.now.reset < length stored.old.nets.items }
     requires goes { machine.now.go < length stored.old.nets.items }
     ensures inputs { WithInputs machine.now reset stored.old stored.new }
-    ensures tells { Tells machine.now.readers.ranks.items bench.old.stale.items bench.new.stale.items (λ f. slice_get stored.new.nets.items f ≡ slice_get stored.old.nets.items f) }
+    ensures tells { Tells machine.now.readers.ranks.items bench.old.stale.items bench.new.stale.items
+        (λ f. slice_get stored.new.nets.items f ≡ slice_get stored.old.nets.items f) }
     ensures writes { bench.new.writes.items ≡ bench.old.writes.items }
     ensures marks { bench.new.marks.items ≡ bench.old.marks.items }
     ensures values { bench.new.values.items ≡ bench.old.values.items }
@@ -103,7 +104,8 @@ fn mark_nets(machine: &Machine, bench: &mut Bench, stored: &Stored)
 fn values(machine: &Machine, bench: &mut Bench, stored: &Stored) -> Option<usize>
     requires ready { IsReady machine.now stored.now bench.old }
     requires current { IsCurrent machine.now stored.now bench.old }
-    ensures value { MatchOption result (AreValues machine.now stored.now bench.new.values.items) (IsFirstWithout machine.now.nets stored.now) }
+    ensures value { MatchOption result (AreValues machine.now stored.now bench.new.values.items)
+        (IsFirstWithout machine.now.nets stored.now) }
     ensures ready { IsReady machine.now stored.now bench.new }
     ensures current { IsCurrent machine.now stored.now bench.new }
 {

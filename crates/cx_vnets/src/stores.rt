@@ -114,7 +114,8 @@ pub(crate) fn mark_written(
     stale: &mut [u8],
 )
     requires long { length writes.now ≡ length stores.now }
-    ensures { Tells ranks.now stale.old stale.new (ReadsNoWritten (edges_of of_arrays.now) stores.now writes.now (length stores.now)) }
+    ensures { Tells ranks.now stale.old stale.new
+        (ReadsNoWritten (edges_of of_arrays.now) stores.now writes.now (length stores.now)) }
 {
     for (number, store) in stores.iter().enumerate() {
         mark_store(of_arrays, *store, writes[number], ranks, stale);
@@ -129,7 +130,8 @@ fn mark_store(
     ranks: &[u32],
     stale: &mut [u8],
 )
-    ensures { Tells ranks.now stale.old stale.new (λ f. (w : Write) → write ≡ Some w → IsListed (edges_of of_arrays.now) f store.array → ⊥) }
+    ensures { Tells ranks.now stale.old stale.new
+        (λ f. (w : Write) → write ≡ Some w → IsListed (edges_of of_arrays.now) f store.array → ⊥) }
 {
     if write.is_some() {
         mark_readers(of_arrays, store.array as usize, ranks, stale);

@@ -42,7 +42,10 @@ fn drive(nets: &Nets, stored: &Stored, values: &[Bits], net: usize) -> Bits
 /// Marks the nets of ranks from `from` on that read a net, one by one, but those whose gate is another net, which is known to be 0.
 fn mark_row_open(readers: &Readers, nonzero: &[u8], net: usize, from: usize, stale: &mut [u8])
     requires within { net < length readers.now.of_nets.items }
-    ensures tells { Tells readers.now.ranks.items stale.old stale.new (λ f. from ≤ rank_at readers.now.ranks.items f → In (targets_of (edges_of readers.now.of_nets.items) net) f → IsShut readers.now.gates.items nonzero.now net f) }
+    ensures tells { Tells readers.now.ranks.items stale.old stale.new
+        (λ f. from ≤ rank_at readers.now.ranks.items f
+        → In (targets_of (edges_of readers.now.of_nets.items) net) f
+        → IsShut readers.now.gates.items nonzero.now net f) }
     ensures below { SameBelow from stale.old stale.new }
 {
     mark_open_row(
@@ -60,7 +63,10 @@ fn mark_row_open(readers: &Readers, nonzero: &[u8], net: usize, from: usize, sta
 fn mark_reading(readers: &Readers, nonzero: &[u8], net: usize, from: usize, stale: &mut [u8])
     requires within { net < length readers.now.of_nets.items }
     requires spans { SpansStand readers.now.gates.items (edges_of readers.now.of_nets.items) readers.now.spans }
-    ensures tells { Tells readers.now.ranks.items stale.old stale.new (λ f. from ≤ rank_at readers.now.ranks.items f → In (targets_of (edges_of readers.now.of_nets.items) net) f → IsShut readers.now.gates.items nonzero.now net f) }
+    ensures tells { Tells readers.now.ranks.items stale.old stale.new
+        (λ f. from ≤ rank_at readers.now.ranks.items f
+        → In (targets_of (edges_of readers.now.of_nets.items) net) f
+        → IsShut readers.now.gates.items nonzero.now net f) }
     ensures below { SameBelow from stale.old stale.new }
 {
     match span_at(&readers.spans, nonzero, net, readers.of_nets[net].len()) {
@@ -72,7 +78,9 @@ fn mark_reading(readers: &Readers, nonzero: &[u8], net: usize, from: usize, stal
 /// Marks the nets of ranks from `from` on that stand in a row of comparisons.
 fn mark_comparing(readers: &Readers, row: usize, from: usize, stale: &mut [u8])
     requires within { row < length readers.now.watches.rows.items }
-    ensures tells { Tells readers.now.ranks.items stale.old stale.new (λ f. from ≤ rank_at readers.now.ranks.items f → In (targets_of (edges_of readers.now.watches.rows.items) row) f → ⊥) }
+    ensures tells { Tells readers.now.ranks.items stale.old stale.new
+        (λ f. from ≤ rank_at readers.now.ranks.items f
+        → In (targets_of (edges_of readers.now.watches.rows.items) row) f → ⊥) }
     ensures below { SameBelow from stale.old stale.new }
 {
     mark_row(&readers.ranks, from, stale, &readers.watches.rows[row]);
@@ -82,7 +90,9 @@ fn mark_comparing(readers: &Readers, row: usize, from: usize, stale: &mut [u8])
 /// what it is.
 fn mark_sided(readers: &Readers, net: usize, from: usize, stale: &mut [u8], old: Bits, new: Bits)
     requires within { net < length readers.now.watches.rows.items }
-    ensures tells { Tells readers.now.ranks.items stale.old stale.new (λ f. from ≤ rank_at readers.now.ranks.items f → In (targets_of (edges_of readers.now.watches.rows.items) net) f → new.value ≡ old.value + 1) }
+    ensures tells { Tells readers.now.ranks.items stale.old stale.new
+        (λ f. from ≤ rank_at readers.now.ranks.items f
+        → In (targets_of (edges_of readers.now.watches.rows.items) net) f → new.value ≡ old.value + 1) }
     ensures below { SameBelow from stale.old stale.new }
 {
     if is_next(old, new) {
@@ -103,7 +113,8 @@ fn mark_rows(
 )
     requires within { net < count }
     requires watches { length readers.now.watches.rows.items ≡ count }
-    ensures tells { Tells readers.now.ranks.items stale.old stale.new (λ f. from ≤ rank_at readers.now.ranks.items f → Passes readers.now count net old new f) }
+    ensures tells { Tells readers.now.ranks.items stale.old stale.new
+        (λ f. from ≤ rank_at readers.now.ranks.items f → Passes readers.now count net old new f) }
     ensures below { SameBelow from stale.old stale.new }
 {
     let lost = row_of(net, old, count);
@@ -134,7 +145,9 @@ fn mark_watching(
     requires within { net < count }
     requires watches { length readers.now.watches.rows.items ≡ count }
     requires notes { net < length readers.now.watches.compared.items }
-    ensures tells { Tells readers.now.ranks.items stale.old stale.new (λ f. from ≤ rank_at readers.now.ranks.items f → get_or readers.now.watches.compared.items net false ≡ true → Passes readers.now count net old new f) }
+    ensures tells { Tells readers.now.ranks.items stale.old stale.new
+        (λ f. from ≤ rank_at readers.now.ranks.items f
+        → get_or readers.now.watches.compared.items net false ≡ true → Passes readers.now count net old new f) }
     ensures below { SameBelow from stale.old stale.new }
 {
     if is_compared(&readers.watches.compared, net) {
@@ -158,7 +171,8 @@ fn mark_hearers(
     requires watches { length readers.now.watches.rows.items ≡ count }
     requires notes { length readers.now.watches.compared.items ≡ count }
     requires spans { SpansStand readers.now.gates.items (edges_of readers.now.of_nets.items) readers.now.spans }
-    ensures tells { Tells readers.now.ranks.items stale.old stale.new (λ f. from ≤ rank_at readers.now.ranks.items f → HearsNot readers.now nonzero.now count net old new f) }
+    ensures tells { Tells readers.now.ranks.items stale.old stale.new
+        (λ f. from ≤ rank_at readers.now.ranks.items f → HearsNot readers.now nonzero.now count net old new f) }
     ensures below { SameBelow from stale.old stale.new }
 {
     mark_reading(readers, nonzero, net, from, stale);

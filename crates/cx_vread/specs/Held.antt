@@ -24,7 +24,9 @@ holds_edge None = true
 holds_edge (Some e) = list_all holds_assign e.reset && list_all holds_item e.step
 
 abbrev pub holds_module : PlainModule → Bool
-holds_module m = list_all holds_port m.ports && list_all holds_decl m.decls && list_all holds_assign m.assigns && holds_edge m.edge
+holds_module m =
+    list_all holds_port m.ports && list_all holds_decl m.decls && list_all holds_assign m.assigns
+    && holds_edge m.edge
 
 abbrev pub holds_external : PlainExternal → Bool
 holds_external e = nat_lt e.width 256 && list_all (λ k. nat_lt k 18446744073709551616) e.sizes

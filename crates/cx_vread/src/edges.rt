@@ -20,7 +20,8 @@ fn set<'a>(
     scope: &ModuleScope,
     at: ReadPoint<'a>,
 ) -> Result<(NetAssign, ReadPoint<'a>), Fault>
-    ensures { Gives (λ x. (plain_assign x.0, place_of x.1)) result (parts.set_at (scope_by scope.now) (place_of at.entry)) }
+    ensures { Gives (λ x. (plain_assign x.0, place_of x.1)) result
+        (parts.set_at (scope_by scope.now) (place_of at.entry)) }
 {
     let at = expect(at, b"      ")?;
     let (name, at) = name(alloc, at)?;
@@ -34,7 +35,8 @@ fn store_head<'a>(
     scope: &ModuleScope,
     at: ReadPoint<'a>,
 ) -> Result<((Expr, Name), ReadPoint<'a>), Fault>
-    ensures { Gives (λ x. ((plain_expr x.0.0, x.0.1), place_of x.1)) result (parts.store_head_at (scope_by scope.now) (place_of at.entry)) }
+    ensures { Gives (λ x. ((plain_expr x.0.0, x.0.1), place_of x.1)) result
+        (parts.store_head_at (scope_by scope.now) (place_of at.entry)) }
 {
     let at = expect(at, b"      if (")?;
     let (guard, at) = whole_expr(alloc, scope, at)?;
@@ -50,7 +52,8 @@ fn store<'a>(
     scope: &ModuleScope,
     at: ReadPoint<'a>,
 ) -> Result<(EdgeItem, ReadPoint<'a>), Fault>
-    ensures { Gives (λ x. (plain_item x.0, place_of x.1)) result (parts.store_at (scope_by scope.now) (place_of at.entry)) }
+    ensures { Gives (λ x. (plain_item x.0, place_of x.1)) result
+        (parts.store_at (scope_by scope.now) (place_of at.entry)) }
 {
     let ((guard, array), at) = store_head(alloc, scope, at)?;
     let (index, at) = whole_expr(alloc, scope, at)?;
@@ -72,7 +75,8 @@ fn item<'a>(
     scope: &ModuleScope,
     at: ReadPoint<'a>,
 ) -> Result<(EdgeItem, ReadPoint<'a>), Fault>
-    ensures { Gives (λ x. (plain_item x.0, place_of x.1)) result (parts.item_at (scope_by scope.now) (place_of at.entry)) }
+    ensures { Gives (λ x. (plain_item x.0, place_of x.1)) result
+        (parts.item_at (scope_by scope.now) (place_of at.entry)) }
 {
     if begins(at, b"      if (") {
         return store(alloc, scope, at);
@@ -87,7 +91,8 @@ fn sets<'a>(
     scope: &ModuleScope,
     at: ReadPoint<'a>,
 ) -> Result<(Vec<NetAssign>, ReadPoint<'a>), Fault>
-    ensures { Gives (λ x. (map plain_assign x.0.items, place_of x.1)) result (parts.sets_at (scope_by scope.now) (place_of at.entry)) }
+    ensures { Gives (λ x. (map plain_assign x.0.items, place_of x.1)) result
+        (parts.sets_at (scope_by scope.now) (place_of at.entry)) }
 {
     let mut list = Vec::new(alloc);
     let mut here = at;
@@ -110,7 +115,8 @@ fn items<'a>(
     scope: &ModuleScope,
     at: ReadPoint<'a>,
 ) -> Result<(Vec<EdgeItem>, ReadPoint<'a>), Fault>
-    ensures { Gives (λ x. (map plain_item x.0.items, place_of x.1)) result (parts.items_at (scope_by scope.now) (place_of at.entry)) }
+    ensures { Gives (λ x. (map plain_item x.0.items, place_of x.1)) result
+        (parts.items_at (scope_by scope.now) (place_of at.entry)) }
 {
     let mut list = Vec::new(alloc);
     let mut here = at;
@@ -133,7 +139,8 @@ fn edge_lines<'a>(
     scope: &ModuleScope,
     at: ReadPoint<'a>,
 ) -> Result<(Edge, ReadPoint<'a>), Fault>
-    ensures { Gives (λ x. (plain_edge x.0, place_of x.1)) result (parts.edge_at (scope_by scope.now) (place_of at.entry)) }
+    ensures { Gives (λ x. (plain_edge x.0, place_of x.1)) result
+        (parts.edge_at (scope_by scope.now) (place_of at.entry)) }
 {
     let at = expect(at, b"  always @(posedge clk) begin\n    if (reset) begin\n")?;
     let (reset, at) = sets(alloc, scope, at)?;
@@ -149,7 +156,8 @@ pub fn edge<'a>(
     scope: &ModuleScope,
     at: ReadPoint<'a>,
 ) -> Result<(Option<Edge>, ReadPoint<'a>), Fault>
-    ensures { Gives (λ x. (option_map plain_edge x.0, place_of x.1)) result (parts.edge_or_none_at (scope_by scope.now) (place_of at.entry)) }
+    ensures { Gives (λ x. (option_map plain_edge x.0, place_of x.1)) result
+        (parts.edge_or_none_at (scope_by scope.now) (place_of at.entry)) }
 {
     if !begins(at, b"  always ") {
         return Ok((None, at));

@@ -25,7 +25,8 @@ fn more_sizes<'a>(
     first: Numeral,
     at: ReadPoint<'a>,
 ) -> Result<(Vec<Numeral>, ReadPoint<'a>), Fault>
-    ensures { Gives (λ x. (draft_sizes x.0.items, place_of x.1)) result (with_front (first ∷ []) (many (begins (codes " ")) parts.more_size_at 3 (place_of at.entry))) }
+    ensures { Gives (λ x. (draft_sizes x.0.items, place_of x.1)) result
+        (with_front (first ∷ []) (many (begins (codes " ")) parts.more_size_at 3 (place_of at.entry))) }
 {
     let mut sizes = Vec::new(alloc);
     sizes.push(first)?;
@@ -58,7 +59,8 @@ fn external_of<'a>(
     instance: Name,
     at: ReadPoint<'a>,
 ) -> Result<(DraftExternal, ReadPoint<'a>), Fault>
-    ensures { Gives (λ x. (draft_external x.0, place_of x.1)) result (parts.external_by name instance (place_of at.entry)) }
+    ensures { Gives (λ x. (draft_external x.0, place_of x.1)) result
+        (parts.external_by name instance (place_of at.entry)) }
 {
     let (width, at) = small(at)?;
     let at = expect(at, b" ")?;

@@ -37,7 +37,8 @@ fn more_conns<'a>(
     first: Conn,
     at: ReadPoint<'a>,
 ) -> Result<(Vec<Conn>, ReadPoint<'a>), Fault>
-    ensures { Gives (λ x. (map plain_conn x.0.items, place_of x.1)) result (with_front (plain_conn first ∷ []) (parts.more_conns_at (place_of at.entry))) }
+    ensures { Gives (λ x. (map plain_conn x.0.items, place_of x.1)) result
+        (with_front (plain_conn first ∷ []) (parts.more_conns_at (place_of at.entry))) }
 {
     let mut list = Vec::new(alloc);
     list.push(first)?;
@@ -106,7 +107,8 @@ pub fn instances<'a>(
     alloc: Global,
     at: ReadPoint<'a>,
 ) -> Result<(Vec<Instance>, ReadPoint<'a>), Fault>
-    ensures { Gives (λ x. (map plain_instance x.0.items, place_of x.1)) result (parts.instances_at (place_of at.entry)) }
+    ensures { Gives (λ x. (map plain_instance x.0.items, place_of x.1)) result
+        (parts.instances_at (place_of at.entry)) }
 {
     let mut list = Vec::new(alloc);
     let mut here = at;

@@ -59,7 +59,8 @@ fn more_ports<'a>(
     first: ModulePort,
     at: ReadPoint<'a>,
 ) -> Result<(Vec<ModulePort>, ReadPoint<'a>), Fault>
-    ensures { Gives (λ x. (map plain_port x.0.items, place_of x.1)) result (with_front (plain_port first ∷ []) (parts.more_ports_at (place_of at.entry))) }
+    ensures { Gives (λ x. (map plain_port x.0.items, place_of x.1)) result
+        (with_front (plain_port first ∷ []) (parts.more_ports_at (place_of at.entry))) }
 {
     let mut list = Vec::new(alloc);
     list.push(first)?;
@@ -188,7 +189,8 @@ pub fn assigned<'a>(
     name: Name,
     at: ReadPoint<'a>,
 ) -> Result<(NetAssign, ReadPoint<'a>), Fault>
-    ensures { Gives (λ x. (plain_assign x.0, place_of x.1)) result (parts.assigned_by (scope_by scope.now) name (place_of at.entry)) }
+    ensures { Gives (λ x. (plain_assign x.0, place_of x.1)) result
+        (parts.assigned_by (scope_by scope.now) name (place_of at.entry)) }
 {
     let (value, at) = whole_expr(alloc, scope, at)?;
     let at = expect(at, b";\n")?;
@@ -201,7 +203,8 @@ fn assign<'a>(
     scope: &ModuleScope,
     at: ReadPoint<'a>,
 ) -> Result<(NetAssign, ReadPoint<'a>), Fault>
-    ensures { Gives (λ x. (plain_assign x.0, place_of x.1)) result (parts.assign_at (scope_by scope.now) (place_of at.entry)) }
+    ensures { Gives (λ x. (plain_assign x.0, place_of x.1)) result
+        (parts.assign_at (scope_by scope.now) (place_of at.entry)) }
 {
     let at = expect(at, b"  assign ")?;
     let (name, at) = name(alloc, at)?;
@@ -215,7 +218,8 @@ pub fn assigns<'a>(
     scope: &ModuleScope,
     at: ReadPoint<'a>,
 ) -> Result<(Vec<NetAssign>, ReadPoint<'a>), Fault>
-    ensures { Gives (λ x. (map plain_assign x.0.items, place_of x.1)) result (parts.assigns_at (scope_by scope.now) (place_of at.entry)) }
+    ensures { Gives (λ x. (map plain_assign x.0.items, place_of x.1)) result
+        (parts.assigns_at (scope_by scope.now) (place_of at.entry)) }
 {
     let mut list = Vec::new(alloc);
     let mut here = at;

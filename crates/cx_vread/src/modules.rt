@@ -23,7 +23,8 @@ fn head<'a>(
     alloc: Global,
     at: ReadPoint<'a>,
 ) -> Result<((Name, Vec<ModulePort>), ReadPoint<'a>), Fault>
-    ensures { Gives (λ x. ((x.0.0, map plain_port x.0.1.items), place_of x.1)) result (parts.head_at (place_of at.entry)) }
+    ensures { Gives (λ x. ((x.0.0, map plain_port x.0.1.items), place_of x.1)) result
+        (parts.head_at (place_of at.entry)) }
 {
     let at = expect(at, b"module ")?;
     let (name, at) = name(alloc, at)?;
@@ -46,7 +47,8 @@ fn body_lines<'a>(
     front: &DraftModule,
     at: ReadPoint<'a>,
 ) -> Result<(Body, ReadPoint<'a>), Fault>
-    ensures { Gives (λ x. (plain_body x.0, place_of x.1)) result (parts.body_at (scope_of front.now) (place_of at.entry)) }
+    ensures { Gives (λ x. (plain_body x.0, place_of x.1)) result
+        (parts.body_at (scope_of front.now) (place_of at.entry)) }
 {
     let scope = ModuleScope::new(alloc, front)?;
     let (assigns, at) = assigns(alloc, &scope, at)?;
@@ -100,7 +102,8 @@ fn more_modules<'a>(
     first: DraftModule,
     at: ReadPoint<'a>,
 ) -> Result<(Vec<DraftModule>, ReadPoint<'a>), Fault>
-    ensures { Gives (λ x. (draft_modules x.0.items, place_of x.1)) result (with_front (draft_module first ∷ []) (parts.more_modules_at (place_of at.entry))) }
+    ensures { Gives (λ x. (draft_modules x.0.items, place_of x.1)) result
+        (with_front (draft_module first ∷ []) (parts.more_modules_at (place_of at.entry))) }
 {
     let mut list = Vec::new(alloc);
     list.push(first)?;

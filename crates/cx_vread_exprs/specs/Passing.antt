@@ -28,10 +28,13 @@ ended_by scope reads = then_reads reads (λ e q. Some (Ended (shape_of scope e),
 -- what stands in square brackets after a name: a part, or an index
 abbrev pub want_bracketed : Scope → List ℕ → Place → Reads Found
 want_bracketed scope n p =
-    then_at (after (codes "[") p) (λ q. if is_part q then ended_by scope (part_by n q) else Some (Within (Index (array_shape scope n)), q))
+    then_at (after (codes "[") p) (λ q.
+    if is_part q then ended_by scope (part_by n q) else Some (Within (Index (array_shape scope n)), q))
 
 abbrev pub want_named : Scope → Place → Reads Found
-want_named scope p = then_reads (name_at p) (λ n q. if begins (codes "[") q then want_bracketed scope n q else Some (Ended (shape_of scope (Named n)), q))
+want_named scope p =
+    then_reads (name_at p) (λ n q.
+    if begins (codes "[") q then want_bracketed scope n q else Some (Ended (shape_of scope (Named n)), q))
 
 abbrev pub want_literal : Scope → Place → Reads Found
 want_literal scope p = ended_by scope (literal_at p)
@@ -47,7 +50,8 @@ want_at scope p =
 -- what follows the first expression in round brackets
 abbrev pub signed_at : Shape → Place → Reads Found
 signed_at shape p =
-    then_at (after (codes " ") p) (λ q. if begins (codes "? ") q then opened_by (codes "? ") (One shape) q else then_reads (operator_at q) (λ op r. opened_by (codes " ") (Right op shape) r))
+    then_at (after (codes " ") p) (λ q. if begins (codes "? ") q then opened_by (codes "? ") (One shape) q
+    else then_reads (operator_at q) (λ op r. opened_by (codes " ") (Right op shape) r))
 
 -- behind an expression of this shape, by what is awaited there
 abbrev pub end_at : Await → Shape → Place → Reads Found
@@ -64,9 +68,11 @@ end_at (Right op left) shape p = closed_by (codes ")") (applied op left shape) p
 -- those around it, the innermost first
 abbrev pub pass_on : Scope → ℕ → Found → List Await → Place → Reads Shape
 pass_on scope zero found awaited p = None
-pass_on scope (suc n) (Within next) awaited p = then_reads (want_at scope p) (λ found q. pass_on scope n found (next ∷ awaited) q)
+pass_on scope (suc n) (Within next) awaited p =
+    then_reads (want_at scope p) (λ found q. pass_on scope n found (next ∷ awaited) q)
 pass_on scope (suc n) (Ended shape) [] p = Some (shape, p)
-pass_on scope (suc n) (Ended shape) (last ∷ awaited) p = then_reads (end_at last shape p) (λ found q. pass_on scope n found awaited q)
+pass_on scope (suc n) (Ended shape) (last ∷ awaited) p =
+    then_reads (end_at last shape p) (λ found q. pass_on scope n found awaited q)
 
 -- the shape of a whole expression
 abbrev pub shape_at : Scope → Place → Reads Shape

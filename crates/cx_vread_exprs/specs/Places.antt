@@ -41,7 +41,9 @@ begins want p = is_some (after_text want p.rest)
 abbrev pub many : {X : Type 0} → (Place → Bool) → (Place → Reads X) → ℕ → Place → Reads (List X)
 many {X} starts one zero p = Some ([], p)
 many {X} starts one (suc n) p =
-    if starts p then then_reads (one p) (λ x q. then_reads (many starts one n q) (λ xs r. Some (x ∷ xs, r))) else Some ([], p)
+    if starts p
+    then then_reads (one p) (λ x q. then_reads (many starts one n q) (λ xs r. Some (x ∷ xs, r)))
+    else Some ([], p)
 
 -- behind what was read before
 abbrev pub with_front : {X : Type 0} → List X → Reads (List X) → Reads (List X)

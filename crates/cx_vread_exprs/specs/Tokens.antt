@@ -7,10 +7,14 @@ use Rattle.cx_vread_exprs.specs.Places.{Place, Reads, moved, then_reads, then_at
 use Rattle.cx_text.specs.Spans.{front, back}
 
 abbrev pub word_at : Place → Reads (List ℕ)
-word_at p = if is_word (front is_name_byte p.rest) then Some (front is_name_byte p.rest, moved p (back is_name_byte p.rest)) else None
+word_at p =
+    if is_word (front is_name_byte p.rest)
+    then Some (front is_name_byte p.rest, moved p (back is_name_byte p.rest)) else None
 
 abbrev pub name_at : Place → Reads (List ℕ)
-name_at p = if is_name (front is_name_byte p.rest) then Some (front is_name_byte p.rest, moved p (back is_name_byte p.rest)) else None
+name_at p =
+    if is_name (front is_name_byte p.rest)
+    then Some (front is_name_byte p.rest, moved p (back is_name_byte p.rest)) else None
 
 -- `0` to `9`, and for base 16 `a` to `f`
 abbrev pub is_digit_in : ℕ → ℕ → Bool
@@ -24,7 +28,8 @@ is_numeral (c ∷ d ∷ ds) = not (c == 48)
 
 abbrev pub digits_at : ℕ → Place → Reads (List ℕ)
 digits_at base p =
-    if is_numeral (front (is_digit_in base) p.rest) then Some (front (is_digit_in base) p.rest, moved p (back (is_digit_in base) p.rest)) else None
+    if is_numeral (front (is_digit_in base) p.rest)
+    then Some (front (is_digit_in base) p.rest, moved p (back (is_digit_in base) p.rest)) else None
 
 -- a number, where it is below 2^128
 abbrev pub capped : ℕ → Option ℕ
@@ -52,7 +57,8 @@ small_at p = then_reads (number_at 10 p) (λ n q. Some (no_more 255 n, q))
 -- a width and the space after it, as `[7:0] `
 abbrev pub bounds_at : Place → Reads ℕ
 bounds_at p =
-    then_at (after (codes "[") p) (λ q. then_reads (number_at 10 q) (λ n r. then_at (after (codes ":0] ") r) (λ s. Some (no_more 254 n + 1, s))))
+    then_at (after (codes "[") p) (λ q. then_reads (number_at 10 q)
+    (λ n r. then_at (after (codes ":0] ") r) (λ s. Some (no_more 254 n + 1, s))))
 
 -- a value that has its width
 abbrev pub fits_bits : ℕ → ℕ → Bool
@@ -71,7 +77,9 @@ miswidened = Joined widest widest
 
 -- a literal: where it does not fit its width it breaks a rule on names, and else one on widths
 abbrev pub kept_literal : ℕ → ℕ → PlainExpr
-kept_literal w v = if fits_bits w v then Number (record { width = w; value = v }) else (if nat_le (2 ^ w) v then misnamed else miswidened)
+kept_literal w v =
+    if fits_bits w v then Number (record { width = w; value = v })
+    else (if nat_le (2 ^ w) v then misnamed else miswidened)
 
 abbrev pub literal_at : Place → Reads PlainExpr
 literal_at p =

@@ -77,7 +77,8 @@ pub fn deep<'a>(
     scope: &ModuleScope,
     at: ReadPoint<'a>,
 ) -> Result<(Expr, ReadPoint<'a>), Fault>
-    ensures { Gives (λ x. (plain_expr x.0, place_of x.1)) result (deeps.deep_at (scope_by scope.now) (place_of at.entry)) }
+    ensures { Gives (λ x. (plain_expr x.0, place_of x.1)) result
+        (deeps.deep_at (scope_by scope.now) (place_of at.entry)) }
 {
     let (shape, at) = pass_shape(alloc, scope, at)?;
     let inner = leaf(alloc, shape)?;

@@ -59,7 +59,8 @@ fn item<'a>(
     index: Expr,
     at: ReadPoint<'a>,
 ) -> Result<(Expr, ReadPoint<'a>), Fault>
-    ensures { Gives (λ x. (plain_expr x.0, place_of x.1)) result (exprs.item_by net (plain_expr index) (place_of at.entry)) }
+    ensures { Gives (λ x. (plain_expr x.0, place_of x.1)) result
+        (exprs.item_by net (plain_expr index) (place_of at.entry)) }
 {
     let at = expect(at, b"]")?;
     Ok((Expr::Item(net, Box::new(alloc, index)?), at))
@@ -71,7 +72,8 @@ pub fn whole_expr<'a>(
     scope: &ModuleScope,
     at: ReadPoint<'a>,
 ) -> Result<(Expr, ReadPoint<'a>), Fault>
-    ensures { Gives (λ x. (plain_expr x.0, place_of x.1)) result (whole_expr_at (scope_by scope.now) (place_of at.entry)) }
+    ensures { Gives (λ x. (plain_expr x.0, place_of x.1)) result
+        (whole_expr_at (scope_by scope.now) (place_of at.entry)) }
 {
     match expr(alloc, LEVELS, at) {
         Ok(found) => Ok(found),
@@ -109,7 +111,8 @@ fn inner<'a>(alloc: Global, levels: u8, at: ReadPoint<'a>) -> Result<(Expr, Read
 /// A name, and what stands in brackets after it.
 #[cycle(reader)]
 fn named<'a>(alloc: Global, levels: u8, at: ReadPoint<'a>) -> Result<(Expr, ReadPoint<'a>), Fault>
-    ensures { Gives (λ x. (plain_expr x.0, place_of x.1)) result (exprs.named_by (exprs.inner_at levels) (place_of at.entry)) }
+    ensures { Gives (λ x. (plain_expr x.0, place_of x.1)) result
+        (exprs.named_by (exprs.inner_at levels) (place_of at.entry)) }
 {
     let (net, at) = name(alloc, at)?;
     if begins(at, b"[") {
@@ -127,7 +130,8 @@ fn bracketed<'a>(
     net: Name,
     at: ReadPoint<'a>,
 ) -> Result<(Expr, ReadPoint<'a>), Fault>
-    ensures { Gives (λ x. (plain_expr x.0, place_of x.1)) result (exprs.bracketed_by (exprs.inner_at levels) net (place_of at.entry)) }
+    ensures { Gives (λ x. (plain_expr x.0, place_of x.1)) result
+        (exprs.bracketed_by (exprs.inner_at levels) net (place_of at.entry)) }
 {
     let at = expect(at, b"[")?;
     if is_part(at) {
@@ -155,7 +159,8 @@ fn brackets<'a>(
     levels: u8,
     at: ReadPoint<'a>,
 ) -> Result<(Expr, ReadPoint<'a>), Fault>
-    ensures { Gives (λ x. (plain_expr x.0, place_of x.1)) result (exprs.brackets_by (exprs.expr_at levels) (place_of at.entry)) }
+    ensures { Gives (λ x. (plain_expr x.0, place_of x.1)) result
+        (exprs.brackets_by (exprs.expr_at levels) (place_of at.entry)) }
 {
     if begins(at, b"{") {
         joined(alloc, levels, at)
@@ -169,7 +174,8 @@ fn brackets<'a>(
 /// `{a, b}`
 #[cycle(reader)]
 fn joined<'a>(alloc: Global, levels: u8, at: ReadPoint<'a>) -> Result<(Expr, ReadPoint<'a>), Fault>
-    ensures { Gives (λ x. (plain_expr x.0, place_of x.1)) result (exprs.joined_by (exprs.expr_at levels) (place_of at.entry)) }
+    ensures { Gives (λ x. (plain_expr x.0, place_of x.1)) result
+        (exprs.joined_by (exprs.expr_at levels) (place_of at.entry)) }
 {
     let at = expect(at, b"{")?;
     let (high, at) = expr(alloc, levels, at)?;
@@ -187,7 +193,8 @@ fn inverted<'a>(
     levels: u8,
     at: ReadPoint<'a>,
 ) -> Result<(Expr, ReadPoint<'a>), Fault>
-    ensures { Gives (λ x. (plain_expr x.0, place_of x.1)) result (exprs.inverted_by (exprs.expr_at levels) (place_of at.entry)) }
+    ensures { Gives (λ x. (plain_expr x.0, place_of x.1)) result
+        (exprs.inverted_by (exprs.expr_at levels) (place_of at.entry)) }
 {
     let at = expect(at, b"(~")?;
     let (inner, at) = expr(alloc, levels, at)?;
@@ -198,7 +205,8 @@ fn inverted<'a>(
 /// `(c ? a : b)` or `(a op b)`
 #[cycle(reader)]
 fn round<'a>(alloc: Global, levels: u8, at: ReadPoint<'a>) -> Result<(Expr, ReadPoint<'a>), Fault>
-    ensures { Gives (λ x. (plain_expr x.0, place_of x.1)) result (exprs.round_by (exprs.expr_at levels) (place_of at.entry)) }
+    ensures { Gives (λ x. (plain_expr x.0, place_of x.1)) result
+        (exprs.round_by (exprs.expr_at levels) (place_of at.entry)) }
 {
     let at = expect(at, b"(")?;
     let (first, at) = expr(alloc, levels, at)?;
@@ -218,7 +226,8 @@ fn chosen<'a>(
     test: Expr,
     at: ReadPoint<'a>,
 ) -> Result<(Expr, ReadPoint<'a>), Fault>
-    ensures { Gives (λ x. (plain_expr x.0, place_of x.1)) result (exprs.chosen_by (exprs.expr_at levels) (plain_expr test) (place_of at.entry)) }
+    ensures { Gives (λ x. (plain_expr x.0, place_of x.1)) result
+        (exprs.chosen_by (exprs.expr_at levels) (plain_expr test) (place_of at.entry)) }
 {
     let at = expect(at, b"? ")?;
     let (one, at) = expr(alloc, levels, at)?;
@@ -238,7 +247,8 @@ fn applied<'a>(
     left: Expr,
     at: ReadPoint<'a>,
 ) -> Result<(Expr, ReadPoint<'a>), Fault>
-    ensures { Gives (λ x. (plain_expr x.0, place_of x.1)) result (exprs.applied_by (exprs.expr_at levels) (plain_expr left) (place_of at.entry)) }
+    ensures { Gives (λ x. (plain_expr x.0, place_of x.1)) result
+        (exprs.applied_by (exprs.expr_at levels) (plain_expr left) (place_of at.entry)) }
 {
     let (op, at) = operator(at)?;
     let at = expect(at, b" ")?;

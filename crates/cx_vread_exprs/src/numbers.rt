@@ -235,7 +235,8 @@ fn literal_of(alloc: Global, width: &[u8], digits: &[u8]) -> Result<Expr, Memory
     requires some_width { IsTrue (tokens.is_numeral width.now) }
     requires digits { IsTrue (list_all (tokens.is_digit_in 16) digits.now) }
     requires some_digit { IsTrue (tokens.is_numeral digits.now) }
-    ensures { IfOk result (λ e. plain_expr e ≡ tokens.kept_literal (digits_value 10 width.now) (digits_value 16 digits.now)) }
+    ensures { IfOk result
+        (λ e. plain_expr e ≡ tokens.kept_literal (digits_value 10 width.now) (digits_value 16 digits.now)) }
 {
     let width = value(10, width);
     match literal_bits(width, value(16, digits)) {

@@ -67,7 +67,8 @@ fn want_bracketed<'a>(
     net: Name,
     at: ReadPoint<'a>,
 ) -> Result<(Found, ReadPoint<'a>), Fault>
-    ensures { Gives (λ x. (x.0, place_of x.1)) result (passing.want_bracketed (scope_by scope.now) net (place_of at.entry)) }
+    ensures { Gives (λ x. (x.0, place_of x.1)) result
+        (passing.want_bracketed (scope_by scope.now) net (place_of at.entry)) }
 {
     let at = expect(at, b"[")?;
     if is_part(at) {

@@ -247,7 +247,8 @@ fn externals_fit(list: &[External]) -> bool
 
 /// Whether some text spells the source of these parts.
 pub fn is_laid_out(externals: &[External], modules: &[Module]) -> bool
-    ensures { result ≡ layout.is_laid_out (record { externals = plain_externals externals.now; modules = plain_modules modules.now }) }
+    ensures { result ≡ layout.is_laid_out
+        (record { externals = plain_externals externals.now; modules = plain_modules modules.now }) }
 {
     externals_fit(externals) && 0 < modules.len() && modules_fit(modules)
 }

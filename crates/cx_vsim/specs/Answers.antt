@@ -14,7 +14,8 @@ answer_of NotDone = More
 -- the numbers of a loop name an instance of the source and a net of it
 abbrev pub NamesNet : PlainSource → SimAnswer → Type 0
 NamesNet s (Done cycle) = Unit {0}
-NamesNet s (Loop instance net) = (instance < length (instances_of s)) × (net < length (nets_at (instances_of s) instance))
+NamesNet s (Loop instance net) =
+    (instance < length (instances_of s)) × (net < length (nets_at (instances_of s) instance))
 NamesNet s More = Unit {0}
 
 -- the words at the end of a run that ends; there are none otherwise

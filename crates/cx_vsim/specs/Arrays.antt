@@ -43,4 +43,6 @@ pub record CanGive (numbers : List ℕ) (arrays : List PlainWords) (ms : List Pl
 
 -- the words of the arrays of these numbers fit their widths
 abbrev pub AllGivenFit : List ℕ → List PlainWords → Type 0
-AllGivenFit numbers arrays = (k a : ℕ) (x : PlainWords) → slice_get numbers k ≡ Some a → slice_get arrays a ≡ Some x → All Fits x.words
+AllGivenFit numbers arrays =
+    (k a : ℕ) (x : PlainWords) → slice_get numbers k ≡ Some a → slice_get arrays a ≡ Some x
+    → All Fits x.words

@@ -7,7 +7,9 @@ use Rattle.cx_vnets.specs.Numbers.{arrays_at, array_number}
 
 -- the number of the array of an external memory, among those of all instances
 abbrev pub array_of : List Placed → PlainExternal → Option ℕ
-array_of tree e = option_and_then (λ j. array_number tree j (first_array (decls_at tree j))) (instance_named tree 0 e.instance)
+array_of tree e =
+    option_and_then (λ j. array_number tree j (first_array (decls_at tree j)))
+    (instance_named tree 0 e.instance)
 
 -- an instance of `main` has the name, and an array and no other
 pub record HasArray (tree : List Placed) (e : PlainExternal) : Type 0 where

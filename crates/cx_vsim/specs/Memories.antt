@@ -11,4 +11,5 @@ pub record HasMemories (s : PlainSource) : Type 0 where
   pub apart : AreApart (instances_of s)
   pub each : (k : ℕ) (e : PlainExternal) → slice_get s.externals k ≡ Some e → IsMemory (instances_of s) e
   pub once : (j k i : ℕ) (d e : PlainExternal) → slice_get s.externals j ≡ Some d → slice_get s.externals k ≡ Some e
-      → instance_named (instances_of s) 0 d.instance ≡ Some i → instance_named (instances_of s) 0 e.instance ≡ Some i → j ≡ k
+      → instance_named (instances_of s) 0 d.instance ≡ Some i
+      → instance_named (instances_of s) 0 e.instance ≡ Some i → j ≡ k

@@ -41,7 +41,8 @@ pub record BuiltWith (s : PlainSource) (words : List (List ℕ)) (built : Built)
   pub stored : StoredStands (instances_of s) (start_moment s words) built.stored
 
 -- and these arrays have these numbers
-pub record SimStands (s : PlainSource) (words : List (List ℕ)) (built : Built) (numbers : List ℕ) (places : List NetPosition) : Type 0 where
+pub record SimStands (s : PlainSource) (words : List (List ℕ)) (built : Built) (numbers : List ℕ)
+    (places : List NetPosition) : Type 0 where
   pub machine : MachineStands (instances_of s) built.machine
   pub ready : IsReady built.machine built.stored built.bench
   pub readers : ReadersStand built.machine.nets built.machine.order.items built.machine.readers
@@ -74,7 +75,9 @@ TellsNet places flat.More = Unit {0}
 -- the answer by the instance and the place of a net is the one by its number
 abbrev pub IsToldAs : List NetPosition → RunAnswer → SimAnswer → Type 0
 IsToldAs places (flat.Done t) r = r ≡ Done t
-IsToldAs places (flat.Loop f) r = (tree : List Placed) (i k : ℕ) → places ≡ all_places tree (length tree) → IsNet tree f i k → r ≡ Loop i k
+IsToldAs places (flat.Loop f) r =
+    (tree : List Placed) (i k : ℕ) → places ≡ all_places tree (length tree) → IsNet tree f i k
+    → r ≡ Loop i k
 IsToldAs places flat.More r = r ≡ More
 
 -- the array of an external memory: as many words as the memory has, each of its width, which is 64 bits at most
@@ -87,5 +90,6 @@ pub record AreOf (e : PlainExternal) (x : PlainWords) : Type 0 where
 pub record RanStands (s : PlainSource) (answer : SimAnswer) (arrays : List PlainWords) (numbers : List ℕ) : Type 0 where
   pub names : NamesNet s answer
   pub arrays_are : map Some numbers ≡ map (array_of (instances_of s)) s.externals
-  pub words : (cycle k a : ℕ) (e : PlainExternal) → answer ≡ Done cycle → slice_get s.externals k ≡ Some e → slice_get numbers k ≡ Some a
+  pub words : (cycle k a : ℕ) (e : PlainExternal) → answer ≡ Done cycle → slice_get s.externals k ≡ Some e
+      → slice_get numbers k ≡ Some a
       → (x : PlainWords) × (slice_get arrays a ≡ Some x) × AreOf e x

@@ -39,7 +39,8 @@ pub record IsEvenlyWide (tree : List Placed) : Type 0 where
 pub record IsRooted (tree : List Placed) : Type 0 where
   pub main : (p : Placed) × (slice_get tree 0 ≡ Some p) × (p.part.ports ≡ main_ports)
   pub holders : (i : ℕ) (p : Placed) → slice_get tree i ≡ Some p → (i ≡ 0 → ⊥) → p.holder < length tree
-  pub givens : (i j : ℕ) (p : Placed) (a : PlainAssign) → slice_get tree i ≡ Some p → slice_get p.part.assigns j ≡ Some a → origin_of tree i a.name ≡ Some (Given a.value)
+  pub givens : (i j : ℕ) (p : Placed) (a : PlainAssign) → slice_get tree i ≡ Some p
+      → slice_get p.part.assigns j ≡ Some a → origin_of tree i a.name ≡ Some (Given a.value)
 
 -- all that the machine of a tree asks of it
 pub record CanBeBuilt (tree : List Placed) : Type 0 where

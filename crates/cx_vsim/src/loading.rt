@@ -12,7 +12,8 @@ use cx_vnets::Words;
 /// Writes the words of memories over those of the arrays of these numbers.
 pub(crate) fn load_words(numbers: &[usize], arrays: &mut [Words], loaded: &Loaded)
     requires can { CanTake numbers.now (map plain_words arrays.old) (plain_loaded loaded.now) }
-    ensures value { map plain_words arrays.new ≡ with_arrays numbers.now (plain_loaded loaded.now) (map plain_words arrays.old) }
+    ensures value { map plain_words arrays.new ≡
+        with_arrays numbers.now (plain_loaded loaded.now) (map plain_words arrays.old) }
 {
     for i in 0..numbers.len() {
         let memory = &loaded.memories[i];

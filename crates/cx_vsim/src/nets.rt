@@ -9,7 +9,8 @@ use cx_vnets::NetPosition;
 
 /// The last instance whose nets begin at a number or before it: that of the net of this number.
 pub fn instance_of(places: &[NetPosition], net: usize) -> usize
-    ensures { (tree : List Placed) (i k : ℕ) → places.now ≡ all_places tree (length tree) → IsNet tree net i k → result ≡ i }
+    ensures { (tree : List Placed) (i k : ℕ) → places.now ≡ all_places tree (length tree) →
+        IsNet tree net i k → result ≡ i }
 {
     let mut found = 0;
     for i in 0..places.len() {

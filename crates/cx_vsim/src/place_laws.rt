@@ -10,7 +10,8 @@ use cx_vlaws::externals_are_memories;
 
 /// Each external memory of a sound source has an array.
 pub(crate) fn externals_have_arrays()
-    ensures { (source : PlainSource) (k : ℕ) (e : PlainExternal) → is_sound source ≡ true → slice_get source.externals k ≡ Some e → HasArray (instances_of source) e }
+    ensures { (source : PlainSource) (k : ℕ) (e : PlainExternal) → is_sound source ≡ true →
+        slice_get source.externals k ≡ Some e → HasArray (instances_of source) e }
 {
     externals_are_memories();
 }

@@ -42,8 +42,10 @@ fn push_steps(
     requires within { i < length table.now.rows.items }
     requires table { TableStands table.now }
     requires tree { CanBeBuilt (tree_of table.now) }
-    ensures sets { OnOk result (AddsRowSets (tree_of table.now) table.now.codes.items 0 i sets.old.items sets.new.items) }
-    ensures stores { OnOk result (AddsRowStores (tree_of table.now) table.now.codes.items i stores.old.items stores.new.items) }
+    ensures sets { OnOk result
+        (AddsRowSets (tree_of table.now) table.now.codes.items 0 i sets.old.items sets.new.items) }
+    ensures stores { OnOk result
+        (AddsRowStores (tree_of table.now) table.now.codes.items i stores.old.items stores.new.items) }
 {
     let module = table.rows[i].module;
     match &module.edge {

@@ -14,7 +14,8 @@ use cx_vnets::{NetPosition, RunAnswer};
 /// The answer that a net has no value.
 fn net_of(places: &[NetPosition], net: usize) -> SimAnswer
     requires there { IsPlaced places.now net }
-    ensures { (tree : List Placed) (i k : ℕ) → places.now ≡ all_places tree (length tree) → IsNet tree net i k → result ≡ answers.Loop i k }
+    ensures { (tree : List Placed) (i k : ℕ) → places.now ≡ all_places tree (length tree) →
+        IsNet tree net i k → result ≡ answers.Loop i k }
 {
     let instance = instance_of(places, net);
     SimAnswer::Loop {

@@ -13,7 +13,8 @@ use cx_vnets::Words;
 /// Writes the words of the arrays of these numbers over those of memories.
 pub(crate) fn unload_words(numbers: &[usize], arrays: &[Words], into: &mut Loaded)
     requires can { CanGive numbers.now (map plain_words arrays.now) (plain_loaded into.old) }
-    ensures value { plain_loaded into.new ≡ with_words (plain_loaded into.old) (words_by numbers.now (map plain_words arrays.now)) }
+    ensures value { plain_loaded into.new ≡
+        with_words (plain_loaded into.old) (words_by numbers.now (map plain_words arrays.now)) }
     ensures fit { AllGivenFit numbers.now (map plain_words arrays.now) }
 {
     for i in 0..numbers.len() {

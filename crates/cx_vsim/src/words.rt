@@ -24,7 +24,8 @@ pub fn read_words(array: &Words, words: &mut [u64])
 pub fn write_words(array: &mut Words, words: &[u64])
     requires long { length words.now ≡ length array.old.words.items }
     requires below { AreBelow array.old.zero.width words.now }
-    ensures value { plain_words array.new ≡ record { zero = array.old.zero; words = words_of_width array.old.zero.width words.now } }
+    ensures value { plain_words array.new ≡
+        record { zero = array.old.zero; words = words_of_width array.old.zero.width words.now } }
 {
     let width = array.zero.width();
     for n in 0..words.len() {

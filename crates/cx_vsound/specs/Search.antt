@@ -16,7 +16,8 @@ last_line = 4294967295
 
 abbrev pub break_on : ℕ → Faults → Option told.Break
 break_on line f =
-    if f.name then Some (breaks.Name line) else (if f.width then Some (breaks.Width line) else (if f.limit then Some (breaks.Limit line) else None))
+    if f.name then Some (breaks.Name line) else
+    (if f.width then Some (breaks.Width line) else (if f.limit then Some (breaks.Limit line) else None))
 
 -- a search that stands at the first line
 abbrev pub start : Search

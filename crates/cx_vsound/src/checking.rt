@@ -19,7 +19,9 @@ pub fn check(
     externals: &[DraftExternal],
     modules: &[DraftModule],
 ) -> Result<Option<Break>, Memory>
-    ensures { IfOk result (λ found. found ≡ option_map told_break (break_of (record { externals = draft_externals externals.now; modules = draft_modules modules.now }))) }
+    ensures { IfOk result (λ found. found ≡
+        option_map told_break (break_of
+        (record { externals = draft_externals externals.now; modules = draft_modules modules.now }))) }
 {
     let search = external_lines(alloc, begin(), modules, externals)?;
     let search = module_lines(alloc, search, modules)?;

@@ -88,7 +88,8 @@ fn counts_named(before: &Earlier, counts: &[Sums], name: &Name) -> Sums
 }
 
 fn instances_counts(before: &Earlier, counts: &[Sums], start: Sums, instances: &[Instance]) -> Sums
-    ensures { counts_in result ≡ sound.instances_counts (draft_modules before.now) (map counts_in counts.now) (counts_in start) (map plain_instance instances.now) }
+    ensures { counts_in result ≡ sound.instances_counts (draft_modules before.now)
+        (map counts_in counts.now) (counts_in start) (map plain_instance instances.now) }
 {
     let mut sums = start;
     for i in instances {
@@ -99,7 +100,8 @@ fn instances_counts(before: &Earlier, counts: &[Sums], start: Sums, instances: &
 
 /// The counts of a module, with those of its instances.
 pub fn module_counts(before: &Earlier, counts: &[Sums], m: &DraftModule) -> Sums
-    ensures { counts_in result ≡ sound.module_counts (draft_modules before.now) (map counts_in counts.now) (draft_module m.now) }
+    ensures { counts_in result ≡
+        sound.module_counts (draft_modules before.now) (map counts_in counts.now) (draft_module m.now) }
 {
     let own = Sums {
         nets: m.ports.len() as u64,

@@ -50,7 +50,8 @@ fn arrays_in(decls: &[DraftDecl]) -> Arrays<'_>
 
 /// The module `main`: the last one of this name.
 fn main_module(modules: &[DraftModule]) -> Option<&DraftModule>
-    ensures { option_map draft_module (option_copied result) ≡ sound.last_named (draft_modules modules.now) (codes "main") }
+    ensures { option_map draft_module (option_copied result) ≡
+        sound.last_named (draft_modules modules.now) (codes "main") }
 {
     let mut found = None;
     for m in modules {
@@ -78,7 +79,8 @@ fn memory_module<'a>(
     e: &DraftExternal,
 ) -> Option<&'a DraftModule>
     requires { instances.now ≡ main_instances (draft_modules modules.now) }
-    ensures { option_map draft_module (option_copied result) ≡ sound.memory_module (draft_modules modules.now) (draft_external e.now) }
+    ensures { option_map draft_module (option_copied result) ≡
+        sound.memory_module (draft_modules modules.now) (draft_external e.now) }
 {
     match instances.kind(&e.instance) {
         None => None,
@@ -123,7 +125,8 @@ fn faults_by(
     other_length: bool,
     other_width: bool,
 ) -> LineFaults
-    ensures { faults_in result ≡ external_faults_by other_length other_width names.now instances.now (draft_external e.now) }
+    ensures { faults_in result ≡
+        external_faults_by other_length other_width names.now instances.now (draft_external e.now) }
 {
     LineFaults {
         name: names.has(&e.name) || instances.has(&e.instance) || other_length,
@@ -141,7 +144,8 @@ fn external_faults(
     e: &DraftExternal,
 ) -> Result<LineFaults, Memory>
     requires { instances.now ≡ main_instances (draft_modules modules.now) }
-    ensures { IfOk result (λ f. faults_in f ≡ sound.external_faults (draft_modules modules.now) names.now taken.now (draft_external e.now)) }
+    ensures { IfOk result (λ f. faults_in f ≡
+        sound.external_faults (draft_modules modules.now) names.now taken.now (draft_external e.now)) }
 {
     let arrays = memory_arrays(modules, instances, e);
     let other_length = is_other_length(alloc, arrays, &e.sizes)?;
@@ -158,7 +162,8 @@ fn external_lines(
     externals: &[DraftExternal],
 ) -> Result<Search, Memory>
     requires { instances.now ≡ main_instances (draft_modules modules.now) }
-    ensures { IfOk result (λ s. s ≡ over search (sound.externals_faults (draft_modules modules.now) [] [] (draft_externals externals.now))) }
+    ensures { IfOk result (λ s. s ≡ over search
+        (sound.externals_faults (draft_modules modules.now) [] [] (draft_externals externals.now))) }
 {
     let mut search = search;
     let mut names = Names::new(alloc);
@@ -179,7 +184,8 @@ pub fn externals(
     modules: &[DraftModule],
     externals: &[DraftExternal],
 ) -> Result<Search, Memory>
-    ensures { IfOk result (λ s. s ≡ over search (sound.externals_faults (draft_modules modules.now) [] [] (draft_externals externals.now))) }
+    ensures { IfOk result (λ s. s ≡ over search
+        (sound.externals_faults (draft_modules modules.now) [] [] (draft_externals externals.now))) }
 {
     let all = all_modules(alloc, modules)?;
     let instances = Instances::new(alloc, main_instances(modules))?;

@@ -77,7 +77,8 @@ pub fn ports(
     drivers: &Names,
     ports: &[ModulePort],
 ) -> Result<Search, Memory>
-    ensures { IfOk result (λ s. s ≡ over search (sound.ports_faults is_main drivers.now [] 0 (map plain_port ports.now))) }
+    ensures { IfOk result
+        (λ s. s ≡ over search (sound.ports_faults is_main drivers.now [] 0 (map plain_port ports.now))) }
 {
     let mut search = search;
     let mut earlier = Names::new(alloc);
@@ -127,7 +128,8 @@ pub fn decls<'a>(
     earlier: &mut Names<'a>,
     decls: &'a [DraftDecl],
 ) -> Result<Search, Memory>
-    ensures value { IfOk result (λ s. s ≡ over search (sound.decls_faults drivers.now earlier.old (map draft_decl decls.now))) }
+    ensures value { IfOk result
+        (λ s. s ≡ over search (sound.decls_faults drivers.now earlier.old (map draft_decl decls.now))) }
     ensures names { OnOk result (earlier.new ≡ earlier.old ++ map sound.decl_name (map draft_decl decls.now)) }
 {
     let mut search = search;
@@ -157,7 +159,8 @@ pub fn assigns(
     scope: &ModuleScope,
     assigns: &[NetAssign],
 ) -> Result<Search, Memory>
-    ensures { IfOk result (λ s. s ≡ over search (sound.assigns_faults (scope_by scope.now) [] (map plain_assign assigns.now))) }
+    ensures { IfOk result
+        (λ s. s ≡ over search (sound.assigns_faults (scope_by scope.now) [] (map plain_assign assigns.now))) }
 {
     let mut search = search;
     let mut earlier = Names::new(alloc);

@@ -36,7 +36,8 @@ number_or other v = option_map_or (λ b. b.value) v other
 abbrev pub register_after : List Placed → Moment → Look → ℕ → List ℕ → ℕ
 register_after tree m look i name =
     let old = m.state.register i name in
-    option_map_or (λ e. number_or old (expr_at tree m look i e)) (assigned (acting_sets m.reset (edge_at tree i)) name) old
+    option_map_or (λ e. number_or old (expr_at tree m look i e))
+    (assigned (acting_sets m.reset (edge_at tree i)) name) old
 
 -- how many words the array of a name has
 abbrev pub array_size : List PlainDecl → List ℕ → ℕ
@@ -53,7 +54,8 @@ store_to (s ∷ rest) name = if same_name s.array name then Some s else store_to
 abbrev pub word_by : List Placed → Moment → Look → ℕ → ℕ → ℕ → PlainStore → ℕ
 word_by tree m look i old index s =
     if not (number_or 0 (expr_at tree m look i s.guard) == 0)
-    then (if option_map_or (λ b. b.value == index) (expr_at tree m look i s.index) false then number_or old (expr_at tree m look i s.value) else old)
+    then (if option_map_or (λ b. b.value == index) (expr_at tree m look i s.index) false
+    then number_or old (expr_at tree m look i s.value) else old)
     else old
 
 -- a word takes the stored value where the guard is not 0 and the index is its own, which an index out of range never is

@@ -25,7 +25,8 @@ abbrev pub tree_from : List PlainModule → PlainInstance → ℕ → ℕ → Li
 tree_from [] i holder number = []
 tree_from (m ∷ before) i holder number =
     if same_name m.name i.kind
-    then record { part = m; name = i.name; holder = holder; conns = i.conns } ∷ below (tree_from before) number (number + 1) m.instances
+    then record { part = m; name = i.name; holder = holder; conns = i.conns }
+    ∷ below (tree_from before) number (number + 1) m.instances
     else tree_from before i holder number
 
 -- `main` as an instance: it has no name, and nothing is connected to it
@@ -68,7 +69,8 @@ declared_kind (ArrayOf n w k ∷ ds) name = declared_kind ds name
 
 abbrev pub kind_in : List PlainPort → List PlainDecl → List ℕ → Option NetKind
 kind_in [] ds name = declared_kind ds name
-kind_in (p ∷ ps) ds name = if same_name p.name name then Some (if p.output then Driven else Input) else kind_in ps ds name
+kind_in (p ∷ ps) ds name =
+    if same_name p.name name then Some (if p.output then Driven else Input) else kind_in ps ds name
 
 -- what gives a net its value in one cycle
 pub data Origin : Type 0 where
@@ -103,18 +105,21 @@ is_output (p ∷ ps) name = if same_name p.name name then p.output else is_outpu
 -- the output that is connected to a net
 abbrev pub output_to : List PlainPort → List PlainConn → List ℕ → Option (List ℕ)
 output_to ports [] net = None
-output_to ports (c ∷ cs) net = if same_name c.net net && is_output ports c.port then Some c.port else output_to ports cs net
+output_to ports (c ∷ cs) net =
+    if same_name c.net net && is_output ports c.port then Some c.port else output_to ports cs net
 
 -- of the instances from number `number` on, the output of one in `holder` that is connected to a net there
 abbrev pub driving_output : List Placed → ℕ → ℕ → List ℕ → Option Origin
 driving_output [] number holder net = None
 driving_output (p ∷ rest) number holder net =
-    option_map_or (λ port. Some (Tied number port)) (if p.holder == holder then output_to p.part.ports p.conns net else None)
+    option_map_or (λ port. Some (Tied number port))
+    (if p.holder == holder then output_to p.part.ports p.conns net else None)
     (driving_output rest (number + 1) holder net)
 
 -- an output or a wire has the value of its assigned expression, or of the output of an instance
 abbrev pub driver_of : List Placed → ℕ → Placed → List ℕ → Option Origin
-driver_of tree i p name = option_map_or (λ e. Some (Given e)) (assigned p.part.assigns name) (driving_output tree 0 i name)
+driver_of tree i p name =
+    option_map_or (λ e. Some (Given e)) (assigned p.part.assigns name) (driving_output tree 0 i name)
 
 abbrev pub origin_by : List Placed → ℕ → Placed → List ℕ → NetKind → Option Origin
 origin_by tree i p name Input = input_origin i p name
@@ -123,4 +128,7 @@ origin_by tree i p name (Stored w) = Some (Held w)
 
 -- what gives the net of a name in an instance its value; None where the instance has no such net, or nothing drives it
 abbrev pub origin_of : List Placed → ℕ → List ℕ → Option Origin
-origin_of tree i name = option_and_then (λ p. option_and_then (origin_by tree i p name) (kind_in p.part.ports p.part.decls name)) (slice_get tree i)
+origin_of tree i name =
+    option_and_then
+    (λ p. option_and_then (origin_by tree i p name) (kind_in p.part.ports p.part.decls name))
+    (slice_get tree i)

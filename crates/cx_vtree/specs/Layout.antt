@@ -24,7 +24,8 @@ is_word n = begins_word n && list_all is_name_byte n && nat_le (length n) 255
 -- the words of the grammar itself
 abbrev pub keywords : List (List ℕ)
 keywords =
-    codes "module" ∷ codes "input" ∷ codes "output" ∷ codes "wire" ∷ codes "reg" ∷ codes "assign" ∷ codes "always" ∷ codes "posedge"
+    codes "module" ∷ codes "input" ∷ codes "output" ∷ codes "wire" ∷ codes "reg" ∷ codes "assign"
+    ∷ codes "always" ∷ codes "posedge"
     ∷ codes "begin" ∷ codes "end" ∷ codes "if" ∷ codes "else" ∷ codes "endmodule" ∷ []
 
 abbrev pub is_keyword : List ℕ → Bool
@@ -72,7 +73,8 @@ edge_fits (Some e) = list_all assign_fits e.reset && list_all item_fits e.step
 
 abbrev pub module_fits : PlainModule → Bool
 module_fits m =
-    is_name m.name && nat_lt 0 (length m.ports) && list_all port_fits m.ports && list_all decl_fits m.decls && list_all assign_fits m.assigns
+    is_name m.name && nat_lt 0 (length m.ports) && list_all port_fits m.ports
+    && list_all decl_fits m.decls && list_all assign_fits m.assigns
     && list_all instance_fits m.instances && edge_fits m.edge
 
 -- a memory's own name may be one of the grammar's words, since it stands in a comment

@@ -37,9 +37,11 @@ expr_text (Named n) = n
 expr_text (Number b) = decimal_text b.width ++ codes "'h" ++ number_text 16 b.value
 expr_text (Part n high low) = n ++ codes "[" ++ decimal_text high ++ codes ":" ++ decimal_text low ++ codes "]"
 expr_text (Word n i) = n ++ codes "[" ++ expr_text i ++ codes "]"
-expr_text (Applied op a b) = codes "(" ++ expr_text a ++ codes " " ++ op_text op ++ codes " " ++ expr_text b ++ codes ")"
+expr_text (Applied op a b) =
+    codes "(" ++ expr_text a ++ codes " " ++ op_text op ++ codes " " ++ expr_text b ++ codes ")"
 expr_text (Inverted a) = codes "(~" ++ expr_text a ++ codes ")"
-expr_text (Chosen c a b) = codes "(" ++ expr_text c ++ codes " ? " ++ expr_text a ++ codes " : " ++ expr_text b ++ codes ")"
+expr_text (Chosen c a b) =
+    codes "(" ++ expr_text c ++ codes " ? " ++ expr_text a ++ codes " : " ++ expr_text b ++ codes ")"
 expr_text (Joined a b) = codes "{" ++ expr_text a ++ codes ", " ++ expr_text b ++ codes "}"
 
 -- a line without its line feed
@@ -104,12 +106,15 @@ line_text (PortLine p more) = side_text p.output ++ bounds_text p.width ++ p.nam
 line_text PortsEnd = codes ");"
 line_text (DeclLine d) = decl_text d
 line_text (AssignLine a) = codes "  assign " ++ a.name ++ codes " = " ++ expr_text a.value ++ codes ";"
-line_text (InstanceLine i) = codes "  " ++ i.kind ++ codes " " ++ i.name ++ codes "(" ++ conns_text i.conns ++ codes ");"
+line_text (InstanceLine i) =
+    codes "  " ++ i.kind ++ codes " " ++ i.name ++ codes "(" ++ conns_text i.conns ++ codes ");"
 line_text AlwaysLine = codes "  always @(posedge clk) begin"
 line_text ResetLine = codes "    if (reset) begin"
 line_text (SetLine a) = codes "      " ++ a.name ++ codes " <= " ++ expr_text a.value ++ codes ";"
 line_text ElseLine = codes "    end else begin"
-line_text (StoreLine s) = codes "      if (" ++ expr_text s.guard ++ codes ") " ++ s.array ++ codes "[" ++ expr_text s.index ++ codes "] <= " ++ expr_text s.value ++ codes ";"
+line_text (StoreLine s) =
+    codes "      if (" ++ expr_text s.guard ++ codes ") " ++ s.array ++ codes "[" ++ expr_text s.index
+    ++ codes "] <= " ++ expr_text s.value ++ codes ";"
 line_text BranchesEnd = codes "    end"
 line_text AlwaysEnd = codes "  end"
 line_text ModuleEnd = codes "endmodule"

@@ -48,7 +48,8 @@ plain_instance i = record { kind = i.module; name = i.name; conns = map plain_co
 
 abbrev pub plain_item : EdgeItem → PlainItem
 plain_item (Set a) = SetTo (plain_assign a)
-plain_item (Store g n i v) = StoreTo (record { guard = plain_expr g; array = n; index = plain_expr i; value = plain_expr v })
+plain_item (Store g n i v) =
+    StoreTo (record { guard = plain_expr g; array = n; index = plain_expr i; value = plain_expr v })
 
 abbrev pub plain_edge : Edge → PlainEdge
 plain_edge e = record { reset = map plain_assign e.reset.items; step = map plain_item e.step.items }

@@ -151,11 +151,16 @@ fitting_width scope (Named n) = Some (width_of (scope n))
 fitting_width scope (Number b) = if bad_width b.width then None else Some b.width
 fitting_width scope (Part n high low) = part_width (width_of (scope n)) high low
 fitting_width scope (Word n i) = option_and_then (λ v. Some (width_of (scope n))) (fitting_width scope i)
-fitting_width scope (Applied op a b) = option_and_then (λ v. option_and_then (applied_width op v) (fitting_width scope b)) (fitting_width scope a)
+fitting_width scope (Applied op a b) =
+    option_and_then (λ v. option_and_then (applied_width op v) (fitting_width scope b))
+    (fitting_width scope a)
 fitting_width scope (Inverted a) = fitting_width scope a
 fitting_width scope (Chosen c a b) =
-    option_and_then (λ t. option_and_then (λ v. option_and_then (chosen_width t v) (fitting_width scope b)) (fitting_width scope a)) (fitting_width scope c)
-fitting_width scope (Joined a b) = option_and_then (λ v. option_and_then (joined_width v) (fitting_width scope b)) (fitting_width scope a)
+    option_and_then (λ t. option_and_then
+    (λ v. option_and_then (chosen_width t v) (fitting_width scope b)) (fitting_width scope a))
+    (fitting_width scope c)
+fitting_width scope (Joined a b) =
+    option_and_then (λ v. option_and_then (joined_width v) (fitting_width scope b)) (fitting_width scope a)
 
 -- the widths in the expression fit, and it has this width
 abbrev pub has_width : Scope → PlainExpr → ℕ → Bool
@@ -169,7 +174,8 @@ nests_over levels (Part n high low) = false
 nests_over levels (Word n i) = levels == 0 || nests_over (levels - 1) i
 nests_over levels (Applied op a b) = levels == 0 || nests_over (levels - 1) a || nests_over (levels - 1) b
 nests_over levels (Inverted a) = levels == 0 || nests_over (levels - 1) a
-nests_over levels (Chosen c a b) = levels == 0 || nests_over (levels - 1) c || nests_over (levels - 1) a || nests_over (levels - 1) b
+nests_over levels (Chosen c a b) =
+    levels == 0 || nests_over (levels - 1) c || nests_over (levels - 1) a || nests_over (levels - 1) b
 nests_over levels (Joined a b) = levels == 0 || nests_over (levels - 1) a || nests_over (levels - 1) b
 
 abbrev pub too_deep : PlainExpr → Bool
@@ -233,13 +239,16 @@ ports_faults is_main drivers earlier index (p ∷ ps) =
 
 -- Declarations.
 abbrev pub decl_faults : List (List ℕ) → List (List ℕ) → PlainDecl → Faults
-decl_faults drivers earlier (WireOf n w) = record { name = has_name earlier n || undriven drivers n; width = bad_width w; limit = false }
+decl_faults drivers earlier (WireOf n w) =
+    record { name = has_name earlier n || undriven drivers n; width = bad_width w; limit = false }
 decl_faults drivers earlier (RegisterOf n w) = record { name = has_name earlier n; width = bad_width w; limit = false }
-decl_faults drivers earlier (ArrayOf n w k) = record { name = has_name earlier n; width = bad_width w; limit = nat_le (2 ^ 64) k }
+decl_faults drivers earlier (ArrayOf n w k) =
+    record { name = has_name earlier n; width = bad_width w; limit = nat_le (2 ^ 64) k }
 
 abbrev pub decls_faults : List (List ℕ) → List (List ℕ) → List PlainDecl → List Faults
 decls_faults drivers earlier [] = []
-decls_faults drivers earlier (d ∷ ds) = decl_faults drivers earlier d ∷ decls_faults drivers (earlier ++ decl_name d ∷ []) ds
+decls_faults drivers earlier (d ∷ ds) =
+    decl_faults drivers earlier d ∷ decls_faults drivers (earlier ++ decl_name d ∷ []) ds
 
 -- Assigns: each drives a wire or an output that nothing drives before.
 abbrev pub assign_faults : Scope → List (List ℕ) → PlainAssign → Faults
@@ -251,7 +260,8 @@ assign_faults scope earlier a = record {
 
 abbrev pub assigns_faults : Scope → List (List ℕ) → List PlainAssign → List Faults
 assigns_faults scope earlier [] = []
-assigns_faults scope earlier (a ∷ rest) = assign_faults scope earlier a ∷ assigns_faults scope (earlier ++ a.name ∷ []) rest
+assigns_faults scope earlier (a ∷ rest) =
+    assign_faults scope earlier a ∷ assigns_faults scope (earlier ++ a.name ∷ []) rest
 
 -- Instances: all ports in their order; an input to an input, a wire or a register, `clk` to `clk` and `reset` to `reset`;
 -- an output to a wire that nothing drives before.
@@ -278,13 +288,16 @@ doubles driven (n ∷ ns) = has_name driven n || doubles (driven ++ n ∷ []) ns
 
 abbrev pub instance_faults : List PlainModule → Scope → List (List ℕ) → List (List ℕ) → PlainInstance → Faults
 instance_faults before scope earlier driven i = record {
-  name = has_name earlier i.name || is_none (module_named before i.kind) || misconnects scope (ports_of before i.kind) i.conns
+  name =
+      has_name earlier i.name || is_none (module_named before i.kind)
+      || misconnects scope (ports_of before i.kind) i.conns
       || doubles driven (driven_by (ports_of before i.kind) i.conns);
   width = misfits scope (ports_of before i.kind) i.conns;
   limit = false;
 }
 
-abbrev pub instances_faults : List PlainModule → Scope → List (List ℕ) → List (List ℕ) → List PlainInstance → List Faults
+abbrev pub instances_faults : List PlainModule → Scope → List (List ℕ) → List (List ℕ)
+    → List PlainInstance → List Faults
 instances_faults before scope earlier driven [] = []
 instances_faults before scope earlier driven (i ∷ rest) =
     instance_faults before scope earlier driven i
@@ -304,8 +317,12 @@ sets_faults scope earlier (a ∷ rest) = set_faults scope earlier a ∷ sets_fau
 
 abbrev pub store_faults : Scope → List (List ℕ) → PlainStore → Faults
 store_faults scope earlier s = record {
-  name = not (is_array (scope s.array)) || has_name earlier s.array || misnames scope s.guard || misnames scope s.index || misnames scope s.value;
-  width = not (has_width scope s.guard 1) || is_none (fitting_width scope s.index) || not (has_width scope s.value (width_of (scope s.array)));
+  name =
+      not (is_array (scope s.array)) || has_name earlier s.array || misnames scope s.guard
+      || misnames scope s.index || misnames scope s.value;
+  width =
+      not (has_width scope s.guard 1) || is_none (fitting_width scope s.index)
+      || not (has_width scope s.value (width_of (scope s.array)));
   limit = too_deep s.guard || too_deep s.index || too_deep s.value;
 }
 
@@ -320,13 +337,15 @@ item_name (StoreTo s) = s.array
 -- a register and an array never have one name, so one list has what was set and stored before
 abbrev pub items_faults : Scope → List (List ℕ) → List PlainItem → List Faults
 items_faults scope earlier [] = []
-items_faults scope earlier (i ∷ rest) = item_faults scope earlier i ∷ items_faults scope (earlier ++ item_name i ∷ []) rest
+items_faults scope earlier (i ∷ rest) =
+    item_faults scope earlier i ∷ items_faults scope (earlier ++ item_name i ∷ []) rest
 
 -- as in the text: the lines that open and close the branches break nothing
 abbrev pub edge_faults : Scope → Option PlainEdge → List Faults
 edge_faults scope None = []
 edge_faults scope (Some e) =
-    no_faults ∷ no_faults ∷ sets_faults scope [] e.reset ++ no_faults ∷ items_faults scope [] e.step ++ no_faults ∷ no_faults ∷ []
+    no_faults ∷ no_faults ∷ sets_faults scope [] e.reset ++ no_faults ∷ items_faults scope [] e.step
+    ++ no_faults ∷ no_faults ∷ []
 
 -- Counts over the tree of a module's instances, itself with them. They stop at 2^64 - 1, far over the limits.
 pub record Counts : Type 0 where
@@ -361,12 +380,14 @@ counts_named (m ∷ ms) (c ∷ cs) name = if same_name m.name name then c else c
 
 abbrev pub instances_counts : List PlainModule → List Counts → Counts → List PlainInstance → Counts
 instances_counts before counts sum [] = sum
-instances_counts before counts sum (i ∷ rest) = instances_counts before counts (sum_counts sum (counts_named before counts i.kind)) rest
+instances_counts before counts sum (i ∷ rest) =
+    instances_counts before counts (sum_counts sum (counts_named before counts i.kind)) rest
 
 -- a module with its instances, and these with theirs
 abbrev pub module_counts : List PlainModule → List Counts → PlainModule → Counts
 module_counts before counts m =
-    instances_counts before counts (decls_counts (record { nets = length m.ports; instances = 1; words = 0 }) m.decls) m.instances
+    instances_counts before counts
+    (decls_counts (record { nets = length m.ports; instances = 1; words = 0 }) m.decls) m.instances
 
 -- nets, instances and words of arrays over the tree
 abbrev pub too_large : Counts → Bool
@@ -413,7 +434,8 @@ instance_kind (i ∷ rest) name = if same_name i.name name then Some i.kind else
 -- the module of an external memory's instance
 abbrev pub memory_module : List PlainModule → PlainExternal → Option PlainModule
 memory_module modules e =
-    option_and_then (λ m. option_and_then (module_named modules) (instance_kind m.instances e.instance)) (last_named modules (codes "main"))
+    option_and_then (λ m. option_and_then (module_named modules) (instance_kind m.instances e.instance))
+    (last_named modules (codes "main"))
 
 -- the widths and lengths of a module's arrays
 abbrev pub arrays_in : List PlainDecl → List (ℕ × ℕ)
@@ -446,7 +468,8 @@ external_faults modules names instances e = record {
 abbrev pub externals_faults : List PlainModule → List (List ℕ) → List (List ℕ) → List PlainExternal → List Faults
 externals_faults modules names instances [] = []
 externals_faults modules names instances (e ∷ rest) =
-    external_faults modules names instances e ∷ externals_faults modules (names ++ e.name ∷ []) (instances ++ e.instance ∷ []) rest
+    external_faults modules names instances e
+    ∷ externals_faults modules (names ++ e.name ∷ []) (instances ++ e.instance ∷ []) rest
 
 -- for each line of the text of a source, in their order, which kinds of rules it breaks
 abbrev pub faults_of : PlainSource → List Faults
@@ -460,7 +483,8 @@ pub data Break : Type 0 where
 
 abbrev pub break_at : ℕ → Faults → Option Break → Option Break
 break_at line f later =
-    if f.name then Some (NameAt line) else (if f.width then Some (WidthAt line) else (if f.limit then Some (LimitAt line) else later))
+    if f.name then Some (NameAt line)
+    else (if f.width then Some (WidthAt line) else (if f.limit then Some (LimitAt line) else later))
 
 -- of the lines from number `line` on
 abbrev pub first_break : ℕ → List Faults → Option Break

@@ -14,11 +14,14 @@ item_line (StoreTo s) = StoreLine s
 
 abbrev pub edge_lines : Option PlainEdge → List Line
 edge_lines None = []
-edge_lines (Some e) = AlwaysLine ∷ ResetLine ∷ map SetLine e.reset ++ ElseLine ∷ map item_line e.step ++ BranchesEnd ∷ AlwaysEnd ∷ []
+edge_lines (Some e) =
+    AlwaysLine ∷ ResetLine ∷ map SetLine e.reset ++ ElseLine ∷ map item_line e.step ++ BranchesEnd
+    ∷ AlwaysEnd ∷ []
 
 abbrev pub module_lines : PlainModule → List Line
 module_lines m =
-    ModuleLine m.name ∷ port_lines m.ports ++ PortsEnd ∷ map DeclLine m.decls ++ map AssignLine m.assigns ++ map InstanceLine m.instances
+    ModuleLine m.name ∷ port_lines m.ports ++ PortsEnd ∷ map DeclLine m.decls ++ map AssignLine m.assigns
+    ++ map InstanceLine m.instances
     ++ edge_lines m.edge ++ ModuleEnd ∷ []
 
 abbrev pub modules_lines : List PlainModule → List Line

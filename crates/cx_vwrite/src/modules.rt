@@ -55,7 +55,8 @@ fn assigns(out: &mut Vec<u8>, list: &[NetAssign]) -> Result<(), Memory>
 
 /// Appends the lines of instances.
 fn instances(out: &mut Vec<u8>, list: &[Instance]) -> Result<(), Memory>
-    ensures { OnOk result (out.new.items ≡ out.old.items ++ lines_text (map InstanceLine (map plain_instance list.now))) }
+    ensures { OnOk result
+        (out.new.items ≡ out.old.items ++ lines_text (map InstanceLine (map plain_instance list.now))) }
 {
     for i in list {
         instance(out, i)?;
@@ -85,7 +86,8 @@ fn items(out: &mut Vec<u8>, list: &[EdgeItem]) -> Result<(), Memory>
 
 /// Appends the lines that open an edge and its branch with reset.
 fn edge_begin(out: &mut Vec<u8>) -> Result<(), Memory>
-    ensures { OnOk result (out.new.items ≡ out.old.items ++ codes "  always @(posedge clk) begin\n    if (reset) begin\n") }
+    ensures { OnOk result
+        (out.new.items ≡ out.old.items ++ codes "  always @(posedge clk) begin\n    if (reset) begin\n") }
 {
     push(
         out,

@@ -14,7 +14,8 @@ use std::alloc::Global;
 
 /// The text of external memories and modules, however long, whether they are sound or not.
 pub fn spell(alloc: Global, es: &[External], ms: &[Module]) -> Result<Vec<u8>, Memory>
-    ensures { IfOk result (λ text. text.items ≡ text_of (record { externals = plain_externals es.now; modules = plain_modules ms.now })) }
+    ensures { IfOk result (λ text.
+        text.items ≡ text_of (record { externals = plain_externals es.now; modules = plain_modules ms.now })) }
 {
     let mut out = Vec::new(alloc);
     externals(&mut out, es)?;

@@ -15,8 +15,10 @@ pub record HoldsList (d : PlainDesign) (old new : List PlainInstance) (child : �
   pub others : (m input : ℕ) → m ≢ child → inputs_held new m input ≡ inputs_held old m input
 
 -- those of a call are held: as they were, or as they are seen under the group that calls the child
-pub record HoldsAs (d : PlainDesign) (old new : List PlainInstance) (n g c child : ℕ) (before : Option (List Seen)) (inputs : List Seen) : Type 0 where
+pub record HoldsAs (d : PlainDesign) (old new : List PlainInstance) (n g c child : ℕ)
+    (before : Option (List Seen)) (inputs : List Seen) : Type 0 where
   pub holds : HoldsList d old new child inputs
   pub seen : (path : Path) (s : State) → IsNumber d n path → StandsFor (tree_of d) old s
-      → inputs ≡ inputs_for before (inputs_seen (instance_at (tree_of d) path) (inputs_held old n) g c (under_path path s))
+      → inputs ≡ inputs_for before
+      (inputs_seen (instance_at (tree_of d) path) (inputs_held old n) g c (under_path path s))
   pub fits : InputsFit d n c (Some inputs)

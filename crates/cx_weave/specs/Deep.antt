@@ -17,7 +17,9 @@ with_one k set c = nat_eq k c || set c
 
 -- the rows of instance n have done so
 pub record IsDeep (d : PlainDesign) (old new : List PlainInstance) (n : ℕ) (below top : Set) : Type 0 where
-  pub stands : (path : Path) (s : State) → IsNumber d n path → StandsFor (tree_of d) old s → StandsFor (tree_of d) new (put_path path (deep below top (instance_at (tree_of d) path) (under_path path s)) s)
+  pub stands : (path : Path) (s : State) → IsNumber d n path → StandsFor (tree_of d) old s
+      → StandsFor (tree_of d) new
+      (put_path path (deep below top (instance_at (tree_of d) path) (under_path path s)) s)
   pub held : HeldAlike old new
 
 -- a cell of instance n

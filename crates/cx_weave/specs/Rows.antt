@@ -15,8 +15,12 @@ Covers told n = told < 2 ^ 64 - 1 → n ≤ told
 
 -- a table covers what the controls of the instances behind instance n take
 abbrev pub CoversBehind : PlainDesign → Piece → List ℕ → ℕ → Type 0
-CoversBehind d k table n = (m : ℕ) (path : Path) → n < m → IsNumber d m path → Covers (get_or table m 0) (control_need k (instance_at (tree_of d) path))
+CoversBehind d k table n =
+    (m : ℕ) (path : Path) → n < m → IsNumber d m path
+    → Covers (get_or table m 0) (control_need k (instance_at (tree_of d) path))
 
 -- and those from instance n on
 abbrev pub CoversFrom : PlainDesign → Piece → List ℕ → ℕ → Type 0
-CoversFrom d k table n = (m : ℕ) (path : Path) → n ≤ m → IsNumber d m path → Covers (get_or table m 0) (control_need k (instance_at (tree_of d) path))
+CoversFrom d k table n =
+    (m : ℕ) (path : Path) → n ≤ m → IsNumber d m path
+    → Covers (get_or table m 0) (control_need k (instance_at (tree_of d) path))

@@ -14,12 +14,15 @@ use Rattle.cx_weave.specs.Ledger.{Lengths, Kind, Pieces, Lacks, arms_box_amount,
 
 -- lists of these lengths suffice for each instance of a design
 pub record Suffice (d : PlainDesign) (l : Lengths) : Type 0 where
-  pub cells : (n : ℕ) (path : Path) → IsNumber d n path → length (part_of (instance_at (tree_of d) path)).cells ≤ l.cells
-  pub inputs : (n : ℕ) (path : Path) → IsNumber d n path → length (part_of (instance_at (tree_of d) path)).inputs ≤ l.inputs
+  pub cells : (n : ℕ) (path : Path) → IsNumber d n path
+      → length (part_of (instance_at (tree_of d) path)).cells ≤ l.cells
+  pub inputs : (n : ℕ) (path : Path) → IsNumber d n path
+      → length (part_of (instance_at (tree_of d) path)).inputs ≤ l.inputs
   pub samples : (n : ℕ) (form : PlainForm) → IsInstance d n → FormStands d n form → form_ifs form ≤ l.samples
 
 -- WHAT IS ASKED at instance n is spare or in hand; and all that is in hand has its place among the spare parts
-pub record Supplied (d : PlainDesign) (n : ℕ) (spares : Spares) (asked : Piece → Instance → ℕ) (hand : Kind → ℕ) : Type 0 where
+pub record Supplied (d : PlainDesign) (n : ℕ) (spares : Spares) (asked : Piece → Instance → ℕ)
+    (hand : Kind → ℕ) : Type 0 where
   pub lengths : Lengths
   pub suffice : Suffice d lengths
   pub path : Path
@@ -33,7 +36,8 @@ abbrev pub MayOpen : PlainDesign → ℕ → Spares → PlainStatement → Type 
 MayOpen d n spares st = Supplied d n spares (λ k i. need k i st) (λ x. 0)
 
 abbrev pub MayOpenAll : PlainDesign → ℕ → Spares → PlainStatements → Type 0
-MayOpenAll d n spares arms = Supplied d n spares (λ k i. par_takes k (length (list_of arms)) + all_needs k i arms) (λ x. 0)
+MayOpenAll d n spares arms =
+    Supplied d n spares (λ k i. par_takes k (length (list_of arms)) + all_needs k i arms) (λ x. 0)
 
 -- a strand before a turn, and arms, whose box is in hand too
 abbrev pub MayTurn : PlainDesign → ℕ → Spares → PlainStrand → (Kind → ℕ) → Type 0
@@ -41,4 +45,6 @@ MayTurn d n spares p hand = (o : Open) × Shows d n p o × Supplied d n spares (
 
 abbrev pub MayTurnAll : PlainDesign → ℕ → Spares → PlainArms → (Kind → ℕ) → Type 0
 MayTurnAll d n spares arms hand =
-    (list : Opens) × ShowsAll d n arms list × Supplied d n spares (λ k i. par_takes k (arms_in list) + rooms k i list) (λ x. arms_box_amount x + hand x)
+    (list : Opens) × ShowsAll d n arms list
+    × Supplied d n spares (λ k i. par_takes k (arms_in list) + rooms k i list)
+    (λ x. arms_box_amount x + hand x)

@@ -17,6 +17,7 @@ pub fn takes_no_more()
     ensures opened { (k : Piece) (i : Instance) (st : PlainStatement) → room k i (open_statement i st) ≤ need k i st }
     ensures turn { (k : Piece) (i : Instance) (held : Held) (o : Open) (leaf : ℕ) (s : State)
         → StepsWithin k i (room k i o) (step i held o leaf s) }
-    ensures now { (k : Piece) (d : PlainDesign) (n : ℕ) (path : Path) (p : PlainStrand) (o : Open) → IsNumber d n path → Shows d n p o
+    ensures now { (k : Piece) (d : PlainDesign) (n : ℕ) (path : Path) (p : PlainStrand) (o : Open) →
+        IsNumber d n path → Shows d n p o
         → taken k p ≤ room k (instance_at (tree_of d) path) o }
 {}

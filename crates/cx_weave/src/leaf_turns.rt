@@ -41,7 +41,8 @@ pub(crate) fn step_group<'a>(
     requires instance { IsInstance (design_of plan.now) instance }
     requires group { IsGroupOf (design_of plan.now) instance group }
     ensures machine { IsAt plan.now machine.new }
-    ensures stepped { HasStepped (design_of plan.now) (rows_of machine.old) (rows_of machine.new) instance (AGroup group) leaf result }
+    ensures stepped { HasStepped (design_of plan.now) (rows_of machine.old) (rows_of machine.new) instance
+        (AGroup group) leaf result }
     ensures ledger { TakesNothing result }
 {
     rows_stand();
@@ -73,7 +74,8 @@ pub(crate) fn step_capture<'a>(
     requires group { IsGroupOf (design_of plan.now) instance group }
     requires calls { CallsCell (design_of plan.now) instance group cell }
     ensures machine { IsAt plan.now machine.new }
-    ensures stepped { HasStepped (design_of plan.now) (rows_of machine.old) (rows_of machine.new) instance (ACapture group cell) leaf result }
+    ensures stepped { HasStepped (design_of plan.now) (rows_of machine.old) (rows_of machine.new) instance
+        (ACapture group cell) leaf result }
     ensures ledger { TakesNothing result }
 {
     rows_stand();
@@ -99,7 +101,8 @@ pub(crate) fn step_closing<'a>(
     requires instance { IsInstance (design_of plan.now) instance }
     requires group { IsGroupOf (design_of plan.now) instance group }
     ensures machine { IsAt plan.now machine.new }
-    ensures stepped { HasStepped (design_of plan.now) (rows_of machine.old) (rows_of machine.new) instance (AClosing group) leaf result }
+    ensures stepped { HasStepped (design_of plan.now) (rows_of machine.old) (rows_of machine.new) instance
+        (AClosing group) leaf result }
     ensures ledger { TakesNothing result }
 {
     let _ = leaf;
@@ -115,7 +118,8 @@ fn rest_comb(plan: &Plan<'_>, machine: &mut Machine<'_>, instance: usize, comb: 
     requires instance { IsInstance (design_of plan.now) instance }
     requires comb { CanAct (design_of plan.now) instance (comb_active comb) }
     ensures machine { IsAt plan.now machine.new }
-    ensures rested { HasRested (design_of plan.now) (rows_of machine.old) (rows_of machine.new) instance (λ part. test_drives part comb) }
+    ensures rested { HasRested (design_of plan.now) (rows_of machine.old) (rows_of machine.new) instance
+        (λ part. test_drives part comb) }
 {
     match comb {
         Some(group) => {
@@ -141,10 +145,13 @@ pub(crate) fn step_choice<'a>(
     requires plan { IsPlan plan.now }
     requires machine { IsAt plan.now machine.old }
     requires instance { IsInstance (design_of plan.now) instance }
-    requires stands { FormStands (design_of plan.now) instance (If port comb (plain_statement first.now) (plain_statement second.now)) }
-    requires supplied { Supplied (design_of plan.now) instance spares.old (λ k i. max (need k i (plain_statement first.now)) (need k i (plain_statement second.now))) (λ x. 0) }
+    requires stands { FormStands (design_of plan.now) instance
+        (If port comb (plain_statement first.now) (plain_statement second.now)) }
+    requires supplied { Supplied (design_of plan.now) instance spares.old
+        (λ k i. max (need k i (plain_statement first.now)) (need k i (plain_statement second.now))) (λ x. 0) }
     ensures machine { IsAt plan.now machine.new }
-    ensures stepped { HasStepped (design_of plan.now) (rows_of machine.old) (rows_of machine.new) instance (AChoice port comb (plain_statement first.now) (plain_statement second.now)) leaf result }
+    ensures stepped { HasStepped (design_of plan.now) (rows_of machine.old) (rows_of machine.new) instance
+        (AChoice port comb (plain_statement first.now) (plain_statement second.now)) leaf result }
     ensures ledger { Turned spares.old spares.new (λ x. 0) result }
 {
     let _ = leaf;
@@ -176,9 +183,11 @@ pub(crate) fn step_test<'a>(
     requires machine { IsAt plan.now machine.old }
     requires instance { IsInstance (design_of plan.now) instance }
     requires stands { FormStands (design_of plan.now) instance (While port comb (plain_statement body.now)) }
-    requires supplied { Supplied (design_of plan.now) instance spares.old (λ k i. box_takes k + need k i (plain_statement body.now)) (λ x. 0) }
+    requires supplied { Supplied (design_of plan.now) instance spares.old
+        (λ k i. box_takes k + need k i (plain_statement body.now)) (λ x. 0) }
     ensures machine { IsAt plan.now machine.new }
-    ensures stepped { HasStepped (design_of plan.now) (rows_of machine.old) (rows_of machine.new) instance (ATest port comb (plain_statement body.now)) leaf result }
+    ensures stepped { HasStepped (design_of plan.now) (rows_of machine.old) (rows_of machine.new) instance
+        (ATest port comb (plain_statement body.now)) leaf result }
     ensures ledger { Turned spares.old spares.new (λ x. 0) result }
 {
     let _ = leaf;

@@ -43,7 +43,9 @@ pub(crate) fn count_arms(arms: &Arms<'_>) -> u64
 /// Two halves of some arms.
 pub(crate) fn both<'a>(one: Box<Arms<'a>>, other: Box<Arms<'a>>) -> Arms<'a>
     ensures both { IsBoth (plain_arms one.entry.value) (plain_arms other.entry.value) (plain_arms result) }
-    ensures amount { (x : Kind) → arms_amount x result ≡ (arms_box_amount x + arms_amount x one.entry.value) + (arms_box_amount x + arms_amount x other.entry.value) }
+    ensures amount { (x : Kind) → arms_amount x result ≡
+        (arms_box_amount x + arms_amount x one.entry.value)
+        + (arms_box_amount x + arms_amount x other.entry.value) }
 {
     let leaves = count_arms(&one).saturating_add(count_arms(&other));
     Arms::Both { leaves, one, other }

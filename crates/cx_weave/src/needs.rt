@@ -100,7 +100,9 @@ fn statement_need(
     requires table { HasRow (design_of plan.now) table.now }
     requires known { CoversBehind (design_of plan.now) piece table.now instance }
     requires statement { StandsIn (design_of plan.now) instance (plain_statement statement.now) }
-    ensures { (path : Path) → IsNumber (design_of plan.now) instance path → Covers result (need piece (instance_at (tree_of (design_of plan.now)) path) (plain_statement statement.now)) }
+    ensures { (path : Path) → IsNumber (design_of plan.now) instance path →
+        Covers result
+        (need piece (instance_at (tree_of (design_of plan.now)) path) (plain_statement statement.now)) }
 {
     form_need(piece, plan, instance, table, &statement.form)
 }
@@ -112,7 +114,9 @@ fn form_need(piece: Piece, plan: &Plan<'_>, instance: usize, table: &[u64], form
     requires table { HasRow (design_of plan.now) table.now }
     requires known { CoversBehind (design_of plan.now) piece table.now instance }
     requires form { FormStands (design_of plan.now) instance (plain_form form.now) }
-    ensures { (path : Path) → IsNumber (design_of plan.now) instance path → Covers result (need piece (instance_at (tree_of (design_of plan.now)) path) (Placed (plain_form form.now) no_place)) }
+    ensures { (path : Path) → IsNumber (design_of plan.now) instance path →
+        Covers result (need piece (instance_at (tree_of (design_of plan.now)) path)
+        (Placed (plain_form form.now) no_place)) }
 {
     match form {
         Form::Empty => 0,
@@ -160,7 +164,9 @@ fn most_need(
     requires table { HasRow (design_of plan.now) table.now }
     requires known { CoversBehind (design_of plan.now) piece table.now instance }
     requires parts { StandIn (design_of plan.now) instance (plain_statements parts.now) }
-    ensures { (path : Path) → IsNumber (design_of plan.now) instance path → Covers result (needs piece (instance_at (tree_of (design_of plan.now)) path) (plain_statements parts.now)) }
+    ensures { (path : Path) → IsNumber (design_of plan.now) instance path →
+        Covers result
+        (needs piece (instance_at (tree_of (design_of plan.now)) path) (plain_statements parts.now)) }
 {
     let mut most = 0u64;
     for part in parts {
@@ -183,7 +189,9 @@ fn all_need(
     requires table { HasRow (design_of plan.now) table.now }
     requires known { CoversBehind (design_of plan.now) piece table.now instance }
     requires arms { StandIn (design_of plan.now) instance (plain_statements arms.now) }
-    ensures { (path : Path) → IsNumber (design_of plan.now) instance path → Covers result (all_needs piece (instance_at (tree_of (design_of plan.now)) path) (plain_statements arms.now)) }
+    ensures { (path : Path) → IsNumber (design_of plan.now) instance path →
+        Covers result
+        (all_needs piece (instance_at (tree_of (design_of plan.now)) path) (plain_statements arms.now)) }
 {
     let mut all = 0u64;
     for arm in arms {
@@ -199,7 +207,9 @@ fn enable_need(piece: Piece, plan: &Plan<'_>, instance: usize, table: &[u64], gr
     requires table { HasRow (design_of plan.now) table.now }
     requires known { CoversBehind (design_of plan.now) piece table.now instance }
     requires group { IsGroupOf (design_of plan.now) instance group }
-    ensures { (path : Path) → IsNumber (design_of plan.now) instance path → Covers result (need piece (instance_at (tree_of (design_of plan.now)) path) (Placed (plain.Enable group) no_place)) }
+    ensures { (path : Path) → IsNumber (design_of plan.now) instance path →
+        Covers result (need piece (instance_at (tree_of (design_of plan.now)) path)
+        (Placed (plain.Enable group) no_place)) }
 {
     match group_length(plan, instance, group) {
         Some(_) => island_takes(piece),
@@ -214,7 +224,9 @@ fn dynamic_need(piece: Piece, plan: &Plan<'_>, instance: usize, table: &[u64], g
     requires known { CoversBehind (design_of plan.now) piece table.now instance }
     requires group { IsGroupOf (design_of plan.now) instance group }
     requires dynamic { HasLength (design_of plan.now) instance group None }
-    ensures { (path : Path) → IsNumber (design_of plan.now) instance path → Covers result (need piece (instance_at (tree_of (design_of plan.now)) path) (Placed (plain.Enable group) no_place)) }
+    ensures { (path : Path) → IsNumber (design_of plan.now) instance path →
+        Covers result (need piece (instance_at (tree_of (design_of plan.now)) path)
+        (Placed (plain.Enable group) no_place)) }
 {
     let row = group_row(plan, instance, group);
     match row.callee {

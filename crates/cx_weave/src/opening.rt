@@ -96,8 +96,10 @@ fn open_seq<'a>(
     requires plan { IsPlan plan.now }
     requires instance { IsInstance (design_of plan.now) instance }
     requires parts { StandIn (design_of plan.now) instance (plain_statements parts.now) }
-    requires supplied { MayOpen (design_of plan.now) instance spares.old (Placed (plain.Seq (plain_statements parts.now)) no_place) }
-    ensures opens { OpensAs (design_of plan.now) instance (Placed (plain.Seq (plain_statements parts.now)) no_place) result }
+    requires supplied { MayOpen (design_of plan.now) instance spares.old
+        (Placed (plain.Seq (plain_statements parts.now)) no_place) }
+    ensures opens { OpensAs (design_of plan.now) instance
+        (Placed (plain.Seq (plain_statements parts.now)) no_place) result }
     ensures ledger { Opened spares.old spares.new result }
 {
     match parts.split_first() {
@@ -121,8 +123,10 @@ fn open_par<'a>(
     requires plan { IsPlan plan.now }
     requires instance { IsInstance (design_of plan.now) instance }
     requires arms { StandIn (design_of plan.now) instance (plain_statements arms.now) }
-    requires supplied { MayOpen (design_of plan.now) instance spares.old (Placed (plain.Par (plain_statements arms.now)) no_place) }
-    ensures opens { OpensAs (design_of plan.now) instance (Placed (plain.Par (plain_statements arms.now)) no_place) result }
+    requires supplied { MayOpen (design_of plan.now) instance spares.old
+        (Placed (plain.Par (plain_statements arms.now)) no_place) }
+    ensures opens { OpensAs (design_of plan.now) instance
+        (Placed (plain.Par (plain_statements arms.now)) no_place) result }
     ensures ledger { Opened spares.old spares.new result }
 {
     if arms.is_empty() {
@@ -173,8 +177,10 @@ fn open_repeat<'a>(
     requires plan { IsPlan plan.now }
     requires instance { IsInstance (design_of plan.now) instance }
     requires body { StandsIn (design_of plan.now) instance (plain_statement body.now) }
-    requires supplied { MayOpen (design_of plan.now) instance spares.old (Placed (plain.Repeat count (plain_statement body.now)) no_place) }
-    ensures opens { OpensAs (design_of plan.now) instance (Placed (plain.Repeat count (plain_statement body.now)) no_place) result }
+    requires supplied { MayOpen (design_of plan.now) instance spares.old
+        (Placed (plain.Repeat count (plain_statement body.now)) no_place) }
+    ensures opens { OpensAs (design_of plan.now) instance
+        (Placed (plain.Repeat count (plain_statement body.now)) no_place) result }
     ensures ledger { Opened spares.old spares.new result }
 {
     if count == 0 {

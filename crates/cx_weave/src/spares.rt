@@ -80,7 +80,8 @@ pub(crate) fn give_arms<'a>(spares: &mut Spares<'a>, room: Box<Arms<'a>>)
 /// The lists of an island.
 pub(crate) fn take_island(spares: &mut Spares<'_>) -> IslandLists
     requires some { 0 < vec_len spares.old.islands }
-    ensures ledger { Ledger spares.old spares.new (λ x. 0) (λ x. island_amount x (vec_capacity result.cells) (length result.samples.items)) }
+    ensures ledger { Ledger spares.old spares.new (λ x. 0)
+        (λ x. island_amount x (vec_capacity result.cells) (length result.samples.items)) }
 {
     spares.islands.pop().unwrap()
 }
@@ -88,7 +89,8 @@ pub(crate) fn take_island(spares: &mut Spares<'_>) -> IslandLists
 /// Keeps the lists of an island for later.
 pub(crate) fn give_island(spares: &mut Spares<'_>, samples: Vec<bool>, cells: Vec<u32>)
     requires place { vec_len spares.old.islands < vec_capacity spares.old.islands }
-    ensures ledger { Ledger spares.old spares.new (λ x. island_amount x (vec_capacity cells) (length samples.items)) (λ x. 0) }
+    ensures ledger { Ledger spares.old spares.new
+        (λ x. island_amount x (vec_capacity cells) (length samples.items)) (λ x. 0) }
 {
     let _ = spares.islands.push(IslandLists { samples, cells });
 }
@@ -97,7 +99,8 @@ pub(crate) fn give_island(spares: &mut Spares<'_>, samples: Vec<bool>, cells: Ve
 pub(crate) fn take_inputs(spares: &mut Spares<'_>) -> Vec<Seen>
     requires some { 0 < vec_len spares.old.inputs }
     ensures none { result.items ≡ [] }
-    ensures ledger { Ledger spares.old spares.new (λ x. 0) (λ x. inputs_amount (λ list. vec_capacity list) x (Some result)) }
+    ensures ledger { Ledger spares.old spares.new (λ x. 0)
+        (λ x. inputs_amount (λ list. vec_capacity list) x (Some result)) }
 {
     let mut inputs = spares.inputs.pop().unwrap();
     inputs.clear();
@@ -107,7 +110,8 @@ pub(crate) fn take_inputs(spares: &mut Spares<'_>) -> Vec<Seen>
 /// Keeps a list of inputs for later.
 pub(crate) fn give_inputs(spares: &mut Spares<'_>, inputs: Vec<Seen>)
     requires place { vec_len spares.old.inputs < vec_capacity spares.old.inputs }
-    ensures ledger { Ledger spares.old spares.new (λ x. inputs_amount (λ list. vec_capacity list) x (Some inputs)) (λ x. 0) }
+    ensures ledger { Ledger spares.old spares.new
+        (λ x. inputs_amount (λ list. vec_capacity list) x (Some inputs)) (λ x. 0) }
 {
     let _ = spares.inputs.push(inputs);
 }

@@ -30,7 +30,8 @@ pub(crate) fn take_group(
     requires ascending { IsAscending cells.now }
     requires listed { ListGroup (design_of plan.now) instance group cells.now }
     ensures machine { IsAt plan.now machine.new }
-    ensures taken { TakesTurn (design_of plan.now) (rows_of machine.old) (rows_of machine.new) instance result (λ i held s. own_turn i held group s) }
+    ensures taken { TakesTurn (design_of plan.now) (rows_of machine.old)
+        (rows_of machine.new) instance result (λ i held s. own_turn i held group s) }
 {
     let _ = plan;
     let sight = &mut machine.sight;
@@ -60,7 +61,8 @@ pub(crate) fn take_capture(
     requires ascending { IsAscending cells.now }
     requires listed { ListGroup (design_of plan.now) instance group cells.now }
     ensures machine { IsAt plan.now machine.new }
-    ensures taken { TakesTurn (design_of plan.now) (rows_of machine.old) (rows_of machine.new) instance (cycle_as result) (λ i held s. own_capture i held group cell s) }
+    ensures taken { TakesTurn (design_of plan.now) (rows_of machine.old) (rows_of machine.new) instance
+        (cycle_as result) (λ i held s. own_capture i held group cell s) }
 {
     let _ = plan;
     let _ = cell;

@@ -33,7 +33,9 @@ is_bad (ports.Done g) = false
 is_bad (ports.Literal w v) = not (keeps_literal w v)
 
 abbrev pub literal_break : Spot → PlacedPort → List Broken
-literal_break spot p = if is_bad p.port then record { rule = rule.Literal; spot = spot; place = p.place; name = [] } ∷ [] else []
+literal_break spot p =
+    if is_bad p.port then record { rule = rule.Literal; spot = spot; place = p.place; name = [] } ∷ []
+    else []
 
 abbrev pub source_break : Instance → Spot → PlacedPort → List Broken
 source_break i spot p = told_port rule.NotASource i spot p.place (port_if (is_target_only i p.port) p.port)
@@ -56,7 +58,8 @@ assign_breaks i spot a =
 
 -- of the condition of a statement
 abbrev pub condition_breaks : Instance → Spot → Place → PlacedPort → List Broken
-condition_breaks i spot place p = told_port rule.GuardWidth i spot place (port_if (is_wide i p.port) p.port) ++ operand_breaks i spot p
+condition_breaks i spot place p =
+    told_port rule.GuardWidth i spot place (port_if (is_wide i p.port) p.port) ++ operand_breaks i spot p
 
 abbrev pub test_breaks : Instance → Spot → Place → Option PlacedPort → List Broken
 test_breaks i spot place None = []
@@ -67,7 +70,8 @@ abbrev pub assign_breaks_at : PlainDesign → ℕ → ℕ → Owned → List Bro
 assign_breaks_at d k n a = assign_breaks (component_of d k) (record { component = k; part = AnAssign n }) a.assign
 
 abbrev pub condition_breaks_at : PlainDesign → ℕ → ℕ → Visited → List Broken
-condition_breaks_at d k n v = test_breaks (component_of d k) (record { component = k; part = AStatement n }) v.place (test_in v.form)
+condition_breaks_at d k n v =
+    test_breaks (component_of d k) (record { component = k; part = AStatement n }) v.place (test_in v.form)
 
 abbrev pub bind_breaks_at : PlainDesign → ℕ → ℕ → PlainAssign → List Broken
 bind_breaks_at d k n a = assign_breaks (component_of d k) (record { component = k; part = ABind n }) a

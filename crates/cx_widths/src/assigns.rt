@@ -24,7 +24,9 @@ pub fn add_assign(
     assign: &Assign,
 ) -> Result<(), Memory>
     requires within { spot.component < length design.now.components.items }
-    ensures value { IfOk result (λ _. first.new ≡ first_of first.old (assign_breaks (component_of (plain_design design.now) spot.component) (plain_spot spot) (plain_assign assign.now))) }
+    ensures value { IfOk result (λ _. first.new ≡
+        first_of first.old (assign_breaks (component_of (plain_design design.now) spot.component)
+        (plain_spot spot) (plain_assign assign.now))) }
 {
     let unequal = first_unequal(alloc, design, spot.component, assign)?;
     add_port(
@@ -62,7 +64,9 @@ fn add_target(
     assign: &Assign,
 ) -> Result<(), Memory>
     requires within { spot.component < length design.now.components.items }
-    ensures value { IfOk result (λ _. first.new ≡ first_of first.old (target_break (component_of (plain_design design.now) spot.component) (plain_spot spot) (plain_assign assign.now))) }
+    ensures value { IfOk result (λ _. first.new ≡
+        first_of first.old (target_break (component_of (plain_design design.now) spot.component)
+        (plain_spot spot) (plain_assign assign.now))) }
 {
     let told = if is_source_only(design, spot.component, assign.target) {
         Some(assign.target)
@@ -90,7 +94,9 @@ fn add_operands(
     operands: &[PlacedPort],
 ) -> Result<(), Memory>
     requires within { spot.component < length design.now.components.items }
-    ensures value { IfOk result (λ _. first.new ≡ first_of first.old (flat_map (operand_breaks (component_of (plain_design design.now) spot.component) (plain_spot spot)) operands.now)) }
+    ensures value { IfOk result (λ _. first.new ≡
+        first_of first.old (flat_map (operand_breaks (component_of (plain_design design.now) spot.component)
+        (plain_spot spot)) operands.now)) }
 {
     for operand in operands {
         add_operand(alloc, first, design, spot, *operand)?;
@@ -108,7 +114,9 @@ pub fn add_operand(
     operand: PlacedPort,
 ) -> Result<(), Memory>
     requires within { spot.component < length design.now.components.items }
-    ensures value { IfOk result (λ _. first.new ≡ first_of first.old (operand_breaks (component_of (plain_design design.now) spot.component) (plain_spot spot) operand)) }
+    ensures value { IfOk result (λ _. first.new ≡
+        first_of first.old
+        (operand_breaks (component_of (plain_design design.now) spot.component) (plain_spot spot) operand)) }
 {
     add_literal(alloc, first, spot, operand)?;
     add_source(alloc, first, design, spot, operand)

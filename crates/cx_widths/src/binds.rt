@@ -10,7 +10,8 @@ use std::alloc::Global;
 
 /// The inputs that these invokes bind, in their order.
 pub fn binds<'a>(alloc: Global, invokes: &'a [StaticInvoke]) -> Result<Vec<&'a Assign>, Memory>
-    ensures value { IfOk result (λ list. plain_binds list.items ≡ flat_map (λ v. v.inputs) (map plain_invoke invokes.now)) }
+    ensures value { IfOk result
+        (λ list. plain_binds list.items ≡ flat_map (λ v. v.inputs) (map plain_invoke invokes.now)) }
 {
     let mut list = Vec::new(alloc);
     for invoke in invokes {
@@ -21,7 +22,8 @@ pub fn binds<'a>(alloc: Global, invokes: &'a [StaticInvoke]) -> Result<Vec<&'a A
 
 /// Adds the inputs of one invoke.
 fn append<'a>(list: &mut Vec<&'a Assign>, assigns: &'a [Assign]) -> Result<(), Memory>
-    ensures value { IfOk result (λ _. plain_binds list.new.items ≡ plain_binds list.old.items ++ plain_assigns assigns.now) }
+    ensures value { IfOk result
+        (λ _. plain_binds list.new.items ≡ plain_binds list.old.items ++ plain_assigns assigns.now) }
 {
     for assign in assigns {
         list.push(assign)?;

@@ -51,7 +51,8 @@ fn add_assigns(
     number: usize,
 ) -> Result<(), Memory>
     requires within { number < length design.now.components.items }
-    ensures value { IfOk result (λ _. first.new ≡ first_of first.old (assigns_breaks (plain_design design.now) number)) }
+    ensures value { IfOk result
+        (λ _. first.new ≡ first_of first.old (assigns_breaks (plain_design design.now) number)) }
 {
     let assigns = source_order(alloc, component(design, number))?;
     for place in 0..assigns.len() {
@@ -73,7 +74,8 @@ fn add_conditions(
     number: usize,
 ) -> Result<(), Memory>
     requires within { number < length design.now.components.items }
-    ensures value { IfOk result (λ _. first.new ≡ first_of first.old (conditions_breaks (plain_design design.now) number)) }
+    ensures value { IfOk result
+        (λ _. first.new ≡ first_of first.old (conditions_breaks (plain_design design.now) number)) }
 {
     let list = statements(alloc, component(design, number))?;
     for place in 0..list.len() {
@@ -95,7 +97,9 @@ fn add_visited(
     visited: Visited<'_>,
 ) -> Result<(), Memory>
     requires within { spot.component < length design.now.components.items }
-    ensures value { IfOk result (λ _. first.new ≡ first_of first.old (test_breaks (component_of (plain_design design.now) spot.component) (plain_spot spot) visited.entry.place (test_in (plain_form visited.entry.form.now)))) }
+    ensures value { IfOk result (λ _. first.new ≡
+        first_of first.old (test_breaks (component_of (plain_design design.now) spot.component)
+        (plain_spot spot) visited.entry.place (test_in (plain_form visited.entry.form.now)))) }
 {
     match test(visited.form) {
         Some(condition) => add_condition(alloc, first, design, spot, visited.place, condition),

@@ -25,7 +25,9 @@ pub fn add_condition(
     condition: PlacedPort,
 ) -> Result<(), Memory>
     requires within { spot.component < length design.now.components.items }
-    ensures value { IfOk result (λ _. first.new ≡ first_of first.old (condition_breaks (component_of (plain_design design.now) spot.component) (plain_spot spot) place condition)) }
+    ensures value { IfOk result (λ _. first.new ≡
+        first_of first.old (condition_breaks (component_of (plain_design design.now) spot.component)
+        (plain_spot spot) place condition)) }
 {
     let told = if is_wide(design, spot.component, condition.port) {
         Some(condition.port)

@@ -22,7 +22,9 @@ pub fn add_port(
     port: Option<PortRef>,
 ) -> Result<(), Memory>
     requires within { spot.component < length design.now.components.items }
-    ensures value { IfOk result (λ _. first.new ≡ first_of first.old (told_port rule (component_of (plain_design design.now) spot.component) (plain_spot spot) place port)) }
+    ensures value { IfOk result (λ _. first.new ≡
+        first_of first.old
+        (told_port rule (component_of (plain_design design.now) spot.component) (plain_spot spot) place port)) }
 {
     let Some(port) = port else {
         return Ok(());
@@ -82,7 +84,9 @@ pub fn add_source(
     port: PlacedPort,
 ) -> Result<(), Memory>
     requires within { spot.component < length design.now.components.items }
-    ensures value { IfOk result (λ _. first.new ≡ first_of first.old (source_break (component_of (plain_design design.now) spot.component) (plain_spot spot) port)) }
+    ensures value { IfOk result (λ _. first.new ≡
+        first_of first.old
+        (source_break (component_of (plain_design design.now) spot.component) (plain_spot spot) port)) }
 {
     let told = if is_target_only(design, spot.component, port.port) {
         Some(port.port)

@@ -31,7 +31,9 @@ pub fn first_unequal(
     assign: &Assign,
 ) -> Result<Option<PortRef>, Memory>
     requires within { number < length design.now.components.items }
-    ensures value { IfOk result (λ port. port ≡ rules.first_unequal (component_of (plain_design design.now) number) (pairs_of (plain_assign assign.now))) }
+    ensures value { IfOk result (λ port. port ≡
+        rules.first_unequal (component_of (plain_design design.now) number)
+        (pairs_of (plain_assign assign.now))) }
 {
     let pairs = comparisons(alloc, &assign.guard)?;
     if is_unequal(design, number, assign.target, assign.source.port) {
@@ -42,14 +44,16 @@ pub fn first_unequal(
 
 fn is_unequal(design: &Design, number: usize, one: PortRef, other: PortRef) -> bool
     requires within { number < length design.now.components.items }
-    ensures value { let i = component_of (plain_design design.now) number in result ≡ rules.differ (width_of i one) (width_of i other) }
+    ensures value { let i = component_of (plain_design design.now) number in
+        result ≡ rules.differ (width_of i one) (width_of i other) }
 {
     differ(width(design, number, one), width(design, number, other))
 }
 
 fn first_unequal_pair(design: &Design, number: usize, pairs: &[Pair]) -> Option<PortRef>
     requires within { number < length design.now.components.items }
-    ensures value { result ≡ rules.first_unequal (component_of (plain_design design.now) number) (map plain_pair pairs.now) }
+    ensures value { result ≡
+        rules.first_unequal (component_of (plain_design design.now) number) (map plain_pair pairs.now) }
 {
     for pair in pairs {
         if is_unequal(design, number, pair.first, pair.second) {

@@ -30,7 +30,9 @@ kind_drives occurs (Some (kinds.Timed cycles)) = occurs
 
 abbrev pub owner_drives : PlainLowered → Option ℕ → Bool
 owner_drives lowered None = true
-owner_drives lowered (Some g) = kind_drives (occurs_in g lowered.islands) (option_map (λ group. group.kind) (slice_get lowered.part.groups g))
+owner_drives lowered (Some g) =
+    kind_drives (occurs_in g lowered.islands)
+    (option_map (λ group. group.kind) (slice_get lowered.part.groups g))
 
 abbrev pub is_driven : PlainLowered → Owned → Bool
 is_driven lowered a = owner_drives lowered a.owner
@@ -87,21 +89,27 @@ module _ (groups : ℕ) where
   go g = OfHole (groups + g)
 
   abbrev pub gate_drivers : ℕ → ℕ → PlainGuard → List PlainNetDriver
-  gate_drivers g wire guard = guard_drivers (OfWire g) (suc wire) guard ++ drive (ToWire wire) (go g) (guard_expr (OfWire g) (suc wire) guard) ∷ []
+  gate_drivers g wire guard =
+      guard_drivers (OfWire g) (suc wire) guard
+      ++ drive (ToWire wire) (go g) (guard_expr (OfWire g) (suc wire) guard) ∷ []
 
   abbrev pub gated_drivers : ℕ → ℕ → PlainGuard → PlainNetTarget → PlainNetExpr → List PlainNetDriver
   gated_drivers g wire Always target source = drive target (go g) source ∷ []
   gated_drivers g wire (Atom p) target source = gate_drivers g wire (Atom p) ++ drive target (OfWire wire) source ∷ []
-  gated_drivers g wire (Negation h) target source = gate_drivers g wire (Negation h) ++ drive target (OfWire wire) source ∷ []
+  gated_drivers g wire (Negation h) target source =
+      gate_drivers g wire (Negation h) ++ drive target (OfWire wire) source ∷ []
   gated_drivers g wire (All gs) target source = gate_drivers g wire (All gs) ++ drive target (OfWire wire) source ∷ []
   gated_drivers g wire (Any gs) target source = gate_drivers g wire (Any gs) ++ drive target (OfWire wire) source ∷ []
-  gated_drivers g wire (Compared c a b) target source = gate_drivers g wire (Compared c a b) ++ drive target (OfWire wire) source ∷ []
-  gated_drivers g wire (Within from to) target source = gate_drivers g wire (Within from to) ++ drive target (OfWire wire) source ∷ []
+  gated_drivers g wire (Compared c a b) target source =
+      gate_drivers g wire (Compared c a b) ++ drive target (OfWire wire) source ∷ []
+  gated_drivers g wire (Within from to) target source =
+      gate_drivers g wire (Within from to) ++ drive target (OfWire wire) source ∷ []
 
   -- an assignment whose wires begin with this one
   abbrev pub looking_drivers : Looks → ℕ → PlainAssign → List PlainNetDriver
   looking_drivers (LooksAlways offset) wire a =
-      guard_drivers offset wire a.guard ++ drive (target_of a.target) (guard_expr offset wire a.guard) (OfPort a.source.port) ∷ []
+      guard_drivers offset wire a.guard
+      ++ drive (target_of a.target) (guard_expr offset wire a.guard) (OfPort a.source.port) ∷ []
   looking_drivers (LooksIn g) wire a = gated_drivers g wire a.guard (target_of a.target) (OfPort a.source.port)
 
   abbrev pub assign_drivers : ℕ → Owned → List PlainNetDriver

@@ -67,9 +67,12 @@ abbrev mutual
   pub part_drivers : PlainNetExpr → ℕ → PlainGuard → List PlainNetDriver
   part_drivers offset wire Always = connect wire (guard_expr offset (suc wire) Always) ∷ []
   part_drivers offset wire (Atom p) = []
-  part_drivers offset wire (Negation g) = part_drivers offset (suc wire) g ++ connect wire (guard_expr offset (suc wire) (Negation g)) ∷ []
-  part_drivers offset wire (All gs) = parts_drivers offset (suc wire) gs ++ connect wire (guard_expr offset (suc wire) (All gs)) ∷ []
-  part_drivers offset wire (Any gs) = parts_drivers offset (suc wire) gs ++ connect wire (guard_expr offset (suc wire) (Any gs)) ∷ []
+  part_drivers offset wire (Negation g) =
+      part_drivers offset (suc wire) g ++ connect wire (guard_expr offset (suc wire) (Negation g)) ∷ []
+  part_drivers offset wire (All gs) =
+      parts_drivers offset (suc wire) gs ++ connect wire (guard_expr offset (suc wire) (All gs)) ∷ []
+  part_drivers offset wire (Any gs) =
+      parts_drivers offset (suc wire) gs ++ connect wire (guard_expr offset (suc wire) (Any gs)) ∷ []
   part_drivers offset wire (Compared c a b) = connect wire (guard_expr offset (suc wire) (Compared c a b)) ∷ []
   part_drivers offset wire (Within from to) = connect wire (guard_expr offset (suc wire) (Within from to)) ∷ []
 

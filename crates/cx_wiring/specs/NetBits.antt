@@ -12,7 +12,8 @@ use Rattle.cx_net.specs.NetTree.{NetInstance, NetNode, NetCells, no_net_cells, a
 use Rattle.cx_net.specs.NetMeaning.{Node, APort, AWire, AHole, TheDone, truth_bit, decl_width, net_at_width, is_port_of}
 
 abbrev pub own_bit : PlainNetComponent → NetCells → Node → Bool
-own_bit part cells (APort (ports.Cell c p)) = is_port_of (net_cell_at cells c) p && (net_at_width (net_cell_at cells c) p == 1)
+own_bit part cells (APort (ports.Cell c p)) =
+    is_port_of (net_cell_at cells c) p && (net_at_width (net_cell_at cells c) p == 1)
 own_bit part cells (APort (ports.Input n)) = false
 own_bit part cells (APort (ports.Output n)) = nat_lt n (length part.outputs) && (decl_width part.outputs n == 1)
 own_bit part cells (APort (ports.Done g)) = false

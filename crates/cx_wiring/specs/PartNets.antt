@@ -32,7 +32,8 @@ abbrev pub wired_in : PlainDesign → PlainComponent → PlainNetComponent
 wired_in d part = net_component (lowered_of d) (lowered_component part)
 
 -- THE NET'S TREE by structure of the design's: the net of each component, its cells and behind them its timers
-module _ (wired : PlainComponent → PlainNetComponent) (timers : PlainComponent → List Row) (numbers : Instance → NetState → ℕ → ℕ) where
+module _ (wired : PlainComponent → PlainNetComponent) (timers : PlainComponent → List Row)
+    (numbers : Instance → NetState → ℕ → ℕ) where
   abbrev pub rows_alone : List Row → NetCells
   rows_alone [] = no_net_cells
   rows_alone (row ∷ rest) = a_row row (rows_alone rest)

@@ -14,7 +14,9 @@ module _ (around : NetAround) (registers : ℕ → Option BitVector) (look : Nod
 
   -- a driver of the target: where its guard is 1 it gives its source, else what comes behind
   abbrev pub takes_of : Bool → PlainNetDriver → Option BitVector → Option BitVector
-  takes_of drives d later = if drives then option_and_then (λ g. if is_true g then value d.source else later) (value d.guard) else later
+  takes_of drives d later =
+      if drives then option_and_then (λ g. if is_true g then value d.source else later) (value d.guard)
+      else later
 
   abbrev pub takes : PlainNetTarget → Option BitVector → List PlainNetDriver → Option BitVector
   takes t undriven [] = undriven
@@ -47,7 +49,8 @@ module _ (around : NetAround) (registers : ℕ → Option BitVector) (look : Nod
   -- registers from this one on have these widths, and the values that are kept
   abbrev pub AreRegisters : (ℕ → ℕ) → ℕ → List ℕ → Type 0
   AreRegisters kept n [] = Unit {0}
-  AreRegisters kept n (w ∷ ws) = (registers n ≡ Some (record { width = w; value = kept n })) × AreRegisters kept (suc n) ws
+  AreRegisters kept n (w ∷ ws) =
+      (registers n ≡ Some (record { width = w; value = kept n })) × AreRegisters kept (suc n) ws
 
 abbrev pub IsNoWire : PlainNetTarget → Type 0
 IsNoWire (ToWire n) = ⊥

@@ -30,7 +30,8 @@ module _ (cycles : ℕ → ℕ) (first : Option ℕ) where
   -- from timer n on, where those before it are known
   abbrev pub counts_from : (ℕ → Option ℕ) → ℕ → List IslandTimer → ℕ → Option ℕ
   counts_from known n [] m = known m
-  counts_from known n (timer ∷ rest) m = counts_from (λ k. if nat_eq k n then timer_count known timer else known k) (suc n) rest m
+  counts_from known n (timer ∷ rest) m =
+      counts_from (λ k. if nat_eq k n then timer_count known timer else known k) (suc n) rest m
 
   abbrev pub counts_in : List IslandTimer → ℕ → Option ℕ
   counts_in timers m = counts_from (λ k. None) 0 timers m

@@ -35,7 +35,9 @@ rank_of ToDone = rank 5 0 0
 rank_of (ToPort p) = rank 6 0 0
 
 abbrev pub ranks_before : Rank → Rank → Bool
-ranks_before a b = is_lt (ordering_then (nat_cmp a.kind b.kind) (ordering_then (nat_cmp a.number b.number) (nat_cmp a.port b.port)))
+ranks_before a b =
+    is_lt (ordering_then (nat_cmp a.kind b.kind)
+    (ordering_then (nat_cmp a.number b.number) (nat_cmp a.port b.port)))
 
 abbrev pub goes_before : PlainNetDriver → PlainNetDriver → Bool
 goes_before d e = ranks_before (rank_of d.target) (rank_of e.target)

@@ -9,7 +9,9 @@ use Rattle.cx_control.specs.StatementCodings.{LeafCodings}
 use Rattle.cx_static.specs.Islands.{PlainIsland}
 use Rattle.cx_wiring_cycles.specs.Shown.{in_seq, in_par, in_if, in_while, TestAgrees}
 
-module _ {X : Type 0} {V : X → Type 0} {F : Type 0} (leaves : LeafMachines X V F) (part : PlainComponent) (at_test : PortRef → Option ℕ → Type 0) (at_plain at_timed : (g : ℕ) → Machine.Place (LeafMachines.enable leaves g) → Type 0)
+module _ {X : Type 0} {V : X → Type 0} {F : Type 0} (leaves : LeafMachines X V F) (part : PlainComponent)
+    (at_test : PortRef → Option ℕ → Type 0)
+    (at_plain at_timed : (g : ℕ) → Machine.Place (LeafMachines.enable leaves g) → Type 0)
     (at_island : (form : PlainForm) → Machine.Place (LeafMachines.island leaves form) → Type 0) where
   abbrev pub enable_holds : (g : ℕ) → Option ℕ → Machine.Place (LeafMachines.enable leaves g) → Type 0
   enable_holds g None p = at_plain g p
@@ -52,27 +54,38 @@ module _ {X : Type 0} {V : X → Type 0} {F : Type 0} (leaves : LeafMachines X V
   abbrev pub AnyGroup : (g : ℕ) → Machine.Place (LeafMachines.enable leaves g) → Type 0
   AnyGroup g p = Unit {0}
 
-  module _ (part : PlainComponent) (at_timed : (g : ℕ) → Machine.Place (LeafMachines.enable leaves g) → Type 0) (at_island : (form : PlainForm) → Machine.Place (LeafMachines.island leaves form) → Type 0) where
+  module _ (part : PlainComponent)
+      (at_timed : (g : ℕ) → Machine.Place (LeafMachines.enable leaves g) → Type 0)
+      (at_island : (form : PlainForm) → Machine.Place (LeafMachines.island leaves form) → Type 0) where
     -- AT ISLANDS ALONE
     abbrev pub IslandsHold : (s : PlainStatement) → Machine.Place (machine_of leaves s) → Type 0
     IslandsHold = StatementHolds leaves part AnyTest AnyGroup at_timed at_island
 
     -- AND WITH what the machine saw of holes and tests
-    module _ (codings : LeafCodings leaves) (islands : List PlainIsland) (seen : Store X V) (hole : ℕ → Bool) (port : PortRef → Bool) where
+    module _ (codings : LeafCodings leaves) (islands : List PlainIsland) (seen : Store X V)
+        (hole : ℕ → Bool) (port : PortRef → Bool) where
       abbrev pub HoleSeen : (g : ℕ) → Machine.Place (LeafMachines.enable leaves g) → Type 0
       HoleSeen g p = hole g ≡ is_done (Machine.step (LeafMachines.enable leaves g) p seen)
 
       abbrev pub enable_saw : (g : ℕ) → Option ℕ → Machine.Place (LeafMachines.enable leaves g) → Type 0
-      enable_saw = enable_holds leaves part (TestAgrees leaves codings part islands seen hole port) HoleSeen at_timed at_island
+      enable_saw =
+          enable_holds leaves part
+          (TestAgrees leaves codings part islands seen hole port) HoleSeen at_timed at_island
 
       abbrev pub StatementSaw : (s : PlainStatement) → Machine.Place (machine_of leaves s) → Type 0
-      StatementSaw = StatementHolds leaves part (TestAgrees leaves codings part islands seen hole port) HoleSeen at_timed at_island
+      StatementSaw =
+          StatementHolds leaves part
+          (TestAgrees leaves codings part islands seen hole port) HoleSeen at_timed at_island
 
       abbrev pub FormSaw : (form : PlainForm) → Machine.Place (form_machine leaves form) → Type 0
-      FormSaw = FormHolds leaves part (TestAgrees leaves codings part islands seen hole port) HoleSeen at_timed at_island
+      FormSaw =
+          FormHolds leaves part
+          (TestAgrees leaves codings part islands seen hole port) HoleSeen at_timed at_island
 
       abbrev pub PartsSaw : (ss : PlainStatements) → Machine.Place (parts_machine leaves ss) → Type 0
-      PartsSaw = PartsHold leaves part (TestAgrees leaves codings part islands seen hole port) HoleSeen at_timed at_island
+      PartsSaw =
+          PartsHold leaves part
+          (TestAgrees leaves codings part islands seen hole port) HoleSeen at_timed at_island
 
       abbrev pub ArmsSaw : (ss : PlainStatements) → Machine.Place (arms_machine leaves ss) → Type 0
       ArmsSaw = ArmsHold leaves part (TestAgrees leaves codings part islands seen hole port) HoleSeen at_timed at_island

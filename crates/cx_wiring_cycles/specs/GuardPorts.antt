@@ -27,7 +27,9 @@ module _ (around : NetAround) (registers : ℕ → Option BitVector) (look : Nod
       GuardPorts (Negation g) = GuardPorts g
       GuardPorts (All gs) = PartsPorts gs
       GuardPorts (Any gs) = PartsPorts gs
-      GuardPorts (Compared c a b) = (value around registers look (OfPort a.port) ≡ Some (v a.port)) × (value around registers look (OfPort b.port) ≡ Some (v b.port))
+      GuardPorts (Compared c a b) =
+          (value around registers look (OfPort a.port) ≡ Some (v a.port))
+          × (value around registers look (OfPort b.port) ≡ Some (v b.port))
       GuardPorts (Within from to) = Unit {0}
 
       pub PartsPorts : PlainGuards → Type 0
@@ -37,7 +39,9 @@ module _ (around : NetAround) (registers : ℕ → Option BitVector) (look : Nod
   -- of so many groups
   module _ (groups : ℕ) (goes : ℕ → Bool) (at : ℕ → BitVector) where
     abbrev pub GroupSays : ℕ → Type 0
-    GroupSays g = Says around registers look (OfHole (groups + g)) (goes g) × (value around registers look (OfWire g) ≡ Some (at g))
+    GroupSays g =
+        Says around registers look (OfHole (groups + g)) (goes g)
+        × (value around registers look (OfWire g) ≡ Some (at g))
 
     abbrev pub OwnerSays : Option ℕ → Type 0
     OwnerSays None = Unit {0}

@@ -30,7 +30,9 @@ module _ (cells : List PlainCell) (state : ℕ → CellState) (register : ℕ �
 
   -- whether the timers within are in the cycle of the first one
   abbrev pub are_in_step : List IslandTimer → Bool
-  are_in_step timers = all_count (timer_counts timers) (counts_in (cycles_at cells) (Some (timer_counts timers 0)) timers) (length timers)
+  are_in_step timers =
+      all_count (timer_counts timers) (counts_in (cycles_at cells) (Some (timer_counts timers 0)) timers)
+      (length timers)
 
   -- where they are not, a number that is no cycle's
   abbrev pub island_count : PlainIsland → ℕ
@@ -46,4 +48,5 @@ module _ (cells : List PlainCell) (state : ℕ → CellState) (register : ℕ �
 -- of the island with a number in a component
 abbrev pub of_island : PlainComponent → NetState → ℕ → ℕ → ℕ → ℕ
 of_island part v first k n =
-    island_number (lowered_component part).part.cells (λ c. v.cell (c ∷ [])) (v.register []) (slice_get (lowered_component part).islands k) first n
+    island_number (lowered_component part).part.cells (λ c. v.cell (c ∷ [])) (v.register [])
+    (slice_get (lowered_component part).islands k) first n

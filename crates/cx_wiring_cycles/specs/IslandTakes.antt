@@ -21,9 +21,11 @@ module _ (P : ℕ → Stand → Type 0) (islands : List PlainIsland) where
     FormIslands x Empty = Unit {0}
     FormIslands x (Enable g) = Unit {0}
     FormIslands x (Seq no_statements) = Unit {0}
-    FormIslands x (Seq (a_statement s ss)) = StatementIslands (inside x) s × PartsIslands (behind islands s (inside x)) ss
+    FormIslands x (Seq (a_statement s ss)) =
+        StatementIslands (inside x) s × PartsIslands (behind islands s (inside x)) ss
     FormIslands x (Par arms) = ArmsIslands x (suc (suc x.wire)) x.register arms
-    FormIslands x (If test comb a b) = StatementIslands (past_test x) a × StatementIslands (behind islands a (past_test x)) b
+    FormIslands x (If test comb a b) =
+        StatementIslands (past_test x) a × StatementIslands (behind islands a (past_test x)) b
     FormIslands x (While test comb a) = StatementIslands (past_test x) a
     FormIslands x (Repeat zero a) = Unit {0}
     FormIslands x (Repeat (suc n) a) = StatementIslands (counted_inside x) a
@@ -43,20 +45,32 @@ module _ (P : ℕ → Stand → Type 0) (islands : List PlainIsland) where
     pub ArmsIslands : Stand → ℕ → ℕ → PlainStatements → Type 0
     ArmsIslands par wire register no_statements = Unit {0}
     ArmsIslands par wire register (a_statement s ss) =
-        StatementIslands (arm_stand par wire register) s × ArmsIslands par (wire + wires_of s) (suc register + length (registers_of islands s)) ss
+        StatementIslands (arm_stand par wire register) s
+        × ArmsIslands par (wire + wires_of s) (suc register + length (registers_of islands s)) ss
 
-module _ (groups : ℕ) (islands : List PlainIsland) (around : NetAround) (registers : ℕ → Option BitVector) (look : Node → Option BitVector) where
+module _ (groups : ℕ) (islands : List PlainIsland) (around : NetAround) (registers : ℕ → Option BitVector)
+    (look : Node → Option BitVector) where
   -- THE WIRES of island k, and the goes of its timers
   pub record TakesIsland (k : ℕ) (x : Stand) : Type 0 where
     pub there : (island : PlainIsland) × (slice_get islands k ≡ Some island)
-    pub wires : (island : PlainIsland) → slice_get islands k ≡ Some island → (n : ℕ) → first_of_island groups islands k ≤ n → n < first_of_island groups islands k + wires_of_island island
-        → (o : Option BitVector) × (look (AWire n) ≡ takes around registers look (ToWire n) o (island_drivers groups x (first_of_island groups islands k) island))
-    pub goes : (island : PlainIsland) → slice_get islands k ≡ Some island → (t : ℕ) (timer : IslandTimer) → slice_get island.timers t ≡ Some timer
-        → look (APort (ports.Cell timer.cell 0)) ≡ takes around registers look (ToPort (ports.Cell timer.cell 0)) (Some (truth_bit false)) (island_drivers groups x (first_of_island groups islands k) island)
+    pub wires : (island : PlainIsland) → slice_get islands k ≡ Some island → (n : ℕ)
+        → first_of_island groups islands k ≤ n → n < first_of_island groups islands k + wires_of_island island
+        → (o : Option BitVector) × (look (AWire n) ≡
+        takes around registers look (ToWire n) o
+        (island_drivers groups x (first_of_island groups islands k) island))
+    pub goes : (island : PlainIsland) → slice_get islands k ≡ Some island → (t : ℕ) (timer : IslandTimer)
+        → slice_get island.timers t ≡ Some timer
+        → look (APort (ports.Cell timer.cell 0)) ≡
+        takes around registers look (ToPort (ports.Cell timer.cell 0)) (Some (truth_bit false))
+        (island_drivers groups x (first_of_island groups islands k) island)
 
   -- and the registers of its samples, which have so far what is kept and next what comes
   pub record IslandNexts (kept next : ℕ → ℕ) (k : ℕ) (x : Stand) : Type 0 where
     pub taken : TakesIsland k x
     pub apart : x.region < x.register
-    pub samples : (island : PlainIsland) → slice_get islands k ≡ Some island → (m : ℕ) (old new : BitVector) → x.register ≤ m → m < x.register + length island.points → old.value ≡ kept m
-        → takes around registers look (ToRegister m) (Some old) (island_drivers groups x (first_of_island groups islands k) island) ≡ Some new → next m ≡ new.value
+    pub samples : (island : PlainIsland) → slice_get islands k ≡ Some island
+        → (m : ℕ) (old new : BitVector) → x.register ≤ m → m < x.register + length island.points
+        → old.value ≡ kept m
+        → takes around registers look (ToRegister m) (Some old)
+        (island_drivers groups x (first_of_island groups islands k) island) ≡ Some new
+        → next m ≡ new.value

@@ -80,7 +80,8 @@ while_going t f AtHead = t
 while_going t f (InBody p) = f p
 
 -- THE NUMBERS of a statement beside its place: registers, and of an island what is said of it, by its first register and its number
-module _ {X : Type 0} {V : X → Type 0} {F : Type 0} (leaves : LeafMachines X V F) (codings : LeafCodings leaves) (part : PlainComponent) (islands : List PlainIsland) where
+module _ {X : Type 0} {V : X → Type 0} {F : Type 0} (leaves : LeafMachines X V F)
+    (codings : LeafCodings leaves) (part : PlainComponent) (islands : List PlainIsland) where
   module _ (register : ℕ → ℕ) (of_island : ℕ → ℕ → ℕ → ℕ) where
     abbrev pub enable_number : Option ℕ → Lowering → ℕ → ℕ → ℕ
     enable_number None l first n = 0
@@ -93,7 +94,8 @@ module _ {X : Type 0} {V : X → Type 0} {F : Type 0} (leaves : LeafMachines X V
       form_number (Seq parts) l first n = parts_number parts l first n
       form_number (Par arms) l first n = arms_number arms l first n
       form_number (If test comb a b) l first n =
-          beside (Coding.extra (statement_coding leaves codings a)) (number_of a l first) (number_of b (after part a l) (first + length (registers_of islands (lowered part a l)))) n
+          beside (Coding.extra (statement_coding leaves codings a)) (number_of a l first)
+          (number_of b (after part a l) (first + length (registers_of islands (lowered part a l)))) n
       form_number (While test comb a) l first n = number_of a l first n
       form_number (Repeat zero a) l first n = 0
       form_number (Repeat (suc k) a) l first n = counted (register first) (number_of a l (suc first)) n
@@ -109,12 +111,14 @@ module _ {X : Type 0} {V : X → Type 0} {F : Type 0} (leaves : LeafMachines X V
       pub parts_number : PlainStatements → Lowering → ℕ → ℕ → ℕ
       parts_number no_statements l first n = 0
       parts_number (a_statement s ss) l first n =
-          beside (Coding.extra (statement_coding leaves codings s)) (number_of s l first) (parts_number ss (after part s l) (first + length (registers_of islands (lowered part s l)))) n
+          beside (Coding.extra (statement_coding leaves codings s)) (number_of s l first)
+          (parts_number ss (after part s l) (first + length (registers_of islands (lowered part s l)))) n
 
       pub arms_number : PlainStatements → Lowering → ℕ → ℕ → ℕ
       arms_number no_statements l first n = 0
       arms_number (a_statement s ss) l first n =
-          beside (suc (Coding.extra (statement_coding leaves codings s))) (counted (register first) (number_of s l (suc first)))
+          beside (suc (Coding.extra (statement_coding leaves codings s)))
+          (counted (register first) (number_of s l (suc first)))
           (arms_number ss (after part s l) (suc first + length (registers_of islands (lowered part s l)))) n
 
   -- WHAT THE MACHINE SAW is what the net has: the holes of groups that run, the port of a test
@@ -156,7 +160,9 @@ module _ {X : Type 0} {V : X → Type 0} {F : Type 0} (leaves : LeafMachines X V
       ArmsAgree (a_statement s ss) p = in_par (StatementAgrees s) (ArmsAgree ss) p
 
   -- THE GOES at a place: of the groups that run, and of the comb group of a test; of islands as it is said of them
-  module _ (hole : ℕ → Bool) (of_enable : (g : ℕ) → Machine.Place (LeafMachines.enable leaves g) → List Going) (of_island : (form : PlainForm) → Machine.Place (LeafMachines.island leaves form) → List Going) where
+  module _ (hole : ℕ → Bool)
+      (of_enable : (g : ℕ) → Machine.Place (LeafMachines.enable leaves g) → List Going)
+      (of_island : (form : PlainForm) → Machine.Place (LeafMachines.island leaves form) → List Going) where
     abbrev pub enable_going : (g : ℕ) → Option ℕ → Machine.Place (LeafMachines.enable leaves g) → List Going
     enable_going g None p = record { group = g; goes = not (hole g) } ∷ []
     enable_going g (Some cycles) p = of_enable g p
@@ -191,7 +197,8 @@ module _ {X : Type 0} {V : X → Type 0} {F : Type 0} (leaves : LeafMachines X V
       arms_going (a_statement s ss) p = par_runs (going s) (arms_going ss) p
 
 -- NEXT VALUES of the registers of arms and rounds, each by its own drivers, and all that an island takes
-module _ (groups : ℕ) (islands : List PlainIsland) (around : NetAround) (registers : ℕ → Option BitVector) (look : Node → Option BitVector) (kept next : ℕ → ℕ) where
+module _ (groups : ℕ) (islands : List PlainIsland) (around : NetAround) (registers : ℕ → Option BitVector)
+    (look : Node → Option BitVector) (kept next : ℕ → ℕ) where
   abbrev mutual
     pub FormNexts : Stand → PlainForm → Type 0
     FormNexts x Empty = Unit {0}
@@ -199,7 +206,8 @@ module _ (groups : ℕ) (islands : List PlainIsland) (around : NetAround) (regis
     FormNexts x (Seq no_statements) = Unit {0}
     FormNexts x (Seq (a_statement s ss)) = StatementNexts (inside x) s × PartsNext (behind islands s (inside x)) ss
     FormNexts x (Par arms) =
-        ((o : Option BitVector) → takes around registers look (ToRegister x.region) o (arms_drivers groups islands x (suc (suc x.wire)) x.register arms) ≡ o)
+        ((o : Option BitVector) → takes around registers look (ToRegister x.region) o
+        (arms_drivers groups islands x (suc (suc x.wire)) x.register arms) ≡ o)
         × ArmsNext x (suc (suc x.wire)) x.register arms
     FormNexts x (If test comb a b) = StatementNexts (past_test x) a × StatementNexts (behind islands a (past_test x)) b
     FormNexts x (While test comb a) = StatementNexts (past_test x) a
@@ -207,7 +215,9 @@ module _ (groups : ℕ) (islands : List PlainIsland) (around : NetAround) (regis
     FormNexts x (Repeat (suc n) a) =
         ((x.register == x.region) ≡ false)
         × (takes around registers look (ToRegister x.register) (Some (wide (kept x.register)))
-        (drive (ToRegister x.register) (end_of x.wire) (word 0) ∷ drive (ToRegister x.register) (end_of (suc (suc x.wire))) (nets.Sum (OfRegister x.register) (word 1)) ∷ []) ≡ Some (wide (next x.register)))
+        (drive (ToRegister x.register) (end_of x.wire) (word 0) ∷
+        drive (ToRegister x.register) (end_of (suc (suc x.wire)))
+        (nets.Sum (OfRegister x.register) (word 1)) ∷ []) ≡ Some (wide (next x.register)))
         × StatementNexts (counted_inside x) a
     FormNexts x (StaticSeq written parts) = Unit {0}
     FormNexts x (StaticPar written arms) = Unit {0}
@@ -225,6 +235,9 @@ module _ (groups : ℕ) (islands : List PlainIsland) (around : NetAround) (regis
     pub ArmsNext : Stand → ℕ → ℕ → PlainStatements → Type 0
     ArmsNext par wire register no_statements = Unit {0}
     ArmsNext par wire register (a_statement s ss) =
-        (takes around registers look (ToRegister register) (Some (wide (kept register))) (arm_restarts par register ∷ (drivers_of groups islands (arm_stand par wire register) s ++ arm_finishes wire register s ∷ []))
+        (takes around registers look (ToRegister register) (Some (wide (kept register)))
+        (arm_restarts par register ∷
+        (drivers_of groups islands (arm_stand par wire register) s ++ arm_finishes wire register s ∷ []))
         ≡ Some (wide (next register)))
-        × (StatementNexts (arm_stand par wire register) s × ArmsNext par (wire + wires_of s) (suc register + length (registers_of islands s)) ss)
+        × (StatementNexts (arm_stand par wire register) s ×
+        ArmsNext par (wire + wires_of s) (suc register + length (registers_of islands s)) ss)

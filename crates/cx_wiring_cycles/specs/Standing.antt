@@ -33,7 +33,9 @@ module _ (around : NetAround) (registers : ℕ → Option BitVector) (look : Nod
       FormBits (Enable g) = Says around registers look (OfHole g) (hole g)
       FormBits (Seq parts) = PartsBits parts
       FormBits (Par arms) = PartsBits arms
-      FormBits (If test comb a b) = Says around registers look (OfPort test.port) (port test.port) × (StatementBits a × StatementBits b)
+      FormBits (If test comb a b) =
+          Says around registers look (OfPort test.port) (port test.port)
+          × (StatementBits a × StatementBits b)
       FormBits (While test comb a) = Says around registers look (OfPort test.port) (port test.port) × StatementBits a
       FormBits (Repeat zero a) = Unit {0}
       FormBits (Repeat (suc n) a) = StatementBits a

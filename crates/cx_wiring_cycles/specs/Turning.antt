@@ -13,24 +13,31 @@ use Rattle.cx_wiring_cycles.specs.Shown.{wide, Going, told}
 module _ (groups : ℕ) (around : NetAround) (registers : ℕ → Option BitVector) (look : Node → Option BitVector) where
   -- a region that goes on comes to the number of the next place; one that is done is left to what is around it
   abbrev pub Moves : {P : Type 0} → Coding P → (region position r : ℕ) → List PlainNetDriver → Control P → Type 0
-  Moves coding region position r ds (At p) = takes around registers look (ToRegister region) (Some (wide r)) ds ≡ Some (wide (position + coding.number p))
-  Moves coding region position r ds Done = (o : Option BitVector) → takes around registers look (ToRegister region) o ds ≡ o
+  Moves coding region position r ds (At p) =
+      takes around registers look (ToRegister region) (Some (wide r)) ds ≡
+      Some (wide (position + coding.number p))
+  Moves coding region position r ds Done =
+      (o : Option BitVector) → takes around registers look (ToRegister region) o ds ≡ o
 
   -- k is where control comes to, and next are the other numbers after the edge
-  pub record Turns {P : Type 0} (coding : Coding P) (wire region position r : ℕ) (ds : List PlainNetDriver) (next : ℕ → ℕ) (goes : List Going) (k : Control P) : Type 0 where
+  pub record Turns {P : Type 0} (coding : Coding P) (wire region position r : ℕ)
+      (ds : List PlainNetDriver) (next : ℕ → ℕ) (goes : List Going) (k : Control P) : Type 0 where
     pub ends : Says around registers look (end_of wire) (is_done k)
     pub moves : Moves coding region position r ds k
     pub others : (n : ℕ) → n < coding.extra → next n ≡ bank_code coding k (suc n)
-    pub goes_so : (g : ℕ) (o : Option BitVector) → takes around registers look (ToHole (groups + g)) o ds ≡ told g o goes
+    pub goes_so : (g : ℕ) (o : Option BitVector)
+        → takes around registers look (ToHole (groups + g)) o ds ≡ told g o goes
 
   -- what follows in the region, at its first place where the part before it ends now
   abbrev pub entered : {P : Type 0} → Control P → Option BitVector → Option BitVector → Option BitVector
   entered (At p) o later = o
   entered Done o later = later
 
-  pub record Enters {P : Type 0} (coding : Coding P) (start : Control P) (wire region position : ℕ) (ds : List PlainNetDriver) (next : ℕ → ℕ) (now : Bool) : Type 0 where
+  pub record Enters {P : Type 0} (coding : Coding P) (start : Control P) (wire region position : ℕ)
+      (ds : List PlainNetDriver) (next : ℕ → ℕ) (now : Bool) : Type 0 where
     pub ends : Says around registers look (end_of wire) (if now then is_done start else false)
-    pub moves : (o : Option BitVector) → takes around registers look (ToRegister region) o ds ≡ (if now then entered start (Some (wide position)) o else o)
+    pub moves : (o : Option BitVector) → takes around registers look (ToRegister region) o ds ≡
+        (if now then entered start (Some (wide position)) o else o)
     pub silent : (g : ℕ) (o : Option BitVector) → takes around registers look (ToHole (groups + g)) o ds ≡ o
     pub rests : (n : ℕ) → n < coding.extra → next n ≡ 0
     pub at_first : (p : P) → start ≡ At p → coding.number p ≡ 0

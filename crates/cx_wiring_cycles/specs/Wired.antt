@@ -13,7 +13,9 @@ use Rattle.cx_wiring_cycles.specs.Standing.{StatementBits, PartsBits}
 use Rattle.cx_wiring_cycles.specs.Shown.{StatementNexts, PartsNext, ArmsNext}
 
 -- the wires from `bound` on are those of control and of assignments
-module _ (groups : ℕ) (islands : List PlainIsland) (around : NetAround) (registers : ℕ → Option BitVector) (look : Node → Option BitVector) (bound : ℕ) (kept next : ℕ → ℕ) (hole : ℕ → Bool) (port : PortRef → Bool) where
+module _ (groups : ℕ) (islands : List PlainIsland) (around : NetAround) (registers : ℕ → Option BitVector)
+    (look : Node → Option BitVector) (bound : ℕ) (kept next : ℕ → ℕ) (hole : ℕ → Bool)
+    (port : PortRef → Bool) where
   pub record IsWired (x : Stand) (s : PlainStatement) : Type 0 where
     pub low : bound ≤ x.wire
     pub connects : AllConnect around registers look bound (drivers_of groups islands x s)

@@ -13,5 +13,7 @@ module _ (of_island : PlainComponent → NetState → ℕ → ℕ → ℕ → �
   abbrev pub component_numbers : Instance → NetState → ℕ → ℕ
   component_numbers (Node part cells) v zero = v.register [] 0
   component_numbers (Node part cells) v (suc n) =
-      number_of (leaf_machines (Node part cells) (coded_below cells)) (leaf_codings (Node part cells) (coded_below cells)) part (lowered_component part).islands (v.register []) (of_island part v)
+      number_of (leaf_machines (Node part cells) (coded_below cells))
+      (leaf_codings (Node part cells) (coded_below cells)) part (lowered_component part).islands
+      (v.register []) (of_island part v)
       part.control (unlowered part) 1 n

@@ -28,7 +28,9 @@ is_at at (Some count) = nat_eq count at
 -- what is active from one count to before another, at the offset since the first
 abbrev pub entry_between : ℕ → ℕ → ℕ → Option ℕ → List Entry
 entry_between group from to None = []
-entry_between group from to (Some count) = if nat_le from count && nat_lt count to then record { group = group; offset = count - from } ∷ [] else []
+entry_between group from to (Some count) =
+    if nat_le from count && nat_lt count to then record { group = group; offset = count - from } ∷ []
+    else []
 
 -- with the count of each timer that runs
 module _ (counts : ℕ → Option ℕ) where
@@ -39,7 +41,8 @@ module _ (counts : ℕ → Option ℕ) where
   -- THE SAMPLES: one static if after the other takes its port where it begins
   abbrev pub sampled_from : (PortRef → Bool) → ℕ → List PlainPoint → Samples → Samples
   sampled_from now n [] kept = kept
-  sampled_from now n (p ∷ rest) kept = sampled_from now (suc n) rest (with_sample n (if begins kept p then now p.port else kept n) kept)
+  sampled_from now n (p ∷ rest) kept =
+      sampled_from now (suc n) rest (with_sample n (if begins kept p then now p.port else kept n) kept)
 
   -- the ports of the static ifs that begin
   abbrev pub begun_among : Samples → List PlainPoint → List PortRef
@@ -49,7 +52,9 @@ module _ (counts : ℕ → Option ℕ) where
   -- ACTIVE: each group whose timer has a count of its range, where its samples are as wanted
   abbrev pub active_among : Samples → List PlainOccurrence → List Entry
   active_among kept [] = []
-  active_among kept (o ∷ rest) = (if all_wanted kept o.samples then entry_between o.group o.from o.to (counts o.timer) else []) ++ active_among kept rest
+  active_among kept (o ∷ rest) =
+      (if all_wanted kept o.samples then entry_between o.group o.from o.to (counts o.timer) else [])
+      ++ active_among kept rest
 
 -- an instance with such cells, and the lists of an island in it
 module _ (i : Instance) (held : Held) (cells : List PlainCell) (lists : PlainIsland) where
@@ -63,13 +68,17 @@ module _ (i : Instance) (held : Held) (cells : List PlainCell) (lists : PlainIsl
   -- CYCLE t: the ports of the static ifs that begin are seen, and then the cycle is made with the groups that are active
   abbrev pub listed_turn : ℕ → Samples → State → Turn State Fault
   listed_turn t kept s =
-      unless_unclear (first_unclear (seen i held nothing s) (begun_among (counts_now t) kept lists.points)) (cycle i held (entries (active_among (counts_now t) kept lists.occurrences)) s)
+      unless_unclear
+      (first_unclear (seen i held nothing s) (begun_among (counts_now t) kept lists.points))
+      (cycle i held (entries (active_among (counts_now t) kept lists.occurrences)) s)
 
   -- from cycle t on, with so many cycles left, and after them one idle turn
   abbrev pub listed_from : ℕ → ℕ → Samples → Meaning State Fault
   listed_from zero t kept s n = idle_turn (idle i) s n
   listed_from (suc left) t kept s zero = More
-  listed_from (suc left) t kept s (suc n) = turn_then (idle i) s (listed_turn t (samples_now t s kept) s) (λ after. listed_from left (suc t) (samples_now t s kept) after n)
+  listed_from (suc left) t kept s (suc n) =
+      turn_then (idle i) s (listed_turn t (samples_now t s kept) s)
+      (λ after. listed_from left (suc t) (samples_now t s kept) after n)
 
   -- THE RUN, whatever the samples are at first
   abbrev pub listed_island : Samples → Meaning State Fault
@@ -83,7 +92,8 @@ module _ (i : Instance) (cells : List PlainCell) (islands : List PlainIsland) wh
     pub lists : PlainIsland
     pub is : low ≡ Timed number
     pub listed : slice_get islands number ≡ Some lists
-    pub runs : (held : Held) (kept : Samples) (s : State) (n : ℕ) → listed_island i held cells lists kept s n ≡ island i held form s n
+    pub runs : (held : Held) (kept : Samples) (s : State) (n : ℕ)
+        → listed_island i held cells lists kept s n ≡ island i held form s n
 
   -- the enable of a group is an island where the group is static
   abbrev pub EnableLowers : ℕ → Option ℕ → PlainForm → Type 0
@@ -96,7 +106,9 @@ module _ (i : Instance) (cells : List PlainCell) (islands : List PlainIsland) wh
     FormLowers (Enable g) low = EnableLowers g (group_length (part_of i) g) low
     FormLowers (Seq parts) low = (lows : PlainStatements) × (low ≡ Seq lows) × PartsLower parts lows
     FormLowers (Par arms) low = (lows : PlainStatements) × (low ≡ Par lows) × PartsLower arms lows
-    FormLowers (If test comb a b) low = (x : PlainStatement) × (y : PlainStatement) × (low ≡ If test comb x y) × StatementLowers a x × StatementLowers b y
+    FormLowers (If test comb a b) low =
+        (x : PlainStatement) × (y : PlainStatement) × (low ≡ If test comb x y) × StatementLowers a x
+        × StatementLowers b y
     FormLowers (While test comb a) low = (x : PlainStatement) × (low ≡ While test comb x) × StatementLowers a x
     FormLowers (Repeat count a) low = (x : PlainStatement) × (low ≡ Repeat count x) × StatementLowers a x
     FormLowers (StaticSeq written parts) low = IslandLowers (StaticSeq written parts) low
@@ -110,7 +122,9 @@ module _ (i : Instance) (cells : List PlainCell) (islands : List PlainIsland) wh
 
     pub PartsLower : PlainStatements → PlainStatements → Type 0
     PartsLower no_statements lows = lows ≡ no_statements
-    PartsLower (a_statement s ss) lows = (x : PlainStatement) × (xs : PlainStatements) × (lows ≡ a_statement x xs) × StatementLowers s x × PartsLower ss xs
+    PartsLower (a_statement s ss) lows =
+        (x : PlainStatement) × (xs : PlainStatements) × (lows ≡ a_statement x xs) × StatementLowers s x
+        × PartsLower ss xs
 
 -- WHAT A COMPONENT IS LOWERED TO KEEPS WHAT RUNS in an instance of it
 abbrev pub KeepsWhatRuns : Instance → PlainLowered → Type 0

@@ -16,16 +16,20 @@ use cx_laws::laws::{accepted_has_no_empty_if, loaded_start_is_settled};
 
 /// The net of every accepted design without static components realises it.
 pub fn design_is_realised()
-    ensures { (d : PlainDesign) → IsDesign d → IsFlat d → IsAccepted d → RealisesInNet d (net_tree (net_of (lowered_of d))) }
+    ensures { (d : PlainDesign) → IsDesign d → IsFlat d → IsAccepted d →
+        RealisesInNet d (net_tree (net_of (lowered_of d))) }
 {
     instances_keep_rules();
     loaded_start_is_settled();
 }
 
-/// What `lower` makes of the control of an instance of an accepted design without static components keeps what runs: the parts of dynamic control stand as they stood, and in
-/// place of each island stands one whose lists run as it, cycle by cycle.
+/// What `lower` makes of the control of an instance of an accepted design without static components keeps what runs:
+/// the parts of dynamic control stand as they stood, and in place of each island stands one whose lists run as it,
+/// cycle by cycle.
 pub fn lowering_keeps_what_runs()
-    ensures { (d : PlainDesign) (path : Path) → IsFlat d → IsAccepted d → KeepsWhatRuns (instance_at (tree_of d) path) (lowered_component (part_of (instance_at (tree_of d) path))) }
+    ensures { (d : PlainDesign) (path : Path) → IsFlat d → IsAccepted d →
+        KeepsWhatRuns (instance_at (tree_of d) path)
+        (lowered_component (part_of (instance_at (tree_of d) path))) }
 {
     accepted_has_no_empty_if();
     instances_keep_rules();
