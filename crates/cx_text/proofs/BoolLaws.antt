@@ -37,21 +37,9 @@ pub or_second : (same a b : Bool) → (a ≡ true → b ≡ true) → (same || a
 or_second true a b h e = refl
 or_second false a b h e = h e
 
-pub and_first : (a b : Bool) → a && b ≡ true → a ≡ true
-and_first true b h = refl
-and_first false b h = absurd (true≢false (sym h))
-
 pub and_second : (a b : Bool) → a && b ≡ true → b ≡ true
 and_second true b h = h
 and_second false b h = absurd (true≢false (sym h))
-
-pub both_true : (a b : Bool) → a && b ≡ true → (a ≡ true) × (b ≡ true)
-both_true true b h = (refl, h)
-both_true false b h = absurd (true≢false (sym h))
-
-pub either_true : (a b : Bool) → a || b ≡ true → (a ≡ true) ⊎ (b ≡ true)
-either_true true b h = inl refl
-either_true false b h = inr h
 
 pub or_left : (a b : Bool) → a ≡ true → a || b ≡ true
 or_left a b h = ap (λ t. t || b) h

@@ -89,10 +89,6 @@ pub spliced : (t : Bool) (b : ℕ) (xs ys whole : List ℕ) → xs ++ ys ≡ who
 spliced true b xs ys whole e = ap (λ w. b ∷ w) e
 spliced false b xs ys whole e = refl
 
-pub append_none : (xs : List ℕ) → xs ++ [] ≡ xs
-append_none [] = refl
-append_none (x ∷ xs) = ap (λ l. x ∷ l) (append_none xs)
-
 pub marked_next : (test : ℕ → Bool) (wanted : List Bool) (port : ℕ) (b : Bool) → port < length wanted → b ≡ test port → ((p : ℕ) → p < port → get_or wanted p false ≡ test p)
     → (p : ℕ) → p < port + 1 → get_or (set wanted port b) p false ≡ test p
 marked_next test wanted port b within is before p lt =
@@ -158,8 +154,6 @@ pub range_pushed : {A : Type 0} (f : ℕ → A) (xs ys : List A) (x : A) (n : �
 range_pushed f xs ys x n = range_appended f [] xs ys x n
 
 -- the elements from one on
-pub drop_next : {A : Type 0} (xs : List A) (i : ℕ) (x : A) → i < length xs → x ≡ get_or xs i x → drop i xs ≡ x ∷ drop (i + 1) xs
-drop_next xs i x lt at = drop_item xs i x at lt
 
 pub two_maps : {A B C : Type 0} (f : A → B) (g : B → C) (h : A → C) → ((x : A) → g (f x) ≡ h x) → (xs : List A) → map g (map f xs) ≡ map h xs
 two_maps f g h same [] = refl

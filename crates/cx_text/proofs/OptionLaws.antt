@@ -16,9 +16,6 @@ some_is m n e = cc
 pub none_some : (k : ℕ) → ◌≡◌ {A = Option ℕ} None (Some k) → ⊥
 none_some k e = cc
 
-pub some_inj : (a b : ℕ) → ◌≡◌ {A = Option ℕ} (Some a) (Some b) → a ≡ b
-some_inj a b e = cc
-
 pub same_some : {A : Type 0} (x y : A) → Some x ≡ Some y → x ≡ y
 same_some x y e = cc
 
@@ -31,9 +28,6 @@ one_value o x y e f = cc
 pub some_value : (o : Option ℕ) → IsSome o → (w : ℕ) × (o ≡ Some w)
 some_value None h = absurd cc
 some_value (Some w) h = (w, refl)
-
-pub none_some_also : (n : ℕ) → None ≡ Some n → ⊥
-none_some_also n e = cc
 
 pub map_of : {A B : Type 0} (f : A → B) (o : Option A) (y : B) → option_map f o ≡ Some y → (x : A) × (o ≡ Some x) × (y ≡ f x)
 map_of f None y e = absurd (cc)
