@@ -1,7 +1,7 @@
 -- Owners are the groups to which a node leads; a group whose edges lead to no node that it owns has no circle.
 use Rattle.std.proofs.Common.{◌≡◌, ℕ, zero, suc, inl, inr, ⊎_elim, Some, List, [], ◌∷◌, get_or, slice_get, refl, sym, subst}
 use Rattle.cx_text.specs.Members.{In}
-use Rattle.cx_text.proofs.ListLaws.{append_none}
+use Rattle.cx_text.proofs.ListLaws.{nothing_more}
 use Rattle.cx_graphs.specs.Graphs.{Edges, IsReached, at_start, by_edge, targets_of}
 use Rattle.cx_graphs.specs.Ways.{Way, edge, further, HasCircle, IsTurned, both}
 use Rattle.cx_graphs.specs.declared.owners.Owners.{Owners}
@@ -32,7 +32,7 @@ are_owners i graph turned lists owners touched are is told = λ g n l.
     let target : In (targets_of lists g) l.target = are.all g (group_at (part_of i) g) l.assign l.target (group_there (part_of i).groups g l.assign l.stands) l.stands l.drives in
     let reached : IsReached turned (targets_of lists g) n =
     ⊎_elim (λ same. at_start (subst (In (targets_of lists g)) (sym same) target)) (λ w. way_back graph turned is (targets_of lists g) w target) l.leads in
-    (told.tells n).all g (subst (λ starts. IsReached turned starts n) (sym (append_none (targets_of lists g))) reached)
+    (told.tells n).all g (subst (λ starts. IsReached turned starts n) (sym (nothing_more (targets_of lists g))) reached)
 
 pub no_circle_owned : (i : Instance) (pruned more : Edges) (owners : List Owners) (g : ℕ) → ServesGroups i pruned → AreOwners i pruned owners → HasEdges i (LeadsInGroup i g) more
     → ((m n : ℕ) → In (targets_of more m) n → Covers (owners_at owners n) g → ⊥) → HasCircle (both pruned more) → ⊥

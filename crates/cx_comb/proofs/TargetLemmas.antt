@@ -13,7 +13,7 @@ use Rattle.cx_design_leads.specs.Nodes.{node_count}
 use Rattle.cx_design_leads.specs.Links.{driven_node}
 use Rattle.cx_comb.specs.Owning.{AreTargetLists}
 use Rattle.cx_comb.specs.Pruning.{AddsTargets, HasTargets, AreMarked, IsKept}
-use Rattle.cx_text.proofs.OptionLaws.{some_is, none_some_also}
+use Rattle.cx_text.proofs.OptionLaws.{some_is, none_some}
 use Rattle.cx_text.proofs.NumberLaws.{same_or_not}
 
 module _ (i : Instance) where
@@ -24,7 +24,7 @@ module _ (i : Instance) where
   no_target a before none = record {
     kept = λ m j. j;
     within = λ m j. inl j;
-    all = λ b m j e. ⊎_elim (λ same. absurd (none_some_also m (sym none ∙ ap (λ (x : PlainAssign). driven_node i x.target) same ∙ e))) (λ k. absurd k) j;
+    all = λ b m j e. ⊎_elim (λ same. absurd (none_some m (sym none ∙ ap (λ (x : PlainAssign). driven_node i x.target) same ∙ e))) (λ k. absurd k) j;
   }
 
   pub one_target : (a : PlainAssign) (before after : List ℕ) (t : ℕ) → driven_node i a.target ≡ Some t → t < node_count i → after ≡ before ++ t ∷ [] → AddsTargets i (a ∷ []) before after

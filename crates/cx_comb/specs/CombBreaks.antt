@@ -14,10 +14,22 @@ told_if found b = if found then b ∷ [] else []
 
 -- of component k, and of a group of it
 abbrev pub whole_break : PlainDesign → ℕ → Broken
-whole_break d k = record { rule = CombCycle; spot = record { component = k; part = Itself 0 }; place = (component_at d k).place; name = (component_at d k).name }
+whole_break d k =
+    record {
+      rule = CombCycle;
+      spot = record { component = k; part = Itself 0 };
+      place = (component_at d k).place;
+      name = (component_at d k).name;
+    }
 
 abbrev pub group_break : PlainDesign → ℕ → ℕ → Broken
-group_break d k g = record { rule = CombCycle; spot = record { component = k; part = AGroup g }; place = (group_at (component_at d k) g).place; name = (group_at (component_at d k) g).name }
+group_break d k g =
+    record {
+      rule = CombCycle;
+      spot = record { component = k; part = AGroup g };
+      place = (group_at (component_at d k) g).place;
+      name = (group_at (component_at d k) g).name;
+    }
 
 abbrev pub group_breaks : PlainDesign → ℕ → ℕ → Bool → List Broken
 group_breaks d k g found = told_if found (group_break d k g)
@@ -27,7 +39,9 @@ component_breaks d k whole groups = told_if whole (whole_break d k) ++ numbered 
 
 -- THE BREAKS of the rules, and those in the components before a number, or in one of them
 abbrev pub CombBreaks : PlainDesign → Rule → Spot → Place → List ℕ → Type 0
-CombBreaks d rule spot place name = (rule ≡ CombCycle) × (BreaksCombCycle d spot place name ⊎ OnGroup GroupBreaksCombCycle d spot place name)
+CombBreaks d rule spot place name =
+    (rule ≡ CombCycle)
+    × (BreaksCombCycle d spot place name ⊎ OnGroup GroupBreaksCombCycle d spot place name)
 
 abbrev pub BreaksBefore : PlainDesign → ℕ → Rule → Spot → Place → List ℕ → Type 0
 BreaksBefore d k rule spot place name = (spot.component < k) × CombBreaks d rule spot place name

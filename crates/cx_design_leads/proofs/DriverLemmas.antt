@@ -22,7 +22,7 @@ use Rattle.cx_design_leads.specs.Nodes.{below, node_of}
 use Rattle.cx_design_leads.specs.Edges.{LeadsInGroup, ReadsInRow}
 use Rattle.cx_meaning.proofs.PortsLemmas.{same_self}
 use Rattle.cx_meaning.proofs.ActiveLemmas.{only_self, only_is, acting_has, acting_acts, group_stands, always_stands}
-use Rattle.cx_text.proofs.OptionLaws.{none_some_also}
+use Rattle.cx_text.proofs.OptionLaws.{none_some}
 
 -- DRIVERS of a port, as what stands in source order and is active
 pub record Driver (part : PlainComponent) (act : Active) (p q : PortRef) : Type 0 where
@@ -62,7 +62,7 @@ module _ (part : PlainComponent) (p q : PortRef) where
   pub bare_drives : Mentions (drivers part nothing p) q → Drives part.always p q
   bare_drives m =
       let d = driver_of part nothing p q m in
-      ⊎_elim (λ l. l.1) (λ r. absurd (none_some_also d.offset (ap (offset_of nothing) (sym r.1) ∙ d.acts))) (of_owner nothing d)
+      ⊎_elim (λ l. l.1) (λ r. absurd (none_some d.offset (ap (offset_of nothing) (sym r.1) ∙ d.acts))) (of_owner nothing d)
 
   pub drives_bare : Drives part.always p q → Mentions (drivers part nothing p) q
   drives_bare d = mentions_of part nothing p q (record { owner = None; assign = d.assign }) 0 (always_stands part d.assign d.stands) d.target refl d.names
@@ -90,7 +90,7 @@ no_port first n m e = choice (nat_lt n 0) refl e
   where
     choice : (b : Bool) → nat_lt n 0 ≡ b → (if b then Some (first + n) else None) ≡ Some m → ⊥
     choice true f e = grind arith
-    choice false f e = none_some_also m e
+    choice false f e = none_some m e
 
 module _ (i : Instance) (act : Active) (c p : ℕ) (q : PortRef) where
   abbrev Drivable : Type 0
@@ -142,7 +142,7 @@ driven_leads i act (ports.Cell c p) q m e f d = at_joins i act c p q (cell_at (c
 driven_leads i act (ports.Input n) q m e f d = absurd (true≢false f)
 driven_leads i act (ports.Output n) q m e f d = d
 driven_leads i act (ports.Done g) q m e f d = d
-driven_leads i act (ports.Literal w v) q m e f d = absurd (none_some_also m e)
+driven_leads i act (ports.Literal w v) q m e f d = absurd (none_some m e)
 
 pub row_leads : (i : Instance) (act : Active) (p q : PortRef) → ReadsInRow i p q → Leads i act p q
 row_leads i act p q r =

@@ -3,7 +3,6 @@ use Rattle.std.proofs.Common.{◌≡◌, ℕ, zero, suc, ◌+◌, ◌<◌, inl, 
 use Rattle.std.specs.Prelude.{if◌then◌else◌}
 use Rattle.std.proofs.lemmas.List.{take_more}
 use Rattle.cx_text.proofs.MemberLaws.{in_either, in_left, in_right}
-use Rattle.cx_graphs.specs.Graphs as graphs
 use Rattle.cx_graphs.specs.Graphs.{Edges, targets_of}
 use Rattle.cx_graphs.specs.Additions.{IsEdge, Adds, IsBare}
 use Rattle.cx_graphs.proofs.Additions.{adds_none, adds_then, adds_as, bare_adds}
@@ -31,7 +30,7 @@ use Rattle.cx_design_parts.specs.Outputs.{is_combinational}
 use Rattle.cx_design_leads.proofs.NodeLemmas.{cell_there}
 use Rattle.cx_design_leads.proofs.DriverLemmas.{bare_drives, drives_bare, leads_either, either_leads, row_leads}
 use Rattle.cx_meaning.proofs.RowsLemmas.{side_below}
-use Rattle.cx_text.proofs.OptionLaws.{none_some_also}
+use Rattle.cx_text.proofs.OptionLaws.{none_some}
 use Rattle.cx_rules.proofs.FoundLemmas.{guard_operand, operand_named}
 
 -- OPERANDS of a guard are what it names
@@ -58,10 +57,10 @@ module _ (i : Instance) where
       some_is x y f = cc
 
   pub no_port_added : (g : Edges) (from : ℕ) (q : PortRef) → node_of i q ≡ None → Adds g (ToPort i from q) g
-  no_port_added g from q e = adds_none g (ToPort i from q) (λ m n h. none_some_also n (sym e ∙ h.1))
+  no_port_added g from q e = adds_none g (ToPort i from q) (λ m n h. none_some n (sym e ∙ h.1))
     where
-      none_some_also : (x : ℕ) → None ≡ Some x → ⊥
-      none_some_also x f = cc
+      none_some : (x : ℕ) → None ≡ Some x → ⊥
+      none_some x f = cc
 
   pub no_ports : (g : Edges) (from : ℕ) → Adds g (ToPorts i from []) g
   no_ports g from = adds_none g (ToPorts i from []) (λ m n h. h.1.1)
@@ -94,10 +93,10 @@ module _ (i : Instance) where
       some_is x y f = cc
 
   pub no_assign_added : (g : Edges) (a : PlainAssign) → driven_node i a.target ≡ None → Adds g (OfAssign i a) g
-  no_assign_added g a e = adds_none g (OfAssign i a) (λ m n h. none_some_also m (sym e ∙ h.0))
+  no_assign_added g a e = adds_none g (OfAssign i a) (λ m n h. none_some m (sym e ∙ h.0))
     where
-      none_some_also : (x : ℕ) → None ≡ Some x → ⊥
-      none_some_also x f = cc
+      none_some : (x : ℕ) → None ≡ Some x → ⊥
+      none_some x f = cc
 
   pub no_assigns : (g : Edges) → Adds g (OfAssigns i []) g
   no_assigns g = adds_none g (OfAssigns i []) (λ m n h. h.1)
@@ -144,10 +143,10 @@ module _ (i : Instance) where
   no_output g c p row d = adds_none g (OfPort i c row p) (λ m n h. d h.0)
 
   pub no_node_output : (g : Edges) (c p : ℕ) (row : Row) → node_of i (ports.Cell c p) ≡ None → Adds g (OfPort i c row p) g
-  no_node_output g c p row e = adds_none g (OfPort i c row p) (λ m n h. none_some_also m (sym e ∙ h.1))
+  no_node_output g c p row e = adds_none g (OfPort i c row p) (λ m n h. none_some m (sym e ∙ h.1))
     where
-      none_some_also : (x : ℕ) → None ≡ Some x → ⊥
-      none_some_also x f = cc
+      none_some : (x : ℕ) → None ≡ Some x → ⊥
+      none_some x f = cc
 
   pub no_outputs : (g : Edges) (c : ℕ) (row : Row) → Adds g (OfPorts i c row 0) g
   no_outputs g c row = adds_none g (OfPorts i c row 0) (λ m n h. let none : h.0 < 0 = h.1 in omega (arith, none))
@@ -227,6 +226,11 @@ spread_more i count g after targets later from a s below x e = record {
       (x.known m n j));
 }
 
+-- something is in a list that is not empty
+pub something : (xs : List ℕ) → (length xs ≡ 0 → ⊥) → (n : ℕ) × In xs n
+something [] never = absurd (never refl)
+something (x ∷ xs) never = (x, inl refl)
+
 -- one target is taken away with its edges
 pub spread_less : (count : ℕ) (g after : Edges) (targets rest : List ℕ) (t : ℕ) → targets ≡ rest ++ t ∷ [] → length after ≡ length g
     → ((m n : ℕ) → In (targets_of after m) n → In (targets_of g m) n × (m ≡ t → ⊥)) → IsSpread count g targets → IsSpread count after rest
@@ -242,7 +246,7 @@ pub driven_is : (i : Instance) (p : PortRef) (m : ℕ) → driven_node i p ≡ S
 driven_is i p m e = choice (is_source_only i p) refl e
   where
     choice : (b : Bool) → is_source_only i p ≡ b → (if b then None else node_of i p) ≡ Some m → (is_source_only i p ≡ false) × (node_of i p ≡ Some m)
-    choice true f g = absurd (none_some_also m g)
+    choice true f g = absurd (none_some m g)
     choice false f g = (f, g)
 
 is_driven : (i : Instance) (p : PortRef) (m : ℕ) → is_source_only i p ≡ false → node_of i p ≡ Some m → driven_node i p ≡ Some m

@@ -1,7 +1,8 @@
 //! The edges between the ports of a component.
 
-ghost use Rattle.std.specs.Prelude.{◌≡◌, ◌<◌, ℕ, [], ◌∷◌, ◌++◌, IfNone, IfOk, IfSome, OnOk, length};
-ghost use Rattle.cx_graphs.specs.Graphs.{Bounded, edges_of};
+ghost use Rattle.std.specs.Prelude.{◌≡◌, ◌<◌, ℕ, false, [], ◌∷◌, ◌++◌, IfNone, IfOk, IfSome, OnOk, length};
+ghost use Rattle.cx_graphs.specs.Graphs.{Bounded, edges_of, targets_of};
+ghost use Rattle.cx_text.specs.Members.{In};
 ghost use Rattle.cx_graphs.specs.Additions.{Adds, IsBare};
 ghost use Rattle.cx_meaning.specs.Active.{nothing};
 ghost use Rattle.cx_meaning.specs.Designs.{component_at};
@@ -31,7 +32,8 @@ pub fn continuous_leads(
 ) -> Result<Vec<Vec<u32>>, Memory>
     requires within { number < length design.now.components.items }
     requires nodes { IsNodesOf (component_of (plain_design design.now) number) nodes.now }
-    ensures value { IfOk result (λ graph. let i = component_of (plain_design design.now) number in HasEdges i (Leads i nothing) (edges_of graph.items)) }
+    ensures value { IfOk result (λ graph. let i = component_of (plain_design design.now) number in
+        HasEdges i (Leads i nothing) (edges_of graph.items)) }
 {
     let mut graph = bare(alloc, nodes.count())?;
     let always = component(design, number).always.as_slice();
@@ -52,7 +54,9 @@ fn add_assigns(
     requires within { number < length design.now.components.items }
     requires nodes { IsNodesOf (component_of (plain_design design.now) number) nodes.now }
     requires graph { length graph.old.items ≡ node_count (component_of (plain_design design.now) number) }
-    ensures value { OnOk result (Adds (edges_of graph.old.items) (OfAssigns (component_of (plain_design design.now) number) (plain_assigns assigns.now)) (edges_of graph.new.items)) }
+    ensures value { OnOk result (Adds (edges_of graph.old.items)
+        (OfAssigns (component_of (plain_design design.now) number) (plain_assigns assigns.now))
+        (edges_of graph.new.items)) }
 {
     for assign in assigns {
         add_assign(alloc, graph, design, number, nodes, assign)?;
@@ -113,7 +117,9 @@ impl GroupLeads {
         requires nodes { IsNodesOf (component_of (plain_design design.now) number) nodes.now }
         requires spread { IsSpreadOf (node_count (component_of (plain_design design.now) number)) self.old }
         ensures spread { OnOk result (IsSpreadOf (node_count (component_of (plain_design design.now) number)) self.new) }
-        ensures value { OnOk result (Adds (edges_of self.old.edges.items) (OfAssigns (component_of (plain_design design.now) number) (plain_assigns assigns.now)) (edges_of self.new.edges.items)) }
+        ensures value { OnOk result (Adds (edges_of self.old.edges.items)
+            (OfAssigns (component_of (plain_design design.now) number) (plain_assigns assigns.now))
+            (edges_of self.new.edges.items)) }
     {
         for assign in assigns {
             self.add_assign(alloc, design, number, nodes, assign)?;
@@ -121,7 +127,7 @@ impl GroupLeads {
         Ok(())
     }
 
-    /// Adds the edges of an assignment, and the node from which they lead.
+    /// Adds the edges of an assignment, and the node from which they lead, if none did so far.
     fn add_assign(
         &mut self,
         alloc: Global,
@@ -134,12 +140,17 @@ impl GroupLeads {
         requires nodes { IsNodesOf (component_of (plain_design design.now) number) nodes.now }
         requires spread { IsSpreadOf (node_count (component_of (plain_design design.now) number)) self.old }
         ensures spread { OnOk result (IsSpreadOf (node_count (component_of (plain_design design.now) number)) self.new) }
-        ensures value { OnOk result (Adds (edges_of self.old.edges.items) (OfAssign (component_of (plain_design design.now) number) (plain_assign assign.now)) (edges_of self.new.edges.items)) }
+        ensures value { OnOk result (Adds (edges_of self.old.edges.items)
+            (OfAssign (component_of (plain_design design.now) number) (plain_assign assign.now))
+            (edges_of self.new.edges.items)) }
     {
         match driven(design, number, nodes, assign.target) {
             Some(from) => {
+                let is_new = is_bare(&self.edges, from);
                 add_named(alloc, &mut self.edges, nodes, from, assign)?;
-                self.targets.push(from)?;
+                if is_new {
+                    self.targets.push(from)?;
+                }
                 Ok(())
             }
             None => Ok(()),
@@ -155,6 +166,14 @@ impl GroupLeads {
             self.edges[target as usize].clear();
         }
     }
+}
+
+/// Whether no edges lead from a node.
+fn is_bare(edges: &[Vec<u32>], node: u32) -> bool
+    requires there { node < length edges.now }
+    ensures none_so_far { result ≡ false → (n : ℕ) × In (targets_of (edges_of edges.now) node) n }
+{
+    edges[node as usize].is_empty()
 }
 
 /// Takes the last node of a list.

@@ -1,4 +1,4 @@
-use Rattle.std.proofs.Common.{◌<◌, sym, subst, ◌∙◌}
+use Rattle.std.proofs.Common.{◌<◌, ap, length, sym, subst, ◌∙◌}
 use Rattle.std.proofs.lemmas.List.{length-map}
 use Rattle.cx_graphs.specs.Graphs.{edges_of}
 use Rattle.cx_rules.specs.Ports.{component_of}
@@ -8,6 +8,14 @@ use Rattle.cx_design_leads.specs.Nodes.{node_count}
 use Rattle.cx_design_leads.proofs.NodeLemmas.{within}
 use Rattle.cx_design_leads.proofs.EdgeLemmas.{driven_is, assign_added, no_assign_added, spread_more}
 use Rattle.cx_design_leads.proofs.leading.GroupLeads.add_assign.Goals as goal
+
+pub is_bare-is_new-requires : goal.is_bare-is_new-requires
+is_bare-is_new-requires c =
+    let i = component_of (plain_design c.args.design.now) c.args.number in
+    record {
+      there = subst (λ n. c.in-Some.from < n) (sym c.requires.spread.same_length ∙ length-map c.args.self.now.edges.items (λ v. v.items) ∙ sym (ap length c.deref.ensures.value))
+          (within i c.args.assign.now.target c.in-Some.from (driven_is i c.args.assign.now.target c.in-Some.from (sym c.in-Some.ensures.value)).1);
+    }
 
 pub add_named-requires : goal.add_named-requires
 add_named-requires c =
