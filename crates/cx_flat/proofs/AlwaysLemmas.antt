@@ -1,6 +1,6 @@
 -- The continuous assignments of static children, cell by cell.
 use Rattle.std.proofs.Common.{◌≡◌, ℕ, zero, suc, ◌+◌, ◌<◌, List, [], ◌∷◌, ◌++◌, drop, get_or, length, map, append_assoc, refl, sym, ap, ◌∙◌, arith}
-use Rattle.cx_text.proofs.ListLaws.{drop_next}
+use Rattle.cx_text.proofs.ListLaws.{drop_item}
 use Rattle.cx_meaning.specs.Designs.{PlainAssign, PlainComponent}
 use Rattle.cx_design.specs.declared.cells.Cell.{Cell}
 use Rattle.cx_design.specs.PlainForms.{plain_cell}
@@ -21,7 +21,7 @@ always_more kids part i front so_far now less before is =
     ap (λ l. l ++ always_from kids part (i + 1) (drop (i + 1) kids)) is
     ∙ append_assoc so_far (always_if kids part (kid_at kids i) i) (always_from kids part (i + 1) (drop (i + 1) kids))
     ∙ ap (λ n. so_far ++ (always_if kids part (kid_at kids i) i ++ always_from kids part n (drop (i + 1) kids))) (sym next)
-    ∙ ap (λ ks. so_far ++ always_from kids part i ks) (sym (drop_next kids i (kid_at kids i) less (kid_again kids i less)))
+    ∙ ap (λ ks. so_far ++ always_from kids part i ks) (sym (drop_item kids i (kid_at kids i) (kid_again kids i less) less))
     ∙ before
 
 -- there are as many children as cells

@@ -13,6 +13,7 @@ pub mod DesignLemmas
 pub mod AlwaysLemmas
 pub mod MarkLemmas
 pub mod TableLemmas
+pub mod LastLemmas
 pub mod KeptLemmas
 pub mod PlacingLemmas
 pub mod PlaceLemmas

@@ -1,5 +1,5 @@
 -- Which components are kept, and the flat components of those that are, for a design that keeps what every design keeps.
-use Rattle.std.proofs.Common.{◌≡◌, ℕ, ◌+◌, ◌<◌, Bool, true, false, List, [], ◌∷◌, Option, Some, None, get_or, length, map, refl, sym, ap, ◌∙◌, arith}
+use Rattle.std.proofs.Common.{◌≡◌, ℕ, ◌+◌, ◌<◌, Bool, true, false, List, [], ◌∷◌, Option, Some, None, get_or, length, map, take, refl, sym, ap, ◌∙◌, subst, arith}
 use Rattle.std.specs.Prelude.{◌&&◌, is_none, is_some}
 use Rattle.std.specs.List.{range_with_len, slice_get}
 use Rattle.std.proofs.Math.Logic.{∥∥₁_elim}
@@ -11,13 +11,17 @@ use Rattle.cx_rules.specs.Wellformed.{IsDesign}
 use Rattle.cx_flattening.specs.Flattened.{Kids, flat_component}
 use Rattle.cx_flattening.specs.FlatDesign.{flat_of, is_reached, renumbered_part}
 use Rattle.cx_design_sizes.specs.Orders.{IsChildrenFirst}
-use Rattle.cx_flat.specs.Tables.{kids_of}
+use Rattle.cx_flat.specs.Tables.{kids_of, plain_table}
 use Rattle.cx_design_copies.specs.Reaching.{AreMadeOf}
-use Rattle.cx_flat.specs.Flats.{kid_of, AreKids, kept_for, part_if, numbers_of, renumbered_by}
+use Rattle.cx_flat.specs.Flats.{AreKids, AreKidsTo, kept_for, part_if, numbers_of, renumbered_by}
+use Rattle.cx_flat.specs.Lasts.{AreLasts}
 use Rattle.cx_text.specs.Members.{In}
 use Rattle.cx_flat.proofs.FlatLemmas.{below}
 use Rattle.cx_flat.proofs.ReachLemmas.{reached_is, is_reached_so}
-use Rattle.cx_flat.proofs.OrderLemmas.{static_is, is_there, there_is, made_in, kids_made}
+use Rattle.cx_flat.proofs.OrderLemmas.{static_is, is_there, there_is, in_take, made_in, kids_made}
+use Rattle.cx_text.proofs.ListLaws.{take_all, there_below}
+use Rattle.cx_text.proofs.MemberLaws.{number_in}
+use Rattle.cx_design.specs.declared.components.Component.{Component}
 use Rattle.cx_flat.proofs.NumberLemmas.{number_is, part_renumbered}
 
 module _ (d : PlainDesign) (keeps : ∥ IsDesign d ∥₁) where
@@ -40,9 +44,20 @@ module _ (d : PlainDesign) (keeps : ∥ IsDesign d ∥₁) where
   reached_in : (order : List ℕ) (k : ℕ) → IsChildrenFirst d order → is_reached d k ≡ true → In order k
   reached_in order k first reached = there_is order k (∥∥₁_elim keeps (hlevel props) (λ rules. is_there order k (made_in d order first k (reached_is d rules k reached).0)))
 
-  -- the table of all of the order
-  pub kids_are : (order : List ℕ) (table : Kids) → IsChildrenFirst d order → ((j : ℕ) → In order j → kid_of d j table) → AreKids d table
-  kids_are order table first made k reached = kids_made d order first table made k (reached_in order k first reached)
+  -- what is reached is not static
+  reached_moves : (k : ℕ) → is_reached d k ≡ true → is_some ((component_at d k).latency) ≡ false
+  reached_moves k reached = ∥∥₁_elim keeps (hlevel props) (λ rules. sym (static_is d k) ∙ (reached_is d rules k reached).1)
+
+  -- the table behind all of the order
+  pub kids_are : (order lasts : List ℕ) (table : List (Option Component)) → IsChildrenFirst d order → AreLasts d order (length order) lasts → AreKidsTo d order lasts (length order) table → AreKids d (plain_table table)
+  kids_are order lasts table first last made k reached =
+      let r = number_in order k (reached_in order k first reached) in
+      kids_made d order first (plain_table table) r.0 k r.1
+      (λ j has. made.known j (in_taken_all order j (in_take r.0 order j (first.behind r.0 k j has.0 r.1 has.1 has.2)))
+      (last.end r.0 k j has.0 (there_below order r.0 k r.1) r.1 has.1 has.2 (reached_moves k reached)))
+    where
+      in_taken_all : (xs : List ℕ) (j : ℕ) → In xs j → In (take (length xs) xs) j
+      in_taken_all xs j here = subst (λ ys. In ys j) (sym (take_all xs (length xs) (omega arith))) here
 
   -- the component that is made for one that is reached
   pub part_made : (table : Kids) (marks : List Bool) (k : ℕ) (part flat : PlainComponent) → AreKids d table → marks ≡ map (is_reached d) (range_with_len 0 (length d.components)) → k < length d.components

@@ -13,6 +13,7 @@ use Rattle.cx_flattening.specs.Flattened.{Kids, kid_if, flat_component, flat_par
 use Rattle.cx_flattening.specs.FlatDesign.{flat_of}
 use Rattle.cx_flat.specs.Tables.{kids_of}
 use Rattle.cx_design_copies.specs.Reaching.{IsMadeOf}
+use Rattle.cx_design_copies.proofs.EdgeLemmas.{HasCell}
 use Rattle.cx_flat.specs.Flats.{kid_of}
 use Rattle.cx_rules.specs.Counts.{is_one_of}
 use Rattle.std.specs.Prelude.{◌||◌, nat_eq}
@@ -99,19 +100,14 @@ module _ (d : PlainDesign) (order : List ℕ) (first : IsChildrenFirst d order) 
   flat_at : (i k : ℕ) → slice_get order i ≡ Some k → flat_of d k ≡ flat_component (kids_for d (component_at d k).cells) (component_at d k)
   flat_at i k at = ap flat_part (tree_at i k at) ∙ ap (λ ks. flat_component ks (component_at d k)) (kids_below d (component_at d k).cells)
 
-  -- THE NEXT of the order, by those before it
-  pub next_kid : (table : Kids) (i k : ℕ) (part : PlainComponent) → slice_get order i ≡ Some k → part ≡ component_at d k → ((j : ℕ) → In (take i order) j → kid_of d j table)
+  -- its flat component, by the table
+  pub kids_made : (table : Kids) (i k : ℕ) → slice_get order i ≡ Some k → ((j : ℕ) → HasCell (component_at d k).cells j → kid_of d j table) → flat_component (kids_of table (component_at d k).cells) (component_at d k) ≡ flat_of d k
+  kids_made table i k at made = ap (λ ks. flat_component ks (component_at d k)) (kids_by d table (component_at d k).cells made) ∙ sym (flat_at i k at)
+
+  -- THE NEXT of the order, by those that it has cells of
+  pub next_kid : (table : Kids) (i k : ℕ) (part : PlainComponent) → slice_get order i ≡ Some k → part ≡ component_at d k → ((j : ℕ) → HasCell (component_at d k).cells j → kid_of d j table)
       → kid_if (is_some part.latency) (flat_component (kids_of table part.cells) part) ≡ kid_if (is_static (component_of d k)) (flat_of d k)
   next_kid table i k part at is made =
       ap (λ (p : PlainComponent). kid_if (is_some p.latency) (flat_component (kids_of table p.cells) p)) is
       ∙ ap (λ b. kid_if b (flat_component (kids_of table (component_at d k).cells) (component_at d k))) (sym (static_is d k))
-      ∙ ap (λ ks. kid_if (is_static (component_of d k)) (flat_component ks (component_at d k)))
-      (kids_by d table (component_at d k).cells (λ j has. made j (first.behind i k j has.0 at has.1 has.2)))
-      ∙ ap (kid_if (is_static (component_of d k))) (sym (flat_at i k at))
-
-  -- the flat components of all of the order, by the table
-  pub kids_made : (table : Kids) → ((j : ℕ) → In order j → kid_of d j table) → (k : ℕ) → In order k → flat_component (kids_of table (component_at d k).cells) (component_at d k) ≡ flat_of d k
-  kids_made table made k here =
-      let r = in_slice order k here in
-      ap (λ ks. flat_component ks (component_at d k)) (kids_by d table (component_at d k).cells (λ j has. made j (in_take r.0 order j (first.behind r.0 k j has.0 r.1 has.1 has.2))))
-      ∙ sym (flat_at r.0 k r.1)
+      ∙ ap (kid_if (is_static (component_of d k))) (kids_made table i k at made)

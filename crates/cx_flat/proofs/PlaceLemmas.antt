@@ -1,11 +1,11 @@
 -- The places of a component and all below it are those of its instance.
-use Rattle.std.proofs.Common.{◌≡◌, ℕ, suc, ◌+◌, ◌<◌, ◌≤◌, ◌⊎◌, inl, inr, List, [], ◌∷◌, ◌++◌, Option, Some, get_or, length, map, set, slice_get, take, refl, sym, ap, ◌∙◌, subst, arith}
+use Rattle.std.proofs.Common.{◌≡◌, ℕ, suc, ◌+◌, ◌<◌, ◌≤◌, ◌⊎◌, inl, inr, List, [], ◌∷◌, ◌++◌, Option, Some, length, map, set, slice_get, take, refl, sym, ap, ◌∙◌, subst, arith}
 use Rattle.std.specs.List.{range_with_len}
 use Rattle.std.specs.declared.alloc.Global.{Global}
 use Rattle.std.specs.declared.vec.Vec.{Vec}
 use Rattle.std.proofs.lemmas.Bool.{cases_eq}
 use Rattle.std.proofs.lemmas.List.{length-set, map-append}
-use Rattle.std.proofs.lemmas.Option.{slice_get-get_or}
+use Rattle.cx_text.proofs.MemberLaws.{in_at}
 use Rattle.cx_text.proofs.ListLaws.{set_other, set_same, two_maps}
 use Rattle.cx_prim.specs.Rows.{Row}
 use Rattle.cx_meaning.specs.Designs.{PlainKind, OfPrimitive, OfComponent, PlainCell, PlainComponent, PlainDesign, component_at}
@@ -14,17 +14,17 @@ use Rattle.cx_text.specs.Members.{In}
 use Rattle.cx_rules.specs.Ports.{component_of}
 use Rattle.cx_design.specs.declared.components.Component.{Component}
 use Rattle.cx_design_sizes.specs.Orders.{IsChildrenFirst}
-use Rattle.cx_design_sizes.proofs.TallyLemmas.{turn_there}
 use Rattle.cx_flattening.specs.Flattened.{Kids, flat_kids}
 use Rattle.cx_profiling.specs.FlatEntries.{entries_in_flat, entries_below, placed_entries}
 use Rattle.cx_flat.specs.declared.places.InstancePlaces.{InstancePlaces}
 use Rattle.cx_flat.specs.Flats.{AreKidsTo}
+use Rattle.cx_flat.specs.Lasts.{AreLasts}
 use Rattle.cx_flat.specs.Places.{Standing, places_at, places_in, plain_instances, list_at, listed, kind_places, cell_places, component_places, ArePlacesTo}
 use Rattle.cx_flat.specs.Tables.{plain_table, kids_of}
 use Rattle.cx_flat.proofs.FlatLemmas.{has_more, kids_below, kids_by}
 use Rattle.cx_design_copies.proofs.EdgeLemmas.{HasCell}
-use Rattle.cx_flat.proofs.OrderLemmas.{in_take, in_taken, tree_at}
-use Rattle.cx_flat.proofs.TableLemmas.{all_kids}
+use Rattle.cx_flat.proofs.OrderLemmas.{in_taken, tree_at}
+use Rattle.cx_flat.proofs.TableLemmas.{kids_there}
 
 module _ (part : PlainComponent) (cells : Cells) where
   abbrev kids : Kids
@@ -100,17 +100,17 @@ places_are part trees lists known =
     none e = omega arith
 
 -- LISTS, made component by component of an order
-module _ (d : PlainDesign) (order : List ℕ) (first : IsChildrenFirst d order) where
+module _ (d : PlainDesign) (order lasts : List ℕ) (first : IsChildrenFirst d order) (last : AreLasts d order (length order) lasts) where
   pub places_begin : (lists : List (Vec InstancePlaces Global)) → length lists ≡ length d.components → ArePlacesTo d order 0 lists
   places_begin lists sized = record { sized = sized; known = λ j i. absurd i }
 
   -- the next of the order, by those before it
-  next_places : (kids : List (Option Component)) (lists : List (Vec InstancePlaces Global)) (i k : ℕ) (part : PlainComponent) → AreKidsTo d order (length order) kids → ArePlacesTo d order i lists
+  next_places : (kids : List (Option Component)) (lists : List (Vec InstancePlaces Global)) (i k : ℕ) (part : PlainComponent) → AreKidsTo d order lasts i kids → ArePlacesTo d order i lists
       → slice_get order i ≡ Some k → part ≡ component_at d k → component_places (kids_of (plain_table kids) part.cells) part (listed lists) ≡ places_in (component_of d k)
   next_places kids lists i k part made so_far at is =
       ap (λ (p : PlainComponent). component_places (kids_of (plain_table kids) p.cells) p (listed lists)) is
       ∙ ap (λ ks. component_places ks own (listed lists))
-      (kids_by d (plain_table kids) own.cells (λ j has. all_kids d order kids made j (in_take i order j (before j has))) ∙ sym (kids_below d own.cells))
+      (kids_by d (plain_table kids) own.cells (kids_there d order lasts first last i k kids made at) ∙ sym (kids_below d own.cells))
       ∙ places_are own (component_of d) (listed lists) (λ j has. so_far.known j (before j has))
       ∙ ap places_in (sym (tree_at d order first i k at))
     where
@@ -120,22 +120,16 @@ module _ (d : PlainDesign) (order : List ℕ) (first : IsChildrenFirst d order) 
       before : (j : ℕ) → HasCell own.cells j → In (take i order) j
       before j has = first.behind i k j has.0 at has.1 has.2
 
-  pub places_turn : (kids : List (Option Component)) (lists : List (Vec InstancePlaces Global)) (i none : ℕ) (part : PlainComponent) (list : Vec InstancePlaces Global) → AreKidsTo d order (length order) kids
-      → ArePlacesTo d order i lists → i < length order → part ≡ component_at d (get_or order i none)
-      → plain_instances list.items ≡ component_places (kids_of (plain_table kids) part.cells) part (listed lists) → ArePlacesTo d order (i + 1) (set lists (get_or order i none) list)
-  places_turn kids lists i none part list made so_far lt own is = record {
-    sized = length-set lists (get_or order i none) list ∙ so_far.sized;
+  pub places_turn : (kids : List (Option Component)) (lists : List (Vec InstancePlaces Global)) (i k : ℕ) (part : PlainComponent) (list : Vec InstancePlaces Global) → AreKidsTo d order lasts i kids
+      → ArePlacesTo d order i lists → slice_get order i ≡ Some k → part ≡ component_at d k
+      → plain_instances list.items ≡ component_places (kids_of (plain_table kids) part.cells) part (listed lists) → ArePlacesTo d order (i + 1) (set lists k list)
+  places_turn kids lists i k part list made so_far at own is = record {
+    sized = length-set lists k list ∙ so_far.sized;
     known = λ j here. one j (cases_eq k j) (in_taken order i k j at (subst (λ n. In (take n order) j) (let e : i + 1 ≡ suc i = omega arith in e) here));
   }
     where
-      k : ℕ
-      k = get_or order i none
-
-      at : slice_get order i ≡ Some k
-      at = slice_get-get_or order i none lt
-
       within : k < length lists
-      within = subst (λ n. k < n) (sym so_far.sized) (turn_there d order i none first lt)
+      within = subst (λ n. k < n) (sym so_far.sized) (first.there k (in_at order i k at))
 
       one : (j : ℕ) → (k ≡ j) ⊎ (k ≡ j → ⊥) → (k ≡ j) ⊎ In (take i order) j → listed (set lists k list) j ≡ places_in (component_of d j)
       one j (inl same) here =

@@ -15,12 +15,12 @@ use Rattle.cx_flattening.proofs.TreeLevels.{few_below, child_there}
 use Rattle.cx_design_copies.specs.Reaching.{IsMadeOf}
 use Rattle.cx_flat.proofs.FlatLemmas.{stands_in, below, own_has, child_has}
 use Rattle.cx_design_copies.proofs.EdgeLemmas.{HasCell}
-use Rattle.cx_text.proofs.BoolLaws.{either_true}
+use Rattle.cx_text.proofs.BoolLaws.{or_either}
 
 -- one of the cells is of a component with the property
 any_is : (property : ℕ → Bool) (cs : List PlainCell) → any_of property cs ≡ true → (j : ℕ) × HasCell cs j × (property j ≡ true)
 any_is property [] e = absurd (cc)
-any_is property (c ∷ cs) e = ⊎_elim (λ h. here c.kind refl h) (λ h. let r = any_is property cs h in (r.0, (r.1.0, inr r.1.1, r.1.2), r.2)) (either_true (kind_of property c.kind) (any_of property cs) e)
+any_is property (c ∷ cs) e = ⊎_elim (λ h. here c.kind refl h) (λ h. let r = any_is property cs h in (r.0, (r.1.0, inr r.1.1, r.1.2), r.2)) (or_either (kind_of property c.kind) (any_of property cs) e)
   where
     here : (kind : PlainKind) → c.kind ≡ kind → kind_of property kind ≡ true → (j : ℕ) × HasCell (c ∷ cs) j × (property j ≡ true)
     here (OfPrimitive primitive) is h = absurd (cc)
@@ -40,7 +40,7 @@ module _ (d : PlainDesign) (rules : IsDesign d) where
       ⊎_elim
       (λ h. let same : j ≡ k = eqb-true j k h in (inl same, subst (λ x. is_static (component_of d x) ≡ false) same dynamic))
       (λ h. next (λ i there dynamic more. leads_under n k i there dynamic more) (any_is (leads_within d n k) (flat_of d j).cells h))
-      (either_true (nat_eq j k) (any_of (leads_within d n k) (flat_of d j).cells) e)
+      (or_either (nat_eq j k) (any_of (leads_within d n k) (flat_of d j).cells) e)
     where
       join : (i : ℕ) → LeadsTo d j i → IsUnder i k → IsUnder j k
       join i leads (inl same, dyn) = (inr (subst (LeadsTo d j) same leads), dyn)

@@ -1,5 +1,5 @@
 -- What is kept of a design while it is flattened.
-use Rattle.std.specs.Prelude.{◌≡◌, ℕ, Bool, true, false, List, [], ◌∷◌, Option, get_or, length, map, take}
+use Rattle.std.specs.Prelude.{◌≡◌, ℕ, ◌≤◌, Bool, true, false, List, [], ◌∷◌, Option, get_or, length, map, take}
 use Rattle.std.specs.List.{range_with_len}
 use Rattle.cx_meaning.specs.Designs.{PlainKind, OfPrimitive, OfComponent, PlainCell, PlainComponent, PlainDesign, component_at}
 use Rattle.cx_text.specs.Members.{In}
@@ -15,14 +15,16 @@ use Rattle.cx_flat.specs.Tables.{plain_table, kids_of}
 abbrev pub kid_of : PlainDesign → ℕ → Kids → Type 0
 kid_of d k table = kid_at table k ≡ kid_if (is_static (component_of d k)) (flat_of d k)
 
--- those of the first so many components of an order are made
-pub record AreKidsTo (d : PlainDesign) (order : List ℕ) (i : ℕ) (table : List (Option Component)) : Type 0 where
+-- those of the first so many components of an order are made that are needed at this place or behind it
+pub record AreKidsTo (d : PlainDesign) (order lasts : List ℕ) (i : ℕ) (table : List (Option Component)) : Type 0 where
   pub sized : length table ≡ length d.components
-  pub known : (j : ℕ) → In (take i order) j → kid_of d j (plain_table table)
+  pub known : (j : ℕ) → In (take i order) j → i ≤ get_or lasts j 0 → kid_of d j (plain_table table)
 
 -- by the table the flat components of those that the flat main reaches are made
 abbrev pub AreKids : PlainDesign → Kids → Type 0
-AreKids d table = (k : ℕ) → is_reached d k ≡ true → flat_component (kids_of table (component_at d k).cells) (component_at d k) ≡ flat_of d k
+AreKids d table =
+    (k : ℕ) → is_reached d k ≡ true
+    → flat_component (kids_of table (component_at d k).cells) (component_at d k) ≡ flat_of d k
 
 -- the components that the flat main reaches are marked
 abbrev pub AreMarks : PlainDesign → List Bool → Type 0

@@ -6,6 +6,7 @@ pub mod Callers
 pub mod Controls
 pub mod Levels
 pub mod Flats
+pub mod Lasts
 pub mod Placing
 pub mod Places
 pub mod Keeping

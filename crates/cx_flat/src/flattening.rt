@@ -1,6 +1,6 @@
 //! The flat design.
 
-ghost use Rattle.std.specs.Prelude.{◌≡◌, ◌<◌, ◌++◌, ◌&&◌, IfOk, get_or, is_none, is_some, length, map, option_map};
+ghost use Rattle.std.specs.Prelude.{◌≡◌, ◌<◌, ◌+◌, ◌++◌, ◌&&◌, IfOk, get_or, is_none, is_some, length, map, option_map};
 ghost use Rattle.cx_design.specs.PlainForms.{plain_cell, plain_component, plain_kind};
 ghost use Rattle.cx_design.specs.PlainDesigns.{plain_design};
 ghost use Rattle.cx_design_sizes.specs.Orders.{IsChildrenFirst};
@@ -11,11 +11,13 @@ ghost use Rattle.cx_flattening.specs.Ends.{NoneNamesDone};
 ghost use Rattle.cx_flattening.specs.FlatDesign as definitions;
 ghost use Rattle.cx_flattening.specs.Flattened.{flat_component, kid_if};
 ghost use Rattle.cx_flat.specs.Flats.{AreKids, AreKidsTo, AreMarks, cell_by, kept_for, kind_by, numbers_of, renumbered_by};
+ghost use Rattle.cx_flat.specs.Lasts.{AreLasts};
 ghost use Rattle.cx_design_copies.specs.Reaching.{AreMadeOf};
 ghost use Rattle.cx_flat.specs.Keeping.{TellsAs};
 ghost use Rattle.cx_flat.specs.Tables.{kids_of, plain_table};
 
 use crate::components::component_again;
+use crate::lasts::{last_callers, without_done};
 use crate::levels::fits;
 use cx_design::{Cell, CellKind, Checked, Component, Design};
 use cx_design_copies::{copied_name, made_of, sum};
@@ -76,35 +78,62 @@ fn new_number(numbers: &[u32], number: u32) -> u32
     numbers[number as usize]
 }
 
-/// The flat components of the static components that main is made of, by number.
+/// The flat components of the static components of which one that is not static has a cell, by number.
 fn static_kids(alloc: Global, design: &Design) -> Result<Vec<Option<Component>>, Memory>
     ensures value { IfOk result (λ kids. AreKids (plain_design design.now) (plain_table kids.items)) }
 {
     let order = children_first(alloc, design)?;
-    kids_in_order(alloc, design, &order)
+    let lasts = last_callers(alloc, design, &order)?;
+    kids_in_order(alloc, design, &order, &lasts)
 }
 
-/// The flat components of the static components of an order in which those of a component's cells come before it.
-pub(crate) fn kids_in_order(
+/// The flat components of the static components of an order, made one after the other, as far as one that is not static has a cell of
+/// them.
+fn kids_in_order(
     alloc: Global,
     design: &Design,
     order: &[u32],
+    lasts: &[usize],
 ) -> Result<Vec<Option<Component>>, Memory>
     requires first { IsChildrenFirst (plain_design design.now) order.now }
-    ensures value { IfOk result (λ kids. AreKidsTo (plain_design design.now) order.now (length order.now) kids.items) }
+    requires lasts { AreLasts (plain_design design.now) order.now (length order.now) lasts.now }
+    ensures value { IfOk result (λ kids.
+        AreKidsTo (plain_design design.now) order.now lasts.now (length order.now) kids.items) }
 {
-    let components = design.components.as_slice();
-    let mut kids = no_kids(alloc, components.len())?;
-    for component in order {
-        let number = *component as usize;
-        let kid = kid_again(alloc, &kids, &components[number])?;
-        kids[number] = kid;
+    let mut kids = no_kids(alloc, design.components.len())?;
+    for place in 0..order.len() {
+        kids = kids_behind(alloc, kids, design, order, lasts, place)?;
     }
     Ok(kids)
 }
 
+/// The flat components with that of the next of an order, where it is static, and without those that none behind it needs.
+pub(crate) fn kids_behind(
+    alloc: Global,
+    before: Vec<Option<Component>>,
+    design: &Design,
+    order: &[u32],
+    lasts: &[usize],
+    place: usize,
+) -> Result<Vec<Option<Component>>, Memory>
+    requires there { place < length order.now }
+    requires first { IsChildrenFirst (plain_design design.now) order.now }
+    requires lasts { AreLasts (plain_design design.now) order.now (length order.now) lasts.now }
+    requires kids { AreKidsTo (plain_design design.now) order.now lasts.now place before.items }
+    ensures value { IfOk result (λ kids.
+        AreKidsTo (plain_design design.now) order.now lasts.now (place + 1) kids.items) }
+{
+    let components = design.components.as_slice();
+    let number = order[place] as usize;
+    let part = &components[number];
+    let kid = kid_again(alloc, &before, part)?;
+    let mut kids = before;
+    kids[number] = kid;
+    Ok(without_done(kids, lasts, &part.cells, place))
+}
+
 /// No flat component, for each of so many numbers.
-fn no_kids(alloc: Global, count: usize) -> Result<Vec<Option<Component>>, Memory>
+pub(crate) fn no_kids(alloc: Global, count: usize) -> Result<Vec<Option<Component>>, Memory>
     ensures value { IfOk result (λ kids. length kids.items ≡ count) }
 {
     let mut kids = Vec::with_capacity(alloc, count)?;
@@ -120,7 +149,10 @@ fn kid_again(
     kids: &[Option<Component>],
     part: &Component,
 ) -> Result<Option<Component>, Memory>
-    ensures value { IfOk result (λ kid. option_map plain_component kid ≡ kid_if (is_some (plain_component part.now).latency) (flat_component (kids_of (plain_table kids.now) (plain_component part.now).cells) (plain_component part.now))) }
+    ensures value { IfOk result (λ kid. option_map plain_component kid ≡
+        kid_if (is_some (plain_component part.now).latency)
+        (flat_component (kids_of (plain_table kids.now) (plain_component part.now).cells)
+        (plain_component part.now))) }
 {
     if part.latency.is_some() {
         Ok(Some(flat_part(alloc, kids, part)?))
@@ -135,7 +167,9 @@ fn flat_part(
     kids: &[Option<Component>],
     part: &Component,
 ) -> Result<Component, Memory>
-    ensures value { IfOk result (λ flat. plain_component flat ≡ flat_component (kids_of (plain_table kids.now) (plain_component part.now).cells) (plain_component part.now)) }
+    ensures value { IfOk result (λ flat. plain_component flat ≡
+        flat_component (kids_of (plain_table kids.now) (plain_component part.now).cells)
+        (plain_component part.now)) }
 {
     let flat = component_again(alloc, kids, part)?;
     if fits(LEVELS, &flat.control) {
@@ -199,7 +233,8 @@ fn kept_components(
     requires kids { AreKids (plain_design design.now) (plain_table kids.now) }
     requires marks { AreMarks (plain_design design.now) marks.now }
     requires numbers { numbers.now ≡ numbers_of 0 marks.now }
-    ensures value { IfOk result (λ all. map plain_component all.items ≡ (definitions.flat_design (plain_design design.now)).components) }
+    ensures value { IfOk result (λ all.
+        map plain_component all.items ≡ (definitions.flat_design (plain_design design.now)).components) }
 {
     let mut all = Vec::new(alloc);
     for number in 0..design.components.len() {
@@ -222,7 +257,8 @@ fn with_kept(
     requires kids { AreKids (plain_design design.now) (plain_table kids.now) }
     requires marks { AreMarks (plain_design design.now) marks.now }
     requires numbers { numbers.now ≡ numbers_of 0 marks.now }
-    ensures value { IfOk result (λ all. map plain_component all.items ≡ map plain_component front.items ++ kept_for (plain_design design.now) number) }
+    ensures value { IfOk result (λ all. map plain_component all.items ≡
+        map plain_component front.items ++ kept_for (plain_design design.now) number) }
 {
     if marks[number] {
         let components = design.components.as_slice();
@@ -257,7 +293,8 @@ fn renumbered_part(alloc: Global, part: Component, numbers: &[u32]) -> Result<Co
 
 /// The cells with new numbers of their components.
 fn renumbered_cells(alloc: Global, cells: &[Cell], numbers: &[u32]) -> Result<Vec<Cell>, Memory>
-    ensures value { IfOk result (λ all. map plain_cell all.items ≡ map (cell_by numbers.now) (map plain_cell cells.now)) }
+    ensures value { IfOk result
+        (λ all. map plain_cell all.items ≡ map (cell_by numbers.now) (map plain_cell cells.now)) }
 {
     let mut all = Vec::with_capacity(alloc, cells.len())?;
     for cell in cells {

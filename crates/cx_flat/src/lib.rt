@@ -10,6 +10,7 @@ mod flattening;
 mod groups;
 mod invokes;
 mod kids;
+mod lasts;
 mod levels;
 mod places;
 mod placing;

@@ -7,15 +7,16 @@ ghost use Rattle.cx_design.specs.PlainDesigns.{plain_design};
 ghost use Rattle.cx_design_sizes.specs.Orders.{IsChildrenFirst};
 ghost use Rattle.cx_profiling.specs.FlatEntries.{entry_at};
 ghost use Rattle.cx_flat.specs.Callers.{AreFirsts, IsCaller, kids_in, part_of};
-ghost use Rattle.cx_flat.specs.Flats.{AreKidsTo};
+ghost use Rattle.cx_flat.specs.Lasts.{AreLasts};
 ghost use Rattle.cx_flat.specs.Places as definitions;
 ghost use Rattle.cx_flat.specs.Places.{ArePlacesTo, cell_places, kind_places, listed, places_in, plain_instance, plain_instances};
 ghost use Rattle.cx_flat.specs.Placing.{placed_by, placed_list, plain_places};
 ghost use Rattle.cx_flat.specs.Tables.{kids_of, plain_table};
 
 use crate::callers::Caller;
-use crate::flattening::kids_in_order;
+use crate::flattening::{kids_behind, no_kids};
 use crate::groups::groups_again;
+use crate::lasts::last_callers;
 use crate::placing::{FlatPlace, Placing, placed, placing_at};
 use crate::stands::stands;
 use cx_design::{CellKind, Checked, Component, Design};
@@ -43,29 +44,32 @@ fn design_places(alloc: Global, design: &Design) -> Result<Vec<InstancePlaces>, 
     ensures value { IfOk result (λ all. plain_instances all.items ≡ places_in (tree_of (plain_design design.now))) }
 {
     let order = children_first(alloc, design)?;
-    let kids = kids_in_order(alloc, design, &order)?;
-    let mut lists = lists_in_order(alloc, design, &kids, &order)?;
+    let lasts = last_callers(alloc, design, &order)?;
+    let mut lists = lists_in_order(alloc, design, &order, &lasts)?;
     Ok(lists.swap_remove(design.main as usize))
 }
 
-/// The lists of the components of an order in which those of a component's cells come before it, by number. All flat components of
-/// static ones are given.
+/// The lists of the components of an order in which those of a component's cells come before it, by number. The flat components of
+/// static ones are made beside them.
 fn lists_in_order(
     alloc: Global,
     design: &Design,
-    kids: &[Option<Component>],
     order: &[u32],
+    lasts: &[usize],
 ) -> Result<Vec<Vec<InstancePlaces>>, Memory>
     requires first { IsChildrenFirst (plain_design design.now) order.now }
-    requires kids { AreKidsTo (plain_design design.now) order.now (length order.now) kids.now }
-    ensures value { IfOk result (λ lists. ArePlacesTo (plain_design design.now) order.now (length order.now) lists.items) }
+    requires lasts { AreLasts (plain_design design.now) order.now (length order.now) lasts.now }
+    ensures value { IfOk result
+        (λ lists. ArePlacesTo (plain_design design.now) order.now (length order.now) lists.items) }
 {
     let components = design.components.as_slice();
+    let mut kids = no_kids(alloc, components.len())?;
     let mut lists = no_lists(alloc, components.len())?;
-    for component in order {
-        let number = *component as usize;
-        let list = component_places(alloc, kids, &lists, &components[number])?;
+    for place in 0..order.len() {
+        let number = order[place] as usize;
+        let list = component_places(alloc, &kids, &lists, &components[number])?;
         lists[number] = list;
+        kids = kids_behind(alloc, kids, design, order, lasts, place)?;
     }
     Ok(lists)
 }
@@ -88,7 +92,9 @@ fn component_places(
     lists: &[Vec<InstancePlaces>],
     part: &Component,
 ) -> Result<Vec<InstancePlaces>, Memory>
-    ensures value { IfOk result (λ all. plain_instances all.items ≡ definitions.component_places (kids_of (plain_table kids.now) (plain_component part.now).cells) (plain_component part.now) (listed lists.now)) }
+    ensures value { IfOk result (λ all. plain_instances all.items ≡
+        definitions.component_places (kids_of (plain_table kids.now) (plain_component part.now).cells)
+        (plain_component part.now) (listed lists.now)) }
 {
     let stands = stands(alloc, kids, &part.cells)?;
     let caller = Caller {
@@ -106,7 +112,8 @@ fn caller_places(
     lists: &[Vec<InstancePlaces>],
 ) -> Result<Vec<InstancePlaces>, Memory>
     requires caller { IsCaller caller }
-    ensures value { IfOk result (λ all. plain_instances all.items ≡ definitions.component_places (kids_in caller.entry) (part_of caller.entry) (listed lists.now)) }
+    ensures value { IfOk result (λ all. plain_instances all.items ≡
+        definitions.component_places (kids_in caller.entry) (part_of caller.entry) (listed lists.now)) }
 {
     let flat = groups_again(alloc, caller)?;
     let mut all = Vec::new(alloc);
@@ -145,7 +152,9 @@ fn with_cells(
 ) -> Result<Vec<InstancePlaces>, Memory>
     requires caller { IsCaller caller }
     requires firsts { AreFirsts caller firsts.now }
-    ensures value { IfOk result (λ all. plain_instances all.items ≡ plain_instances front.items ++ cell_places (kids_in caller.entry) (part_of caller.entry) (listed lists.now) 0 (part_of caller.entry).cells) }
+    ensures value { IfOk result (λ all. plain_instances all.items ≡
+        plain_instances front.items ++ cell_places (kids_in caller.entry) (part_of caller.entry)
+        (listed lists.now) 0 (part_of caller.entry).cells) }
 {
     let mut all = front;
     let mut number = 0u32;
@@ -168,7 +177,9 @@ fn with_kind(
 ) -> Result<Vec<InstancePlaces>, Memory>
     requires caller { IsCaller caller }
     requires firsts { AreFirsts caller firsts.now }
-    ensures value { IfOk result (λ all. plain_instances all.items ≡ plain_instances front.items ++ kind_places (kids_in caller.entry) (part_of caller.entry) (listed lists.now) cell (plain_kind kind.now)) }
+    ensures value { IfOk result (λ all. plain_instances all.items ≡
+        plain_instances front.items ++ kind_places (kids_in caller.entry) (part_of caller.entry)
+        (listed lists.now) cell (plain_kind kind.now)) }
 {
     match kind {
         CellKind::Prim(_) => Ok(front),
@@ -187,7 +198,9 @@ fn with_list(
     lists: &[Vec<InstancePlaces>],
     component: u32,
 ) -> Result<Vec<InstancePlaces>, Memory>
-    ensures value { IfOk result (λ all. plain_instances all.items ≡ plain_instances front.items ++ map (map (placed_list (placed_by placing.now))) (listed lists.now component)) }
+    ensures value { IfOk result (λ all. plain_instances all.items ≡
+        plain_instances front.items
+        ++ map (map (placed_list (placed_by placing.now))) (listed lists.now component)) }
 {
     match lists.get(component as usize) {
         Some(list) => with_instances(alloc, front, placing, list),
@@ -202,7 +215,9 @@ fn with_instances(
     placing: &Placing,
     instances: &[InstancePlaces],
 ) -> Result<Vec<InstancePlaces>, Memory>
-    ensures value { IfOk result (λ all. plain_instances all.items ≡ plain_instances front.items ++ map (map (placed_list (placed_by placing.now))) (plain_instances instances.now)) }
+    ensures value { IfOk result (λ all. plain_instances all.items ≡
+        plain_instances front.items
+        ++ map (map (placed_list (placed_by placing.now))) (plain_instances instances.now)) }
 {
     let mut all = front;
     for instance in instances {
@@ -217,7 +232,8 @@ fn placed_instance(
     placing: &Placing,
     instance: &InstancePlaces,
 ) -> Result<InstancePlaces, Memory>
-    ensures value { IfOk result (λ all. plain_instance all ≡ map (placed_list (placed_by placing.now)) (plain_instance instance.now)) }
+    ensures value { IfOk result (λ all.
+        plain_instance all ≡ map (placed_list (placed_by placing.now)) (plain_instance instance.now)) }
 {
     let mut groups = Vec::with_capacity(alloc, instance.groups.len())?;
     for group in &instance.groups {

@@ -1,49 +1,17 @@
-use Rattle.std.proofs.Common.{◌≡◌, ◌<◌, get_or, length, sym, ap, ◌∙◌, subst}
+use Rattle.std.proofs.Common.{◌≡◌, length, sym, ◌∙◌, arith}
+use Rattle.std.specs.Vec.{vec_len}
 use Rattle.std.proofs.lemmas.List.{length-map}
-use Rattle.std.specs.Prelude.{is_some}
-use Rattle.cx_meaning.specs.Designs.{component_at}
-use Rattle.cx_design.proofs.DesignFacts.{component_is}
 use Rattle.cx_design.specs.PlainForms.{plain_component}
 use Rattle.cx_design.specs.PlainDesigns.{plain_design}
-use Rattle.cx_design_sizes.proofs.TallyLemmas.{turn_there}
-use Rattle.cx_flattening.specs.Flattened.{flat_component, kid_if}
-use Rattle.cx_flat.specs.Tables.{kids_of, plain_table}
-use Rattle.cx_flat.proofs.TableLemmas.{kids_begin, kids_turn, kids_end}
+use Rattle.cx_flat.proofs.TableLemmas.{kids_begin, kids_end}
 use Rattle.cx_flat.proofs.flattening.kids_in_order.Goals as goal
 
-pub loop-component-init : goal.loop-component-init
-loop-component-init c =
-    kids_begin (plain_design c.args.design.now) c.args.order.now c.in_ok-kids.kids.items
-    (c.in_ok-kids.ensures.value ∙ ap length c.as_slice-components.ensures.value ∙ sym (length-map c.args.design.now.components.items plain_component))
-
-pub bounds-components-number : goal.bounds-components-number
-bounds-components-number c =
-    let d = plain_design c.args.design.now in
-    let there : get_or c.args.order.now c.loop-component.component-index 0 < length d.components = turn_there d c.args.order.now c.loop-component.component-index 0 c.requires.first c.loop-component-test.true in
-    subst (λ n. get_or c.args.order.now c.loop-component.component-index 0 < n)
-    (length-map c.args.design.now.components.items plain_component ∙ sym (ap length c.as_slice-components.ensures.value)) there
-
-pub index_mut-requires : goal.index_mut-requires
-index_mut-requires c =
-    let d = plain_design c.args.design.now in
-    let there : get_or c.args.order.now c.loop-component.component-index 0 < length d.components = turn_there d c.args.order.now c.loop-component.component-index 0 c.requires.first c.loop-component-test.true in
-    subst (λ n. get_or c.args.order.now c.loop-component.component-index 0 < n)
-    (sym c.loop-component.invariant.sized ∙ sym (ap length c.deref.ensures.value) ∙ c.deref.ensures.len) there
-
-pub loop-component-preserved : goal.loop-component-preserved
-loop-component-preserved c =
-    let d = plain_design c.args.design.now in
-    let k = get_or c.args.order.now c.loop-component.component-index 0 in
-    let there : k < length d.components = turn_there d c.args.order.now c.loop-component.component-index 0 c.requires.first c.loop-component-test.true in
-    let part = c.index-components-number.result in
-    let own : plain_component part ≡ component_at d k =
-    component_is c.args.design.now.components.items k part
-    (subst (λ n. k < n) (length-map c.args.design.now.components.items plain_component) there)
-    (c.index-components-number.is ∙ ap (λ xs. get_or xs k part) c.as_slice-components.ensures.value) in
-    kids_turn d c.args.order.now c.loop-component.component-index 0 c.loop-component.kids.items (plain_component part) c.in_ok-kid.kid c.requires.first c.loop-component.invariant
-    c.loop-component-test.true own
-    (c.in_ok-kid.ensures.value ∙ ap (λ ts. kid_if (is_some (plain_component part).latency) (flat_component (kids_of (plain_table ts) (plain_component part).cells) (plain_component part))) c.deref.ensures.value)
+pub loop-place-init : goal.loop-place-init
+loop-place-init c =
+    let size : vec_len c.args.design.now.components ≡ length c.args.design.now.components.items = omega (arith, c.args.design.now.components.ok.0) in
+    kids_begin (plain_design c.args.design.now) c.args.order.now c.args.lasts.now c.in_ok-kids.kids.items
+    (c.in_ok-kids.ensures.value ∙ c.len.ensures ∙ size ∙ sym (length-map c.args.design.now.components.items plain_component))
 
 pub returns : goal.returns
 returns c =
-    record { value = kids_end (plain_design c.args.design.now) c.args.order.now c.loop-component.component-index c.loop-component.kids.items c.loop-component-test.false c.loop-component.auto.component-index-end c.loop-component.invariant }
+    record { value = kids_end (plain_design c.args.design.now) c.args.order.now c.args.lasts.now c.loop-place.place c.loop-place.kids.items c.loop-place-test.false c.loop-place.auto.place-end c.loop-place.invariant }
