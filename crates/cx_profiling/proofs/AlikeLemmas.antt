@@ -3,13 +3,11 @@ use Rattle.std.proofs.Common.{◌≡◌, ℕ, zero, suc, ◌+◌, ◌*◌, ◌^�
 use Rattle.std.proofs.lemmas.Bool.{ne_eqb}
 use Rattle.cx_prim.specs.CellStates.{AreWords}
 use Rattle.cx_meaning.specs.Designs.{PlainComponent, PlainDesign, component_at}
-use Rattle.cx_meaning.specs.Instances.{Instance, State, IsSettled, start, externals_of, words_of, tree_within, tree_of}
+use Rattle.cx_meaning.specs.Instances.{Instance, IsSettled, start, externals_of, words_of, tree_within, tree_of}
 use Rattle.cx_meaning.specs.Sights.{unheld}
-use Rattle.cx_meaning.specs.Cycles.{Fault}
 use Rattle.cx_meaning.specs.Running.{run_control, run_main}
 use Rattle.cx_meaning.proofs.DesignsLemmas.{same_part}
 use Rattle.cx_meaning.proofs.InstancesLemmas.{here}
-use Rattle.cx_meaning.proofs.RunningLemmas.{steady_control}
 use Rattle.cx_rules.specs.Accepted.{IsAccepted}
 use Rattle.cx_rules.specs.Wellformed.{IsDesign}
 use Rattle.cx_laws.proofs.StartLemmas.{design_starts_settled}
@@ -17,12 +15,11 @@ use Rattle.cx_frames.proofs.EnableLemmas.{BareEnablesNothing, instance_bare}
 use Rattle.cx_profiling.specs.Counters.{ProfileEntry, Shown, shown_in, entries_of, entry_count}
 use Rattle.cx_profiling.specs.Counting.{count_control}
 use Rattle.cx_profiling.specs.Instrumented.{instrumented, with_counts}
-use Rattle.cx_profiling.specs.RunsAlike.{counts_of, Owes, HasMemories, InstrumentsAs, ReadsAs}
+use Rattle.cx_profiling.specs.RunsAlike.{counts_of, Owes, HasMemories, InstrumentsAs}
 use Rattle.cx_profiling.proofs.GainedLemmas.{components-length}
 use Rattle.cx_profiling.proofs.RoleLemmas.{Role, as_main, as_child, as_kept, role}
 use Rattle.cx_profiling.proofs.GrownTrees.{InTree, main_in_tree}
 use Rattle.cx_profiling.proofs.MainLemmas.{main_owes}
-use Rattle.cx_profiling.proofs.ReadLemmas.{profile_reads}
 
 pub some_levels : (count k : ℕ) → k < count → (m : ℕ) × (count ≡ suc m)
 some_levels zero k less = absurd (omega (arith, less))
@@ -85,11 +82,3 @@ pub runs_alike : (d : PlainDesign) → IsDesign d → IsAccepted d → IsAccepte
 runs_alike d design accepted grown_accepted some words new n fits whole =
     subst (λ x. Owes (λ s u. words_of (tree_of x) u ≡ words_of (tree_of d) s ++ counts_of d words n ∷ []) (entry_count d) (run_main d words n) (run_main x (words ++ new ∷ []) n) (run_main x (words ++ new ∷ []) (n + 2 * entry_count d)))
     (sym (instrumented_is d some)) (with_counts_owes d design accepted (subst IsAccepted (instrumented_is d some) grown_accepted) some words new n fits whole)
-
--- AND ONE RUN OF IT TELLS THE RUN OF ITS DESIGN
-pub reads_alike : (d : PlainDesign) → IsDesign d → IsAccepted d → IsAccepted (instrumented d) → 1 ≤ entry_count d → ReadsAs d
-reads_alike d design accepted grown_accepted some words new n fits whole =
-    profile_reads State State Fault (λ n s u. words_of (tree_of (instrumented d)) u ≡ words_of (tree_of d) s ++ counts_of d words n ∷ []) (entry_count d) (λ n. run_main d words n) (λ n. run_main (instrumented d) (words ++ new ∷ []) n)
-    (λ n m few. steady_control (tree_of d) unheld (start (tree_of d) words) n m few)
-    (λ n m few. steady_control (tree_of (instrumented d)) unheld (start (tree_of (instrumented d)) (words ++ new ∷ [])) n m few)
-    (λ n. runs_alike d design accepted grown_accepted some words new n fits whole) n

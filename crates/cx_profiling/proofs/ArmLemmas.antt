@@ -17,7 +17,6 @@ use Rattle.cx_meaning.proofs.ControlLaws.{groups_drive_in, driver}
 use Rattle.cx_meaning.proofs.InstancesLemmas.{just_true}
 use Rattle.cx_meaning.proofs.DesignsLemmas.{same_part}
 use Rattle.cx_rules.specs.Items.{Dynamic, Visited, visit, visit_parts, below_dynamic, statements_in, is_comb}
-use Rattle.cx_rules.specs.Footprints.{Reads}
 use Rattle.cx_rules.specs.Footprints as footprints
 use Rattle.cx_rules.specs.Ports.{component_of}
 use Rattle.cx_rules.specs.RaceRule.{Arms, arms_of}

@@ -11,7 +11,7 @@ use Rattle.cx_meaning.specs.Active.{nothing, entries, group}
 use Rattle.cx_meaning.specs.Sights.{Held, unheld, seen}
 use Rattle.cx_meaning.specs.Cycles.{Fault}
 use Rattle.cx_meaning.specs.Control.{Leaves, run}
-use Rattle.cx_meaning.specs.Islands.{Occurrence, form_flat, form_length, looked_at, active_in, is_one, unless_unclear, island_turn}
+use Rattle.cx_meaning.specs.Islands.{Occurrence, form_flat, form_length, active_in, island_turn}
 use Rattle.cx_meaning.specs.Islands as islands
 use Rattle.cx_meaning.specs.Calls.{hole_turn, called, inputs_of_call, test}
 use Rattle.cx_meaning.specs.Running.{Children, leaves, control_below}

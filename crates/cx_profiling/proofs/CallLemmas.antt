@@ -5,7 +5,7 @@ use Rattle.cx_meaning.specs.Instances.{Instance, State, under, put, idle}
 use Rattle.cx_meaning.specs.Active.{group, capture}
 use Rattle.cx_meaning.specs.Sights.{Held}
 use Rattle.cx_meaning.specs.Cycles.{Fault, cycle}
-use Rattle.cx_meaning.specs.Answers.{Answer, End, More, Turn, Ends, Goes, Faults, idle_turn}
+use Rattle.cx_meaning.specs.Answers.{Answer, End, More, idle_turn}
 use Rattle.cx_meaning.specs.Answers as answers
 use Rattle.cx_meaning.specs.Islands.{turn_of}
 use Rattle.cx_meaning.specs.Calls.{captures, lift_answer, inputs_of_call, after_child, call}

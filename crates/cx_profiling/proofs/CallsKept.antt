@@ -397,9 +397,6 @@ module _ (d : PlainDesign) (design : IsDesign d) (accepted : IsAccepted d) (m k 
         by true false e y next = next y
         by false t e y next = next y
 
-    wanted : List PortRef
-    wanted = wanted_dones (done_port c child) (captured part (assigns_of i g))
-
     done_ports : (rs : List ℕ) → ((x : ℕ) → In rs x → IsInside d part (ports.Cell x 3) × (mv (ports.Cell x 3) ≡ ports.Cell x 3))
         → (wanted_dones (mv (done_port c child)) rs ≡ map mv (wanted_dones (done_port c child) rs)) × ((w : PortRef) → In (wanted_dones (done_port c child) rs) w → IsInside d part w)
     done_ports [] each = (refl, λ w h. only w h)

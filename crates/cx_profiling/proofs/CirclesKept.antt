@@ -85,9 +85,6 @@ module _ (d : PlainDesign) (design : IsDesign d) (m k : ℕ) (within : k < lengt
       by (counting h x some own reached few is inside) = of_counter h x own reached (counter_target part.place x r.owned.assign inside)
       by (storing n x main at some inside) = by_store n x r.owned.assign main (in_at (shown_in (component_of d k)) n x at) inside r.names
 
-  literal_ends : (w v : ℕ) → Ends j act 0 (ports.Literal w v)
-  literal_ends w v q l = l
-
   -- A COMPONENT WITHOUT AN INSTANCE
   kept_acyclic : (k ≡ d.main → ⊥) → is_reached d k ≡ false → other ≡ kept_component d k → IsAcyclic i act → IsAcyclic j act
   kept_acyclic is none e acyclic = acyclic_grown d design m k within act acyclic known

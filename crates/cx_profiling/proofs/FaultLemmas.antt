@@ -10,7 +10,7 @@ use Rattle.cx_meaning.specs.Instances.{Instance, State, idle}
 use Rattle.cx_meaning.specs.Active.{Active, nothing, entries}
 use Rattle.cx_meaning.specs.Sights.{Look, Held, bit_of, seen}
 use Rattle.cx_meaning.specs.Cycles.{Fault, fault_at, Ended, Goes, Faults, cycle}
-use Rattle.cx_meaning.specs.Answers.{Answer, End, More, Turn, Ends, after_turns, turn_then, idle_turn}
+use Rattle.cx_meaning.specs.Answers.{Answer, End, More, Turn, Ends, after_turns, turn_then}
 use Rattle.cx_meaning.specs.Answers as answers
 use Rattle.cx_meaning.specs.Islands.{Occurrence, History, and_now, active_in, looked_at, fault_of, first_unclear, turn_of, unless_unclear, island_turn, island_from}
 use Rattle.cx_rewrites.specs.Tallies.{Tally}

@@ -16,7 +16,7 @@ use Rattle.cx_meaning.proofs.DesignsLemmas.{same_part}
 use Rattle.cx_meaning.proofs.InstancesLemmas.{instance_is, row_instance, nothing_instance}
 use Rattle.cx_rules.specs.Accepted.{IsAccepted}
 use Rattle.cx_rules.specs.Invokes.{lasts}
-use Rattle.cx_rules.specs.Items.{Visited, statements_in}
+use Rattle.cx_rules.specs.Items.{Visited}
 use Rattle.cx_rules.specs.Ports.{component_of}
 use Rattle.cx_rules.specs.Wellformed.{IsDesign, IsInvoke}
 use Rattle.cx_rewrites.specs.Moving.{moved_assign, moved_form, moved_statement, moved_statements}
@@ -348,10 +348,6 @@ module _ (d : PlainDesign) (design : IsDesign d) (accepted : IsAccepted d) (grow
     rounds_follow body twins n each (suc count) b bound begins =
         both_follow (twins (twin b bound)) (body b) (rounds_events twins n count (later_by n (twin b bound))) (rounds_events body n count (later_by n b)) (each b bound begins)
         (rounds_follow body twins n each count (later_by n b) bound (later_begins n b bound begins))
-
-    -- what stands in the component
-    of_statement : (form : PlainForm) → Stands node form → (v : Visited) × In (statements_in node) v × (v.form ≡ form)
-    of_statement form h = (record { context = h.context; form = form; place = h.place }, h.inside (record { context = h.context; form = form; place = h.place }) (inl refl), refl)
 
     group_there : (g : ℕ) → Stands node (Enable g) → g < length node.groups
     group_there g h =

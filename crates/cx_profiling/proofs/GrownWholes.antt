@@ -154,9 +154,6 @@ module _ (d : PlainDesign) (design : IsDesign d) (accepted : IsAccepted d) (grow
     abbrev node : PlainComponent
     node = component_at d k
 
-    abbrev other : PlainComponent
-    other = component_at (with_counts d) k
-
     abbrev i : Instance
     i = tree_within d (suc m) k
 

@@ -11,7 +11,7 @@ use Rattle.cx_text.proofs.OptionLaws.{map_some, same_some}
 use Rattle.cx_text.specs.declared.places.Place.{Place}
 use Rattle.cx_meaning.specs.declared.ports.PortRef.{PortRef}
 use Rattle.cx_meaning.specs.declared.ports.PortRef.TheVariants as ports
-use Rattle.cx_meaning.specs.Designs.{PlainAssign, PlainGroup, group_at, PlainKind, OfPrimitive, OfComponent, PlainCell, PlainForm, Empty, Enable, Seq, Par, If, While, Repeat, StaticSeq, StaticPar, StaticIf, StaticRepeat, Timed, PlainStatement, statements_of, PlainInvoke, PlainComponent, PlainDesign, component_at}
+use Rattle.cx_meaning.specs.Designs.{PlainAssign, PlainGroup, group_at, PlainKind, OfPrimitive, OfComponent, PlainCell, PlainStatement, statements_of, PlainInvoke, PlainComponent, PlainDesign, component_at}
 use Rattle.cx_meaning.specs.Control.{groups_of, groups_in_all}
 use Rattle.cx_meaning.specs.Instances.{Instance, Node, At, OfInstance, Cells, cells_for, cells_of, cell_at, part_of, tree_within}
 use Rattle.cx_meaning.specs.Sights.{AnInput, output_port, part_port}
@@ -26,7 +26,7 @@ use Rattle.cx_rules.specs.Ports.{component_of}
 use Rattle.cx_rules.specs.Wellformed.{IsBind, IsCapture, takes, enables, IsCapturing, IsDesign, IsInvoke, IsKind}
 use Rattle.cx_rules.proofs.PortsLemmas.{part_is}
 use Rattle.cx_laws.proofs.TogetherLemmas.{in_flat}
-use Rattle.cx_rewrites.specs.Moving.{moved_guard, moved_assign, moved_form, moved_statement}
+use Rattle.cx_rewrites.specs.Moving.{moved_guard, moved_assign, moved_statement}
 use Rattle.cx_rewrites.proofs.MovedInvokes.{invoke_in-moved}
 use Rattle.cx_rewrites.proofs.MovedLists.{groups_of-moved, moved_visited, visit-moved}
 use Rattle.cx_profiling.specs.Counters.{has_name, is_counted, is_counted_kind, first_gained, Shown, shown_in}

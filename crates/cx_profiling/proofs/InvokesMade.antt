@@ -1,6 +1,6 @@
 -- WHAT STANDS AT A STATIC INVOKE of an instrumented component: the invoke of the component, with moved inputs; so cells, lengths and the
 -- groups that capture are those of the component.
-use Rattle.std.proofs.Common.{◌≡◌, ℕ, ◌+◌, ◌*◌, ◌<◌, max, inl, inr, ⊎_elim, true, ◌||◌, List, [], ◌∷◌, ◌++◌, length, map, Option, Some, None, option_map, refl, sym, ap, ap₂, ◌∙◌, subst, arith}
+use Rattle.std.proofs.Common.{◌≡◌, ℕ, ◌<◌, inl, inr, ⊎_elim, true, ◌||◌, List, [], ◌∷◌, ◌++◌, length, map, Option, Some, None, option_map, refl, sym, ap, ap₂, ◌∙◌, subst, arith}
 use Rattle.std.specs.Prelude.{flat_map}
 use Rattle.std.specs.List.{slice_get}
 use Rattle.std.proofs.lemmas.Bool.{eqb-true, or_cases}
@@ -9,17 +9,16 @@ use Rattle.cx_text.proofs.MemberLaws.{flat_in, in_at}
 use Rattle.cx_text.proofs.OptionLaws.{map_some}
 use Rattle.cx_meaning.specs.declared.ports.PortRef.{PortRef}
 use Rattle.cx_meaning.specs.declared.ports.PlacedPort.{PlacedPort}
-use Rattle.cx_meaning.specs.Designs.{PlainAssign, PlainForm, Empty, Enable, Seq, Par, If, While, Repeat, StaticSeq, StaticPar, StaticIf, StaticRepeat, Timed, PlainStatement, Placed, PlainStatements, no_statements, a_statement, PlainInvoke, PlainComponent, PlainDesign, component_at, group_at}
-use Rattle.cx_meaning.specs.Islands.{or_zero}
+use Rattle.cx_meaning.specs.Designs.{PlainAssign, PlainForm, PlainStatement, PlainInvoke, PlainComponent, PlainDesign, component_at, group_at}
 use Rattle.cx_text.specs.Members.{In}
-use Rattle.cx_rules.specs.Invokes.{invoke_at, invoke_length, form_lasts, lasts, sum_lasts, max_lasts, invoke_in, invokes_of, capture_of, captures_of, is_cell_of, invokes_cell}
-use Rattle.cx_rules.specs.Items.{Dynamic, Visited, visit, operands_of, option_list, sources_of}
+use Rattle.cx_rules.specs.Invokes.{invoke_at, invoke_length, form_lasts, lasts, invokes_of, capture_of, captures_of, is_cell_of, invokes_cell}
+use Rattle.cx_rules.specs.Items.{operands_of, option_list, sources_of}
 use Rattle.cx_rules.specs.Ports.{component_of}
 use Rattle.cx_rules.specs.Spots.{binds_in}
 use Rattle.cx_rules.specs.StaticControl.{is_written, is_timed}
 use Rattle.cx_rules.specs.Wellformed.{IsBind, IsCapturing, IsDesign, IsInvoke}
 use Rattle.cx_rules.proofs.PortsLemmas.{part_is}
-use Rattle.cx_rewrites.specs.Moving.{moved_assign, moved_form, moved_statement, moved_statements}
+use Rattle.cx_rewrites.specs.Moving.{moved_assign, moved_form, moved_statement}
 use Rattle.cx_rewrites.proofs.MovedInvokes as moved
 use Rattle.cx_profiling.specs.Instrumented.{moved_in, moved_invoke, with_counts}
 use Rattle.cx_profiling.proofs.InvokesKept.{get_mapped, keeps_at}

@@ -19,7 +19,7 @@ use Rattle.cx_meaning.specs.Truths.{Truth, One, Zero, truth_of}
 use Rattle.cx_meaning.specs.Truths as truths
 use Rattle.cx_meaning.specs.Sights.{Held, bit_of, seen, part_port, part_step, cell_step, outputs_below, is_done_cell}
 use Rattle.cx_meaning.specs.Cycles.{Fault, fault_at, Next, Stops, outcome_at, first_fault, state_after, Faults, cycle}
-use Rattle.cx_meaning.specs.Answers.{Turn, Test, Holds, Fails, Unclear, turns_of}
+use Rattle.cx_meaning.specs.Answers.{Turn, Unclear, turns_of}
 use Rattle.cx_meaning.specs.Answers as answers
 use Rattle.cx_meaning.specs.Islands.{History, no_history, active_in, form_flat, form_length, group_length, kind_length, island, turn_of}
 use Rattle.cx_meaning.specs.Calls.{test, test_of, called, called_in, called_by, if_instance, captures, captures_in, enables_primitive, enables_at, group_turn, inputs_of_call, call}

@@ -26,7 +26,6 @@ pub mod LoneDrivers
 pub mod PortLemmas
 pub mod WalkLemmas
 pub mod GrownLemmas
-pub mod ReadLemmas
 pub mod RestLemmas
 pub mod CellPorts
 pub mod CounterDrives
@@ -86,7 +85,6 @@ pub mod WholeMain
 pub mod WholeAlike
 pub mod AcceptedStages
 pub mod MemoryNames
-pub mod PathsKept
 pub mod CountFrames
 pub mod IslandCounts
 pub mod CountAgreement

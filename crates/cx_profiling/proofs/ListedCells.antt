@@ -34,12 +34,6 @@ cell_is cells c = by (slice_get cells c) refl
 pub at_none : (child : ℕ → Instance) (cells : List PlainCell) (c : ℕ) → slice_get cells c ≡ None → cell_at (cells_for child cells) c ≡ Nothing
 at_none child cells c at = at_number child cells c ∙ ap (at_cell child) at
 
--- a cell of a component of a tree
-pub row_in_tree : (d : PlainDesign) (n k c : ℕ) (cell : PlainCell) (primitive : PrimitiveRow) → 0 < n → slice_get (component_at d k).cells c ≡ Some cell → cell.kind ≡ OfPrimitive primitive
-    → cell_at (cells_of (tree_within d n k)) c ≡ OfRow (row_of primitive)
-row_in_tree d zero k c cell primitive some at is = absurd (omega (arith, some))
-row_in_tree d (suc n) k c cell primitive some at is = at_row (tree_within d n) (component_at d k).cells c cell primitive at is
-
 pub child_in_tree : (d : PlainDesign) (n k c : ℕ) (cell : PlainCell) (j : ℕ) → 0 < n → slice_get (component_at d k).cells c ≡ Some cell → cell.kind ≡ OfComponent j
     → (child : Instance) × (cell_at (cells_of (tree_within d n k)) c ≡ OfInstance child) × (part_of child ≡ component_at d j)
 child_in_tree d zero k c cell j some at is = absurd (omega (arith, some))

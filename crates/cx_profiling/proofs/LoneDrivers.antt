@@ -3,7 +3,6 @@ use Rattle.std.proofs.Common.{◌≡◌, ℕ, inl, inr, ◌⊎◌, Bool, true, f
 use Rattle.cx_meaning.specs.declared.ports.PortRef.{PortRef}
 use Rattle.cx_meaning.specs.Designs.{PlainAssign, PlainComponent}
 use Rattle.cx_meaning.specs.Active.{Active, Acting, Owned, owned, no_later, placed_in, by_place, offset_of, if_acting, if_target, acting, same_port, drivers}
-use Rattle.cx_text.specs.Members.{In}
 use Rattle.cx_rules.proofs.FoundLemmas.{same_is}
 use Rattle.cx_rewrites.specs.Driving.{assigns_of}
 
@@ -27,10 +26,6 @@ module _ (act : Active) (p : PortRef) where
   pub silent_joined : (xs ys : List Owned) → AllSilent xs → AllSilent ys → AllSilent (xs ++ ys)
   silent_joined [] ys h k = k
   silent_joined (o ∷ xs) ys (e, h) k = (e, silent_joined xs ys h k)
-
-  pub silent_owned : (owner : Option ℕ) (list : List PlainAssign) → ((a : PlainAssign) → In list a → a.target ≡ p → ⊥) → AllSilent (owned owner list)
-  silent_owned owner [] h = tt
-  silent_owned owner (a ∷ rest) h = (inr (other_port a.target p (h a (inl refl))), silent_owned owner rest (λ b i. h b (inr i)))
 
   pub silent_owner : (owner : Option ℕ) (list : List PlainAssign) → offset_of act owner ≡ None → AllSilent (owned owner list)
   silent_owner owner [] e = tt

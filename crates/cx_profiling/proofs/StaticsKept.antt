@@ -9,7 +9,7 @@ use Rattle.cx_text.proofs.OptionLaws.{none_some}
 use Rattle.cx_prim.specs.Rows.{Row}
 use Rattle.cx_meaning.specs.declared.ports.PortRef.{PortRef}
 use Rattle.cx_meaning.specs.declared.ports.PortRef.TheVariants as ports
-use Rattle.cx_meaning.specs.Designs.{PlainAssign, PlainInvoke, PlainComponent, PlainDesign, component_at, form_of, PlainForm, Empty, Enable, Seq, Par, If, While, Repeat, StaticSeq, StaticPar, StaticIf, StaticRepeat, Timed, PlainStatement, Placed}
+use Rattle.cx_meaning.specs.Designs.{PlainAssign, PlainInvoke, PlainComponent, PlainDesign, component_at, form_of, Timed, PlainStatement, Placed}
 use Rattle.cx_meaning.specs.Instances.{Instance, OfRow, cell_at, cells_of, part_of, tree_within}
 use Rattle.cx_meaning.specs.Active.{Owned, same_port, source_order}
 use Rattle.cx_text.specs.Members.{In}
@@ -26,7 +26,7 @@ use Rattle.cx_rules.specs.Spots.{Itself}
 use Rattle.cx_rules.specs.StaticControl.{is_timed, may_stand, has_length}
 use Rattle.cx_rules.specs.Wellformed.{IsDesign, IsInvoke}
 use Rattle.cx_rules.proofs.PortsLemmas.{part_is}
-use Rattle.cx_rewrites.specs.Moving.{moved_assign, moved_form, moved_statement}
+use Rattle.cx_rewrites.specs.Moving.{moved_assign, moved_statement}
 use Rattle.cx_rewrites.proofs.MovedInvokes.{timed_back}
 use Rattle.cx_rewrites.proofs.MovedLists.{may_stand-moved, form_has_length-moved, some_moved, moved_visited}
 use Rattle.cx_rewrites.proofs.ReflectLemmas.{names_back}

@@ -19,7 +19,7 @@ use Rattle.cx_meaning.specs.Active.{group, only_at, drivers}
 use Rattle.cx_meaning.specs.Truths.{truth_of}
 use Rattle.cx_meaning.specs.Sights.{Look, unheld, bit_of, of_option, target_seen, cell_step, step, seen, outputs_below}
 use Rattle.cx_meaning.specs.Cycles.{Outcome, Next, outcome_at, cell_outcome, first_of, first_fault, stepped, unless_fault, Goes, cycle}
-use Rattle.cx_meaning.specs.Answers.{Answer, End, More, turns_of, turn_then, then_do, after_turns}
+use Rattle.cx_meaning.specs.Answers.{End, turns_of, turn_then, after_turns}
 use Rattle.cx_meaning.specs.Answers as answers
 use Rattle.cx_meaning.specs.Control.{group_drives, assigns_drive}
 use Rattle.cx_meaning.specs.Islands.{turn_of}

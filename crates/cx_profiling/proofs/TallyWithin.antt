@@ -10,7 +10,7 @@ use Rattle.cx_meaning.specs.Instances.{Instance, OfInstance, cell_at, cells_of, 
 use Rattle.cx_meaning.specs.Active.{Active, capture, entries, group, nothing}
 use Rattle.cx_meaning.specs.Sights.{Held, seen, unheld}
 use Rattle.cx_meaning.specs.Cycles.{Fault, cycle}
-use Rattle.cx_meaning.specs.Answers.{Answer, End, Ends, Goes, More, Meaning, Turn, after_turns, idle_turn, then_do, turn_then, turns_of}
+use Rattle.cx_meaning.specs.Answers.{Answer, End, Ends, Goes, More, Meaning, Turn, after_turns, idle_turn, then_do, turn_then}
 use Rattle.cx_meaning.specs.Budgets.{Grows}
 use Rattle.cx_meaning.specs.Answers as answers
 use Rattle.cx_meaning.specs.Control.{Leaves, groups_of, drives, run, run_arms, run_form, run_parts}

@@ -2,9 +2,8 @@
 use Rattle.std.proofs.Common.{◌≡◌, ℕ, suc, ◌+◌, ◌*◌, ◌^◌, ◌%◌, ◌≤◌, List, [], ◌∷◌, ◌++◌, length, map, refl, sym, ap, ◌∙◌, subst}
 use Rattle.cx_prim.specs.CellStates.{AreWords}
 use Rattle.cx_meaning.specs.Designs.{PlainComponent, PlainDesign, component_at}
-use Rattle.cx_meaning.specs.Instances.{Instance, Path, State, IsSettled, instance_at, start, externals_of, words_of, tree_within, tree_of}
+use Rattle.cx_meaning.specs.Instances.{Instance, Path, IsSettled, instance_at, start, externals_of, words_of, tree_within, tree_of}
 use Rattle.cx_meaning.specs.Sights.{unheld}
-use Rattle.cx_meaning.specs.Cycles.{Fault}
 use Rattle.cx_meaning.proofs.DesignsLemmas.{same_part}
 use Rattle.cx_rules.specs.Accepted.{IsAccepted}
 use Rattle.cx_rules.specs.Wellformed.{IsDesign}
@@ -17,14 +16,12 @@ use Rattle.cx_profiling.specs.Counters.{ProfileEntry, shown_in, entries_of, entr
 use Rattle.cx_profiling.specs.WholeCounting.{count_whole_control}
 use Rattle.cx_profiling.specs.Instrumented.{instrumented, with_counts}
 use Rattle.cx_profiling.specs.RunsAlike.{Owes, HasMemories}
-use Rattle.cx_profiling.specs.WholeRunsAlike.{whole_counts_of, WholeInstrumentsAs, WholeReadsAs}
+use Rattle.cx_profiling.specs.WholeRunsAlike.{whole_counts_of, WholeInstrumentsAs}
 use Rattle.cx_profiling.proofs.GainedLemmas.{components-length}
 use Rattle.cx_profiling.proofs.RoleLemmas.{Role, as_main, as_child, as_kept, role}
 use Rattle.cx_profiling.proofs.GrownTrees.{InTree, main_in_tree}
 use Rattle.cx_profiling.proofs.AlikeLemmas.{some_levels, entry_counts, instrumented_is}
 use Rattle.cx_profiling.proofs.WholeMain.{whole_main_owes}
-use Rattle.cx_flattening.proofs.WholeSteady.{steady_whole}
-use Rattle.cx_profiling.proofs.ReadLemmas.{profile_reads}
 
 module _ (d : PlainDesign) (design : IsDesign d) (accepted : IsAccepted d) (grown_accepted : IsAccepted (with_counts d)) (undone : NoneNamesDone d) (some : 1 ≤ entry_count d) where
   -- of trees that are those of both designs
@@ -78,11 +75,3 @@ pub whole_runs_alike : (d : PlainDesign) → IsDesign d → IsAccepted d → Non
 whole_runs_alike d design accepted undone grown_accepted some words new n fits whole =
     subst (λ x. Owes (λ s u. words_of (tree_of x) u ≡ words_of (tree_of d) s ++ whole_counts_of d words n ∷ []) (entry_count d) (whole_main d words n) (whole_main x (words ++ new ∷ []) n) (whole_main x (words ++ new ∷ []) (n + 2 * entry_count d)))
     (sym (instrumented_is d some)) (with_counts_owes d design accepted (subst IsAccepted (instrumented_is d some) grown_accepted) undone some words new n fits whole)
-
--- AND ONE RUN OF IT TELLS THE RUN OF ITS DESIGN
-pub whole_reads_alike : (d : PlainDesign) → IsDesign d → IsAccepted d → NoneNamesDone d → IsAccepted (instrumented d) → 1 ≤ entry_count d → WholeReadsAs d
-whole_reads_alike d design accepted undone grown_accepted some words new n fits whole =
-    profile_reads State State Fault (λ n s u. words_of (tree_of (instrumented d)) u ≡ words_of (tree_of d) s ++ whole_counts_of d words n ∷ []) (entry_count d) (λ n. whole_main d words n) (λ n. whole_main (instrumented d) (words ++ new ∷ []) n)
-    (λ n m few. steady_whole (tree_of d) unheld (start (tree_of d) words) n m few)
-    (λ n m few. steady_whole (tree_of (instrumented d)) unheld (start (tree_of (instrumented d)) (words ++ new ∷ [])) n m few)
-    (λ n. whole_runs_alike d design accepted undone grown_accepted some words new n fits whole) n

@@ -14,7 +14,7 @@ use Rattle.cx_meaning.specs.declared.ports.PortRef.{PortRef}
 use Rattle.cx_meaning.proofs.ControlLaws.{groups_drive_in, driver}
 use Rattle.cx_meaning.proofs.DesignsLemmas.{same_part}
 use Rattle.cx_rules.specs.Items.{Context, Dynamic, InStatic, Branch, Visited, visit, visit_parts, visit_all, below_dynamic, statements_in, is_comb}
-use Rattle.cx_rules.specs.Invokes.{invokes_of, captures_of, invokes_cell, drives_all, ReadsAll}
+use Rattle.cx_rules.specs.Invokes.{invokes_of, captures_of, invokes_cell, drives_all}
 use Rattle.cx_rules.specs.Invokes as invokes
 use Rattle.cx_rules.specs.Ports.{component_of}
 use Rattle.cx_rules.specs.RaceRule.{Arms, arms_of}

@@ -14,7 +14,7 @@ use Rattle.cx_meaning.specs.Instances.{Instance, Cells, no_cells, a_primitive, a
 use Rattle.cx_meaning.specs.Active.{Active, capture, entries, only_at, group}
 use Rattle.cx_meaning.specs.Sights.{Held, seen}
 use Rattle.cx_meaning.specs.Cycles.{Fault, Next}
-use Rattle.cx_meaning.specs.Answers.{Answer, End, More, Meaning}
+use Rattle.cx_meaning.specs.Answers.{Answer, End, More}
 use Rattle.cx_meaning.specs.Answers as answers
 use Rattle.cx_meaning.specs.Control.{Leaves, run}
 use Rattle.cx_meaning.specs.Islands.{kind_length, turn_of}

@@ -28,7 +28,13 @@ is_reached d k = is_one_of k (reached_from d (length d.components) d.main)
 
 -- an assignment without a guard, all at one place
 abbrev pub drive : Place → PortRef → PortRef → PlainAssign
-drive place target source = record { target = target; guard = Always; source = record { port = source; place = place }; place = place }
+drive place target source =
+    record {
+      target = target;
+      guard = Always;
+      source = record { port = source; place = place };
+      place = place;
+    }
 
 -- a.left = r.out; a.right = 64'd1; r.in = a.out; r.write_en = 1'd1, for the register r at a cell and the adder a behind it
 abbrev pub counter_assigns : Place → ℕ → List PlainAssign
@@ -37,7 +43,13 @@ counter_assigns place r =
     ∷ drive place (ports.Cell r 0) (ports.Cell (suc r) 2) ∷ drive place (ports.Cell r 1) (ports.Literal 1 1) ∷ []
 
 abbrev pub new_cell : Place → List ℕ → PrimitiveName → List ℕ → Bool → PlainCell
-new_cell place name primitive numbers external = record { name = name; kind = OfPrimitive (record { name = primitive; numbers = numbers }); external = external; place = place }
+new_cell place name primitive numbers external =
+    record {
+      name = name;
+      kind = OfPrimitive (record { name = primitive; numbers = numbers });
+      external = external;
+      place = place;
+    }
 
 -- name n of a list
 abbrev pub name_at : List (List ℕ) → ℕ → List ℕ
@@ -47,7 +59,8 @@ name_at names n = get_or names n []
 abbrev pub counter_cells : Place → List (List ℕ) → ℕ → ℕ → List PlainCell
 counter_cells place names n zero = []
 counter_cells place names n (suc k) =
-    new_cell place (name_at names n) primitives.Reg (64 ∷ []) false ∷ new_cell place (name_at names (suc n)) primitives.Add (64 ∷ []) false
+    new_cell place (name_at names n) primitives.Reg (64 ∷ []) false
+    ∷ new_cell place (name_at names (suc n)) primitives.Add (64 ∷ []) false
     ∷ counter_cells place names (suc (suc n)) k
 
 -- the outputs that show counts: their declarations, with the names from number n on, and what drives them, from output n on
@@ -80,7 +93,12 @@ store_assigns place memory width g j count =
 abbrev pub store_groups : Place → List (List ℕ) → ℕ → ℕ → ℕ → ℕ → ℕ → List Shown → List PlainGroup
 store_groups place names memory width n g j [] = []
 store_groups place names memory width n g j (x ∷ xs) =
-    record { name = name_at names n; kind = kinds.Plain; assigns = store_assigns place memory width g j x.port; place = place }
+    record {
+      name = name_at names n;
+      kind = kinds.Plain;
+      assigns = store_assigns place memory width g j x.port;
+      place = place;
+    }
     ∷ store_groups place names memory width (suc n) (suc g) (suc j) xs
 
 abbrev pub store_enables : Place → ℕ → List Shown → List PlainStatement
@@ -112,16 +130,31 @@ module _ (d : PlainDesign) where
   moved_assigns part assigns = map (moved_assign (moved_in part)) assigns
 
   abbrev pub moved_invoke : PlainComponent → PlainInvoke → PlainInvoke
-  moved_invoke part invoke = record { cell = invoke.cell; written = invoke.written; length = invoke.length; latency = invoke.latency; inputs = moved_assigns part invoke.inputs; captures = invoke.captures }
+  moved_invoke part invoke =
+      record {
+        cell = invoke.cell;
+        written = invoke.written;
+        length = invoke.length;
+        latency = invoke.latency;
+        inputs = moved_assigns part invoke.inputs;
+        captures = invoke.captures;
+      }
 
   -- GROUPS: a counted one gains the assignments of its counter; the next counter's register is cell c
   abbrev pub group_with : PlainComponent → PlainGroup → List PlainAssign → PlainGroup
-  group_with part g more = record { name = g.name; kind = g.kind; assigns = moved_assigns part g.assigns ++ more; place = g.place }
+  group_with part g more =
+      record {
+        name = g.name;
+        kind = g.kind;
+        assigns = moved_assigns part g.assigns ++ more;
+        place = g.place;
+      }
 
   abbrev pub counted_groups : PlainComponent → Cells → ℕ → List PlainGroup → List PlainGroup
   counted_groups part cells c [] = []
   counted_groups part cells c (g ∷ gs) =
-      if is_counted cells g then group_with part g (counter_assigns part.place c) ∷ counted_groups part cells (suc (suc c)) gs
+      if is_counted cells g
+      then group_with part g (counter_assigns part.place c) ∷ counted_groups part cells (suc (suc c)) gs
       else group_with part g [] ∷ counted_groups part cells c gs
 
   -- COMPONENTS
@@ -176,22 +209,32 @@ module _ (d : PlainDesign) where
       inputs = part.inputs;
       outputs = part.outputs;
       place = part.place;
-      cells = part.cells ++ (counter_cells part.place names 0 own ++ memory_cell part.place (name_at names (2 * own)) (length shown) ∷ []);
+      cells =
+          part.cells ++ (counter_cells part.place names 0 own ++
+          memory_cell part.place (name_at names (2 * own)) (length shown) ∷ []);
       groups = counted_groups part cells (length part.cells) part.groups
-          ++ store_groups part.place names (length part.cells + 2 * own) (address_width (length shown)) (suc (2 * own)) (length part.groups) 0 shown;
+          ++ store_groups part.place names (length part.cells + 2 * own) (address_width (length shown))
+          (suc (2 * own)) (length part.groups) 0 shown;
       invokes = map (moved_invoke part) part.invokes;
       always = moved_assigns part part.always;
-      control = Placed (Seq (a_statement (moved_statement (moved_in part) part.control) (statements_of (store_enables part.place (length part.groups) shown)))) part.place;
+      control =
+          Placed (Seq (a_statement (moved_statement (moved_in part) part.control)
+          (statements_of (store_enables part.place (length part.groups) shown)))) part.place;
     }
 
     abbrev pub instrumented_component : PlainComponent
     instrumented_component =
         if nat_eq k d.main then main_component (free_names (names_of part) (suc (2 * own + length shown)))
-        else (if is_reached d k then child_component (free_names (names_of part) (2 * own + length shown)) else kept_component)
+        else (if is_reached d k then child_component (free_names (names_of part) (2 * own + length shown))
+        else kept_component)
 
   -- a design with an entry
   abbrev pub with_counts : PlainDesign
-  with_counts = record { components = map (λ k. instrumented_component k) (range_with_len 0 (length d.components)); main = d.main }
+  with_counts =
+      record {
+        components = map (λ k. instrumented_component k) (range_with_len 0 (length d.components));
+        main = d.main;
+      }
 
 -- THE INSTRUMENTED DESIGN. A design without entries stays as it is
 abbrev pub instrumented : PlainDesign → PlainDesign

@@ -1,5 +1,5 @@
 -- What the run of an instrumented design owes to the run of its design.
-use Rattle.std.specs.Prelude.{◌≡◌, ℕ, ◌+◌, ◌*◌, ◌^◌, ◌%◌, ◌<◌, ◌≤◌, ◌⊎◌, List, [], ◌∷◌, ◌++◌, length, map}
+use Rattle.std.specs.Prelude.{◌≡◌, ℕ, ◌+◌, ◌*◌, ◌^◌, ◌%◌, List, [], ◌∷◌, ◌++◌, length, map}
 use Rattle.cx_prim.specs.CellStates.{AreWords}
 use Rattle.cx_meaning.specs.Designs.{PlainDesign}
 use Rattle.cx_meaning.specs.Instances.{externals_of, part_of, tree_of, words_of}
@@ -24,24 +24,13 @@ Owes Q k More within later = within ≡ More
 abbrev pub HasMemories : PlainDesign → List (List ℕ) → Type 0
 HasMemories d words = length words ≡ length (externals_of (part_of (tree_of d)))
 
--- THE THEOREM, of a design with an entry: the instrumented design takes two turns more for each entry, and leaves the old words and those of
--- the counts. The words that the memory of the counts is loaded with are of no account
+-- THE THEOREM, of a design with an entry: the instrumented design takes two turns more for each entry, and leaves the
+-- old words and those of the counts. The words that the memory of the counts is loaded with are of no account
 abbrev pub InstrumentsAs : PlainDesign → Type 0
 InstrumentsAs d = (words : List (List ℕ)) (new : List ℕ) (n : ℕ) → HasMemories d words → AreWords 64 (entry_count d) new
-    → Owes (λ s u. words_of (tree_of (instrumented d)) u ≡ words_of (tree_of d) s ++ counts_of d words n ∷ []) (entry_count d)
+    → Owes
+    (λ s u. words_of (tree_of (instrumented d)) u ≡ words_of (tree_of d) s ++ counts_of d words n ∷ [])
+    (entry_count d)
     (run_main d words n)
     (run_main (instrumented d) (words ++ new ∷ []) n)
-    (run_main (instrumented d) (words ++ new ∷ []) (n + 2 * entry_count d))
-
--- WHAT IS READ OFF one run of an instrumented design, within 2k turns more than a budget of n: a fault in turn n or later is one that the
--- design does not come to within n
-abbrev pub Reads : {S U F : Type 0} → (S → U → Type 0) → ℕ → ℕ → Answer S F → Answer U F → Type 0
-Reads {U = U} Q k n (End s t) later = (u : U) × (later ≡ End u (t + 2 * k)) × Q s u
-Reads Q k n (Fault f t) later = (t < n) × (later ≡ Fault f t)
-Reads {F = F} Q k n More later = (later ≡ More) ⊎ ((f : F) × (t : ℕ) × (n ≤ t) × (later ≡ Fault f t))
-
-abbrev pub ReadsAs : PlainDesign → Type 0
-ReadsAs d = (words : List (List ℕ)) (new : List ℕ) (n : ℕ) → HasMemories d words → AreWords 64 (entry_count d) new
-    → Reads (λ s u. words_of (tree_of (instrumented d)) u ≡ words_of (tree_of d) s ++ counts_of d words n ∷ []) (entry_count d) n
-    (run_main d words n)
     (run_main (instrumented d) (words ++ new ∷ []) (n + 2 * entry_count d))

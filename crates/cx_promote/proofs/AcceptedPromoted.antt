@@ -13,8 +13,7 @@ use Rattle.cx_promotion.specs.Made.{WholeQuickens}
 use Rattle.cx_promotion.specs.Rewriting.{made_tree, IsPromotedTree}
 use Rattle.cx_promotion.proofs.Trees.{made_is_flat}
 use Rattle.cx_promotion.proofs.RulesMade.{design_is_accepted}
-use Rattle.cx_promotion.proofs.DesignsQuicken.{words_stay}
-use Rattle.cx_promotion.proofs.WholeDesigns.{design_quickens, again_quickens}
+use Rattle.cx_promotion.proofs.WholeDesigns.{design_quickens, again_quickens, words_stay}
 use Rattle.cx_promote.proofs.DesignPromoted.{design_made, promoted_design}
 use Rattle.cx_promote.proofs.NamesPromoted.{names_made}
 
@@ -34,10 +33,10 @@ promoted_tree_accepted tree new rows design h (inr (breaks, stays, told)) = subs
 -- QUICKER
 module _ (tree new : PlainTree) (rows : List PromotedRow) (design : IsDesign (design_of tree)) (h : IsAcceptedTree tree) (is : IsPromotedTree tree new rows) where
   pub tree_quickens : NoneNamesDone (design_of tree) → WholeQuickens (design_of tree) (design_of new)
-  tree_quickens undone = design_quickens (design_of tree) (design_of new) design h.accepted undone (promoted_design tree new rows is)
+  tree_quickens undone = design_quickens (design_of tree) (design_of new) design h.accepted (promoted_design tree new rows is) undone
 
   pub again_tree_quickens : NoneNamesDone (design_of tree) → (again : PlainTree) → SameDesign (design_of new) (design_of again) → WholeQuickens (design_of tree) (design_of again)
-  again_tree_quickens undone again same = again_quickens (design_of tree) (design_of new) design h.accepted undone (promoted_design tree new rows is) (design_of again) same
+  again_tree_quickens undone again same = again_quickens (design_of tree) (design_of new) design h.accepted (promoted_design tree new rows is) undone (design_of again) same
 
   pub tree_words_stay : (s : State) → words_of (tree_of (design_of new)) s ≡ words_of (tree_of (design_of tree)) s
   tree_words_stay s = words_stay (design_of tree) (design_of new) design h.accepted (promoted_design tree new rows is) s

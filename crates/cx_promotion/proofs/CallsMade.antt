@@ -38,9 +38,6 @@ plain_timed kinds.Plain n e p = absurd (cc)
 plain_timed kinds.Comb n e p = no_true p
 plain_timed (kinds.Timed m) n e p = no_true p
 
-not_plain_plain : (kind other : GroupKind) → is_plain kind ≡ true → other ≡ kind → is_plain other ≡ false → ⊥
-not_plain_plain kind other plain same wrong = not_both (is_plain kind) plain (ap is_plain (sym same) ∙ wrong)
-
 -- a promoted group drives no done
 no_holes : (i : Instance) (list : List PlainAssign) → some_target is_hole (promoted_assigns i list) ≡ false
 no_holes i [] = refl

@@ -19,7 +19,7 @@ use Rattle.cx_meaning.specs.Truths.{Truth, One, Zero, truth_of}
 use Rattle.cx_meaning.specs.Truths as truths
 use Rattle.cx_meaning.specs.Sights.{Look, Held, bit_of, of_option, seen}
 use Rattle.cx_meaning.specs.Cycles.{Fault, fault_at, Outcome, Next, cell_outcome, outcome_at, outcome_of, first_fault, stepped, state_after, Ended, Goes, Faults, unless_fault, ended, every_cell, cycle}
-use Rattle.cx_meaning.specs.Answers.{Turn, turn_then, turns_of}
+use Rattle.cx_meaning.specs.Answers.{turn_then, turns_of}
 use Rattle.cx_meaning.specs.Answers as answers
 use Rattle.cx_meaning.specs.Islands.{turn_of}
 use Rattle.cx_meaning.specs.Calls.{hole_turn, group_turn}
@@ -58,9 +58,6 @@ other_path c d e = cc
 
 longer_path : (c d e : ℕ) (path : Path) → ◌≡◌ {A = Path} (d ∷ e ∷ path) (c ∷ []) → ⊥
 longer_path c d e path same = cc
-
-no_path : (c : ℕ) → ◌≡◌ {A = Path} [] (c ∷ []) → ⊥
-no_path c same = cc
 
 fault_goes : (f : Fault) (a : State) → answers.Faults f ≡ answers.Goes a → ⊥
 fault_goes f a e = cc

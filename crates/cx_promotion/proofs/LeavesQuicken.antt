@@ -1,41 +1,30 @@
--- THE LEAVES OF CONTROL from a settled state: where the old one ends, the new one ends no later in the same state.
-use Rattle.std.proofs.Common.{◌≡◌, ℕ, suc, ◌≤◌, inl, inr, Bool, true, false, List, [], ◌∷◌, length, Option, Some, None, refl, sym, ap, ◌∙◌, subst, arith, ◌<◌}
+-- WHAT THE LEAVES OF CONTROL owe from a settled state: where the old one ends, the new one ends no later in the same state; tests and groups that stay.
+use Rattle.std.proofs.Common.{◌≡◌, ℕ, suc, ◌≤◌, Bool, true, false, List, [], ◌∷◌, length, Option, Some, None, refl, sym, ap, ◌∙◌, subst, arith, ◌<◌}
 use Rattle.std.specs.Prelude.{nat_eq, ◌||◌, if◌then◌else◌}
 use Rattle.std.proofs.Math.Path.{fun_ext}
 use Rattle.std.proofs.lemmas.Bool.{eqb-true}
-use Rattle.cx_text.specs.Members.{In}
-use Rattle.cx_text.specs.declared.places.Place.{Place}
 use Rattle.cx_meaning.specs.declared.ports.PortRef.{PortRef}
 use Rattle.cx_meaning.specs.declared.ports.PortRef.TheVariants as ports
-use Rattle.cx_meaning.specs.Designs.{PlainAssign, PlainGroup, group_at, Enable}
+use Rattle.cx_meaning.specs.Designs.{PlainAssign, PlainGroup, group_at}
 use Rattle.cx_meaning.specs.Instances.{Instance, Node, At, OfInstance, part_of, cells_of, cell_at, State, under, put, idle, IsSettled}
-use Rattle.cx_meaning.specs.Active.{group, comb, capture}
+use Rattle.cx_meaning.specs.Active.{group, comb}
 use Rattle.cx_meaning.specs.Truths.{truth_of}
-use Rattle.cx_meaning.specs.Sights.{Held, seen}
-use Rattle.cx_meaning.specs.Cycles.{Fault, Ended, cycle}
-use Rattle.cx_meaning.specs.Answers.{Answer, End, More, Meaning, Test, Holds, Fails, Unclear, idle_turn, one_turn, turns_of, then_do}
+use Rattle.cx_meaning.specs.Sights.{Held}
+use Rattle.cx_meaning.specs.Cycles.{Fault}
+use Rattle.cx_meaning.specs.Answers.{Answer, End, More, Meaning}
 use Rattle.cx_meaning.specs.Answers as answers
 use Rattle.cx_meaning.specs.Budgets.{Grows, IsSteady, Leaves}
-use Rattle.cx_meaning.specs.Islands.{kind_length, group_length, island, turn_of}
-use Rattle.cx_meaning.specs.Calls.{hole_turn, group_turn, test_of, test, if_instance, called_by, called_in, called, enables_at, enables_primitive, captures_in, captures, lift_answer, inputs_of_call, after_child, call, enable}
-use Rattle.cx_meaning.specs.Running.{Children}
-use Rattle.cx_meaning.proofs.AnswersLemmas.{steady_idle, steady_turn, steady_turns}
-use Rattle.cx_meaning.proofs.RunningLemmas.{steady_island}
+use Rattle.cx_meaning.specs.Islands.{kind_length, group_length}
+use Rattle.cx_meaning.specs.Calls.{test_of, test, if_instance, called_by, called_in, called, enables_at, enables_primitive, captures_in, captures, lift_answer, inputs_of_call}
 use Rattle.cx_rules.specs.Circles.{IsAcyclic}
-use Rattle.cx_rules.specs.Items.{Dynamic, statements_in}
-use Rattle.cx_rewrites.specs.Tallies.{Tally, none, plus, Counted, then_count}
-use Rattle.cx_rewrites.specs.Carrying.{NoLater, Same, Carried, Carries}
-use Rattle.cx_rewrites.proofs.CarryLemmas.{then_carried}
-use Rattle.cx_rewrites.proofs.TurnLemmas.{enable-turns, enable-call, enable-island}
+use Rattle.cx_rewrites.specs.Tallies.{Tally, Counted}
+use Rattle.cx_rewrites.specs.Carrying.{NoLater, Same, Carried}
 use Rattle.cx_promotion.specs.Made.{IsPromoted}
-use Rattle.cx_promotion.proofs.Twins.{Twins, beside_each, twin_cells, TwinAt, none_there, a_row_there, a_child_there, twins_at, idle-twin}
+use Rattle.cx_promotion.proofs.Twins.{Twins, beside_each, twin_cells, TwinAt, none_there, a_row_there, a_child_there, twins_at}
 use Rattle.cx_promotion.proofs.MadeBeside.{MadeBeside}
 use Rattle.cx_promotion.proofs.Members.{not_promoted}
-use Rattle.cx_promotion.proofs.Stays.{IsIdle, seen_stays, cycle_stays}
-use Rattle.cx_promotion.proofs.StaticStays.{island_stays}
-use Rattle.cx_frames.proofs.CircleFrames.{capture_acyclic}
+use Rattle.cx_promotion.proofs.Stays.{IsIdle, seen_stays}
 use Rattle.cx_rewrites.proofs.StandingLemmas.{idle_below-child}
-use Rattle.cx_meaning.proofs.ControlLemmas.{called_child}
 
 abbrev pub same_fault : Fault → Fault
 same_fault f = f
@@ -79,13 +68,10 @@ recounted R before k l (answers.Fault f t) x carried = tt
 recounted R before k l More x carried = tt
 
 -- CHILDREN of a settled instance are settled
-
 pub child_settled : (i : Instance) (s : State) (c : ℕ) (child : Instance) → cell_at (cells_of i) c ≡ OfInstance child → IsSettled i s → IsSettled child (under c s)
 child_settled (Node part cells) s c child is settled path = sym (idle_below-child cells c child path (s (c ∷ path)) is) ∙ settled (c ∷ path)
 
--- THE CALLED CELL is a component's
-
--- and is the same in both designs, as what is captured
+-- THE CALLED CELL is the same in both designs, as what is captured
 module _ (i j : Instance) (t : Twins MadeBeside i j) where
   at_twin : (c : ℕ) → TwinAt MadeBeside (cell_at (cells_of i) c) (cell_at (cells_of j) c)
   at_twin c = twins_at MadeBeside (cells_of i) (cells_of j) (twin_cells MadeBeside i j t) c
@@ -140,18 +126,6 @@ module _ (i j : Instance) (t : Twins MadeBeside i j) where
           by true e = absurd (not_promoted h.whole (part_of i) (part_of j) g stays (subst (IsPromoted h.whole (part_of i) (part_of j)) (sym (eqb-true g k e)) is))
           by false e = refl
 
-      pub group_still : IsPromoted h.whole (part_of i) (part_of j) g → ⊥
-      group_still is = not_promoted h.whole (part_of i) (part_of j) g stays is
-
-      group_turn_stays : group_turn j held g ≡ group_turn i held g
-      group_turn_stays =
-          fun_ext (λ s.
-          ap (λ v. hole_turn g (cycle j held (group g) s) (truth_of v)) (seen_stays i j t held (group g) s group_idle (h.groups g there) (ports.Done g))
-          ∙ ap (λ c. hole_turn g c (truth_of (seen i held (group g) s (ports.Done g)))) (cycle_stays i j t held (group g) s group_idle (h.groups g there)))
-
-      turns_stay : (s : State) (n : ℕ) → turns_of (idle j) (group_turn j held g) s n ≡ turns_of (idle i) (group_turn i held g) s n
-      turns_stay s n = ap (λ rest. turns_of rest (group_turn j held g) s n) (idle-twin MadeBeside i j t) ∙ ap (λ turn. turns_of (idle i) turn s n) group_turn_stays
-
       pub called_stays : called j g ≡ called i g
       called_stays = called_in_twin (group_at (part_of j) g).assigns ∙ ap (λ (x : PlainGroup). called_in (cells_of i) x.assigns) stays
 
@@ -161,30 +135,6 @@ module _ (i j : Instance) (t : Twins MadeBeside i j) where
       pub length_stays : group_length (part_of j) g ≡ group_length (part_of i) g
       length_stays = ap (λ (x : PlainGroup). kind_length x.kind) stays
 
-      -- A CALL, whose child is quicker
-      capture_stays : (c : ℕ) (s : State) → cycle j held (capture g c) s ≡ cycle i held (capture g c) s
-      capture_stays c s = cycle_stays i j t held (capture g c) s group_idle (capture_acyclic i g c (h.groups g there))
-
-      after_stays : (c : ℕ) (capturing : Bool) (s : State) (n : ℕ) → after_child j held g c capturing s n ≡ after_child i held g c capturing s n
-      after_stays c true s n =
-          ap (λ rest. one_turn rest (λ s1. turn_of (cycle j held (capture g c) s1)) (idle_turn rest) s n) (idle-twin MadeBeside i j t)
-          ∙ ap (λ (go : State → Ended). one_turn (idle i) (λ s1. turn_of (go s1)) (idle_turn (idle i)) s n) (fun_ext (capture_stays c))
-      after_stays c false s n = ap (λ rest. idle_turn rest s n) (idle-twin MadeBeside i j t)
-
-      steady_after : (c : ℕ) (capturing : Bool) → IsSteady (after_child i held g c capturing)
-      steady_after c true s n m le = steady_turn (idle i) (λ s1. turn_of (cycle i held (capture g c) s1)) (idle_turn (idle i)) (steady_idle State Fault (idle i)) s n m le
-      steady_after c false s n m le = steady_idle State Fault (idle i) s n m le
-
-      after_carries : (c : ℕ) → Carries NoLater Same same_fault (λ s n. none) (after_child i held g c (captures i g)) (after_child j held g c (captures j g))
-      after_carries c before s z n m room e = by (after_child i held g c (captures i g) s n) refl
-        where
-          by : (o : Answer State Fault) → after_child i held g c (captures i g) s n ≡ o → Carried NoLater Same same_fault before none o (after_child j held g c (captures j g) z m)
-          by (End a k) is =
-              let later = grown n (after_child i held g c (captures i g) s n) (after_child i held g c (captures i g) s m) a k (steady_after c (captures i g) s n m room) is in
-              (a, k, ap (λ b. after_child j held g c b z m) captures_stays ∙ after_stays c (captures i g) z m ∙ ap (λ y. after_child i held g c (captures i g) y m) (sym e) ∙ later.1, same_le k, refl)
-          by (answers.Fault f k) is = tt
-          by More is = tt
-
       pub lift_carried : (child : Instance) (c : ℕ) (before k : Tally) (s z : State) (o x : Answer State Fault) → s ≡ z → Carried NoLater (SameSettled child) same_fault before k o x
           → Carried NoLater Same same_fault before k (lift_answer c s o) (lift_answer c z x)
       lift_carried child c before k s z (End own n) x e (twin, u, is, keeps, same) = (put c twin z, u, ap (lift_answer c z) is, keeps, ap (λ y. put c y s) same.0 ∙ ap (put c twin) e)
@@ -193,46 +143,3 @@ module _ (i j : Instance) (t : Twins MadeBeside i j) where
 
       pub inputs_stay : (c : ℕ) (s : State) → inputs_of_call j held g c s ≡ inputs_of_call i held g c s
       inputs_stay c s = fun_ext (λ input. seen_stays i j t held (group g) s group_idle (h.groups g there) (ports.Cell c (suc input)))
-
-      module _ (kids others : Children) (children : (c : ℕ) (child : Instance) → cell_at (cells_of i) c ≡ OfInstance child → (own : Held) → Carries NoLater (SameSettled child) same_fault (λ s n. none) (kids c own) (others c own)) where
-        call_quicker : (counts : Counted State) (c : ℕ) (child : Instance) → cell_at (cells_of i) c ≡ OfInstance child → Quicker i counts (call i kids held g c) (call j others held g c)
-        call_quicker counts c child is before s z n m room e settled =
-            recounted (λ a b. a ≡ b) before (plus none (then_count (lift_answer c s (kids c (inputs_of_call i held g c s) (under c s) n)) n (λ s1 k. none))) (counts s n) (call i kids held g c s n) (call j others held g c z m)
-            (then_carried NoLater Same same_fault before none n m room
-            (lift_answer c s (kids c (inputs_of_call i held g c s) (under c s) n)) (lift_answer c z (others c (inputs_of_call j held g c z) (under c z) m)) (λ s1 k. none)
-            (after_child i held g c (captures i g)) (after_child j held g c (captures j g))
-            (lift_carried child c before none s z (kids c (inputs_of_call i held g c s) (under c s) n) (others c (inputs_of_call j held g c z) (under c z) m) e
-            (subst (λ own. Carried NoLater (SameSettled child) same_fault before none (kids c (inputs_of_call i held g c s) (under c s) n) (others c own (under c z) m)) (sym (ap (inputs_of_call j held g c) (sym e) ∙ inputs_stay c s))
-            (children c child is (inputs_of_call i held g c s) before (under c s) (under c z) n m room (ap (under c) e, child_settled i s c child is settled))))
-            (after_carries c))
-
-        -- THE ENABLE of such a group
-        pub enable_quicker : (counts : Counted State) (place : Place) → In (statements_in (part_of i)) (record { context = Dynamic; form = Enable g; place = place }) → Quicker i counts (enable i kids held g) (enable j others held g)
-        enable_quicker counts place stands = by_length (group_length (part_of i) g) refl
-          where
-            equals : (go on : Meaning State Fault) → ((s : State) (n : ℕ) → enable i kids held g s n ≡ go s n) → ((s : State) (n : ℕ) → enable j others held g s n ≡ on s n)
-                → Quicker i counts go on → Quicker i counts (enable i kids held g) (enable j others held g)
-            equals go on old new quicker before s z n m room e settled =
-                subst (λ o. Carried NoLater Same same_fault before (counts s n) o (enable j others held g z m)) (sym (old s n))
-                (subst (λ x. Carried NoLater Same same_fault before (counts s n) (go s n) x) (sym (new z m)) (quicker before s z n m room e settled))
-
-            by_called : group_length (part_of i) g ≡ None → (o : Option ℕ) → called i g ≡ o → Quicker i counts (enable i kids held g) (enable j others held g)
-            by_called none None calls =
-                equals (turns_of (idle i) (group_turn i held g)) (turns_of (idle j) (group_turn j held g))
-                (enable-turns i kids held g none calls) (enable-turns j others held g (length_stays ∙ none) (called_stays ∙ calls))
-                (steady_quicker i counts (turns_of (idle i) (group_turn i held g)) (turns_of (idle j) (group_turn j held g)) (steady_turns (idle i) (group_turn i held g)) turns_stay)
-            by_called none (Some c) calls =
-                let r = called_child (cells_of i) (group_at (part_of i) g).assigns c calls in
-                equals (call i kids held g c) (call j others held g c) (enable-call i kids held g c none calls) (enable-call j others held g c (length_stays ∙ none) (called_stays ∙ calls))
-                (call_quicker counts c r.0 r.1)
-
-            by_length : (o : Option ℕ) → group_length (part_of i) g ≡ o → Quicker i counts (enable i kids held g) (enable j others held g)
-            by_length None none = by_called none (called i g) refl
-            by_length (Some k) some =
-                equals (island i held (Enable g)) (island j held (Enable g)) (enable-island i kids held g k some) (enable-island j others held g k (length_stays ∙ some))
-                (steady_quicker i counts (island i held (Enable g)) (island j held (Enable g)) (steady_island i held (Enable g))
-                (island_stays i j t held (record { context = Dynamic; form = Enable g; place = place }) stands still))
-              where
-                still : (k : ℕ) → In (g ∷ []) k → (IsPromoted h.whole (part_of i) (part_of j) k → ⊥) × (group_length (part_of j) k ≡ group_length (part_of i) k)
-                still k (inl e) = subst (λ n. (IsPromoted h.whole (part_of i) (part_of j) n → ⊥) × (group_length (part_of j) n ≡ group_length (part_of i) n)) e (group_still, length_stays)
-                still k (inr wrong) = absurd wrong

@@ -23,9 +23,7 @@ mod StaticStays
 mod MadeControl
 mod LeavesQuicken
 mod PiecesQuicken
-mod RunsQuicken
 pub mod Trees
-pub mod DesignsQuicken
 pub mod PortsMade
 mod LeadsMade
 mod AssignsMade

@@ -1,14 +1,12 @@
 -- A PIECE: enables of groups that are in step, one after the other from a settled state, and the static seq of them.
-use Rattle.std.specs.Prelude.{◌≡◌, ℕ, ◌+◌, List, [], ◌∷◌, ◌++◌, length, Option, Some, None, refl}
+use Rattle.std.specs.Prelude.{◌≡◌, ℕ, ◌+◌, List, [], ◌∷◌, ◌++◌, Option, Some, None, refl}
 use Rattle.std.proofs.Common.{ap, ◌∙◌}
 use Rattle.cx_text.specs.declared.places.Place.{Place}
 use Rattle.cx_meaning.specs.Designs.{PlainComponent, PlainStatements, no_statements, a_statement, Placed, Enable, StaticSeq}
 use Rattle.cx_meaning.specs.Instances.{Instance, State, idle, part_of}
 use Rattle.cx_meaning.specs.Sights.{Held}
-use Rattle.cx_meaning.specs.Cycles.{Fault}
-use Rattle.cx_meaning.specs.Answers.{End, Turn}
 use Rattle.cx_meaning.specs.Islands.{Occurrence, Runs, occurrence, or_zero, group_length, seq_flat, sum_length, island, island_from, no_history}
-use Rattle.cx_promotion.proofs.Chains.{total, chain, one_by_one, AllInStep, chain_ends}
+use Rattle.cx_promotion.proofs.Chains.{total, chain}
 use Rattle.cx_promotion.proofs.Runs.{runs_of, one_cycle, island_is_chain, runs_are}
 
 module _ (part : PlainComponent) (len : ℕ → ℕ) where
@@ -35,12 +33,3 @@ module _ (i : Instance) (held : Held) (len : ℕ → ℕ) where
       ap (λ (list : List Occurrence). island_from i held list (sum_length (part_of i) ss) 0 no_history s n) (flat_is (part_of i) len run 0)
       ∙ ap (λ k. island_from i held (runs_of len gs 0) k 0 no_history s n) (length_is (part_of i) len run)
       ∙ island_is_chain len i held (runs_of len gs 0) 0 gs (runs_are len i held gs 0) no_history s n
-
-  -- A PIECE QUICKENS: where the old groups end one by one, the static seq ends in the same state, with one idle turn in place of one for each
-  pub piece_quickens : (old : ℕ → State → Turn State Fault) (Ready : State → Type 0) {gs : List ℕ} {ss : PlainStatements} → RunOf (part_of i) len gs ss
-      → AllInStep (idle i) old (one_cycle len i held) len Ready gs
-      → (s u end : State) (n t : ℕ) → idle i u ≡ s → Ready u → one_by_one (idle i) old (one_cycle len i held) len Ready gs s n ≡ End end t
-      → (t ≡ total len gs + length gs) × (island i held (StaticSeq None ss) u (total len gs + 1) ≡ End end (total len gs + 1))
-  piece_quickens old Ready {gs = gs} {ss = ss} run steps s u end n t at_rest ready e =
-      let ends = chain_ends (idle i) old (one_cycle len i held) len Ready gs s u end n t steps at_rest ready e in
-      (ends.0, static_seq_is run u (total len gs + 1) ∙ ends.1)

@@ -8,7 +8,7 @@ use Rattle.cx_meaning.specs.Designs.{PlainAssign, PlainGroup, PlainComponent, gr
 use Rattle.cx_meaning.specs.Instances.{Instance, Node, Cells, At, Nothing, OfRow, OfInstance, part_of, cells_of, cell_at, State, idle, IsSettled}
 use Rattle.cx_meaning.specs.Sights.{Held}
 use Rattle.cx_meaning.specs.Cycles.{Fault}
-use Rattle.cx_meaning.specs.Answers.{Answer, End, More, Meaning, Turn, turns_of, then_do, stay}
+use Rattle.cx_meaning.specs.Answers.{Answer, End, More, Turn, turns_of, then_do, stay}
 use Rattle.cx_meaning.specs.Answers as answers
 use Rattle.cx_meaning.specs.Control.{Leaves, groups_in_all, run_parts}
 use Rattle.cx_meaning.specs.Islands.{kind_length, group_length, or_zero, occurrence, island_from, no_history, island}

@@ -1,5 +1,5 @@
 -- PORTS OF ROWS, by their names: those of memories stand behind their address ports.
-use Rattle.std.specs.Prelude.{◌≡◌, ◌<◌, ℕ, zero, suc, ◌+◌, Bool, true, false, List, [], ◌∷◌, ◌++◌, Some, length, slice_get, if◌then◌else◌, refl}
+use Rattle.std.specs.Prelude.{◌≡◌, ◌<◌, ℕ, zero, suc, ◌+◌, Bool, false, List, [], ◌∷◌, ◌++◌, Some, length, if◌then◌else◌, refl}
 use Rattle.std.proofs.Common.{ap, ◌∙◌, arith}
 use Rattle.cx_prim.specs.declared.ports.PortName.{PortName}
 use Rattle.cx_prim.specs.declared.ports.PortName.TheVariants as names
@@ -8,18 +8,6 @@ use Rattle.cx_prim.specs.declared.ports.Side.TheVariants as sides
 use Rattle.cx_prim.specs.MemoryRows.{ports_named}
 use Rattle.cx_meaning.specs.Rows.{side_from}
 use Rattle.cx_promotion.specs.Promotable.{is_name, is_named, first_named}
-use Rattle.cx_text.proofs.OptionLaws.{same_some}
-
--- a port that is there has its name
-pub named_at : (name : PortName) (ports : List PortRow) (n : ℕ) (port : PortRow) → slice_get ports n ≡ Some port → is_named name ports n ≡ is_name name port.name
-named_at name [] n port e = absurd (cc)
-named_at name (x ∷ rest) zero port e = ap (λ (p : PortRow). is_name name p.name) (same_some x port e)
-named_at name (x ∷ rest) (suc n) port e = named_at name rest n port e
-
-pub named_there : (name : PortName) (ports : List PortRow) (n : ℕ) → is_named name ports n ≡ true → n < length ports
-named_there name [] n e = absurd (cc)
-named_there name (x ∷ rest) zero e = omega arith
-named_there name (x ∷ rest) (suc n) e = let h = named_there name rest n e in omega (arith, h)
 
 -- NONE OF THESE NAMES is the name
 abbrev pub AreOther : PortName → List PortName → Type 0
@@ -63,6 +51,3 @@ no_content = (refl, (refl, (refl, (refl, tt))))
 
 pub no_write : AreOther names.WriteEn addresses
 no_write = (refl, (refl, (refl, (refl, tt))))
-
-pub no_go : AreOther names.Go addresses
-no_go = (refl, (refl, (refl, (refl, tt))))

@@ -34,7 +34,7 @@ use Rattle.cx_promotion.proofs.AssignsMade as assigns
 use Rattle.cx_promotion.proofs.AssignsMade.{From, BreaksThere, OldBreak, origin_of}
 use Rattle.cx_promotion.proofs.CallsMade as calls
 use Rattle.cx_promotion.proofs.StatementsMade as statements
-use Rattle.cx_promotion.proofs.StatementsMade.{OldStatementBreak, Comes, comes}
+use Rattle.cx_promotion.proofs.StatementsMade.{Comes, comes}
 
 below_seven : (m : ℕ) → m < 7 → m ≡ 7 → ⊥
 below_seven m lt e = omega arith

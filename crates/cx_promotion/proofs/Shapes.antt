@@ -18,15 +18,15 @@ use Rattle.cx_rules.specs.ShapeRules.{is_hole, some_target}
 use Rattle.cx_rules.specs.CallShape.{one, is_always, is_negated, is_atom, is_port_of}
 use Rattle.cx_rules.proofs.FoundLemmas.{same_is}
 use Rattle.cx_promotion.specs.Promotable.{is_named, starting_port, cycles_of, looks_at_done, is_right_enable, is_right, starts, keeps_all, length_if, of_cell, of_source, of_dones, promotable}
-use Rattle.cx_text.proofs.BoolLaws.{both_true, from_not}
+use Rattle.cx_text.proofs.BoolLaws.{and_both, from_not}
 use Rattle.cx_promotion.proofs.Impossible.{no_true, no_some}
 use Rattle.cx_rules.proofs.ShapeRulesLemmas.{a_target, always_is}
 
 -- lists
 pub all_pass : {A : Type 0} (test : A → Bool) (list : List A) (x : A) → list_all test list ≡ true → In list x → test x ≡ true
 all_pass test [] x e j = absurd j
-all_pass test (y ∷ list) x e (inl same) = subst (λ z. test z ≡ true) same (both_true (test y) (list_all test list) e).0
-all_pass test (y ∷ list) x e (inr j) = all_pass test list x (both_true (test y) (list_all test list) e).1 j
+all_pass test (y ∷ list) x e (inl same) = subst (λ z. test z ≡ true) same (and_both (test y) (list_all test list) e).0
+all_pass test (y ∷ list) x e (inr j) = all_pass test list x (and_both (test y) (list_all test list) e).1 j
 
 pub or_none : (a b : Bool) → (a || b) ≡ false → (a ≡ false) × (b ≡ false)
 or_none true b e = absurd (cc)
@@ -92,7 +92,7 @@ open_is port g pipe e = by (is_always g) refl e
   where
     by : (b : Bool) → is_always g ≡ b → (b || (pipe && is_negated port g)) ≡ true → IsOpen port g
     by true is h = inl (always_is g is)
-    by false is h = negated_is port g (both_true pipe (is_negated port g) h).1
+    by false is h = negated_is port g (and_both pipe (is_negated port g) h).1
 
 port_of_is : (c : ℕ) (port : PortRef) → is_port_of c port ≡ true → (p : ℕ) × (port ≡ ports.Cell c p)
 port_of_is c (ports.Cell d p) e = (p, ap (λ k. ports.Cell k p) (eqb-true d c e))
@@ -134,9 +134,9 @@ module _ (i : Instance) (x : PlainGroup) (c p : ℕ) (row : Row) where
     where
       by_enable : is_hole a.target ≡ false → (b : Bool) → is_primitive_enable i a.target ≡ b → (if b then is_right_enable i x c p row a else not (looks_at_done i a)) ≡ true → RightAssign i c p a
       by_enable no_hole true is h =
-          let outer = both_true (is_port_of c a.target && (same_port a.source.port one && (is_always a.guard || _ && is_negated (ports.Cell c p) a.guard))) _ h in
-          let inner = both_true (is_port_of c a.target) _ outer.0 in
-          let last = both_true (same_port a.source.port one) _ inner.1 in
+          let outer = and_both (is_port_of c a.target && (same_port a.source.port one && (is_always a.guard || _ && is_negated (ports.Cell c p) a.guard))) _ h in
+          let inner = and_both (is_port_of c a.target) _ outer.0 in
+          let last = and_both (same_port a.source.port one) _ inner.1 in
           let at = port_of_is c a.target inner.0 in
           of_enable at.0 is at.1 (same_is a.source.port one last.0) (open_is (ports.Cell c p) a.guard _ last.1)
       by_enable no_hole false is h = of_other no_hole is (from_not (looks_at_done i a) h)
@@ -159,9 +159,9 @@ module _ (i : Instance) (x : PlainGroup) (n : ℕ) (plain : is_plain x.kind ≡ 
     (done : PlainAssign) (only : filter (λ a. is_hole a.target) x.assigns ≡ done ∷ []) (bare : is_always done.guard ≡ true) where
   of_kept : (c p : ℕ) → done.source.port ≡ ports.Cell c p → (row : Row) → cell_at (cells_of i) c ≡ OfRow row → keeps_all i x c p row ≡ true → cycles_of row.shape ≡ Some n → Shape i x n
   of_kept c p source row at keeps length =
-      let outer = both_true _ (not (list_any (looks_at_done i) (part_of i).always)) keeps in
-      let middle = both_true (is_named names.Done row.ports p && starts i x c p row (starting_port row)) _ outer.0 in
-      let inner = both_true (is_named names.Done row.ports p) _ middle.0 in
+      let outer = and_both _ (not (list_any (looks_at_done i) (part_of i).always)) keeps in
+      let middle = and_both (is_named names.Done row.ports p && starts i x c p row (starting_port row)) _ outer.0 in
+      let inner = and_both (is_named names.Done row.ports p) _ middle.0 in
       let begun = start_is i x c p row (starting_port row) inner.1 in
       let hole : PlainAssign → Bool = λ a. is_hole a.target in
       let first : In (filter hole x.assigns) done = subst (λ list. In list done) (sym only) (inl refl) in
@@ -220,6 +220,6 @@ shape_of i x n e = by_test (is_plain x.kind && not (some_target (is_part_port i)
 
     by_test : (b : Bool) → (is_plain x.kind && not (some_target (is_part_port i) x.assigns)) ≡ b → (if b then of_dones i x (filter (λ a. is_hole a.target) x.assigns) else None) ≡ Some n → Shape i x n
     by_test true is h =
-        let both = both_true (is_plain x.kind) (not (some_target (is_part_port i) x.assigns)) is in
+        let both = and_both (is_plain x.kind) (not (some_target (is_part_port i) x.assigns)) is in
         by_dones both.0 (from_not (some_target (is_part_port i) x.assigns) both.1) (filter (λ a. is_hole a.target) x.assigns) refl h
     by_test false is h = no_some n h

@@ -12,7 +12,7 @@ use Rattle.cx_meaning.specs.Active.{Active, group, capture}
 use Rattle.cx_meaning.specs.Truths.{truth_of}
 use Rattle.cx_meaning.specs.Sights.{Held, seen}
 use Rattle.cx_meaning.specs.Cycles.{Fault, Ended}
-use Rattle.cx_meaning.specs.Answers.{Answer, End, More, Meaning, idle_turn, one_turn, turns_of}
+use Rattle.cx_meaning.specs.Answers.{Answer, End, More, idle_turn, one_turn, turns_of}
 use Rattle.cx_meaning.specs.Answers as answers
 use Rattle.cx_meaning.specs.Islands.{kind_length, turn_of}
 use Rattle.cx_meaning.specs.Calls.{hole_turn, inputs_of_call, called, captures, lift_answer}

@@ -2,7 +2,7 @@
 use Rattle.std.proofs.Common.{◌≡◌, ℕ, zero, suc, ◌+◌, ◌-◌, ◌<◌, inl, inr, ⊎_elim, Bool, true, false, List, [], ◌∷◌, ◌++◌, length, Option, Some, None, refl, sym, ap, ap₂, ◌∙◌, subst}
 use Rattle.std.specs.Prelude.{is_some}
 use Rattle.cx_text.specs.Members.{In}
-use Rattle.cx_text.proofs.MemberLaws.{in_left, in_right, of_joined}
+use Rattle.cx_text.proofs.MemberLaws.{of_joined}
 use Rattle.cx_meaning.specs.Designs.{PlainInvoke, PlainComponent, PlainGroup, PlainForm, Empty, Enable, Seq, Par, If, While, Repeat, StaticSeq, StaticPar, StaticIf, StaticRepeat, Timed, PlainStatement, Placed, form_of, PlainStatements, no_statements, a_statement}
 use Rattle.cx_meaning.specs.Instances.{Instance, Node, Cells, no_cells, a_primitive, an_instance, OfInstance, cell_at, part_of, Path, instance_at}
 use Rattle.cx_meaning.specs.Control.{groups_in, groups_of, groups_in_all}

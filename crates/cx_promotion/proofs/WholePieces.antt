@@ -16,7 +16,7 @@ use Rattle.cx_meaning.specs.Answers as answers
 use Rattle.cx_meaning.specs.Budgets.{Leaves}
 use Rattle.cx_meaning.specs.Control as control
 use Rattle.cx_meaning.specs.Control.{run_parts}
-use Rattle.cx_meaning.specs.Islands.{Occurrence, form_flat, form_length, looked_at, active_in, is_one, turn_of, unless_unclear, island_turn, island_from, island}
+use Rattle.cx_meaning.specs.Islands.{Occurrence, form_flat, form_length, looked_at, active_in, is_one, unless_unclear, island_turn, island_from, island}
 use Rattle.cx_meaning.specs.Islands as islands
 use Rattle.cx_meaning.specs.Calls.{hole_turn, called}
 use Rattle.cx_meaning.specs.Calls as calls

@@ -12,7 +12,7 @@ use Rattle.cx_rules.specs.Sizes.{assigns_size, groups_size}
 use Rattle.cx_rewrites.specs.Moving.{moved_group, moved_form}
 use Rattle.cx_rewrites.specs.Renaming.{renamed}
 use Rattle.cx_rewrites.proofs.MovedLists as lists
-use Rattle.cx_rewrites.proofs.MovedLists.{moved_group_at, moved_visited}
+use Rattle.cx_rewrites.proofs.MovedLists.{moved_group_at}
 use Rattle.cx_rewrites.proofs.MovedInvokes.{invokes_of-moved, form_counted-moved, occurrences_counted-moved, statements_counted-moved}
 use Rattle.cx_sharing.specs.Giving.{new_cell}
 use Rattle.cx_sharing.specs.SharedDesign.{shared_invoke, shared_part}

@@ -11,7 +11,7 @@ pub mod SharedCycles
 pub mod MeetLemmas
 pub mod SharedGroups
 pub mod SharedLeaves
-pub mod SharedControl
+pub mod SharedTrees
 pub mod SharedMain
 pub mod MeetMoved
 pub mod GrowLemmas

@@ -1,28 +1,23 @@
--- What is used at once meets: by one port, one group, a condition with its comb group, and by the groups of a cycle of an island.
-use Rattle.std.proofs.Common.{◌≡◌, ◌≢◌, ℕ, zero, suc, ◌<◌, ◌≤◌, inl, inr, ◌⊎◌, ⊎_elim, true, ◌||◌, ◌&&◌, Option, Some, None, List, [], ◌∷◌, refl, sym, ap, ◌∙◌, subst}
+-- What is used at once meets: by one port, one group, a condition with its comb group, and by two arms.
+use Rattle.std.proofs.Common.{◌≡◌, ◌≢◌, ℕ, zero, suc, inl, inr, true, ◌||◌, ◌&&◌, Option, Some, None, List, [], ◌∷◌, refl, sym, ap, ◌∙◌}
 use Rattle.std.specs.Prelude.{slice_get}
 use Rattle.std.specs.List.{list_any}
-use Rattle.std.proofs.lemmas.Bool.{cases_lt, or_right}
-use Rattle.cx_text.specs.declared.places.Place.{Place}
+use Rattle.std.proofs.lemmas.Bool.{or_right}
 use Rattle.cx_text.proofs.BoolLaws.{or_left, and_true}
 use Rattle.cx_text.proofs.OptionLaws.{none_some}
 use Rattle.cx_meaning.specs.declared.ports.PortRef.{PortRef}
 use Rattle.cx_meaning.specs.declared.ports.PortRef.TheVariants as ports
 use Rattle.cx_meaning.specs.declared.ports.PlacedPort.{PlacedPort}
-use Rattle.cx_meaning.specs.Designs.{PlainComponent, PlainForm, Empty, Enable, Seq, Par, If, While, Repeat, StaticSeq, StaticPar, StaticIf, StaticRepeat, Timed, PlainStatement, Placed}
-use Rattle.cx_meaning.specs.Active.{nothing, group, capture, comb, Entry, entries}
-use Rattle.cx_meaning.specs.Control.{groups_of, targets_cell}
-use Rattle.cx_meaning.specs.Islands.{History, form_flat, form_length, active_in}
+use Rattle.cx_meaning.specs.Designs.{PlainComponent, PlainForm, Empty, Enable, Seq, Par, If, While, Repeat, StaticSeq, StaticPar, StaticIf, StaticRepeat, Timed, PlainStatement}
+use Rattle.cx_meaning.specs.Active.{nothing, group, capture, comb}
+use Rattle.cx_meaning.specs.Control.{targets_cell}
 use Rattle.cx_text.specs.Members.{In}
-use Rattle.cx_meaning.proofs.ActiveLemmas.{entry_of, only_is}
+use Rattle.cx_meaning.proofs.ActiveLemmas.{only_is}
 use Rattle.cx_meaning.proofs.InstancesLemmas.{just_true}
-use Rattle.cx_rules.specs.Items.{Context, Visited, visit, statements_in, tests_of}
+use Rattle.cx_rules.specs.Items.{Visited, statements_in}
 use Rattle.cx_rules.specs.RaceRule.{arms_of}
-use Rattle.cx_laws.specs.Positions.{active_at}
-use Rattle.cx_laws.proofs.IslandLemmas.{active_is, active_past}
-use Rattle.cx_laws.proofs.TogetherLemmas.{InArms, Together, together}
 use Rattle.cx_sharing.specs.Uses.{group_uses, uses, test_uses}
-use Rattle.cx_sharing.specs.Meeting.{has_both, arms_meet, form_meets, meet}
+use Rattle.cx_sharing.specs.Meeting.{has_both, arms_meet, form_meets}
 use Rattle.cx_sharing.proofs.UsedLemmas.{any_of, Covers, UsedMeet, group_meets, statement_meets}
 
 -- ONE PORT, under the continuous assignments alone
@@ -97,50 +92,3 @@ module _ (part : PlainComponent) where
   in_form (StaticIf length test a b) x y e = absurd (cc)
   in_form (StaticRepeat length count a) x y e = absurd (cc)
   in_form (Timed k) x y e = absurd (cc)
-
-  arm_uses : (s : PlainStatement) (g c : ℕ) → In (groups_of s) g → group_uses part g c ≡ true → uses part s c ≡ true
-  arm_uses s g c i e = or_left (list_any (λ h. group_uses part h c) (groups_of s)) (list_any (λ (p : PlacedPort). targets_cell p.port c) (tests_of s)) (any_of (λ h. group_uses part h c) (groups_of s) g i e)
-
-  par_meets : (v : Visited) (g f x y : ℕ) → In (statements_in part) v → InArms (arms_of v.form) g f → group_uses part g x ≡ true → group_uses part f y ≡ true → meet part x y ≡ true
-  par_meets v g f x y stands arms a b =
-      let two = arms.two in
-      statement_meets part x y (any_of (λ w. form_meets part w.form x y) (statements_in part) v stands
-      (in_form v.form x y (arms_meet-true (arms_of v.form) two.one two.other two.first two.second x y two.differ two.first_stands two.second_stands (arm_uses two.first g x arms.one a) (arm_uses two.second f y arms.other b))))
-
-  -- A CYCLE OF AN ISLAND, whose statements stand in the component's control or have no arms
-  abbrev pub StandsHere : Context → PlainForm → Place → Type 0
-  StandsHere context form place = (v : Visited) → In (visit context (Placed form place)) v → In (statements_in part) v ⊎ (arms_of v.form ≡ [])
-
-  module _ (context : Context) (form : PlainForm) (place : Place) (h : History) (t : ℕ) where
-    abbrev pub active_now : List Entry
-    active_now = active_in h t (form_flat part form 0 [])
-
-    pub now_together : (e f : Entry) → In active_now e → In active_now f → Together (visit context (Placed form place)) e f
-    now_together e f i j = ⊎_elim within past (cases_lt t (form_length part form))
-      where
-        within : t < form_length part form → Together (visit context (Placed form place)) e f
-        within lt =
-            let same : active_now ≡ active_at part h t form = active_is h t part form lt in
-            together part h t context (Placed form place) t e f (subst (λ x. In x e) same i) (subst (λ x. In x f) same j)
-
-        past : form_length part form ≤ t → Together (visit context (Placed form place)) e f
-        past le = let none : In [] e = subst (λ x. In x e) (active_past h t part form le) i in absurd none
-
-    abbrev pub NowUses : ℕ → Type 0
-    NowUses c = (e : Entry) × In active_now e × (group_uses part e.group c ≡ true)
-
-    pub now_covers : Covers part NowUses (entries active_now)
-    now_covers g k c acts uses = let r = entry_of active_now g k acts in (r.0, r.1, ap (λ n. group_uses part n c) r.2 ∙ uses)
-
-    pub now_meet : StandsHere context form place → UsedMeet part NowUses
-    now_meet here x y first second (e, i, a) (f, j, b) = inr (by (now_together e f i j))
-      where
-        by : Together (visit context (Placed form place)) e f → meet part x y ≡ true
-        by (inl same) = group_meets part e.group x y a (ap (λ (z : Entry). group_uses part z.group y) same ∙ b)
-        by (inr p) = ⊎_elim
-            (λ stands. par_meets p.statement e.group f.group x y stands p.arms a b)
-            (λ none. let first : slice_get [] p.arms.two.one ≡ Some p.arms.two.first = subst (λ list. slice_get list p.arms.two.one ≡ Some p.arms.two.first) none p.arms.two.first_stands in absurd (no_arm p.arms.two.one p.arms.two.first first))
-            (here p.statement p.stands)
-          where
-            no_arm : (n : ℕ) (s : PlainStatement) → slice_get {X = PlainStatement} [] n ≡ Some s → ⊥
-            no_arm n s e = cc

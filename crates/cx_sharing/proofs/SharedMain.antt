@@ -1,4 +1,4 @@
--- THE RUN OF MAIN of the shared design: from the same words it ends in the same turn with the same words, or has the same fault.
+-- THE EXTERNAL MEMORIES of the shared design are those of the design, and its start stands for the start; no component has a cell more.
 use Rattle.std.proofs.Common.{◌≡◌, ℕ, zero, suc, ◌+◌, ◌<◌, ◌≤◌, inl, inr, Bool, true, false, List, [], ◌∷◌, length, map, refl, sym, ap, ◌∙◌, subst, arith}
 use Rattle.std.specs.Prelude.{if◌then◌else◌, not}
 use Rattle.std.proofs.lemmas.Bool.{both_ways}
@@ -10,29 +10,21 @@ use Rattle.cx_prim.specs.Rows.{Row}
 use Rattle.cx_prim.specs.Table.{PrimitiveRow, row_of}
 use Rattle.cx_meaning.specs.Designs.{PlainKind, OfPrimitive, OfComponent, PlainCell, PlainComponent, PlainDesign, component_at}
 use Rattle.cx_meaning.specs.Instances.{Instance, OfRow, cell_at, cells_of, part_of, tree_within, tree_of, Path, State, just, start_at, if_external, externals_from, externals_of, loaded_at, start, words_of}
-use Rattle.cx_meaning.specs.Sights.{unheld}
-use Rattle.cx_meaning.specs.Cycles.{Fault}
-use Rattle.cx_meaning.specs.Answers.{Answer, End, More}
-use Rattle.cx_meaning.specs.Answers as answers
-use Rattle.cx_meaning.specs.Running.{run_control, run_main}
 use Rattle.cx_meaning.proofs.DesignsLemmas.{same_part}
 use Rattle.cx_meaning.proofs.InstancesLemmas.{some_cells, at_kind}
 use Rattle.cx_rules.specs.Accepted.{IsAccepted}
-use Rattle.cx_rules.specs.Externals.{row_for, rows_of, external_rows}
+use Rattle.cx_rules.specs.Externals.{rows_of, external_rows}
 use Rattle.cx_rules.specs.Externals as externals
 use Rattle.cx_rules.specs.Wellformed.{IsDesign, is_memory, IsExternal}
-use Rattle.cx_rewrites.specs.Tallies.{none}
-use Rattle.cx_rewrites.specs.Carrying.{Exact, Carried}
 use Rattle.cx_rewrites.specs.Standing.{holds, renumbered, renumbered_below}
-use Rattle.cx_rewrites.proofs.FollowLemmas.{end_followed, fault_followed, more_followed}
 use Rattle.cx_sharing.specs.Uses.{is_stateless, kind_in, is_candidate}
 use Rattle.cx_sharing.specs.Giving.{stays, staying, new_cell}
 use Rattle.cx_sharing.specs.SharedDesign.{remaining, shared_part, shared_design}
-use Rattle.cx_sharing.specs.Following.{has_state, SharedStands, shared_fault}
+use Rattle.cx_sharing.specs.Following.{has_state, SharedStands}
 use Rattle.cx_sharing.proofs.RemainingLemmas.{length_left, cell_is}
 use Rattle.cx_sharing.proofs.TwinLemmas.{IsTwin, shared_component, stays_is, other_stays, state_other, own_equal_back}
 use Rattle.cx_sharing.proofs.TwinStates.{HoldsAt, itself, in_child, holds_at, held_other, of_path, path_of, root_of, row_path, row_state, child_renumbered, start_state}
-use Rattle.cx_sharing.proofs.SharedControl.{tree_beside, tree_is_twin}
+use Rattle.cx_sharing.proofs.SharedTrees.{tree_is_twin}
 
 -- EXTERNAL CELLS of a list, the first of which has number c, are in a set
 abbrev pub KeepsExternals : (ℕ → Bool) → ℕ → List PlainCell → Type 0
@@ -226,30 +218,6 @@ module _ (d : PlainDesign) (design : IsDesign d) (accepted : IsAccepted d) where
         ap (λ x. cell_at x c) cells.1 ∙ cell_is cells.0 main.cells c (omega (arith, within, place)) ∙ ap (at_kind cells.0) kind,
         ap not memory.holds_words,
       )
-
-  -- THE RUN OF THE TWIN
-  module _ (words : List (List ℕ)) (n : ℕ) where
-    abbrev twin_run : Answer State Fault
-    twin_run = run_control twin_tree unheld (start twin_tree words) n
-
-    run_is : run_main (shared_design d) words n ≡ twin_run
-    run_is = ap (λ i. run_control i unheld (start i words) n) tree_shared
-
-    carried : Carried Exact (λ counted. SharedStands (tree_of d)) (shared_fault (tree_of d)) none none (run_main d words n) twin_run
-    carried = (tree_beside d design accepted (length d.components) d.main).runs unheld none (start (tree_of d) words) (start twin_tree words) n n refl (start_shared (tree_of d) twin_tree twins kept words)
-
-    -- THE SHARED DESIGN RUNS ALIKE
-    pub ends_shared : (s : State) (t : ℕ) → run_main d words n ≡ End s t
-        → (z : State) × (run_main (shared_design d) words n ≡ End z t) × (words_of (tree_of (shared_design d)) z ≡ words_of (tree_of d) s) × SharedStands (tree_of d) s z
-    ends_shared s t ends =
-        let r = end_followed (λ counted. SharedStands (tree_of d)) (shared_fault (tree_of d)) none none (run_main d words n) twin_run s t ends carried in
-        (r.0, run_is ∙ r.1, ap (λ i. words_of i r.0) tree_shared ∙ words_shared (tree_of d) twin_tree twins kept s r.0 r.2 memories, r.2)
-
-    pub fault_shared : (f : Fault) (t : ℕ) → run_main d words n ≡ answers.Fault f t → run_main (shared_design d) words n ≡ answers.Fault (shared_fault (tree_of d) f) t
-    fault_shared f t stops = run_is ∙ fault_followed (λ counted. SharedStands (tree_of d)) (shared_fault (tree_of d)) none none (run_main d words n) twin_run f t stops carried
-
-    pub more_shared : run_main d words n ≡ More → run_main (shared_design d) words n ≡ More
-    more_shared more = run_is ∙ more_followed (λ counted. SharedStands (tree_of d)) (shared_fault (tree_of d)) none none (run_main d words n) twin_run more carried
 
 -- NO COMPONENT HAS A CELL MORE
 pub staying_most : (set : ℕ → Bool) (c : ℕ) → staying set c ≤ c

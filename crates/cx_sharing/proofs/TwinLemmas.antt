@@ -11,20 +11,17 @@ use Rattle.cx_meaning.specs.declared.sights.Seen.{Seen}
 use Rattle.cx_meaning.specs.Designs.{PlainKind, OfPrimitive, OfComponent, PlainCell, PlainGroup, PlainComponent, PlainDesign, component_at, no_component}
 use Rattle.cx_meaning.specs.Instances.{Instance, Node, At, Nothing, OfRow, OfInstance, cell_at, cell_count, cells_of, part_of, add_cell, cells_for, tree_within, Path, State, start_at, just}
 use Rattle.cx_meaning.specs.Active.{nothing}
-use Rattle.cx_meaning.specs.Sights.{Held, unheld, Sees, seen, part_port}
+use Rattle.cx_meaning.specs.Sights.{unheld, Sees, seen}
 use Rattle.cx_meaning.specs.Control.{assigns_drive}
-use Rattle.cx_meaning.specs.Running.{run_control}
 use Rattle.cx_meaning.proofs.CycleLemmas.{count_for}
 use Rattle.cx_meaning.proofs.InstancesLemmas.{row_is, instance_is, row_instance, instance_row, nothing_row, nothing_instance, just_true, just_same, at_kind}
 use Rattle.cx_rules.specs.Circles.{AreAcyclic, AcyclicBelow}
 use Rattle.cx_rewrites.specs.Tallies.{none}
-use Rattle.cx_rewrites.specs.Carrying.{Exact, Carries}
-use Rattle.cx_rewrites.specs.Renaming.{AtLike, same_row, like_child, both_nothing}
 use Rattle.cx_rewrites.specs.Standing.{holds, renumbered, IsRenumbered}
 use Rattle.cx_sharing.specs.Uses.{assigns_use, is_stateless, is_plain_side, is_combinational, kind_in, is_candidate}
 use Rattle.cx_sharing.specs.Giving.{keeper, stays, staying, new_cell}
 use Rattle.cx_sharing.specs.SharedDesign.{remaining, shared_part, shared_design}
-use Rattle.cx_sharing.specs.Following.{has_state, SharedStands, shared_fault}
+use Rattle.cx_sharing.specs.Following.{has_state, SharedStands}
 use Rattle.cx_sharing.proofs.KeptLemmas.{keeper_stays, new_apart}
 use Rattle.cx_sharing.proofs.KeeperLemmas.{keeper_kind, keeper_within, keeper_past, other_kept}
 use Rattle.cx_sharing.proofs.RemainingLemmas.{kind_left, length_left, staying_within, staying_past, cell_is, none_past}
@@ -38,8 +35,6 @@ pub record IsBeside (child twin : Instance) : Type 0 where
   pub starts : (path : Path) → holds has_state child path ≡ true → start_at twin (renumbered new_cell child path) ≡ start_at child path
   -- its outputs, under its continuous assignments, are seen alike
   pub outputs : (s z : State) (n : ℕ) (x : Seen) → SharedStands child s z → Sees child unheld nothing s (ports.Output n) x → seen twin unheld nothing z (ports.Output n) ≡ x
-  -- its control runs alike
-  pub runs : (held : Held) → Carries Exact (λ counted. SharedStands child) (shared_fault child) (λ s n. none) (run_control child held) (run_control twin held)
 
 -- what stands at a cell, and at its new number
 pub data AtTwin (part : PlainComponent) (c : ℕ) : At → At → Type 0 where
@@ -151,11 +146,6 @@ module _ {part : PlainComponent} {c : ℕ} where
   nothing_twin no_twins e = refl
   nothing_twin (twin_rows p kind) e = absurd (cc)
   nothing_twin (twin_parts k child twin kind beside) e = absurd (cc)
-
-  pub like_twin : {at to : At} → AtTwin part c at to → AtLike at to
-  like_twin no_twins = both_nothing
-  like_twin (twin_rows p kind) = same_row (row_of p)
-  like_twin (twin_parts k child twin kind beside) = like_child child twin (λ p. sym (ap (λ x. part_port x p) beside.part))
 
 -- a component's cell is no candidate, nor is one that holds something; a candidate holds nothing
 pub combines_false : (part : PlainComponent) (c : ℕ) → is_combinational (kind_in part.cells c) ≡ false → is_candidate part c ≡ false

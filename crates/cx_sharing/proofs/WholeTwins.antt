@@ -27,7 +27,7 @@ use Rattle.cx_sharing.proofs.SharedParts.{shared_kind, component-shares}
 use Rattle.cx_sharing.proofs.RestsShared.{HasInputs}
 use Rattle.cx_sharing.proofs.InvokesShared.{NoneInvoked, none_invoked}
 use Rattle.cx_sharing.proofs.SharedLeaves.{IsFit}
-use Rattle.cx_sharing.proofs.SharedControl.{fit_tree, tree_is_twin}
+use Rattle.cx_sharing.proofs.SharedTrees.{fit_tree, tree_is_twin}
 
 mutual
   -- an instance and the one of the shared tree
@@ -48,9 +48,6 @@ twin_of (twins twin fit none remain) = twin
 
 pub fit_of : {i j : Instance} → Twins i j → IsFit i
 fit_of (twins twin fit none remain) = fit
-
-pub none_of : {i j : Instance} → Twins i j → NoneInvoked (part_of i)
-none_of (twins twin fit none remain) = none
 
 -- the place of a cell that stays among those that are left, and of the one behind it
 pub staying_next : (set : ℕ → Bool) (c : ℕ) (b : Bool) → set c ≡ b → staying set (suc c) ≡ (if b then suc (staying set c) else staying set c)

@@ -8,12 +8,18 @@ use Rattle.cx_sharing.specs.declared.rows.SharedRow.{SharedRow}
 use Rattle.cx_sharing.specs.Giving.{keeper, stays}
 
 abbrev pub row_of : PlainComponent → ℕ → SharedRow
-row_of part c = record { component = part.name; cell = cell_name part.cells c; kept = cell_name part.cells (keeper part c) }
+row_of part c =
+    record {
+      component = part.name;
+      cell = cell_name part.cells c;
+      kept = cell_name part.cells (keeper part c);
+    }
 
 -- of so many cells from number c on
 abbrev pub rows_from : PlainComponent → ℕ → ℕ → List SharedRow
 rows_from part c zero = []
-rows_from part c (suc more) = if stays part c then rows_from part (suc c) more else row_of part c ∷ rows_from part (suc c) more
+rows_from part c (suc more) =
+    if stays part c then rows_from part (suc c) more else row_of part c ∷ rows_from part (suc c) more
 
 abbrev pub rows_of : PlainComponent → List SharedRow
 rows_of part = rows_from part 0 (length part.cells)

@@ -20,7 +20,8 @@ kept_name part name = keeper_name part (number_of name (map (λ cell. cell.name)
 -- the cells that stay, the first of the list having number c
 abbrev pub left_cells : PlainComponent → ℕ → List ast.PlainCell → List ast.PlainCell
 left_cells part c [] = []
-left_cells part c (cell ∷ cells) = if stays part c then cell ∷ left_cells part (suc c) cells else left_cells part (suc c) cells
+left_cells part c (cell ∷ cells) =
+    if stays part c then cell ∷ left_cells part (suc c) cells else left_cells part (suc c) cells
 
 abbrev pub shared_component : PlainComponent → ast.PlainComponent → ast.PlainComponent
 shared_component part item = record {
@@ -43,4 +44,8 @@ shared_components [] (item ∷ items) = item ∷ items
 shared_components (part ∷ parts) (item ∷ items) = shared_component part item ∷ shared_components parts items
 
 abbrev pub shared_tree : ast.PlainTree → ast.PlainTree
-shared_tree tree = record { imports = tree.imports; components = shared_components (design_of tree).components tree.components }
+shared_tree tree =
+    record {
+      imports = tree.imports;
+      components = shared_components (design_of tree).components tree.components;
+    }

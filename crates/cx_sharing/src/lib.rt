@@ -2,8 +2,8 @@
 #![tactic(auto)]
 
 pub mod accepted_laws;
+pub mod cell_laws;
 mod rows;
-pub mod run_laws;
 pub mod whole_laws;
 
 pub use rows::SharedRow;

@@ -1,3 +1,4 @@
+use Rattle.cx_sharing.proofs.SharedMain.{rows_shared}
 use Rattle.cx_sharing.proofs.WholeMain.{whole_ends, whole_fault, whole_more}
 use Rattle.cx_sharing.proofs.whole_laws.whole_shared_runs_alike.Goals as goal
 
@@ -9,3 +10,6 @@ returns-clause-faults c = λ d words n t fault design accepted undone stops. who
 
 pub returns-clause-more : goal.returns-clause-more
 returns-clause-more c = λ d words n design accepted undone more. whole_more d design accepted undone words n more
+
+pub returns-clause-rows : goal.returns-clause-rows
+returns-clause-rows c = λ d design. rows_shared d design

@@ -1,5 +1,5 @@
 use Rattle.cx_sharing.proofs.SharedOnce.{once_keeps, once_told}
-use Rattle.cx_sharing.proofs.run_laws.shared_once.Goals as goal
+use Rattle.cx_sharing.proofs.cell_laws.shared_once.Goals as goal
 
 pub returns-clause-keepers : goal.returns-clause-keepers
 returns-clause-keepers c = λ d k cell. once_keeps d k cell

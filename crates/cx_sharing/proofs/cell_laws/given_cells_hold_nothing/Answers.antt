@@ -1,5 +1,5 @@
 use Rattle.cx_sharing.proofs.TwinLemmas.{given_combines}
-use Rattle.cx_sharing.proofs.run_laws.given_cells_hold_nothing.Goals as goal
+use Rattle.cx_sharing.proofs.cell_laws.given_cells_hold_nothing.Goals as goal
 
 pub returns : goal.returns
 returns c = λ part cell given. given_combines part cell given
