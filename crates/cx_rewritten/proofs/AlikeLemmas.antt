@@ -1,5 +1,5 @@
 -- What is written of an accepted tree is accepted, and its design runs as that of the tree.
-use Rattle.std.proofs.Common.{◌≡◌, ℕ, List, refl, sym, ◌∙◌, subst}
+use Rattle.std.proofs.Common.{◌≡◌, ℕ, List, refl, sym, ap, ◌∙◌, subst}
 use Rattle.cx_ast.specs.PlainTree.{PlainTree}
 use Rattle.cx_meaning.specs.Answers.{Answer, End, Fault, More}
 use Rattle.cx_meaning.specs.Cycles as cycles
@@ -11,12 +11,14 @@ use Rattle.cx_numbering.specs.DesignOf.{design_of}
 use Rattle.cx_names.proofs.TargetLemmas.{targets_in_text}
 use Rattle.cx_check.specs.Acceptance.{IsAcceptedTree}
 use Rattle.cx_flattening.specs.Ends.{NoneNamesDone}
+use Rattle.cx_flattening.specs.Told.{Faulted}
 use Rattle.cx_flattening.specs.Whole.{whole_main}
 use Rattle.cx_sharing.specs.Following.{shared_fault}
 use Rattle.cx_sharing.specs.SharedDesign.{shared_design}
 use Rattle.cx_sharing.proofs.SharedMain.{rows_shared}
 use Rattle.cx_sharing.proofs.WholeMain.{whole_ends, whole_fault, whole_more}
 use Rattle.cx_sharing.specs.SharedTree.{shared_tree}
+use Rattle.cx_rewritten.proofs.KeptNames.{told-shared}
 use Rattle.cx_rewritten.proofs.DesignShared.{design-shared, shared_tree_accepted}
 use Rattle.cx_rewritten.specs.Written.{IsReadAs}
 use Rattle.cx_rewritten.specs.Sources.{IsTreeOfText}
@@ -27,14 +29,14 @@ use Rattle.cx_promote.proofs.PromotedLemmas.{tree_design}
 
 -- the shared design of an accepted design runs as it does
 pub shared_alike : (d : PlainDesign) → IsDesign d → IsAccepted d → NoneNamesDone d → RunAlike d (shared_design d)
-shared_alike d design accepted undone = record { rows = rows_shared d design; runs = λ words n. by words n (whole_main d words n) refl }
+shared_alike d design accepted undone = record { rows = rows_shared d design; runs = λ words n. by words n (whole_main d words n) refl; faults = told-shared d }
   where
     by : (words : List (List ℕ)) (n : ℕ) (a : Answer State cycles.Fault) → whole_main d words n ≡ a → AreAlike d (shared_design d) a (whole_main (shared_design d) words n)
     by words n (End s t) e =
         (let z = whole_ends d design accepted undone words n s t e in
         subst (AreAlike d (shared_design d) (End s t)) (sym z.1) (both_end s z.0 t z.2))
     by words n (Fault f t) e =
-        subst (AreAlike d (shared_design d) (Fault f t)) (sym (whole_fault d design accepted undone words n f t e)) (both_fault f (shared_fault (tree_of d) f) t refl)
+        subst (AreAlike d (shared_design d) (Fault f t)) (sym (whole_fault d design accepted undone words n f t e)) (both_fault f t)
     by words n More e = subst (AreAlike d (shared_design d) More) (sym (whole_more d design accepted undone words n e)) both_go_on
 
 -- at other places
@@ -42,7 +44,7 @@ module _ (tree new : PlainTree) (written : List ℕ) (r : IsReadAs new written) 
   module _ (alike : RunAlike (design_of tree) (design_of new)) where
     words_alike : (a b : Answer State cycles.Fault) → AreAlike (design_of tree) (design_of new) a b → AreAlike (design_of tree) (design_of r.again) a b
     words_alike a b (both_end s z t e) = both_end s z t (sym (r.words z) ∙ e)
-    words_alike a b (both_fault f g t e) = both_fault f g t e
+    words_alike a b (both_fault f t) = both_fault f t
     words_alike a b both_go_on = both_go_on
 
   pub runs_as : IsAcceptedTree new → (NoneNamesDone (design_of tree) → RunAlike (design_of tree) (design_of new)) → RunsAs tree written
@@ -57,6 +59,9 @@ module _ (tree new : PlainTree) (written : List ℕ) (r : IsReadAs new written) 
       runs = λ ws n.
           subst (AreAlike (design_of tree) (design_of r.again) (whole_main (design_of tree) ws n)) (r.run ws n)
           (words_alike (alike undone) (whole_main (design_of tree) ws n) (whole_main (design_of new) ws n) ((alike undone).runs ws n));
+      faults = λ f t.
+          let g : cycles.Fault = shared_fault (tree_of (design_of tree)) f in
+          ap (λ name. Faulted g.kind name t) (sym (r.names g.path g.port)) ∙ (alike undone).faults f t;
     };
   }
 

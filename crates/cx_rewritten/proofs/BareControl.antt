@@ -6,9 +6,9 @@ use Rattle.cx_text.specs.Places.{start}
 use Rattle.cx_ast.specs.PlainTree as ast
 use Rattle.cx_ast.specs.PlainStatements as statements
 use Rattle.cx_print.specs.Places.{bare_form, bare_else, bare_block, bare_statements, bare_port, bare_cell, bare_group, bare_component, without_places}
-use Rattle.cx_meaning.specs.Designs.{PlainKind, OfComponent, PlainCell, PlainForm, PlainStatement, Placed, PlainStatements, no_statements, a_statement, PlainGroup, PlainComponent}
+use Rattle.cx_meaning.specs.Designs.{OfComponent, PlainCell, PlainForm, Placed, PlainStatements, no_statements, a_statement, PlainGroup, PlainComponent}
 use Rattle.cx_meaning.specs.Designs as plain
-use Rattle.cx_numbering.specs.Names.{signature_ports, groups_in, always_in, group_names, CellOf, Neither, APrimitive, AComponent, cell_of}
+use Rattle.cx_numbering.specs.Names.{signature_ports, groups_in, always_in, CellOf, Neither, APrimitive, AComponent, cell_of}
 use Rattle.cx_numbering.specs.DesignOf.{number_or_0, assign_of, group_of, Invoke, Next, is_static_invoke, past, invokes_in, invokes_else, invokes_of, invokes_all, group_number, comb_number, of_block, invoke_form, form_of, else_of, block_of, parts_of, all_of, invoke_groups, static_invokes, first, control_invokes, control_of, kind_or, plain_cell_of, decl_of, component_of}
 use Rattle.cx_rewrites.specs.Places.{unplaced_assign, unplaced_group, unplaced_invoke, unplaced_cell, unplaced_form, unplaced, unplaced_statements}
 use Rattle.cx_rewritten.proofs.BareNames.{both_ways, signature_ports-bare, component_names-bare, groups_in-bare, always_in-bare, group_names-bare, bare_of, cell_of-bare}

@@ -10,13 +10,8 @@ use Rattle.cx_text.specs.Members.{In}
 use Rattle.cx_rules.specs.Accepted.{IsAccepted}
 use Rattle.cx_numbering.specs.Names.{cell_names}
 use Rattle.cx_numbering.specs.DesignOf.{number_or_0, Invoke, control_invokes, component_of, design_of}
-use Rattle.cx_numbering.specs.NameRules.{names_break, named, visit_block, Visited, Standing, standing, visit_control}
+use Rattle.cx_numbering.specs.NameRules.{names_break, named, Standing, standing, visit_control}
 use Rattle.cx_meaning.specs.Designs.{PlainComponent, PlainDesign, no_component}
-use Rattle.cx_meaning.specs.Instances.{State, tree_of, words_of}
-use Rattle.cx_meaning.specs.Cycles.{Fault}
-use Rattle.cx_meaning.specs.Answers.{End, More}
-use Rattle.cx_meaning.specs.Answers as answers
-use Rattle.cx_meaning.specs.Running.{run_main}
 use Rattle.cx_rules.specs.Externals.{external_rows}
 use Rattle.cx_rules.specs.Flat.{IsFlatPart, IsFlat}
 use Rattle.cx_rules.specs.Sizes.{sizes_of, design_size}
@@ -35,10 +30,9 @@ use Rattle.cx_sharing.specs.SharedDesign.{shared_invoke, shared_part, shared_des
 use Rattle.cx_sharing.specs.Giving.{new_cell}
 use Rattle.cx_sharing.specs.SharedTree.{shared_tree}
 use Rattle.cx_sharing.specs.SharedRows.{rows_of, shared_rows}
-use Rattle.cx_sharing.specs.Following.{shared_fault}
 use Rattle.cx_sharing.proofs.AcceptedShared.{shared_accepted}
 use Rattle.cx_sharing.proofs.LimitsShared.{smaller}
-use Rattle.cx_sharing.proofs.SharedMain.{ends_shared, fault_shared, more_shared, rows_shared}
+use Rattle.cx_sharing.proofs.SharedMain.{rows_shared}
 use Rattle.cx_sharing.proofs.SharedOnce.{once_told}
 use Rattle.cx_rewritten.proofs.TreeDesign.{shared_item, shared_items, component_names-shared, new_name, IsInvoke, component-shared}
 use Rattle.cx_rewritten.proofs.NamesShared.{shared_standing, standing-shared, names_shared}
@@ -121,22 +115,9 @@ kept-shared tree targets none few =
 pub names-kept : (tree : PlainTree) → names_break tree ≡ None → names_break (shared_tree tree) ≡ None
 names-kept tree none = names_shared tree (λ item i. distinct_cells tree item (kept_parts tree none item i)) none
 
--- RUNS
-pub ends-alike : (tree : PlainTree) (words : List (List ℕ)) (n t : ℕ) (s : State) → IsDesign (design_of tree) → IsAcceptedTree tree → run_main (design_of tree) words n ≡ End s t
-    → (z : State) × (run_main (design_of (shared_tree tree)) words n ≡ End z t) × (words_of (tree_of (design_of (shared_tree tree))) z ≡ words_of (tree_of (design_of tree)) s)
-ends-alike tree words n t s design h ends =
-    let r = ends_shared (design_of tree) design h.accepted words n s t ends in
-    subst (λ d. (z : State) × (run_main d words n ≡ End z t) × (words_of (tree_of d) z ≡ words_of (tree_of (design_of tree)) s)) (sym (design-shared tree h.named)) (r.0, r.1, r.2)
-
+-- THE EXTERNAL MEMORIES
 pub rows-alike : (tree : PlainTree) → IsDesign (design_of tree) → IsAcceptedTree tree → external_rows (design_of (shared_tree tree)) ≡ external_rows (design_of tree)
 rows-alike tree design h = ap external_rows (design-shared tree h.named) ∙ rows_shared (design_of tree) design
-
-pub faults-alike : (tree : PlainTree) (words : List (List ℕ)) (n t : ℕ) (fault : Fault) → IsDesign (design_of tree) → IsAcceptedTree tree → run_main (design_of tree) words n ≡ answers.Fault fault t
-    → run_main (design_of (shared_tree tree)) words n ≡ answers.Fault (shared_fault (tree_of (design_of tree)) fault) t
-faults-alike tree words n t fault design h stops = ap (λ d. run_main d words n) (design-shared tree h.named) ∙ fault_shared (design_of tree) design h.accepted words n fault t stops
-
-pub more-alike : (tree : PlainTree) (words : List (List ℕ)) (n : ℕ) → IsDesign (design_of tree) → IsAcceptedTree tree → run_main (design_of tree) words n ≡ More → run_main (design_of (shared_tree tree)) words n ≡ More
-more-alike tree words n design h more = ap (λ d. run_main d words n) (design-shared tree h.named) ∙ more_shared (design_of tree) design h.accepted words n more
 
 -- NOTHING MORE is shared
 pub nothing_more : (tree : PlainTree) → names_break tree ≡ None → shared_rows (shared_tree tree) ≡ []

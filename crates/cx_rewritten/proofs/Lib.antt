@@ -8,6 +8,7 @@ mod BareTrees
 mod WrittenOrder
 pub mod SameTrees
 mod CommentLemmas
+mod PlaceNames
 pub mod RisingLemmas
 pub mod ReadLemmas
 pub mod NumberLemmas
@@ -19,6 +20,8 @@ mod LineLemmas
 mod OrderLemmas
 mod NamedOrder
 pub mod SharedLemmas
+mod KeptNames
+pub mod KnownFaults
 pub mod AlikeLemmas
 mod PromotedCycles
 mod PromotedOrder

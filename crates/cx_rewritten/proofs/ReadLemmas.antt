@@ -23,6 +23,7 @@ use Rattle.cx_rewrites.proofs.PlaceDesigns.{tree_of-same, words_of-same, externa
 use Rattle.cx_flattening.proofs.WholePlaces.{whole_main-same}
 use Rattle.cx_rewritten.specs.Ordered.{places_in, Rise, AreOf, none_left, left_out, one_kept, StandAs, KeepsOrder}
 use Rattle.cx_rewritten.specs.Written.{IsWritten, IsReadAs}
+use Rattle.cx_rewritten.proofs.PlaceNames.{full_path-same}
 use Rattle.cx_rewritten.proofs.CommentLemmas.{shifted, behind_comments}
 use Rattle.cx_rewritten.proofs.RisingLemmas.{text_in_order}
 use Rattle.cx_rewritten.proofs.SameTrees.{same_design, same_accepted}
@@ -75,4 +76,5 @@ written_read text written tokens tree new lexed parsed keeps printable w =
       run = λ ws n. whole_main-same (design_of new) (design_of found.again) same ws n;
       words = words_of-same (tree_of (design_of new)) (tree_of (design_of found.again)) (tree_of-same (design_of new) (design_of found.again) same);
       rows = external_rows-same (design_of new) (design_of found.again) same;
+      names = full_path-same (design_of new) (design_of found.again) same;
     }

@@ -1,5 +1,5 @@
 -- In the tree of a text the places of assignments and invokes rise in the order in which they are written.
-use Rattle.std.proofs.Common.{◌≡◌, ℕ, zero, suc, false, List, [], ◌∷◌, ◌++◌, map, flat_map, Option, Some, None, ◌⊎◌, inl, inr, refl, sym, ap, ◌∙◌, subst, arith}
+use Rattle.std.proofs.Common.{◌≡◌, ℕ, false, List, [], ◌∷◌, ◌++◌, map, flat_map, Option, Some, None, inl, inr, refl, sym, ap, ◌∙◌, subst, arith}
 use Rattle.std.specs.List.{AllByRecursion}
 use Rattle.std.proofs.lemmas.List.{map-append}
 use Rattle.std.proofs.lemmas.Bool.Decides.{nat_tests}
@@ -7,18 +7,18 @@ use Rattle.cx_text.specs.declared.places.Place.{Place}
 use Rattle.cx_text.specs.Places.{start}
 use Rattle.cx_ast.specs.declared.tokens.Token.{Token}
 use Rattle.cx_ast.specs.declared.components.Attribute.{Attribute}
-use Rattle.cx_ast.specs.PlainStatements.{PlainForm, PlainElse, NoElse, Else, PlainStatement, PlainStatements, NoStatements, StatementThen, PlainBlock, statements_of, else_of}
+use Rattle.cx_ast.specs.PlainStatements.{PlainForm, Else, PlainStatement, PlainBlock, statements_of, else_of}
 use Rattle.cx_ast.specs.PlainStatements as plain
 use Rattle.cx_ast.specs.PlainTree.{PlainTree, PlainComponent, PlainWire, PlainAssign}
 use Rattle.cx_lex.specs.Lex.{Lex}
 use Rattle.cx_grammar.specs.declared.terminals.Terminal.{Terminal}
 use Rattle.cx_grammar.specs.declared.terminals.Terminal.TheVariants as t
-use Rattle.cx_grammar.specs.Grammar.{Nest, Negation, Parens, Braces, Nested, Grammar, Empty, One, Pair, Choice, Several, Commas, Deeper, Spelling, Spells, Commas_of, IsComma}
+use Rattle.cx_grammar.specs.Grammar.{Nest, Negation, Parens, Braces, Nested, Grammar, Empty, Pair, Choice, Spelling, Spells}
 use Rattle.cx_grammar.specs.Calyx.{sign, name, number, behind, before, within, pair, mapped, many, reference, target_of, target, value, assign_of, bare_assign, attributes, assign, group_word, marks, assigns, group_of, bare_group, assign_wire, group_wire, wire, wire_list, wires_part, cells, control, nest, component_word, signature, body, component_of, component, imports, components, file, spelled_within, block, otherwise, comb, operand, marked_block, if_of, if_rest, while_of, while_rest, repeat_rest, static_if_of, static_if_rest, invoke_rest, static_seq_of, static_par_of, static_repeat_of, static_invoke_of, static_rest, static_form, optional_length, enable_of, seq_of, par_of, repeat_of, invoke_of, form_of, enable, seq, par, if_form, while_form, repeat, invoke, static_statement, form, statement_of, statement, statements}
 use Rattle.cx_grammar.specs.Parsing.{Parse}
 use Rattle.cx_meaning.specs.Active.{no_later}
 use Rattle.cx_numbering.specs.DesignOf.{Invoke, invokes_in, invokes_else, invokes_of, invokes_all}
-use Rattle.cx_names.proofs.Rising.{Before, NoLater, here, before_no_later, then_later, then_before, Rises, text_rises}
+use Rattle.cx_names.proofs.Rising.{Before, NoLater, here, before_no_later, then_later, then_before, text_rises}
 use Rattle.cx_names.proofs.Spelled.{Steps, steps_earlier, steps_join, steps_pass, steps_later, Between, Passes, Nests, Keeps, within_levels, Gives, gives_empty, gives_one, gives_pair, gives_choice, gives_several, passes}
 use Rattle.cx_rewritten.specs.Ordered.{wire_places, invoke_places, places_in, Rise, IsInOrder}
 
@@ -90,17 +90,10 @@ module _ (spelled : (n : Nest) → Spelling (Nested n)) (deep : (n : Nest) → K
   has_second join g h old new e two =
       gives_pair spelled join g h Passes (StepsOf old) (StepsOf new) (leads g) two (λ p m q x y k s. subst (λ ps. Steps itself p ps q) (e x y) (steps_earlier itself p m (old y) q k s))
 
-  has_first : {A B C : Type 0} (join : A → B → C) (g : Grammar A) (h : Grammar B) (old : A → List Place) (new : C → List Place) → ((x : A) (y : B) → old x ≡ new (join x y)) → Has g old → Has (Pair join g h) new
-  has_first join g h old new e one =
-      gives_pair spelled join g h (StepsOf old) Passes (StepsOf new) one (leads h) (λ p m q x y s k. subst (λ ps. Steps itself p ps q) (e x y) (steps_later itself p (old x) m q s k))
-
   has_both : {A B C : Type 0} (join : A → B → C) (g : Grammar A) (h : Grammar B) (old : A → List Place) (other : B → List Place) (new : C → List Place)
       → ((x : A) (y : B) → old x ++ other y ≡ new (join x y)) → Has g old → Has h other → Has (Pair join g h) new
   has_both join g h old other new e one two =
       gives_pair spelled join g h (StepsOf old) (StepsOf other) (StepsOf new) one two (λ p m q x y s k. subst (λ ps. Steps itself p ps q) (e x y) (steps_join itself p (old x) m (other y) q s k))
-
-  has_none : {A : Type 0} (g : Grammar A) (places : A → List Place) → ((x : A) → [] ≡ places x) → Has g places
-  has_none g places e p ts x rest r s = let a = leads g p ts x rest r s in (a.0, subst (λ ps. Steps itself p ps a.0) (e x) a.1, a.2)
 
   has_many : {A : Type 0} (g : Grammar A) (places : A → List Place) → Has g places → Has (many g) (λ xs. flat_map places xs)
   has_many g places h =

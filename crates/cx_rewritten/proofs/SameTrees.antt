@@ -1,16 +1,15 @@
 -- TREES THAT ARE THE SAME apart from places: their designs are, and one is accepted where the other is.
-use Rattle.std.proofs.Common.{◌≡◌, ℕ, zero, suc, List, [], ◌∷◌, codes, map, get_or, Option, Some, None, length, refl, sym, ap, ◌∙◌}
+use Rattle.std.proofs.Common.{◌≡◌, ℕ, zero, suc, List, [], ◌∷◌, codes, map, get_or, None, length, refl, sym, ap, ◌∙◌}
 use Rattle.std.specs.List.{AllByRecursion}
 use Rattle.cx_text.proofs.ListLaws.{length-map}
-use Rattle.cx_text.specs.declared.diagnostics.Diagnostic.{Diagnostic}
 use Rattle.cx_ast.specs.PlainTree as ast
 use Rattle.cx_print.specs.Places.{bare_component, without_places}
-use Rattle.cx_meaning.specs.Designs.{component_at, no_component}
+use Rattle.cx_meaning.specs.Designs.{no_component}
 use Rattle.cx_meaning.specs.Designs as plain
-use Rattle.cx_rules.specs.Accepted.{IsAccepted, comes_before}
+use Rattle.cx_rules.specs.Accepted.{IsAccepted}
 use Rattle.cx_numbering.specs.Names.{component_names}
 use Rattle.cx_numbering.specs.DesignOf.{number_or_0, component_of, design_of}
-use Rattle.cx_numbering.specs.NameRules.{name_breaks, names_break, first_break, earlier, key_of}
+use Rattle.cx_numbering.specs.NameRules.{name_breaks, names_break, first_break}
 use Rattle.cx_rewrites.specs.Places.{SamePart, SameDesign}
 use Rattle.cx_check.specs.Acceptance.{IsAcceptedTree}
 use Rattle.cx_rewritten.specs.Ordered.{places_in, Rise, IsInOrder}

@@ -20,7 +20,6 @@ use Rattle.cx_ast.specs.PlainGuards as guards
 use Rattle.cx_ast.specs.PlainStatements as statements
 use Rattle.cx_meaning.specs.declared.ports.PortRef.{PortRef}
 use Rattle.cx_meaning.specs.declared.ports.PortRef.TheVariants as ports
-use Rattle.cx_meaning.specs.declared.ports.PlacedPort.{PlacedPort}
 use Rattle.cx_meaning.specs.Designs.{PlainGuard, PlainGuards, Always, Atom, Negation, All, Any, Compared, a_guard, guards_of, PlainAssign, PlainInvoke, PlainGroup, OfPrimitive, OfComponent, PlainCell, PlainStatement, PlainStatements, Placed, no_statements, a_statement, PlainComponent}
 use Rattle.cx_meaning.specs.declared.kinds.GroupKind.TheVariants as kinds
 use Rattle.cx_meaning.specs.Designs as plain
@@ -160,11 +159,6 @@ kind_at : (cells : List PlainCell) (c : ℕ) (cell : PlainCell) → slice_get ce
 kind_at [] c cell e = absurd (cc)
 kind_at (x ∷ xs) zero cell e = let same : x ≡ cell = cc in ap (λ z. z.kind) same
 kind_at (x ∷ xs) (suc c) cell e = kind_at xs c cell e
-
-name_at : (cells : List PlainCell) (c : ℕ) (name : List ℕ) → slice_get (names_of cells) c ≡ Some name → cell_name cells c ≡ name
-name_at [] c name e = absurd (cc)
-name_at (x ∷ xs) zero name e = cc
-name_at (x ∷ xs) (suc c) name e = name_at xs c name e
 
 module _ (tree : PlainTree) (item : ast.PlainComponent) where
   abbrev pub own_part : PlainComponent

@@ -1,12 +1,7 @@
 //! Laws of the shared tree: each function does nothing, and its clauses are the law.
 
-ghost use Rattle.std.specs.Prelude.{◌≡◌, ◌<◌, ◌^◌, ℕ, List, [], None};
+ghost use Rattle.std.specs.Prelude.{◌≡◌, ◌<◌, ◌^◌, [], None};
 ghost use Rattle.cx_ast.specs.PlainTree.{PlainTree};
-ghost use Rattle.cx_meaning.specs.Instances.{State, tree_of, words_of};
-ghost use Rattle.cx_meaning.specs.Answers.{End, More};
-ghost use Rattle.cx_meaning.specs.Answers as answers;
-ghost use Rattle.cx_meaning.specs.Cycles.{Fault};
-ghost use Rattle.cx_meaning.specs.Running.{run_main};
 ghost use Rattle.cx_rules.specs.Externals.{external_rows};
 ghost use Rattle.cx_rules.specs.Flat.{IsFlat};
 ghost use Rattle.cx_rules.specs.Sizes.{design_size};
@@ -16,23 +11,29 @@ ghost use Rattle.cx_numbering.specs.NameRules.{names_break};
 ghost use Rattle.cx_names.specs.Targets.{HasTargets};
 ghost use Rattle.cx_check.specs.Acceptance.{IsAcceptedTree};
 ghost use Rattle.cx_print.specs.Printable.{IsPrintable};
-ghost use Rattle.cx_sharing.specs.Following.{shared_fault};
 ghost use Rattle.cx_sharing.specs.SharedDesign.{shared_design};
 ghost use Rattle.cx_sharing.specs.SharedRows.{shared_rows};
 ghost use Rattle.cx_sharing.specs.SharedTree.{shared_tree};
 
 /// The shared tree stands for the shared design, where the tree breaks no rule on names. That is what every design keeps, where
-/// no target of the tree is a literal and its design has fewer than 2^32 parts.
+/// no target of the tree is a literal and its design has fewer than 2^32 parts. Of an accepted tree it has the same external
+/// memories.
 pub fn shared_trees_have_shared_designs()
-    ensures same { (tree : PlainTree) → names_break tree ≡ None → design_of (shared_tree tree) ≡ shared_design (design_of tree) }
-    ensures kept { (tree : PlainTree) → HasTargets tree → names_break tree ≡ None → design_size (design_of tree) < 2 ^ 32 → IsDesign (design_of (shared_tree tree)) }
+    ensures same { (tree : PlainTree) → names_break tree ≡ None →
+        design_of (shared_tree tree) ≡ shared_design (design_of tree) }
+    ensures kept { (tree : PlainTree) → HasTargets tree → names_break tree ≡ None →
+        design_size (design_of tree) < 2 ^ 32 → IsDesign (design_of (shared_tree tree)) }
+    ensures rows { (tree : PlainTree) → IsDesign (design_of tree) → IsAcceptedTree tree →
+        external_rows (design_of (shared_tree tree)) ≡ external_rows (design_of tree) }
 {}
 
 /// The shared tree of an accepted tree is accepted: it breaks no rule on names, and its design breaks no rule. Where the tree has no
 /// static component, neither has it.
 pub fn shared_is_accepted()
-    ensures accepted { (tree : PlainTree) → IsDesign (design_of tree) → IsAcceptedTree tree → IsAcceptedTree (shared_tree tree) }
-    ensures flat { (tree : PlainTree) → names_break tree ≡ None → IsFlat (design_of tree) → IsFlat (design_of (shared_tree tree)) }
+    ensures accepted { (tree : PlainTree) → IsDesign (design_of tree) → IsAcceptedTree tree →
+        IsAcceptedTree (shared_tree tree) }
+    ensures flat { (tree : PlainTree) → names_break tree ≡ None → IsFlat (design_of tree) →
+        IsFlat (design_of (shared_tree tree)) }
     ensures named { (tree : PlainTree) → names_break tree ≡ None → names_break (shared_tree tree) ≡ None }
 {}
 
@@ -40,23 +41,6 @@ pub fn shared_is_accepted()
 pub fn shared_trees_are_printable()
     ensures printable { (tree : PlainTree) → IsPrintable tree → IsPrintable (shared_tree tree) }
     ensures targets { (tree : PlainTree) → names_break tree ≡ None → HasTargets tree → HasTargets (shared_tree tree) }
-{}
-
-/// The design of the shared tree of an accepted tree has the same external memories, and runs as the tree's design does, on all
-/// data and under each budget of turns. Where that ends, it ends in the same turn with the same words in them; where that has a
-/// fault, it has the fault in the same turn, by the new numbers of the cells; where that needs more turns, so does it.
-pub fn shared_trees_run_alike()
-    ensures ends { (tree : PlainTree) (words : List (List ℕ)) (n t : ℕ) (s : State)
-        → IsDesign (design_of tree) → IsAcceptedTree tree → run_main (design_of tree) words n ≡ End s t
-        → (z : State) × (run_main (design_of (shared_tree tree)) words n ≡ End z t)
-        × (words_of (tree_of (design_of (shared_tree tree))) z ≡ words_of (tree_of (design_of tree)) s) }
-    ensures faults { (tree : PlainTree) (words : List (List ℕ)) (n t : ℕ) (fault : Fault)
-        → IsDesign (design_of tree) → IsAcceptedTree tree → run_main (design_of tree) words n ≡ answers.Fault fault t
-        → run_main (design_of (shared_tree tree)) words n ≡ answers.Fault (shared_fault (tree_of (design_of tree)) fault) t }
-    ensures more { (tree : PlainTree) (words : List (List ℕ)) (n : ℕ)
-        → IsDesign (design_of tree) → IsAcceptedTree tree → run_main (design_of tree) words n ≡ More
-        → run_main (design_of (shared_tree tree)) words n ≡ More }
-    ensures rows { (tree : PlainTree) → IsDesign (design_of tree) → IsAcceptedTree tree → external_rows (design_of (shared_tree tree)) ≡ external_rows (design_of tree) }
 {}
 
 /// A shared tree shares nothing more: no row is told of it, where the tree breaks no rule on names.

@@ -1,4 +1,4 @@
-use Rattle.std.proofs.Common.{◌∷◌, ◌++◌, [], codes, decimal, ap, ◌∙◌}
+use Rattle.std.proofs.Common.{◌∷◌, ◌++◌, codes, decimal, ap, ◌∙◌}
 use Rattle.cx_rewritten.proofs.LineLemmas.{five_added}
 use Rattle.cx_rewritten.proofs.promoting.push_line.Goals as goal
 

@@ -1,5 +1,5 @@
-use Rattle.std.proofs.Common.{List, ℕ, subst, sym}
-use Rattle.cx_ast.specs.PlainTree.{PlainTree, plain_tree}
+use Rattle.std.proofs.Common.{subst, sym}
+use Rattle.cx_ast.specs.PlainTree.{plain_tree}
 use Rattle.cx_print.specs.Printable.{IsPrintable}
 use Rattle.cx_rewritten.proofs.PrintableShared.{printable-shared}
 use Rattle.cx_rewritten.proofs.sharing.written.Goals as goal
