@@ -1,3 +1,4 @@
 pub mod DumpLemmas
 pub mod LoadLemmas
 pub mod KnownValues
+pub mod Places

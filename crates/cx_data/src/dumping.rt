@@ -6,6 +6,7 @@ ghost use Rattle.std.specs.List.{position_or_len};
 ghost use Rattle.std.specs.Ordering.{nat_cmp, is_lt};
 ghost use Rattle.cx_text.specs.Loading.{FitsShape, plain_memory, plain_loaded};
 ghost use Rattle.cx_data.specs.Dump.{joined, memory_text, by_name, dump_text};
+ghost use Rattle.cx_data.specs.Orders.{AreByName};
 ghost use Rattle.cx_data.specs.Widths.{HasWordWidth};
 
 use crate::lists::{Format, push_comma, push_nested};
@@ -49,16 +50,12 @@ fn ordered(alloc: Global, memories: &[LoadedMemory]) -> Result<Vec<&LoadedMemory
 
 /// The index of the first memory with a greater name, or how many memories there are.
 fn place_of(memories: &[&LoadedMemory], name: &Name) -> usize
+    requires { AreByName memories.now }
     ensures bound { result ≤ length memories.now }
     ensures value { result ≡ position_or_len
         (λ other. is_lt (slice_cmp nat_cmp name.now other.now.row.name)) memories.now }
 {
-    for (index, other) in memories.iter().enumerate() {
-        if *name < other.row.name {
-            return index;
-        }
-    }
-    memories.len()
+    memories.partition_point(|other| !(*name < other.row.name))
 }
 
 /// Appends the names of the memories with their lists.

@@ -1,6 +1,6 @@
 -- What is appended, step by step.
 use Rattle.std.proofs.Common.{◌≡◌, ℕ, suc, ◌+◌, ◌<◌, List, [], ◌∷◌, ◌++◌, length, get_or, drop, drop-cons, map, refl, ap, sym, ◌∙◌, subst, append_assoc, append-nil, add-one}
-use Rattle.cx_text.proofs.ListLaws.{drop_next}
+use Rattle.cx_text.proofs.ListLaws.{drop_item}
 use Rattle.cx_velab.specs.Added.{Paired, Adds}
 
 module _ {A B : Type 0} (R : A → B → Type 0) where
@@ -47,4 +47,4 @@ module _ {A B : Type 0} (R : A → B → Type 0) where
 
 -- the elements from one on, by what they stand for
 pub rest_at : {A B : Type 0} (f : A → B) (xs : List A) (i : ℕ) (x : A) → i < length xs → x ≡ get_or xs i x → map f (drop i xs) ≡ f x ∷ map f (drop (i + 1) xs)
-rest_at f xs i x lt at = ap (map f) (drop_next xs i x lt at)
+rest_at f xs i x lt at = ap (map f) (drop_item xs i x at lt)

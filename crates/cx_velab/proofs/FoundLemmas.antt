@@ -11,7 +11,7 @@ use Rattle.cx_vtree.specs.declared.modules.Module.{Module}
 use Rattle.cx_vtree.specs.Plain.{PlainModule}
 use Rattle.cx_vtree.specs.PlainParts.{plain_module, plain_modules}
 use Rattle.cx_vtree.specs.InstanceTree.{same_name}
-use Rattle.cx_vnets.specs.Maps.{number_by}
+use Rattle.cx_velab.specs.Maps.{number_by}
 use Rattle.cx_velab.specs.Trees.{found_from}
 use Rattle.cx_velab.specs.Rows.{HasLast}
 use Rattle.cx_velab.proofs.Listing.{map-pushed}

@@ -12,7 +12,7 @@ use Rattle.cx_vtree.specs.declared.modules.ModulePort.{ModulePort}
 use Rattle.cx_vtree.specs.PlainParts.{plain_port, plain_decl}
 use Rattle.cx_vtree.specs.Plain.{PlainExpr, PlainModule}
 use Rattle.cx_vnets.specs.declared.codes.Code.{Code}
-use Rattle.cx_vnets.specs.Maps.{number_by}
+use Rattle.cx_velab.specs.Maps.{number_by}
 use Rattle.cx_vnets.specs.ModuleNumbers.{position, declared_arrays}
 use Rattle.cx_vnets.specs.ModuleCodes.{Numbering, IsCode}
 use Rattle.cx_velab.specs.Added.{Paired}

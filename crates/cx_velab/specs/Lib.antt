@@ -1,4 +1,5 @@
 pub mod Trees
+pub mod Maps
 pub mod Rows
 pub mod Paths
 pub mod Tables

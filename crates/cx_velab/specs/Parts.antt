@@ -7,7 +7,7 @@ use Rattle.cx_vtree.specs.InstanceTree.{Placed}
 use Rattle.cx_vnets.specs.declared.codes.Code.{Code}
 use Rattle.cx_vnets.specs.ModuleCodes.{Numbering, IsCode}
 use Rattle.cx_vnets.specs.CodeLaws.{net_numbering, array_numbering}
-use Rattle.cx_vnets.specs.Maps.{number_by}
+use Rattle.cx_velab.specs.Maps.{number_by}
 use Rattle.cx_vnets.specs.Numberings.{nets_by, arrays_by}
 use Rattle.cx_velab.specs.declared.parts.ModulePart.{ModulePart}
 use Rattle.cx_velab.specs.Coded.{module_exprs, AssignsHaveNumbers, EdgeHasNumbers}
@@ -20,7 +20,9 @@ pub record CanCode (m : PlainModule) : Type 0 where
 
 -- the codes from `first` on are expressions, in their order
 abbrev pub HasCodes : Numbering → Numbering → List Code → ℕ → List PlainExpr → Type 0
-HasCodes nets arrays codes first exprs = (j : ℕ) (e : PlainExpr) → slice_get exprs j ≡ Some e → (c : Code) × (slice_get codes (first + j) ≡ Some c) × IsCode nets arrays c e
+HasCodes nets arrays codes first exprs =
+    (j : ℕ) (e : PlainExpr) → slice_get exprs j ≡ Some e
+    → (c : Code) × (slice_get codes (first + j) ≡ Some c) × IsCode nets arrays c e
 
 -- a part has the numbers of a module's names and the place of its codes
 pub record PartStands (codes : List Code) (m : PlainModule) (p : ModulePart) : Type 0 where
@@ -39,7 +41,9 @@ HasPart list codes j m = (x : ModulePart) × (slice_get list j ≡ Some x) × Pa
 
 -- instances whose modules have one name have one module
 abbrev pub ModulesAreNamed : List Placed → Type 0
-ModulesAreNamed tree = (i j : ℕ) (p q : Placed) → slice_get tree i ≡ Some p → slice_get tree j ≡ Some q → p.part.name ≡ q.part.name → p.part ≡ q.part
+ModulesAreNamed tree =
+    (i j : ℕ) (p q : Placed) → slice_get tree i ≡ Some p → slice_get tree j ≡ Some q
+    → p.part.name ≡ q.part.name → p.part ≡ q.part
 
 -- all modules of the instances can be coded
 abbrev pub AllCanCode : List Placed → Type 0
@@ -52,4 +56,6 @@ AreFound tree found list codes = (name : List ℕ) (j : ℕ) → number_by found
 
 -- each instance has a part that stands for its module
 abbrev pub PartsStand : List Placed → List Code → List ModulePart → List ℕ → Type 0
-PartsStand tree codes list of_rows = (i : ℕ) (p : Placed) → slice_get tree i ≡ Some p → (j : ℕ) × (slice_get of_rows i ≡ Some j) × HasPart list codes j p.part
+PartsStand tree codes list of_rows =
+    (i : ℕ) (p : Placed) → slice_get tree i ≡ Some p
+    → (j : ℕ) × (slice_get of_rows i ≡ Some j) × HasPart list codes j p.part

@@ -1,12 +1,11 @@
 -- What maps and sets by name hold.
 use Rattle.std.specs.Prelude.{◌≡◌, ℕ, List, map, unwrap_or}
-use Rattle.std.specs.BTreeMap as tree
-use Rattle.std.specs.BTreeMap.{BTreeMap}
-use Rattle.std.specs.BTreeSet as sorted
-use Rattle.std.specs.BTreeSet.{BTreeSet}
-use Rattle.std.specs.Cmp.Lexicographic.{slice_cmp}
-use Rattle.std.specs.Ordering.{nat_cmp}
+use Rattle.std.specs.HashMap as maps
+use Rattle.std.specs.HashMap.{HashMap}
+use Rattle.std.specs.HashSet as sets
+use Rattle.std.specs.HashSet.{HashSet}
 use denote.Ref.{Bor}
+use Rattle.cx_vtree.specs.InstanceTree.{same_name}
 use Rattle.cx_vtree.specs.declared.meanings.Meaning.{Meaning}
 use Rattle.cx_vtree.specs.declared.meanings.Meaning.TheVariants.{Nothing}
 use Rattle.cx_vtree.specs.PlainParts.{plain_port}
@@ -23,9 +22,9 @@ abbrev pub nothing_meant : Scope
 nothing_meant name = Nothing
 
 -- what each name stands for by a map
-abbrev pub meant_by : BTreeMap (Bor (List ℕ)) Meaning → Scope
-meant_by m name = unwrap_or (tree.get_by (λ k. slice_cmp nat_cmp name k.now) m) Nothing
+abbrev pub meant_by : {S : Type 0} → HashMap (Bor (List ℕ)) Meaning S → Scope
+meant_by m name = unwrap_or (maps.get_by (λ k. same_name name k.now) m) Nothing
 
 -- a set has just the names of a list
-abbrev pub HasAll : BTreeSet (Bor (List ℕ)) → List (List ℕ) → Type 0
-HasAll s names = (name : List ℕ) → sorted.contains_by (λ k. slice_cmp nat_cmp name k.now) s ≡ has_name names name
+abbrev pub HasAll : {S : Type 0} → HashSet (Bor (List ℕ)) S → List (List ℕ) → Type 0
+HasAll s names = (name : List ℕ) → sets.contains_by (λ k. same_name name k.now) s ≡ has_name names name

@@ -6,14 +6,14 @@ ghost use Rattle.cx_vscope.specs.Scopes.{HasAll};
 
 use cx_text::{Memory, Name};
 use std::alloc::Global;
-use std::collections::BTreeSet;
+use std::collections::HashSet;
 use std::marker::Model;
 
 /// Names in the order in which they came, found by their bytes.
 #[derive(Drop)]
 pub struct Names<'a> {
     list: Vec<&'a Name>,
-    found: BTreeSet<&'a [u8]>,
+    found: HashSet<&'a Name>,
 }
 
 impl<'a> Model for Names<'a> {
@@ -31,7 +31,7 @@ impl<'a> Names<'a> {
     {
         Names {
             list: Vec::new(alloc),
-            found: BTreeSet::new(alloc),
+            found: HashSet::new(alloc),
         }
     }
 
@@ -39,7 +39,7 @@ impl<'a> Names<'a> {
     pub fn has(&self, name: &Name) -> bool
         ensures { result ≡ sound.has_name self.now name.now }
     {
-        self.found.contains(name.bytes())
+        self.found.contains(&name)
     }
 
     /// Adds a name.
@@ -47,7 +47,7 @@ impl<'a> Names<'a> {
         ensures { OnOk result (self.new ≡ self.old ++ name.now ∷ []) }
     {
         self.list.reserve(1)?;
-        self.found.insert(name.bytes())?;
+        self.found.insert(name)?;
         self.list.push_reserved(name);
         Ok(())
     }

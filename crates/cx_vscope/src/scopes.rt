@@ -12,45 +12,48 @@ use crate::meanings::{decl_meaning, decl_name, port_meaning};
 use cx_text::{Memory, Name};
 use cx_vtree::{Meaning, ModulePort};
 use std::alloc::Global;
-use std::collections::BTreeMap;
+use std::collections::HashMap;
 
 /// What each name stands for in a module: what the first part of that name makes it.
 #[derive(Drop)]
 pub struct ModuleScope<'a> {
-    meanings: BTreeMap<&'a [u8], Meaning>,
+    meanings: HashMap<&'a Name, Meaning>,
 }
 
 /// Adds declarations, the last one first, so that the first one of a name decides.
 fn add_decls<'a>(
-    meanings: &mut BTreeMap<&'a [u8], Meaning>,
+    meanings: &mut HashMap<&'a Name, Meaning>,
     decls: &'a [DraftDecl],
 ) -> Result<(), Memory>
     requires { (name : List ℕ) → meant_by meanings.old name ≡ sound.meant_decl [] name }
-    ensures { OnOk result ((name : List ℕ) → meant_by meanings.new name ≡ sound.meant_decl (map draft_decl decls.now) name) }
+    ensures { OnOk result
+        ((name : List ℕ) → meant_by meanings.new name ≡ sound.meant_decl (map draft_decl decls.now) name) }
 {
     let mut i = decls.len();
     while i > 0 {
         i -= 1;
         let d = &decls[i];
-        meanings.insert(decl_name(d).bytes(), decl_meaning(d))?;
+        meanings.insert(decl_name(d), decl_meaning(d))?;
     }
     Ok(())
 }
 
 /// Adds ports, the last one first, over declarations.
 fn add_ports<'a>(
-    meanings: &mut BTreeMap<&'a [u8], Meaning>,
+    meanings: &mut HashMap<&'a Name, Meaning>,
     ports: &'a [ModulePort],
     decls: &[DraftDecl],
 ) -> Result<(), Memory>
     requires { (name : List ℕ) → meant_by meanings.old name ≡ sound.meant_decl (map draft_decl decls.now) name }
-    ensures { OnOk result ((name : List ℕ) → meant_by meanings.new name ≡ sound.meant_in (map plain_port ports.now) (map draft_decl decls.now) name) }
+    ensures { OnOk result ((name : List ℕ) →
+        meant_by meanings.new name ≡
+        sound.meant_in (map plain_port ports.now) (map draft_decl decls.now) name) }
 {
     let mut i = ports.len();
     while i > 0 {
         i -= 1;
         let p = &ports[i];
-        meanings.insert(p.name.bytes(), port_meaning(p))?;
+        meanings.insert(&p.name, port_meaning(p))?;
     }
     Ok(())
 }
@@ -61,7 +64,7 @@ impl<'a> ModuleScope<'a> {
         ensures { scope_by result ≡ nothing_meant }
     {
         ModuleScope {
-            meanings: BTreeMap::new(alloc),
+            meanings: HashMap::new(alloc),
         }
     }
 
@@ -69,7 +72,7 @@ impl<'a> ModuleScope<'a> {
     pub fn new(alloc: Global, m: &'a DraftModule) -> Result<ModuleScope<'a>, Memory>
         ensures { IfOk result (λ scope. scope_by scope ≡ scope_of m.now) }
     {
-        let mut meanings = BTreeMap::new(alloc);
+        let mut meanings = HashMap::new(alloc);
         add_decls(&mut meanings, &m.decls)?;
         add_ports(&mut meanings, &m.ports, &m.decls)?;
         Ok(ModuleScope { meanings })
@@ -79,7 +82,7 @@ impl<'a> ModuleScope<'a> {
     pub fn meaning(&self, name: &Name) -> Meaning
         ensures { result ≡ scope_by self.now name.now }
     {
-        match self.meanings.get(name.bytes()) {
+        match self.meanings.get(&name) {
             None => Meaning::Nothing,
             Some(meaning) => *meaning,
         }

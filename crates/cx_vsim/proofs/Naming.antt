@@ -1,10 +1,15 @@
 -- The first instance of `main` of a name, and its array.
-use Rattle.std.proofs.Common.{◌≡◌, ◌≢◌, ℕ, zero, suc, ◌+◌, ◌<◌, ◌≤◌, ◌==◌, ◌&&◌, ⊎_elim, Bool, true, false, List, [], ◌∷◌, map, drop, get_or, length, Option, Some, None, option_map, option_and_then, slice_get, refl, ap, sym, ◌∙◌, subst, if◌then◌else◌, arith}
+use Rattle.std.proofs.Common.{◌≡◌, ◌≢◌, ℕ, zero, suc, ◌+◌, ◌<◌, ◌≤◌, ◌==◌, ◌&&◌, ⊎_elim, Bool, true, false, cond, List, [], ◌∷◌, map, drop, get_or, length, Option, Some, None, option_map, option_and_then, slice_get, refl, ap, sym, ◌∙◌, if◌then◌else◌, arith}
 use Rattle.std.proofs.lemmas.Bool.{cases_lt}
 use Rattle.std.proofs.lemmas.Bool.Decides.{eqb_tells}
 use Rattle.std.proofs.lemmas.Option.{slice_get_past, same_Some, get_or_from_slice_get}
+use Rattle.std.proofs.lemmas.List.{at_drop_all}
 use Rattle.std.specs.Cmp.Lexicographic.{bytes_decides}
+use Rattle.std.specs.HashMap as maps
+use Rattle.std.specs.HashMap.{HashMap}
+use Rattle.std.specs.Map.{lookup}
 use Rattle.std.specs.Option.{option_map_or}
+use denote.Ref.{Bor}
 use Rattle.cx_vtree.specs.Plain.{PlainExternal}
 use Rattle.cx_vtree.specs.InstanceTree.{Placed, same_name, decls_at}
 use Rattle.cx_vtree.specs.SimRun.{instance_named, first_array}
@@ -15,6 +20,7 @@ use Rattle.cx_vnets.specs.ModuleNumbers.{position, declared_arrays}
 use Rattle.cx_vnets.specs.Numbers.{arrays_at, arrays_before, array_number, place_of}
 use Rattle.cx_velab.specs.Tables.{all_places}
 use Rattle.cx_vsim.specs.Externals.{array_of, HasArray}
+use Rattle.cx_vsim.specs.Mains.{HasMainFrom, number_by}
 use Rattle.cx_vsim.proofs.Finding.{place_at}
 use Rattle.cx_velab.proofs.TablesLemmas.{places_length}
 
@@ -22,13 +28,6 @@ dropped : {A : Type 0} (xs : List A) (i : ℕ) (x : A) → slice_get xs i ≡ So
 dropped [] i x e = absurd (cc)
 dropped (y ∷ xs) zero x e = let same : y ≡ x = cc in ap (λ z. z ∷ xs) same
 dropped (y ∷ xs) (suc i) x e = dropped xs i x e
-
-pub other_is : (n m : List ℕ) (r : Bool) → (n ≡ m → r ≡ true) → r ≡ false → same_name n m ≡ false
-other_is n m r tells no_ = go (same_name n m) refl
-  where
-    go : (t : Bool) → same_name n m ≡ t → t ≡ false
-    go false is = refl
-    go true is = absurd (let one : r ≡ true = tells ((bytes_decides n m).0 is) in cc)
 
 module _ (rows : List Row) (i : ℕ) (row : Row) (name : List ℕ) (at : slice_get rows i ≡ Some row) where
   unfolded : instance_named (map placed_of (drop i rows)) i name
@@ -38,20 +37,40 @@ module _ (rows : List Row) (i : ℕ) (row : Row) (name : List ℕ) (at : slice_g
   next : instance_named (map placed_of (drop (suc i) rows)) (i + 1) name ≡ instance_named (map placed_of (drop (i + 1) rows)) (i + 1) name
   next = let s : suc i ≡ i + 1 = omega arith in ap (λ k. instance_named (map placed_of (drop k rows)) (i + 1) name) s
 
-  pub found_here : row.holder ≡ 0 → same_name row.instance.now.name name ≡ true → instance_named (map placed_of (drop i rows)) i name ≡ Some i
+  found_here : row.holder ≡ 0 → same_name row.instance.now.name name ≡ true → instance_named (map placed_of (drop i rows)) i name ≡ Some i
   found_here h s = unfolded
       ∙ ap (λ k. if k == 0 && same_name row.instance.now.name name then Some i else instance_named (map placed_of (drop (suc i) rows)) (i + 1) name) h
       ∙ ap (λ b. if b then Some i else instance_named (map placed_of (drop (suc i) rows)) (i + 1) name) s
 
-  pub not_named : row.holder ≡ 0 → same_name row.instance.now.name name ≡ false → instance_named (map placed_of (drop i rows)) i name ≡ instance_named (map placed_of (drop (i + 1) rows)) (i + 1) name
+  not_named : row.holder ≡ 0 → same_name row.instance.now.name name ≡ false → instance_named (map placed_of (drop i rows)) i name ≡ instance_named (map placed_of (drop (i + 1) rows)) (i + 1) name
   not_named h s = unfolded
       ∙ ap (λ k. if k == 0 && same_name row.instance.now.name name then Some i else instance_named (map placed_of (drop (suc i) rows)) (i + 1) name) h
       ∙ ap (λ b. if b then Some i else instance_named (map placed_of (drop (suc i) rows)) (i + 1) name) s ∙ next
 
-  pub not_held : row.holder ≢ 0 → instance_named (map placed_of (drop i rows)) i name ≡ instance_named (map placed_of (drop (i + 1) rows)) (i + 1) name
+  not_held : row.holder ≢ 0 → instance_named (map placed_of (drop i rows)) i name ≡ instance_named (map placed_of (drop (i + 1) rows)) (i + 1) name
   not_held h = unfolded
       ∙ ap (λ b. if b && same_name row.instance.now.name name then Some i else instance_named (map placed_of (drop (suc i) rows)) (i + 1) name)
       (⊎_elim {C = (row.holder == 0) ≡ false} (λ s. absurd (h s.1)) (λ d. d.0) (eqb_tells row.holder 0)) ∙ next
+
+-- no instance is numbered past the last
+pub main_none : {S : Type 0} (m : HashMap (Bor (List ℕ)) ℕ S) (rows : List Row) (i : ℕ) → m.entries ≡ [] → length rows ≤ i → HasMainFrom m i (map placed_of (drop i rows))
+main_none m rows i empty past q =
+    ap (lookup (λ (k : Bor (List ℕ)). same_name q k.now)) empty ∙ sym (at_drop_all (λ l. instance_named (map placed_of l) i q) rows i past)
+
+-- an instance of `main` goes before those of its name behind it
+pub main_entered : {S : Type 0} (m n : HashMap (Bor (List ℕ)) ℕ S) (rows : List Row) (i : ℕ) (row : Row) → slice_get rows i ≡ Some row → row.holder ≡ 0
+    → ((q : Bor (List ℕ)) → maps.get (λ x y. same_name x.now y.now) n q ≡ cond (same_name row.instance.now.name q.now) (Some i) (maps.get (λ x y. same_name x.now y.now) m q))
+    → HasMainFrom m (i + 1) (map placed_of (drop (i + 1) rows)) → HasMainFrom n i (map placed_of (drop i rows))
+main_entered m n rows i row at held up had q = up (record { ref_ptr = (0, 0); now = q }) ∙ go (same_name row.instance.now.name q) refl
+  where
+    go : (t : Bool) → same_name row.instance.now.name q ≡ t → cond t (Some i) (number_by m q) ≡ instance_named (map placed_of (drop i rows)) i q
+    go true e = sym (found_here rows i row q at held e)
+    go false e = had q ∙ sym (not_named rows i row q at held e)
+
+-- an instance of another one stands for nothing
+pub main_passed : {S : Type 0} (m : HashMap (Bor (List ℕ)) ℕ S) (rows : List Row) (i : ℕ) (row : Row) → slice_get rows i ≡ Some row → row.holder ≢ 0
+    → HasMainFrom m (i + 1) (map placed_of (drop (i + 1) rows)) → HasMainFrom m i (map placed_of (drop i rows))
+main_passed m rows i row at other had q = had q ∙ sym (not_held rows i row q at other)
 
 array_within : (tree : List Placed) (i : ℕ) (n : List ℕ) → arrays_at tree i ≡ n ∷ [] → i < length tree
 array_within tree i n at = ⊎_elim (λ lt. lt) (λ le. absurd (past (slice_get tree i) (slice_get_past tree i le) at)) (cases_lt i (length tree))
@@ -61,7 +80,7 @@ array_within tree i n at = ⊎_elim (λ lt. lt) (λ le. absurd (past (slice_get 
     past (Some p) e at = cc
 
 module _ (tree : List Placed) (e : PlainExternal) (has : HasArray tree e) where
-  pub instance_within : has.number < length tree
+  instance_within : has.number < length tree
   instance_within = array_within tree has.number (first_array (decls_at tree has.number)) has.only
 
   -- the array is the first of its instance
@@ -75,8 +94,17 @@ module _ (tree : List Placed) (e : PlainExternal) (has : HasArray tree e) where
       ∙ ap (λ b. option_map (λ k. arrays_before tree has.number + k) (if b then Some 0 else option_map suc (position [] first))) self
       ∙ ap Some none
 
-  pub array_place : (places : List NetPosition) (j : ℕ) (d : NetPosition) → places ≡ all_places tree (length tree) → has.number ≡ j → array_of tree e ≡ Some (get_or places j d).arrays
-  array_place places j d all same =
-      let at : slice_get places has.number ≡ Some (place_of tree has.number) = ap (λ l. slice_get l has.number) all ∙ place_at tree (length tree) has.number instance_within in
-      let got : get_or places j d ≡ place_of tree has.number = ap (λ k. get_or places k d) (sym same) ∙ get_or_from_slice_get places has.number (place_of tree has.number) d at in
-      array_is ∙ ap (λ (p : NetPosition). Some p.arrays) (sym got)
+  module _ (j : ℕ) (named : instance_named tree 0 e.instance ≡ Some j) (places : List NetPosition) where
+    same : has.number ≡ j
+    same = same_Some has.number j (sym has.found ∙ named)
+
+    pub instance_placed : places ≡ all_places tree (length tree) → j < length places
+    instance_placed all =
+        let sized : length places ≡ length tree = ap length all ∙ places_length tree (length tree) in
+        omega (arith, same, instance_within, sized)
+
+    pub array_place : (d : NetPosition) → places ≡ all_places tree (length tree) → array_of tree e ≡ Some (get_or places j d).arrays
+    array_place d all =
+        let at : slice_get places has.number ≡ Some (place_of tree has.number) = ap (λ l. slice_get l has.number) all ∙ place_at tree (length tree) has.number instance_within in
+        let got : get_or places j d ≡ place_of tree has.number = ap (λ k. get_or places k d) (sym same) ∙ get_or_from_slice_get places has.number (place_of tree has.number) d at in
+        array_is ∙ ap (λ (p : NetPosition). Some p.arrays) (sym got)

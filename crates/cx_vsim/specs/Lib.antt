@@ -11,3 +11,4 @@ pub mod Numbers
 pub mod Memories
 pub mod Stands
 pub mod Arrays
+pub mod Mains

@@ -1,14 +1,12 @@
 -- What stands at the first place of a name.
 use Rattle.std.proofs.Common.{◌≡◌, ℕ, suc, ◌+◌, ◌<◌, ◌≤◌, Bool, true, false, cond, ◌||◌, List, [], ◌∷◌, ◌++◌, map, length, take, get_or, Option, Some, None, is_some, slice_get, option_map, refl, ap, sym, ◌∙◌, arith, if◌then◌else◌}
-use Rattle.std.specs.BTreeMap as tree
-use Rattle.std.specs.BTreeMap.{BTreeMap}
-use Rattle.std.specs.Cmp.Lexicographic.{slice_cmp, same_text}
+use Rattle.std.specs.HashMap as maps
+use Rattle.std.specs.HashMap.{HashMap}
+use Rattle.std.specs.Cmp.Lexicographic.{same_text}
 use Rattle.std.specs.Option.{option_and_then, option_map_or, option_or, unwrap_or}
-use Rattle.std.specs.Ordering.{nat_cmp}
 use Rattle.std.specs.Prelude.{codes}
 use Rattle.std.proofs.lemmas.List.{length-take-le, map_push, take_more}
 use Rattle.std.proofs.lemmas.Option.{slice_get-map, slice_get_past}
-use Rattle.std.proofs.lemmas.Map.Text.{btree_map_updates_str}
 use denote.Ref.{Bor}
 use Rattle.cx_vtree.specs.InstanceTree.{same_name}
 use Rattle.cx_vtree.specs.Plain.{PlainExternal, PlainInstance, PlainModule}
@@ -24,9 +22,9 @@ use Rattle.cx_text.proofs.ListLaws.{length-map}
 use Rattle.cx_text.proofs.OptionLaws.{none_of, option_or-none}
 
 -- a name without a number gets one
-pub entered : (m n : BTreeMap (Bor (List ℕ)) ℕ) (key : Bor (List ℕ)) (v : ℕ) → is_some (number_by m key.now) ≡ false → tree.Updates (λ x y. slice_cmp nat_cmp x.now y.now) m n key (Some v)
+pub entered : {S : Type 0} (m n : HashMap (Bor (List ℕ)) ℕ S) (key : Bor (List ℕ)) (v : ℕ) → is_some (number_by m key.now) ≡ false → maps.Updates (λ x y. same_name x.now y.now) m n key (Some v)
     → (q : List ℕ) → number_by n q ≡ option_or (number_by m q) (if same_name key.now q then Some v else None)
-entered m n key v none up q = btree_map_updates_str key.now m n (Some v) up q ∙ go (same_name key.now q) refl where
+entered m n key v none up q = up.0 (record { ref_ptr = (0, 0); now = q }) ∙ go (same_name key.now q) refl where
   go : (t : Bool) → same_name key.now q ≡ t → cond t (Some v) (number_by m q) ≡ option_or (number_by m q) (if t then Some v else None)
   go true e = ap (λ o. option_or o (Some v)) (sym (none_of (number_by m key.now) none) ∙ ap (number_by m) (same_text key.now q (sym e)))
   go false e = sym (option_or-none (number_by m q))
@@ -47,7 +45,7 @@ first_more (x ∷ ns) n q = go (same_name x q) (first_more ns n q)
     go true e = refl
     go false e = ap (option_map suc) e ∙ later (same_name n q) (first_number ns q) (length ns)
 
-pub has_more : (m n : BTreeMap (Bor (List ℕ)) ℕ) (ns more : List (List ℕ)) (name : List ℕ) (v : ℕ) → HasFirst m ns
+pub has_more : {S : Type 0} (m n : HashMap (Bor (List ℕ)) ℕ S) (ns more : List (List ℕ)) (name : List ℕ) (v : ℕ) → HasFirst m ns
     → ((q : List ℕ) → number_by n q ≡ option_or (number_by m q) (if same_name name q then Some v else None)) → v ≡ length ns → more ≡ ns ++ name ∷ [] → HasFirst n more
 has_more m n ns more name v has put is is_more q =
     put q ∙ ap (λ o. option_or o (if same_name name q then Some v else None)) (has q) ∙ ap (λ k. option_or (first_number ns q) (if same_name name q then Some k else None)) is
@@ -132,7 +130,7 @@ memory-by_main ms e = go (last_named ms (codes "main"))
     go None = refl
     go (Some m) = refl
 
-module _ (first : BTreeMap (Bor (List ℕ)) ℕ) where
+module _ {S : Type 0} (first : HashMap (Bor (List ℕ)) ℕ S) where
   pub named_at : (ms : List PlainModule) (q : List ℕ) (n : ℕ) → HasFirst first (module_names ms) → Some n ≡ number_by first q → slice_get ms n ≡ module_named ms q
   named_at ms q n has e = sym (module-at ms q n (sym (e ∙ has q)))
 
@@ -146,7 +144,7 @@ module _ (first : BTreeMap (Bor (List ℕ)) ℕ) where
   kind_none is q has e = sym (kind-none is q (sym (e ∙ has q)))
 
 -- one instance more
-pub instances_next : (m n : BTreeMap (Bor (List ℕ)) ℕ) (is : List Instance) (i : ℕ) (x : Instance) → HasFirst m (instance_names (map plain_instance (take i is)))
+pub instances_next : {S : Type 0} (m n : HashMap (Bor (List ℕ)) ℕ S) (is : List Instance) (i : ℕ) (x : Instance) → HasFirst m (instance_names (map plain_instance (take i is)))
     → ((q : List ℕ) → number_by n q ≡ option_or (number_by m q) (if same_name x.name q then Some i else None)) → i < length is → x ≡ get_or is i x → HasFirst n (instance_names (map plain_instance (take (i + 1) is)))
 instances_next m n is i x has put small at =
     let one : take (i + 1) is ≡ take i is ++ x ∷ [] = take_more is i x small ∙ ap (λ y. take i is ++ y ∷ []) (sym at) in
@@ -156,14 +154,14 @@ instances_next m n is i x has put small at =
     (ap (λ l. instance_names (map plain_instance l)) one ∙ ap instance_names (map_push plain_instance (take i is) x) ∙ map_push (λ i. i.name) (map plain_instance (take i is)) (plain_instance x))
 
 -- one module more
-pub modules_more : (m n : BTreeMap (Bor (List ℕ)) ℕ) (ms : List DraftModule) (x : DraftModule) (k : ℕ) → HasFirst m (module_names (draft_modules ms))
+pub modules_more : {S : Type 0} (m n : HashMap (Bor (List ℕ)) ℕ S) (ms : List DraftModule) (x : DraftModule) (k : ℕ) → HasFirst m (module_names (draft_modules ms))
     → ((q : List ℕ) → number_by n q ≡ option_or (number_by m q) (if same_name x.name q then Some k else None)) → k ≡ length ms → HasFirst n (module_names (draft_modules (ms ++ x ∷ [])))
 modules_more m n ms x k has put is =
     let count : length (module_names (draft_modules ms)) ≡ length ms = length-map (λ m. m.name) (draft_modules ms) ∙ length-map draft_module ms in
     has_more m n (module_names (draft_modules ms)) (module_names (draft_modules (ms ++ x ∷ []))) x.name k has put (is ∙ sym count)
     (ap module_names (map_push draft_module ms x) ∙ map_push (λ m. m.name) (draft_modules ms) (draft_module x))
 
-module _ (first : BTreeMap (Bor (List ℕ)) ℕ) (q : List ℕ) (n : ℕ) (is : Some n ≡ number_by first q) where
+module _ {S : Type 0} (first : HashMap (Bor (List ℕ)) ℕ S) (q : List ℕ) (n : ℕ) (is : Some n ≡ number_by first q) where
   pub module_there : (ms : List DraftModule) (m : DraftModule) → HasFirst first (module_names (draft_modules ms)) → slice_get ms n ≡ Some m → Some (draft_module m) ≡ module_named (draft_modules ms) q
   module_there ms m has at = sym (slice_get-map draft_module ms n ∙ ap (option_map draft_module) at) ∙ named_at first (draft_modules ms) q n has is
 

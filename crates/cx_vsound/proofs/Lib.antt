@@ -3,3 +3,4 @@ pub mod Memories
 pub mod ModuleSteps
 pub mod Limbs
 pub mod FirstLemmas
+pub mod Outputs

@@ -1,10 +1,8 @@
 -- The first places of names.
 use Rattle.std.specs.Prelude.{◌≡◌, ℕ, suc, List, [], ◌∷◌, map, Option, Some, None, option_map, codes, if◌then◌else◌}
-use Rattle.std.specs.BTreeMap as tree
-use Rattle.std.specs.BTreeMap.{BTreeMap}
-use Rattle.std.specs.Cmp.Lexicographic.{slice_cmp}
+use Rattle.std.specs.HashMap as maps
+use Rattle.std.specs.HashMap.{HashMap}
 use Rattle.std.specs.Option.{option_map_or}
-use Rattle.std.specs.Ordering.{nat_cmp}
 use denote.Ref.{Bor}
 use Rattle.cx_vtree.specs.InstanceTree.{same_name}
 use Rattle.cx_vtree.specs.Plain.{PlainInstance, PlainModule}
@@ -16,11 +14,11 @@ first_number [] name = None
 first_number (n ∷ ns) name = if same_name n name then Some 0 else option_map suc (first_number ns name)
 
 -- the number of a name by a map
-abbrev pub number_by : BTreeMap (Bor (List ℕ)) ℕ → List ℕ → Option ℕ
-number_by m name = tree.get_by (λ k. slice_cmp nat_cmp name k.now) m
+abbrev pub number_by : {S : Type 0} → HashMap (Bor (List ℕ)) ℕ S → List ℕ → Option ℕ
+number_by m name = maps.get_by (λ k. same_name name k.now) m
 
 -- each name has the number of its first place, and no other name has one
-abbrev pub HasFirst : BTreeMap (Bor (List ℕ)) ℕ → List (List ℕ) → Type 0
+abbrev pub HasFirst : {S : Type 0} → HashMap (Bor (List ℕ)) ℕ S → List (List ℕ) → Type 0
 HasFirst first names = (name : List ℕ) → number_by first name ≡ first_number names name
 
 abbrev pub module_names : List PlainModule → List (List ℕ)

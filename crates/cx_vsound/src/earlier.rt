@@ -12,20 +12,22 @@ use cx_text::{Memory, Name};
 use cx_vscope::DraftModule;
 use cx_vtree::Instance;
 use std::alloc::Global;
-use std::collections::BTreeMap;
+use std::collections::HashMap;
 use std::marker::Model;
 
 /// Gives a name a number, where it has none yet.
 fn enter<'a>(
-    first: &mut BTreeMap<&'a [u8], usize>,
+    first: &mut HashMap<&'a Name, usize>,
     name: &'a Name,
     number: usize,
 ) -> Result<(), Memory>
     ensures err { OnErr result ((q : List ℕ) → number_by first.new q ≡ number_by first.old q) }
-    ensures entered { OnOk result ((q : List ℕ) → number_by first.new q ≡ option_or (number_by first.old q) (if same_name name.now q then Some number else None)) }
+    ensures entered { OnOk result ((q : List ℕ) →
+        number_by first.new q ≡
+        option_or (number_by first.old q) (if same_name name.now q then Some number else None)) }
 {
-    if !first.contains_key(name.bytes()) {
-        first.insert(name.bytes(), number)?;
+    if !first.contains_key(&name) {
+        first.insert(name, number)?;
     }
     Ok(())
 }
@@ -34,7 +36,7 @@ fn enter<'a>(
 #[derive(Drop)]
 pub struct Earlier<'a> {
     list: Vec<&'a DraftModule>,
-    first: BTreeMap<&'a [u8], usize>,
+    first: HashMap<&'a Name, usize>,
 }
 
 impl<'a> Model for Earlier<'a> {
@@ -61,7 +63,7 @@ impl<'a> Earlier<'a> {
     {
         Earlier {
             list: Vec::new(alloc),
-            first: BTreeMap::new(alloc),
+            first: HashMap::new(alloc),
         }
     }
 
@@ -69,7 +71,7 @@ impl<'a> Earlier<'a> {
     pub fn number(&self, name: &Name) -> Option<usize>
         ensures { result ≡ first_number (module_names (draft_modules self.now)) name.now }
     {
-        match self.first.get(name.bytes()) {
+        match self.first.get(&name) {
             None => None,
             Some(number) => Some(*number),
         }
@@ -77,9 +79,10 @@ impl<'a> Earlier<'a> {
 
     /// The first module of a name.
     pub fn named(&self, name: &Name) -> Option<&'a DraftModule>
-        ensures { option_map draft_module (option_copied result) ≡ sound.module_named (draft_modules self.now) name.now }
+        ensures { option_map draft_module (option_copied result) ≡
+            sound.module_named (draft_modules self.now) name.now }
     {
-        let Some(number) = self.first.get(name.bytes()) else {
+        let Some(number) = self.first.get(&name) else {
             return None;
         };
         match self.list.get(*number) {
@@ -114,7 +117,7 @@ pub fn all_modules<'a>(alloc: Global, modules: &'a [DraftModule]) -> Result<Earl
 #[derive(Drop)]
 pub struct Instances<'a> {
     list: &'a [Instance],
-    first: BTreeMap<&'a [u8], usize>,
+    first: HashMap<&'a Name, usize>,
 }
 
 impl<'a> Model for Instances<'a> {
@@ -134,10 +137,10 @@ impl<'a> Model for Instances<'a> {
 fn instance_numbers<'a>(
     alloc: Global,
     list: &'a [Instance],
-) -> Result<BTreeMap<&'a [u8], usize>, Memory>
+) -> Result<HashMap<&'a Name, usize>, Memory>
     ensures { IfOk result (λ first. HasFirst first (instance_names (map plain_instance list.now))) }
 {
-    let mut first = BTreeMap::new(alloc);
+    let mut first = HashMap::new(alloc);
     for i in 0..list.len() {
         enter(&mut first, &list[i].name, i)?;
     }
@@ -156,7 +159,7 @@ impl<'a> Instances<'a> {
     pub fn kind(&self, name: &Name) -> Option<&'a Name>
         ensures { option_copied result ≡ sound.instance_kind self.now name.now }
     {
-        let Some(number) = self.first.get(name.bytes()) else {
+        let Some(number) = self.first.get(&name) else {
             return None;
         };
         match self.list.get(*number) {

@@ -35,7 +35,13 @@ fn store_faults(
     index: &Expr,
     value: &Expr,
 ) -> LineFaults
-    ensures { faults_in result ≡ sound.store_faults (scope_by scope.now) earlier.now (record { guard = plain_expr guard.now; array = array.now; index = plain_expr index.now; value = plain_expr value.now }) }
+    ensures { faults_in result ≡ sound.store_faults (scope_by scope.now) earlier.now
+        (record {
+          guard = plain_expr guard.now;
+          array = array.now;
+          index = plain_expr index.now;
+          value = plain_expr value.now;
+        }) }
 {
     LineFaults {
         name: !is_array(scope.meaning(array))
@@ -80,7 +86,8 @@ fn sets(
     scope: &ModuleScope,
     list: &[NetAssign],
 ) -> Result<Search, Memory>
-    ensures { IfOk result (λ s. s ≡ over search (sound.sets_faults (scope_by scope.now) [] (map plain_assign list.now))) }
+    ensures { IfOk result
+        (λ s. s ≡ over search (sound.sets_faults (scope_by scope.now) [] (map plain_assign list.now))) }
 {
     let mut search = search;
     let mut earlier = Names::new(alloc);
@@ -97,7 +104,8 @@ fn items(
     scope: &ModuleScope,
     list: &[EdgeItem],
 ) -> Result<Search, Memory>
-    ensures { IfOk result (λ s. s ≡ over search (sound.items_faults (scope_by scope.now) [] (map plain_item list.now))) }
+    ensures { IfOk result
+        (λ s. s ≡ over search (sound.items_faults (scope_by scope.now) [] (map plain_item list.now))) }
 {
     let mut search = search;
     let mut earlier = Names::new(alloc);
@@ -130,7 +138,8 @@ pub fn edge(
     scope: &ModuleScope,
     e: &Option<Edge>,
 ) -> Result<Search, Memory>
-    ensures { IfOk result (λ s. s ≡ over search (sound.edge_faults (scope_by scope.now) (option_map plain_edge e.now))) }
+    ensures { IfOk result
+        (λ s. s ≡ over search (sound.edge_faults (scope_by scope.now) (option_map plain_edge e.now))) }
 {
     match e {
         None => Ok(search),

@@ -14,6 +14,7 @@ use crate::search::{LineFaults, Search, after};
 use cx_text::Memory;
 use cx_vscope::{ModuleScope, Names, is_source, is_wire, same, width_of};
 use cx_vtree::{Conn, Instance, ModulePort};
+use std::alloc::Global;
 
 /// Whether a port is connected to a net that it may not be connected to, or another port stands in its place.
 fn miswired(scope: &ModuleScope, p: &ModulePort, c: &Conn) -> bool
@@ -75,7 +76,8 @@ fn instance_faults(
     doubled: bool,
     i: &Instance,
 ) -> LineFaults
-    ensures { faults_in result ≡ instance_faults_by doubled (draft_modules before.now) (scope_by scope.now) earlier.now (plain_instance i.now) }
+    ensures { faults_in result ≡ instance_faults_by doubled (draft_modules before.now)
+        (scope_by scope.now) earlier.now (plain_instance i.now) }
 {
     let ports = ports_of(before, &i.module);
     LineFaults {
@@ -90,6 +92,7 @@ fn instance_faults(
 
 /// Goes on past the line of an instance. `earlier` has the names before, and `driven` the nets that are driven before.
 fn instance<'a>(
+    alloc: Global,
     search: Search,
     before: &Earlier,
     scope: &ModuleScope,
@@ -97,11 +100,15 @@ fn instance<'a>(
     driven: &mut Names<'a>,
     i: &'a Instance,
 ) -> Result<Search, Memory>
-    ensures value { IfOk result (λ s. s ≡ noted search (sound.instance_faults (draft_modules before.now) (scope_by scope.now) earlier.old driven.old (plain_instance i.now))) }
+    ensures value { IfOk result (λ s. s ≡ noted search
+        (sound.instance_faults (draft_modules before.now) (scope_by scope.now) earlier.old driven.old
+        (plain_instance i.now))) }
     ensures names { OnOk result (earlier.new ≡ earlier.old ++ i.now.name ∷ []) }
-    ensures driven { OnOk result (driven.new ≡ driven.old ++ sound.driven_by (sound.ports_of (draft_modules before.now) i.now.module) (map plain_conn i.now.conns.items)) }
+    ensures driven { OnOk result (driven.new ≡
+        driven.old ++ sound.driven_by (sound.ports_of (draft_modules before.now) i.now.module)
+        (map plain_conn i.now.conns.items)) }
 {
-    let doubled = add_driven(driven, ports_of(before, &i.module), &i.conns)?;
+    let doubled = add_driven(alloc, driven, ports_of(before, &i.module), &i.conns)?;
     let search = after(search, instance_faults(before, scope, earlier, doubled, i));
     earlier.push(&i.name)?;
     Ok(search)
@@ -109,6 +116,7 @@ fn instance<'a>(
 
 /// Goes on past the lines of instances.
 pub fn instances<'a>(
+    alloc: Global,
     search: Search,
     before: &Earlier,
     scope: &ModuleScope,
@@ -116,11 +124,13 @@ pub fn instances<'a>(
     driven: &mut Names<'a>,
     instances: &'a [Instance],
 ) -> Result<Search, Memory>
-    ensures { IfOk result (λ s. s ≡ over search (sound.instances_faults (draft_modules before.now) (scope_by scope.now) earlier.old driven.old (map plain_instance instances.now))) }
+    ensures { IfOk result (λ s. s ≡ over search
+        (sound.instances_faults (draft_modules before.now) (scope_by scope.now) earlier.old driven.old
+        (map plain_instance instances.now))) }
 {
     let mut search = search;
     for i in instances {
-        search = instance(search, before, scope, earlier, driven, i)?;
+        search = instance(alloc, search, before, scope, earlier, driven, i)?;
     }
     Ok(search)
 }

@@ -20,7 +20,8 @@ use cx_vtree::{ModulePort, NetAssign};
 use std::alloc::Global;
 
 fn module_faults(is_main: bool, before: &Earlier, own: Sums, m: &DraftModule) -> LineFaults
-    ensures { faults_in result ≡ sound.module_faults is_main (draft_modules before.now) (counts_in own) (draft_module m.now) }
+    ensures { faults_in result ≡
+        sound.module_faults is_main (draft_modules before.now) (counts_in own) (draft_module m.now) }
 {
     let fewest = if is_main { 4usize } else { 2usize };
     LineFaults {
@@ -72,8 +73,11 @@ fn signature<'a>(
     m: &'a DraftModule,
 ) -> Result<Search, Memory>
     requires { names.old ≡ map (λ p. p.name) (map plain_port m.now.ports.items) }
-    ensures value { IfOk result (λ s. s ≡ over search (signature_faults is_main (draft_modules before.now) (counts_in own) (draft_module m.now))) }
-    ensures names { OnOk result (names.new ≡ map (λ p. p.name) (map plain_port m.now.ports.items) ++ map sound.decl_name (map draft_decl m.now.decls.items)) }
+    ensures value { IfOk result (λ s. s ≡ over search
+        (signature_faults is_main (draft_modules before.now) (counts_in own) (draft_module m.now))) }
+    ensures names { OnOk result (names.new ≡
+        map (λ p. p.name) (map plain_port m.now.ports.items)
+        ++ map sound.decl_name (map draft_decl m.now.decls.items)) }
 {
     let driving = drivers(alloc, before, m)?;
     let search = after(search, module_faults(is_main, before, own, m));
@@ -90,13 +94,22 @@ fn body<'a>(
     names: &mut Names<'a>,
     m: &'a DraftModule,
 ) -> Result<Search, Memory>
-    requires { names.old ≡ map (λ p. p.name) (map plain_port m.now.ports.items) ++ map sound.decl_name (map draft_decl m.now.decls.items) }
+    requires { names.old ≡ map (λ p. p.name) (map plain_port m.now.ports.items)
+        ++ map sound.decl_name (map draft_decl m.now.decls.items) }
     ensures { IfOk result (λ s. s ≡ over search (body_faults (draft_modules before.now) (draft_module m.now))) }
 {
     let scope = ModuleScope::new(alloc, m)?;
     let search = assigns(alloc, search, &scope, &m.assigns)?;
     let mut driven = assigned(alloc, &m.assigns)?;
-    let search = instances(search, before, &scope, names, &mut driven, &m.instances)?;
+    let search = instances(
+        alloc,
+        search,
+        before,
+        &scope,
+        names,
+        &mut driven,
+        &m.instances,
+    )?;
     let search = edge(alloc, search, &scope, &m.edge)?;
     Ok(clean(search))
 }
@@ -110,7 +123,8 @@ fn module_lines(
     own: Sums,
     m: &DraftModule,
 ) -> Result<Search, Memory>
-    ensures { IfOk result (λ s. s ≡ over search (sound.lines_faults is_main (draft_modules before.now) (counts_in own) (draft_module m.now))) }
+    ensures { IfOk result (λ s. s ≡ over search
+        (sound.lines_faults is_main (draft_modules before.now) (counts_in own) (draft_module m.now))) }
 {
     let mut names = port_names(alloc, &m.ports)?;
     let declared = signature(alloc, search, is_main, before, own, &mut names, m)?;

@@ -5,23 +5,25 @@ ghost use Rattle.std.specs.Option.{option_copied};
 ghost use Rattle.cx_vtree.specs.PlainParts.{plain_port, plain_conn};
 ghost use Rattle.cx_vscope.specs.Drafts.{draft_module, draft_modules};
 ghost use Rattle.cx_vtree.specs.Sound as sound;
+ghost use Rattle.cx_vsound.specs.Parts.{output_names};
 
 use crate::earlier::Earlier;
 use cx_text::{Memory, Name};
-use cx_vscope::{DraftModule, Names, same};
+use cx_vscope::{DraftModule, Names};
 use cx_vtree::{Conn, ModulePort};
 use std::alloc::Global;
 
-/// Whether a module has an output of this name.
-pub fn has_output(ports: &[ModulePort], name: &Name) -> bool
-    ensures { result ≡ sound.has_output (map plain_port ports.now) name.now }
+/// The names of the outputs among ports.
+fn output_names<'a>(alloc: Global, ports: &'a [ModulePort]) -> Result<Names<'a>, Memory>
+    ensures { IfOk result (λ names. names ≡ output_names (map plain_port ports.now)) }
 {
+    let mut names = Names::new(alloc);
     for p in ports {
-        if p.output && same(&p.name, name) {
-            return true;
+        if p.output {
+            names.push(&p.name)?;
         }
     }
-    false
+    Ok(names)
 }
 
 /// The ports of the module of a name; none where there is no such module.
@@ -45,18 +47,21 @@ fn add_net<'a>(driven: &mut Names<'a>, doubled: bool, net: &'a Name) -> Result<b
 }
 
 /// Adds the nets that connections drive, by the outputs of the instance's module. Tells whether one of them was driven before.
-#[tactic(auto, using(cx_text::proofs::BoolLaws::or_assoc))]
 pub fn add_driven<'a>(
+    alloc: Global,
     driven: &mut Names<'a>,
     ports: &[ModulePort],
     conns: &'a [Conn],
 ) -> Result<bool, Memory>
-    ensures value { IfOk result (λ d. d ≡ sound.doubles driven.old (sound.driven_by (map plain_port ports.now) (map plain_conn conns.now))) }
-    ensures names { OnOk result (driven.new ≡ driven.old ++ sound.driven_by (map plain_port ports.now) (map plain_conn conns.now)) }
+    ensures value { IfOk result (λ d.
+        d ≡ sound.doubles driven.old (sound.driven_by (map plain_port ports.now) (map plain_conn conns.now))) }
+    ensures names { OnOk result
+        (driven.new ≡ driven.old ++ sound.driven_by (map plain_port ports.now) (map plain_conn conns.now)) }
 {
+    let outputs = output_names(alloc, ports)?;
     let mut doubled = false;
     for c in conns {
-        if has_output(ports, &c.port) {
+        if outputs.has(&c.port) {
             doubled = add_net(driven, doubled, &c.net)?;
         }
     }
@@ -72,7 +77,7 @@ pub fn drivers<'a>(alloc: Global, before: &Earlier, m: &'a DraftModule) -> Resul
         names.push(&a.name)?;
     }
     for i in &m.instances {
-        let _doubled = add_driven(&mut names, ports_of(before, &i.module), &i.conns)?;
+        let _doubled = add_driven(alloc, &mut names, ports_of(before, &i.module), &i.conns)?;
     }
     Ok(names)
 }

@@ -1,6 +1,6 @@
 use Rattle.std.proofs.Common.{◌≡◌, ◌<◌, Some, None, length, reverse, take, ap, sym, ◌∙◌, subst}
 use Rattle.cx_vtree.specs.PlainParts.{plain_module, plain_modules}
-use Rattle.cx_vnets.specs.Maps.{number_by}
+use Rattle.cx_velab.specs.Maps.{number_by}
 use Rattle.cx_velab.specs.Trees.{found_from}
 use Rattle.cx_velab.proofs.FoundLemmas.{absent, last_small, last_found, walked}
 use Rattle.cx_text.proofs.ListLaws.{length-map}

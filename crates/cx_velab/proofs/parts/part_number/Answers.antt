@@ -2,7 +2,7 @@ use Rattle.std.proofs.Common.{◌≡◌, ℕ, List, map, length, get_or, Some, s
 use Rattle.cx_vtree.specs.Plain.{PlainModule}
 use Rattle.cx_vtree.specs.InstanceTree.{Placed}
 use Rattle.cx_vtree.specs.PlainParts.{plain_module}
-use Rattle.cx_vnets.specs.Maps.{number_by}
+use Rattle.cx_velab.specs.Maps.{number_by}
 use Rattle.cx_velab.specs.Rows.{placed_of}
 use Rattle.cx_velab.specs.Parts.{CanCode, PartStands, HasPart}
 use Rattle.cx_velab.proofs.PartLemmas.{has_kept, has_new, found_more}

@@ -8,8 +8,8 @@ pub loop-i-preserved : goal.loop-i-preserved
 loop-i-preserved c =
     let next : c.loop-i.i ≡ c.loop-i.i - 1 + 1 = omega arith in
     record {
-      meant = decl_put c.loop-i.meanings c.insert.new.self c.bytes.result c.decl_meaning.result c.args.decls.now (c.loop-i.i - 1) c.index-decls-i.result
-          c.in_ok-insert.ensures.updates (c.bytes.ensures.value ∙ c.decl_name.ensures) c.decl_meaning.ensures (omega arith) c.index-decls-i.is
+      meant = decl_put c.loop-i.meanings c.insert.new.self c.decl_meaning.result c.args.decls.now (c.loop-i.i - 1) c.index-decls-i.result c.decl_name.result.now
+          c.in_ok-insert.ensures.updates.0 c.decl_name.ensures c.decl_meaning.ensures (omega arith) c.index-decls-i.is
           (λ q. c.loop-i.invariant.meant q ∙ ap (λ k. meant_decl (map draft_decl (drop k c.args.decls.now)) q) next);
       within = omega arith;
     }

@@ -6,8 +6,7 @@ use Rattle.cx_vscope.proofs.names.Names.push.Goals as goal
 
 pub invariant_of-self-2 : goal.invariant_of-self-2
 invariant_of-self-2 c =
-    let e : map (λ n. n.now) c.push_reserved.new.self.items ≡ map (λ n. n.now) c.self.inside.list.items ++ c.bytes.result.now ∷ [] =
+    let e : map (λ n. n.now) c.push_reserved.new.self.items ≡ map (λ n. n.now) c.self.inside.list.items ++ c.args.name.now ∷ [] =
     ap (map (λ n. n.now)) (c.push_reserved.ensures.items ∙ ap (λ xs. xs ++ c.args.name ∷ []) c.in_ok-reserve.ensures.items)
-    ∙ map_push (λ n. n.now) c.self.inside.list.items c.args.name
-    ∙ ap (λ b. map (λ n. n.now) c.self.inside.list.items ++ b ∷ []) (sym c.bytes.ensures.value) in
-    λ q. has_push c.self.inside.found c.insert.new.self c.bytes.result (map (λ n. n.now) c.self.inside.list.items) c.self.invariant c.in_ok-insert.ensures.updates q ∙ ap (λ xs. has_name xs q) (sym e)
+    ∙ map_push (λ n. n.now) c.self.inside.list.items c.args.name in
+    λ q. has_push c.self.inside.found c.insert.new.self c.args.name (map (λ n. n.now) c.self.inside.list.items) c.self.invariant c.in_ok-insert.ensures.updates q ∙ ap (λ xs. has_name xs q) (sym e)
