@@ -1,25 +1,23 @@
 -- One more name has a number.
-use Rattle.std.proofs.Common.{◌≡◌, ℕ, suc, ◌+◌, Bool, true, false, cond, List, [], ◌∷◌, ◌++◌, length, Option, Some, None, Ordering, option_map, is_some, refl, ap, sym, ◌∙◌, arith, if◌then◌else◌}
+use Rattle.std.proofs.Common.{◌≡◌, ℕ, suc, ◌+◌, Bool, true, false, cond, List, [], ◌∷◌, ◌++◌, length, Option, Some, None, option_map, is_some, refl, ap, sym, ◌∙◌, arith, if◌then◌else◌}
 use Rattle.std.specs.Option.{option_or}
-use Rattle.std.specs.BTreeMap as tree
-use Rattle.std.specs.BTreeMap.{BTreeMap, is_at}
+use Rattle.std.specs.HashMap as maps
+use Rattle.std.specs.HashMap.{HashMap}
 use Rattle.std.specs.Map.{lookup}
-use Rattle.std.specs.Cmp.Lexicographic.{slice_cmp, same_text}
-use Rattle.std.specs.Ordering.{nat_cmp}
-use Rattle.std.proofs.lemmas.Map.Text.{btree_map_updates_str}
+use Rattle.std.specs.Cmp.Lexicographic.{same_text}
 use denote.Ref.{Bor}
 use Rattle.cx_vtree.specs.InstanceTree.{same_name}
 use Rattle.cx_vnets.specs.ModuleNumbers.{position, position_from}
 use Rattle.cx_vnets.specs.Maps.{number_by}
 use Rattle.cx_text.proofs.OptionLaws.{none_of, option_or-none}
 
-abbrev by_bytes : Bor (List ℕ) → Bor (List ℕ) → Ordering
-by_bytes x y = slice_cmp nat_cmp x.now y.now
+abbrev by_bytes : Bor (List ℕ) → Bor (List ℕ) → Bool
+by_bytes x y = same_name x.now y.now
 
 -- a name without a number gets one
-pub entered : (m n : BTreeMap (Bor (List ℕ)) ℕ) (key : Bor (List ℕ)) (v : ℕ) → is_some (number_by m key.now) ≡ false → tree.Updates by_bytes m n key (Some v)
+pub entered : {S : Type 0} (m n : HashMap (Bor (List ℕ)) ℕ S) (key : Bor (List ℕ)) (v : ℕ) → is_some (number_by m key.now) ≡ false → maps.Updates by_bytes m n key (Some v)
     → (q : List ℕ) → number_by n q ≡ option_or (number_by m q) (if same_name key.now q then Some v else None)
-entered m n key v none up q = btree_map_updates_str key.now m n (Some v) up q ∙ go (same_name key.now q) refl where
+entered m n key v none up q = up.0 (record { ref_ptr = (0, 0); now = q }) ∙ go (same_name key.now q) refl where
   go : (t : Bool) → same_name key.now q ≡ t → cond t (Some v) (number_by m q) ≡ option_or (number_by m q) (if t then Some v else None)
   go true e = ap (λ o. option_or o (Some v)) (sym (none_of (number_by m key.now) none) ∙ ap (number_by m) (same_text key.now q (sym e)))
   go false e = sym (option_or-none (number_by m q))
@@ -56,15 +54,15 @@ position_from-append first (x ∷ xs) ys q =
     either_place (same_name x q) first (position_from (first + 1) (xs ++ ys) q) (position_from (first + 1) xs q) (position_from (first + length (x ∷ xs)) ys q)
     (position_from-append (first + 1) xs ys q ∙ ap (λ k. option_or (position_from (first + 1) xs q) (position_from k ys q)) next)
 
-nothing : (m : BTreeMap (Bor (List ℕ)) ℕ) (q : List ℕ) → m.entries ≡ [] → number_by m q ≡ None
-nothing m q e = ap (λ es. lookup (is_at (λ k. slice_cmp nat_cmp q k.now)) es) e
+nothing : {S : Type 0} (m : HashMap (Bor (List ℕ)) ℕ S) (q : List ℕ) → m.entries ≡ [] → number_by m q ≡ None
+nothing m q e = ap (lookup (λ (k : Bor (List ℕ)). same_name q k.now)) e
 
 -- the numbers of a list, entered into an empty map
-pub numbered : (empty m : BTreeMap (Bor (List ℕ)) ℕ) (xs : List (List ℕ)) (q : List ℕ) → empty.entries ≡ [] → number_by m q ≡ option_or (number_by empty q) (position_from 0 xs q) → number_by m q ≡ position xs q
+pub numbered : {S : Type 0} (empty m : HashMap (Bor (List ℕ)) ℕ S) (xs : List (List ℕ)) (q : List ℕ) → empty.entries ≡ [] → number_by m q ≡ option_or (number_by empty q) (position_from 0 xs q) → number_by m q ≡ position xs q
 numbered empty m xs q is e = e ∙ ap (λ o. option_or o (position_from 0 xs q)) (nothing empty q is) ∙ position_from-zero xs q
 
 -- and those of a second list after them
-pub numbered_after : (empty m n : BTreeMap (Bor (List ℕ)) ℕ) (xs ys : List (List ℕ)) (k : ℕ) (q : List ℕ) → empty.entries ≡ [] → k ≡ length xs
+pub numbered_after : {S : Type 0} (empty m n : HashMap (Bor (List ℕ)) ℕ S) (xs ys : List (List ℕ)) (k : ℕ) (q : List ℕ) → empty.entries ≡ [] → k ≡ length xs
     → number_by m q ≡ option_or (number_by empty q) (position_from 0 xs q) → number_by n q ≡ option_or (number_by m q) (position_from k ys q) → number_by n q ≡ position (xs ++ ys) q
 numbered_after empty m n xs ys k q is long e f =
     let behind : k ≡ 0 + length xs = omega arith in

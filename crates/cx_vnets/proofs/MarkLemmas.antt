@@ -1,6 +1,6 @@
 -- The search for the next mark among the bytes from a rank on.
 use Rattle.std.proofs.Common.{◌≡◌, ℕ, ◌+◌, ◌-◌, ◌<◌, ◌≤◌, List, length, get_or, drop, nat_eq, slice_index, slice_range, ap, sym, ◌∙◌, subst, arith, ⊎_elim, get_or-take, get_or-drop, length-drop, length-take-le}
-use Rattle.std.proofs.lemmas.Bool.{cases_Bool}
+use Rattle.std.proofs.lemmas.Bool.{cases_Bool, cases_lt}
 use Rattle.memchr.specs.Find.{Nowhere, NoneBefore, Passes, is_byte}
 use Rattle.cx_vnets.specs.Stale.{is_stale, NoneStale, IsNext}
 
@@ -38,3 +38,16 @@ module _ (stale : List ℕ) (from : ℕ) (low : from ≤ length stale) where
         before = unmarked steps (omega (arith, lt)) before.before;
         marked = sym (marked_at steps lt) ∙ passes;
       }
+
+-- no mark up to a rank, and none from there on
+pub none_stale_on : (stale : List ℕ) (from between to : ℕ) → NoneStale stale from between → NoneStale stale between to → NoneStale stale from to
+none_stale_on stale from between to first second k le lt = ⊎_elim (λ below. first k le below) (λ above. second k above lt) (cases_lt k between)
+
+-- the same, where a mark stands behind
+pub is_next_on : (stale : List ℕ) (from between next : ℕ) → from ≤ between → NoneStale stale from between → IsNext stale between next → IsNext stale from next
+is_next_on stale from between next le first is = let low = is.low in record {
+  low = omega (arith, le, low);
+  high = is.high;
+  before = none_stale_on stale from between next first is.before;
+  marked = is.marked;
+}

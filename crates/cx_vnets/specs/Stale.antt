@@ -39,3 +39,10 @@ pub record IsNext (stale : List ℕ) (from next : ℕ) : Type 0 where
 -- it, where there is one
 abbrev pub IsNextStale : List ℕ → ℕ → Option ℕ → Type 0
 IsNextStale stale from r = MatchOption r (NoneStale stale from (length stale)) (IsNext stale from)
+
+-- the first marked rank from one up to another; this one where there is none
+pub record IsNear (stale : List ℕ) (from to next : ℕ) : Type 0 where
+  pub low : from ≤ next
+  pub high : next ≤ to
+  pub before : NoneStale stale from next
+  pub marked : next < to → is_stale stale next ≡ true

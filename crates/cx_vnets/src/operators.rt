@@ -7,6 +7,7 @@ use cx_bits::Bits;
 use cx_vtree::Operator;
 
 /// What an operator gives of two operands of one width.
+#[inline(always)]
 pub fn operate(op: Operator, left: Bits, right: Bits) -> Bits
     requires { left.width ≡ right.width }
     ensures { result ≡ operators.operate op left right }

@@ -2,7 +2,7 @@
 
 ghost use Rattle.std.specs.Prelude.{◌≡◌, ◌≢◌, ◌<◌, ◌≤◌, false, length, slice_get, slice_set};
 ghost use Rattle.cx_text.specs.Members.{In};
-ghost use Rattle.cx_vnets.specs.Stale.{AllStale, IsNextStale, SameBelow, Tells, rank_at};
+ghost use Rattle.cx_vnets.specs.Stale.{AllStale, IsNear, IsNextStale, SameBelow, Tells, rank_at};
 
 use cx_bits::Bits;
 use memchr::memchr;
@@ -40,7 +40,43 @@ pub(crate) fn mark_all(stale: &mut [u8])
     }
 }
 
-/// The first marked rank from one on. Where many nets change, it is the very next one.
+/// So many ranks are looked at one by one before a search.
+const NEAR: usize = 8;
+
+/// The first marked rank from one up to another; this one where there is none.
+fn near_marked(stale: &[u8], from: usize, to: usize) -> usize
+    requires order { from ≤ to }
+    requires within { to ≤ length stale.now }
+    ensures near { IsNear stale.now from to result }
+    ensures there { result ≤ length stale.now }
+{
+    for rank in from..to {
+        if stale[rank] == 1 {
+            return rank;
+        }
+    }
+    to
+}
+
+/// The first marked rank from one on, where the mark is not the very first.
+#[inline(never)]
+fn search_marked(stale: &[u8], from: usize) -> Option<usize>
+    requires { from ≤ length stale.now }
+    ensures { IsNextStale stale.now from result }
+{
+    let to = from + NEAR.min(stale.len() - from);
+    let near = near_marked(stale, from, to);
+    if near < to {
+        return Some(near);
+    }
+    match memchr(1, &stale[near..]) {
+        Some(steps) => Some(near + steps),
+        None => None,
+    }
+}
+
+/// The first marked rank from one on. Where many nets change, it is the very next one, or close to it.
+#[inline(always)]
 pub(crate) fn next_marked(stale: &[u8], from: usize) -> Option<usize>
     requires { from ≤ length stale.now }
     ensures { IsNextStale stale.now from result }
@@ -48,10 +84,7 @@ pub(crate) fn next_marked(stale: &[u8], from: usize) -> Option<usize>
     if from < stale.len() && stale[from] == 1 {
         return Some(from);
     }
-    match memchr(1, &stale[from..]) {
-        Some(steps) => Some(from + steps),
-        None => None,
-    }
+    search_marked(stale, from)
 }
 
 /// Gives a net a stored value, and marks it where it had another.

@@ -1,13 +1,6 @@
-use Rattle.std.proofs.Common.{◌≡◌, false, Some, None, is_some, ap, sym, ◌∙◌, if◌then◌else◌}
-use Rattle.std.specs.Option.{option_or}
-use Rattle.cx_vtree.specs.InstanceTree.{same_name}
-use Rattle.cx_vnets.specs.Maps.{number_by}
+use Rattle.std.proofs.Common.{sym}
 use Rattle.cx_vnets.proofs.CodeSteps.{entered}
 use Rattle.cx_vnets.proofs.numbers.enter.Goals as goal
 
 pub returns-in_ok-insert : goal.returns-in_ok-insert
-returns-in_ok-insert c =
-    let e : is_some (number_by c.args.numbers.now c.bytes-then-not-contains_key.result.now) ≡ false =
-    ap (λ n. is_some (number_by c.args.numbers.now n)) (c.bytes-then-not-contains_key.ensures.value ∙ sym c.bytes.ensures.value) ∙ sym c.if-not-contains_key.ensures in
-    λ q. entered c.args.numbers.now c.insert.new.self c.bytes-then-not-contains_key.result c.args.number e c.in_ok-insert.ensures.updates q
-    ∙ ap (λ n. option_or (number_by c.args.numbers.now q) (if same_name n q then Some c.args.number else None)) c.bytes-then-not-contains_key.ensures.value
+returns-in_ok-insert c = entered c.args.numbers.now c.insert.new.self c.args.name c.args.number (sym c.if-not-contains_key.ensures) c.in_ok-insert.ensures.updates

@@ -12,38 +12,38 @@ use Rattle.cx_vnets.proofs.Widths.{and_first, and_second, and_third, net_read, o
 use Rattle.cx_vnets.proofs.CodeWidths.{code_has_width}
 use Rattle.cx_vnets.proofs.values.+settled.Goals as goal
 
-pub operated-settled-y-requires : goal.operated-settled-y-requires
-operated-settled-y-requires t c =
+pub operated-operand-y-requires : goal.operated-operand-y-requires
+operated-operand-y-requires t c =
     let deep = le-max_right (size-Code c.args.left.now) (size-Code c.args.right.now) in
     (omega (arith, deep), (c.requires.even, and_second (applied_width c.args.op) (width_of c.args.values.now c.args.arrays.now c.args.place c.args.left.now) (width_of c.args.values.now c.args.arrays.now c.args.place c.args.right.now) c.requires.fits))
 
 pub operated-operate-requires : goal.operated-operate-requires
 operated-operate-requires t c =
-    operands_same c.args.op (width_of c.args.values.now c.args.arrays.now c.args.place c.args.left.now) (width_of c.args.values.now c.args.arrays.now c.args.place c.args.right.now) c.settled-x.result c.settled-y.result
+    operands_same c.args.op (width_of c.args.values.now c.args.arrays.now c.args.place c.args.left.now) (width_of c.args.values.now c.args.arrays.now c.args.place c.args.right.now) c.operand-x.result c.operand-y.result
     c.requires.fits
-    (λ w e. code_has_width c.args.values.now c.args.arrays.now c.args.place c.args.left.now w c.settled-x.result c.requires.even e c.settled-x.ensures)
-    (λ w e. code_has_width c.args.values.now c.args.arrays.now c.args.place c.args.right.now w c.settled-y.result c.requires.even e c.settled-y.ensures)
+    (λ w e. code_has_width c.args.values.now c.args.arrays.now c.args.place c.args.left.now w c.operand-x.result c.requires.even e c.operand-x.ensures)
+    (λ w e. code_has_width c.args.values.now c.args.arrays.now c.args.place c.args.right.now w c.operand-y.result c.requires.even e c.operand-y.ensures)
 
-pub joined-settled-y-requires : goal.joined-settled-y-requires
-joined-settled-y-requires t c =
+pub joined-operand-y-requires : goal.joined-operand-y-requires
+joined-operand-y-requires t c =
     let deep = le-max_right (size-Code c.args.high.now) (size-Code c.args.low.now) in
     (omega (arith, deep), (c.requires.even, and_second joined_width (width_of c.args.values.now c.args.arrays.now c.args.place c.args.high.now) (width_of c.args.values.now c.args.arrays.now c.args.place c.args.low.now) c.requires.fits))
 
 pub joined-cat-requires : goal.joined-cat-requires
 joined-cat-requires t c =
-    operands_within (width_of c.args.values.now c.args.arrays.now c.args.place c.args.high.now) (width_of c.args.values.now c.args.arrays.now c.args.place c.args.low.now) c.settled-x.result c.settled-y.result
+    operands_within (width_of c.args.values.now c.args.arrays.now c.args.place c.args.high.now) (width_of c.args.values.now c.args.arrays.now c.args.place c.args.low.now) c.operand-x.result c.operand-y.result
     c.requires.fits
-    (λ w e. code_has_width c.args.values.now c.args.arrays.now c.args.place c.args.high.now w c.settled-x.result c.requires.even e c.settled-x.ensures)
-    (λ w e. code_has_width c.args.values.now c.args.arrays.now c.args.place c.args.low.now w c.settled-y.result c.requires.even e c.settled-y.ensures)
+    (λ w e. code_has_width c.args.values.now c.args.arrays.now c.args.place c.args.high.now w c.operand-x.result c.requires.even e c.operand-x.ensures)
+    (λ w e. code_has_width c.args.values.now c.args.arrays.now c.args.place c.args.low.now w c.operand-y.result c.requires.even e c.operand-y.ensures)
 
-pub chosen-settled-requires-then-value-eq0 : goal.chosen-settled-requires-then-value-eq0
-chosen-settled-requires-then-value-eq0 t c =
+pub chosen-operand-requires-then-value-eq0 : goal.chosen-operand-requires-then-value-eq0
+chosen-operand-requires-then-value-eq0 t c =
     let deep = le-max_right (size-Code c.args.test.now) (max (size-Code c.args.one.now) (size-Code c.args.other.now)) in
     let deeper = le-max_right (size-Code c.args.one.now) (size-Code c.args.other.now) in
     (omega (arith, deep, deeper), (c.requires.even, and_third chosen_width (width_of c.args.values.now c.args.arrays.now c.args.place c.args.test.now) (width_of c.args.values.now c.args.arrays.now c.args.place c.args.one.now) (width_of c.args.values.now c.args.arrays.now c.args.place c.args.other.now) c.requires.fits))
 
-pub chosen-settled-requires-else-value-eq0 : goal.chosen-settled-requires-else-value-eq0
-chosen-settled-requires-else-value-eq0 t c =
+pub chosen-operand-requires-else-value-eq0 : goal.chosen-operand-requires-else-value-eq0
+chosen-operand-requires-else-value-eq0 t c =
     let deep = le-max_right (size-Code c.args.test.now) (max (size-Code c.args.one.now) (size-Code c.args.other.now)) in
     let deeper = le-max_left (size-Code c.args.one.now) (size-Code c.args.other.now) in
     (omega (arith, deep, deeper), (c.requires.even, and_second (λ (u v : ℕ). option_and_then (chosen_width u v) (width_of c.args.values.now c.args.arrays.now c.args.place c.args.other.now)) (width_of c.args.values.now c.args.arrays.now c.args.place c.args.test.now) (width_of c.args.values.now c.args.arrays.now c.args.place c.args.one.now) c.requires.fits))
@@ -83,5 +83,12 @@ settled-returns-in-Slice t c =
 
 pub word_settled-returns : goal.word_settled-returns
 word_settled-returns t c =
-    ap (option_map (λ (y : BitVector). word_at c.args.arrays.now (c.args.place.arrays + c.args.array) y.value)) c.settled-at.ensures
-    ∙ ap Some (sym (word_read c.args.arrays.now c.args.place.arrays c.args.array c.number.result c.settled-at.result.value _ _ c.number.ensures c.requires.there c.index-arrays-number.is c.word.ensures))
+    ap (option_map (λ (y : BitVector). word_at c.args.arrays.now (c.args.place.arrays + c.args.array) y.value)) c.operand-at.ensures
+    ∙ ap Some (sym (word_read c.args.arrays.now c.args.place.arrays c.args.array c.number.result c.operand-at.result.value _ _ c.number.ensures c.requires.there c.index-arrays-number.is c.word.ensures))
+
+pub operand-returns-in-Net : goal.operand-returns-in-Net
+operand-returns-in-Net t c =
+    subst (λ (x : Code). code_of c.args.values.now c.args.arrays.now c.args.place x ≡ Some c.index-values-number.result) (sym c.in-Net.is)
+    (net_read c.args.values.now c.args.place.nets c.in-Net.k c.number.result _ c.number.ensures
+    (subst (λ (x : Code). IsSome (width_of c.args.values.now c.args.arrays.now c.args.place x)) c.in-Net.is c.requires.fits)
+    c.index-values-number.is)
