@@ -35,7 +35,7 @@ use Rattle.cx_eval.proofs.PartLemmas.{own_cells, part_is}
 use Rattle.cx_eval.proofs.SightLemmas.{look_is}
 use Rattle.cx_eval.proofs.StepLemmas.{fits_still, held_alike, hold_fitting, hold_still, still_none}
 use Rattle.cx_eval.proofs.TableLemmas.{stepping_there}
-use Rattle.cx_meaning.proofs.InstancesLemmas.{append_none}
+use Rattle.cx_text.proofs.ListLaws.{nothing_more}
 use Rattle.cx_state.proofs.StatesLemmas.{held_long}
 
 module _ (t : Tables) (are : AreTables t) (old : List PlainInstance) (fits : IsStateOf (design_of t) old) (n : ℕ) (lt : n < length (paths_of (tree_of (design_of t)))) where
@@ -113,7 +113,7 @@ module _ (t : Tables) (are : AreTables t) (old : List PlainInstance) (fits : IsS
           kind = ap (λ (x : PortFault). x.kind) tells ∙ ap (λ (x : Fault). x.kind) e.0;
           port = ap (λ (x : PortFault). x.port) tells ∙ ap (λ (x : Fault). x.port) e.0;
           instance =
-              ap (λ (x : PortFault). slice_get (paths_of (tree_of d)) x.instance) tells ∙ number ∙ ap Some (sym (append_none path)) ∙ ap (λ (x : Fault). Some (path ++ x.path)) e.0;
+              ap (λ (x : PortFault). slice_get (paths_of (tree_of d)) x.instance) tells ∙ number ∙ ap Some (sym (nothing_more path)) ∙ ap (λ (x : Fault). Some (path ++ x.path)) e.0;
         },
         refl,
       )

@@ -19,7 +19,7 @@ use Rattle.cx_interp.specs.declared.answers.Answer as told
 use Rattle.cx_interp.specs.Doings.{Doing, then_does, stay_does, idle_does, test_does}
 use Rattle.cx_interp.specs.Done.{Tells, IsWithin, later, KeepsHeld, Leaves, Done}
 use Rattle.cx_interp.proofs.RanLemmas.{shifted, IsStop, ran_same, ran_wider, ran_stay, ran_idle, ran_more, ran_then, ran_stopped, ran_holds, ran_fails, ran_unclear}
-use Rattle.cx_meaning.proofs.InstancesLemmas.{append_none}
+use Rattle.cx_text.proofs.ListLaws.{nothing_more}
 
 -- an answer that is no end
 abbrev pub Stops : told.Answer → Type 0
@@ -51,7 +51,7 @@ module _ (d : PlainDesign) (n : ℕ) where
 
   -- the state after a run is settled
   pub settled_after : (old new : List PlainInstance) (driving : Driving) (doing : Doing) (budget : ℕ) (a : told.Answer) (path : Path) (s : State) → IsSettled (tree_of d) s → (l : Leaves d old new n driving doing budget a path s) → IsSettled (tree_of d) (put_path path l.after s)
-  settled_after old new driving doing budget a path s settled l = settled_put (tree_of d) path l.after s settled l.ran.settled (l.ran.top ∙ ap s (append_none path))
+  settled_after old new driving doing budget a path s settled l = settled_put (tree_of d) path l.after s settled l.ran.settled (l.ran.top ∙ ap s (nothing_more path))
 
   module _ (driving : Driving) where
     leaves_then : (old middle new : List PlainInstance) (first second : Doing) (budget turns : ℕ) (a : told.Answer) (path : Path) (s : State)

@@ -67,7 +67,7 @@ module _ (d : PlainDesign) (n t : ℕ) (form : PlainForm) (driving : Driving) (k
     fits = fits;
   }
 
-  -- THE CYCLE OF ALL CELLS, where no port that begins is unclear
+  -- THE CYCLE OF LISTED CELLS, of which the others are not driven, where no port that begins is unclear
   module _ (new : List PlainInstance) (active : Active) (list : List Entry) (is_list : list ≡ active_by part next t form) (acts : (i : Instance) → plain_active i active ≡ entries list)
       (undriven : (path : Path) (c : ℕ) → IsNumber d n path → driving (instance_at (tree_of d) path) c ≡ false → IsUndriven (part_of (instance_at (tree_of d) path)) (entries list) c)
       (suffices : (path : Path) (held : Held) (act : acting.Active) (listed : Set) (s : State) → ((c : ℕ) → listed c ≡ false → IsUndriven (part_of (instance_at (tree_of d) path)) act c)
@@ -81,17 +81,21 @@ module _ (d : PlainDesign) (n t : ℕ) (form : PlainForm) (driving : Driving) (k
     active_there : (path : Path) → IsNumber d n path → entries list ≡ entries (active_by (part_of (instance_at (tree_of d) path)) next t form)
     active_there path number = ap entries (is_list ∙ ap (λ (p : PlainComponent). active_by p next t form) (is_part path number))
 
-    pub cycle_clear : (r : Result (Unit {0}) PortFault) → IsStateOf d new → first_unclear look (begun_by part next t form) ≡ None → Cycled d rows new n active every_cell r → CycleTaken d rows new n form driving t kept next (cycle_as r)
-    cycle_clear r fits clear cycled = record {
+    pub cycle_clear : (listed : Set) → ((path : Path) (c : ℕ) → IsNumber d n path → listed c ≡ false → driving (instance_at (tree_of d) path) c ≡ false) → (r : Result (Unit {0}) PortFault) → IsStateOf d new → first_unclear look (begun_by part next t form) ≡ None
+        → Cycled d rows new n active listed r → CycleTaken d rows new n form driving t kept next (cycle_as r)
+    cycle_clear listed covers r fits clear cycled = record {
       tells = λ path s now number settled busy stands.
           let i : Instance = instance_at (tree_of d) path in
           let held : Held = inputs_held rows n in
           let act : acting.Active = entries list in
           let whole : cycle_of i held act (driving i) now ≡ cycle_of i held act every_cell now =
           suffices path held act (driving i) now (λ c e. undriven path c number e) (λ c e. rest_settled i (driving i) (under_path path s) now (settled_under (tree_of d) path s settled) busy c e) in
+          let same : cycle_of i held act listed now ≡ cycle_of i held act every_cell now =
+          suffices path held act listed now (λ c e. undriven path c number (covers path c number e)) (λ c e. rest_settled i (driving i) (under_path path s) now (settled_under (tree_of d) path s settled) busy c (covers path c number e)) in
           let ends : EndsAs d path (put_path path now s) rows new r (cycle_of i held act every_cell now) =
-          subst (λ (y : State). EndsAs d path (put_path path now s) rows new r (cycle_of i held act every_cell y)) (under_put path now s)
-          (subst (λ (a : acting.Active). EndsAs d path (put_path path now s) rows new r (cycle_of i held a every_cell (under_path path (put_path path now s)))) (acts i) (cycled path (put_path path now s) number stands)) in
+          subst (EndsAs d path (put_path path now s) rows new r) same
+          (subst (λ (y : State). EndsAs d path (put_path path now s) rows new r (cycle_of i held act listed y)) (under_put path now s)
+          (subst (λ (a : acting.Active). EndsAs d path (put_path path now s) rows new r (cycle_of i held a listed (under_path path (put_path path now s)))) (acts i) (cycled path (put_path path now s) number stands))) in
           let turn : turn_of (cycle_of i held act every_cell now) ≡ sampled_turn i held form t next now =
           ap (λ (a : acting.Active). turn_of (cycle i held a now)) (active_there path number)
           ∙ sym (ap (λ (o : Option Fault). unless_unclear o (cycle i held (entries (active_by (part_of i) next t form)) now)) (unclear_there None clear path s now number stands)) in (
@@ -116,10 +120,11 @@ module _ (d : PlainDesign) (n t : ℕ) (form : PlainForm) (driving : Driving) (k
       → ((i : Instance) (c : ℕ) → driving i c ≡ false → IsUndriven (part_of i) (entries (active_in h t (form_flat (part_of i) form 0 []))) c)
       → ((path : Path) (held : Held) (act : acting.Active) (listed : Set) (s : State) → ((c : ℕ) → listed c ≡ false → IsUndriven (part_of (instance_at (tree_of d) path)) act c)
       → ((c : ℕ) → listed c ≡ false → IsSettledAt (instance_at (tree_of d) path) s c) → cycle_of (instance_at (tree_of d) path) held act listed s ≡ cycle_of (instance_at (tree_of d) path) held act every_cell s)
-      → Cycled d rows new n active every_cell r → CycleTaken d rows new n form driving t kept next (cycle_as r)
-  taken_clear new active h r one fits has list undriven suffices cycled =
+      → (listed : Set) → ((path : Path) (c : ℕ) → IsNumber d n path → listed c ≡ false → driving (instance_at (tree_of d) path) c ≡ false)
+      → Cycled d rows new n active listed r → CycleTaken d rows new n form driving t kept next (cycle_as r)
+  taken_clear new active h r one fits has list undriven suffices listed covers cycled =
       cycle_clear d n t form driving kept next part one.look rows is_part one.sees one.taken new active (active_by part next t form) refl (λ i. entries_are i active (active_by part next t form) has)
       (λ path c number off.
       subst (λ (x : List Entry). IsUndriven (part_of (instance_at (tree_of d) path)) (entries x) c)
       (sym (list ∙ ap (λ (p : PlainComponent). active_in h t (form_flat p form 0 [])) (is_part path number))) (undriven (instance_at (tree_of d) path) c off))
-      suffices r fits one.unclear cycled
+      suffices listed covers r fits one.unclear cycled

@@ -24,7 +24,7 @@ use Rattle.cx_turns.specs.Children.{IsPart, HasChild, HasControl}
 use Rattle.cx_turns.specs.Groups.{IsGroupRow}
 use Rattle.cx_turns.specs.Machines.{StandsIn}
 use Rattle.cx_turns.proofs.Measures.{steps, below, call_falls}
-use Rattle.cx_text.proofs.OptionLaws.{some_inj}
+use Rattle.cx_text.proofs.OptionLaws.{some_is}
 use Rattle.std.proofs.lemmas.Bool.{or_right}
 use Rattle.cx_meaning.proofs.InstancesLemmas.{just_same}
 use Rattle.std.proofs.lemmas.Option.{slice_get-get_or}
@@ -101,7 +101,7 @@ callee_is cells (a ∷ rest) c e = of_target a.target e (callee_is cells rest c)
     of_at Nothing k is e later = further (just k c) (later e)
     of_at (OfRow row) k is e later = further (just k c) (later e)
     of_at (OfInstance child) k is e later =
-        let same : k ≡ c = some_inj k c e in
+        let same : k ≡ c = some_is k c e in
         (child, subst (λ m. cell_at cells m ≡ OfInstance child) same is, ap (λ m. just m c || assigns_drive rest c) same ∙ ap (λ b. b || assigns_drive rest c) (just_same c))
 
     of_target : (p : PortRef) → called_by cells p (called_in cells rest) ≡ Some c → (called_in cells rest ≡ Some c → IsCallee cells rest c) → Found (targets_cell p c)

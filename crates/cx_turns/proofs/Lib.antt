@@ -17,3 +17,5 @@ pub mod EveryLemmas
 pub mod GroupLemmas
 pub mod ChildLemmas
 pub mod HoldLemmas
+pub mod MarkLists
+pub mod MarkSteps

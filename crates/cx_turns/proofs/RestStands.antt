@@ -22,9 +22,8 @@ use Rattle.cx_state.specs.declared.states.InstanceState.{InstanceState}
 use Rattle.cx_meaning.proofs.DesignsLemmas.{same_part}
 use Rattle.cx_text.proofs.NumberLaws.{same_or}
 use Rattle.cx_state.proofs.StatesLemmas.{row_is}
-use Rattle.cx_text.proofs.ListLaws.{get_same, there_below}
+use Rattle.cx_text.proofs.ListLaws.{get_same, there_below, nothing_more}
 use Rattle.std.proofs.lemmas.Option.{slice_get-get_or}
-use Rattle.cx_meaning.proofs.InstancesLemmas.{append_none}
 
 -- what a cell of an instance of the tree holds
 own : (d : PlainDesign) (levels k : ℕ) (hs : List (Option CellState)) (listed : Set) (s : State) (c : ℕ) (held : CellState) → 0 < levels → ((h0 : CellState) → get_or hs c None ≡ Some h0 → s (c ∷ []) ≡ h0)
@@ -85,7 +84,7 @@ module _ (d : PlainDesign) (table : List InstanceRow) (children : List ℕ) (is_
             ap (λ (i : Instance). rested listed i (under_path path s) (c ∷ [])) tree
             ∙ own d (length d.components) k (instance_state rows n).cells listed (under_path path s) c held (omega (arith, there)) (λ h0 e0. stands n c path h0 number e0)
             (ap (λ (p : PlainComponent). get_or (rested_cells listed p.cells (instance_state rows n).cells) c None) (sym is_part) ∙ e))
-            (ap s (append_none path))
+            (ap s (nothing_more path))
             (λ c e below. refl);
         held = held_alike (within lt);
         fits = still_fits (within lt) (λ path number. ap part_of (is_table.component n path number) ∙ same_part d (length d.components) k ∙ sym is_part) holds;

@@ -1,6 +1,5 @@
 -- Room for the islands of a design.
-use Rattle.std.proofs.Common.{◌≡◌, ℕ, zero, suc, ◌+◌, ◌<◌, ◌≤◌, ◌-◌, ◌^◌, List, [], ◌∷◌, ◌++◌, length, map, take, get_or, Option, Some, inl, inr, ⊎_elim, sym, ap, ◌∙◌, subst, arith}
-use Rattle.std.specs.Prelude.{min}
+use Rattle.std.proofs.Common.{◌≡◌, ℕ, zero, suc, ◌+◌, ◌<◌, ◌≤◌, ◌-◌, ◌^◌, Bool, Vec, Global, List, [], ◌∷◌, length, map, take, get_or, Option, Some, inl, inr, ⊎_elim, sym, ap, ◌∙◌, subst, arith}
 use Rattle.std.specs.List.{slice_get}
 use Rattle.std.proofs.lemmas.Bool.{cases_lt}
 use Rattle.std.proofs.lemmas.List.{get_or-map, length-map}
@@ -9,21 +8,23 @@ use Rattle.cx_design.specs.PlainForms.{plain_component}
 use Rattle.cx_design_parts.specs.declared.control.Visited.{Visited as Item}
 use Rattle.cx_design_parts.specs.Items.{plain_visited}
 use Rattle.std.specs.Vec.{vec_len, vec_capacity}
-use Rattle.cx_meaning.specs.Designs.{PlainDesign, PlainComponent, PlainForm, component_at, no_component}
+use Rattle.cx_meaning.specs.Designs.{PlainDesign, PlainComponent, PlainForm, no_component}
 use Rattle.cx_meaning.specs.Instances.{Path, part_of, instance_at, paths_of, tree_of}
 use Rattle.cx_text.specs.Members.{In}
 use Rattle.cx_rules.specs.Accepted.{IsAccepted}
 use Rattle.cx_rules.specs.Wellformed.{IsDesign}
 use Rattle.cx_rules.specs.Items.{Visited, statements_in}
 use Rattle.cx_design_sizes.specs.Capped.{capped}
-use Rattle.cx_state.specs.Tables.{IsNumber, IsTable}
+use Rattle.cx_state.specs.Tables.{IsNumber, IsTable, row_at}
 use Rattle.cx_state.specs.declared.tables.InstanceRow.{InstanceRow}
 use Rattle.cx_turns.specs.declared.rooms.Room.{Room}
 use Rattle.cx_turns.specs.Machines.{FormStands}
-use Rattle.cx_turns.specs.Rooms.{FormFits, ListFits, PartFits, HasRoom, HoldsEntries, entry_room}
+use Rattle.cx_turns.specs.Marks.{HasMarks, set_count}
+use Rattle.cx_turns.specs.Rooms.{FormFits, ListFits, PartFits, HasRoom, entry_room}
+use Rattle.cx_turns.proofs.HoldLemmas.{own_part}
 use Rattle.cx_turns.proofs.IslandLemmas.{there, stands_there}
 use Rattle.cx_turns.proofs.StandLemmas as stand
-use Rattle.cx_text.proofs.ListLaws.{take_all}
+use Rattle.cx_text.proofs.ListLaws.{take_all, there_below}
 use Rattle.std.proofs.lemmas.Option.{slice_get-get_or}
 
 -- more room is room
@@ -53,13 +54,6 @@ island_room d accepted design rows children table n form room lt stands has =
     let in_list : In (statements_in (part_of (instance_at (tree_of d) path))) (there form stands.0) = stands_there d n form stands path number in
     has.fits (stand.k d accepted design rows children table n path number (there form stands.0) in_list) (stand.within d accepted design rows children table n path number (there form stands.0) in_list) (there form stands.0)
     (stand.in_part d accepted design rows children table n path number (there form stands.0) in_list)
-
--- room that keeps its size
-pub room_kept : (d : PlainDesign) (old new : Room) → HoldsEntries new.active → vec_len new.samples ≡ vec_len old.samples → entry_room new.active ≡ entry_room old.active → HasRoom d old → HasRoom d new
-room_kept d old new holds samples entries has = record {
-  holds = holds;
-  fits = λ k lt. subst (λ m. PartFits (component_at d k) m (entry_room new.active)) (sym samples) (subst (λ m. PartFits (component_at d k) (vec_len old.samples) m) (sym entries) (has.fits k lt));
-}
 
 -- room for one more of a list of statements
 pub fits_next : (list : List Visited) (k a b c d : ℕ) (x : Visited) → slice_get list k ≡ Some x → a ≤ c → b ≤ d → ListFits (take k list) a b → FormFits x.form c d → ListFits (take (k + 1) list) c d
@@ -97,3 +91,20 @@ part_fits xs part k a b is le fits =
 pub component_read : (all xs : List Component) (k : ℕ) (x : Component) → xs ≡ all → k < length xs → x ≡ get_or xs k x → plain_component x ≡ get_or (map plain_component all) k no_component
 component_read all xs k x same lt is =
     subst (λ ys. plain_component x ≡ get_or (map plain_component ys) k no_component) same (sym (get_or-map plain_component xs k x no_component lt ∙ ap plain_component (sym is)))
+
+-- there is a mark for each cell of an instance
+pub room_marks : (d : PlainDesign) → IsDesign d → (rows : List InstanceRow) (children : List ℕ) → IsTable d rows children → (n : ℕ) (room : Room) → HasRoom d room → HasMarks d n room.marks.items
+room_marks d design rows children table n room has path number =
+    let there = table.there n (subst (λ m. n < m) (sym table.count) (there_below (paths_of (tree_of d)) n path number)) in
+    subst (λ (p : PlainComponent). length p.cells ≤ length room.marks.items) (sym (own_part d design rows children table n path number)) (has.marks (row_at rows n).component there)
+
+-- room in which other cells are listed
+pub room_listed : (d : PlainDesign) (room : Room) (marks : Vec Bool Global) (cells : Vec ℕ Global) → HasRoom d room → length marks.items ≡ length room.marks.items → set_count marks.items ≡ 0 → vec_capacity room.cells ≤ vec_capacity cells
+    → HasRoom d (record { samples = room.samples; active = room.active; marks = marks; cells = cells })
+room_listed d room marks cells has long clear more = record {
+  holds = has.holds;
+  fits = has.fits;
+  marks = λ k lt. (let h = has.marks k lt in omega (arith, h, long));
+  clear = clear;
+  lists = (let l = has.lists in omega (arith, l, long, more));
+}

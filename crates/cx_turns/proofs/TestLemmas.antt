@@ -17,11 +17,11 @@ use Rattle.cx_state.specs.Tables.{IsNumber}
 use Rattle.cx_state.specs.States.{PlainInstance, inputs_held, under_path}
 use Rattle.cx_eval.specs.Evaluated.{IsSeen, fault_along}
 use Rattle.cx_turns.specs.Tests.{TellsTest, TellsTruth, Tested, comb_active}
-use Rattle.cx_meaning.proofs.InstancesLemmas.{append_none}
+use Rattle.cx_text.proofs.ListLaws.{nothing_more}
 
 -- a fault of a port of the instance itself
 pub tells_own : (d : PlainDesign) (n : ℕ) (path : Path) (kind : FaultKind) (port : PortRef) → IsNumber d n path → TellsFault (tree_of d) (fault_along path (fault_at kind port)) (record { kind = kind; instance = n; port = port })
-tells_own d n path kind port number = record { kind = refl; port = refl; instance = number ∙ ap (λ p. Some p) (sym (append_none path)) }
+tells_own d n path kind port number = record { kind = refl; port = refl; instance = number ∙ ap (λ p. Some p) (sym (nothing_more path)) }
 
 tests_as : (i : Instance) (held : Held) (comb : Option ℕ) (port : PortRef) (s : State) (x : Seen) → x ≡ seen i held (plain_active i (comb_active comb)) s port → test_of port (truth_of x) ≡ test i held port comb s
 tests_as i held None port s x e = ap (λ y. test_of port (truth_of y)) e

@@ -7,5 +7,6 @@ pub mod Starts
 pub mod Turns
 pub mod Rests
 pub mod Sights
+pub mod Marks
 pub mod Rooms
 pub mod Islands

@@ -15,8 +15,13 @@ kind_rested (OfComponent k) held = held
 abbrev pub rested_cells : Set → List PlainCell → List (Option CellState) → List (Option CellState)
 rested_cells listed [] hs = hs
 rested_cells listed (x ∷ xs) [] = []
-rested_cells listed (x ∷ xs) (h ∷ hs) = (if listed 0 then kind_rested x.kind h else h) ∷ rested_cells (λ c. listed (suc c)) xs hs
+rested_cells listed (x ∷ xs) (h ∷ hs) =
+    (if listed 0 then kind_rested x.kind h else h) ∷ rested_cells (λ c. listed (suc c)) xs hs
 
 -- the rows, with the idle edges of listed cells of instance n
 abbrev pub rows_rested : Set → List PlainCell → ℕ → List PlainInstance → List PlainInstance
-rows_rested listed cells n rows = set rows n (record { cells = rested_cells listed cells (instance_state rows n).cells; held = (instance_state rows n).held })
+rows_rested listed cells n rows =
+    set rows n (record {
+      cells = rested_cells listed cells (instance_state rows n).cells;
+      held = (instance_state rows n).held;
+    })

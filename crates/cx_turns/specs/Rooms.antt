@@ -11,6 +11,7 @@ use Rattle.cx_design.specs.PlainActives.{plain_entry}
 use Rattle.cx_laws.specs.Samples.{form_ifs}
 use Rattle.cx_interp_islands.specs.Rooms.{form_groups}
 use Rattle.cx_turns.specs.declared.rooms.Room.{Room}
+use Rattle.cx_turns.specs.Marks.{set_count}
 
 -- a statement has no more static ifs, and no more enables of groups in static control
 abbrev pub FormFits : PlainForm → ℕ → ℕ → Type 0
@@ -43,7 +44,11 @@ HasActive (actives.Group g) list = ⊥
 HasActive (actives.CallEnd g) list = ⊥
 HasActive (actives.Entries entries) list = map plain_entry entries.items ≡ list
 
--- room for each island of a design
+-- room for each island of a design, with a mark for each cell of any component, none of which is set, and room to list as many
 pub record HasRoom (d : PlainDesign) (room : Room) : Type 0 where
   pub holds : HoldsEntries room.active
-  pub fits : (k : ℕ) → k < length d.components → PartFits (component_at d k) (vec_len room.samples) (entry_room room.active)
+  pub fits : (k : ℕ) → k < length d.components
+      → PartFits (component_at d k) (vec_len room.samples) (entry_room room.active)
+  pub marks : (k : ℕ) → k < length d.components → length (component_at d k).cells ≤ length room.marks.items
+  pub clear : set_count room.marks.items ≡ 0
+  pub lists : length room.marks.items ≤ vec_capacity room.cells

@@ -5,6 +5,7 @@ mod begun;
 mod calling;
 pub mod calls;
 pub mod children;
+pub mod driven;
 mod driving;
 pub mod machine;
 pub mod plan;

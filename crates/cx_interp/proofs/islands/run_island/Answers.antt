@@ -1,13 +1,18 @@
-use Rattle.std.proofs.Common.{◌≡◌, ℕ, true, false, sym, ap, ◌∙◌, subst}
+use Rattle.std.proofs.Common.{◌≡◌, ◌≤◌, ℕ, Bool, true, false, List, length, sym, ap, ◌∙◌, subst}
+use Rattle.std.specs.Prelude.{vec_capacity}
+use Rattle.std.specs.Vec.{with_items}
+use Rattle.std.proofs.lemmas.List.{with_items_is}
 use Rattle.cx_meaning.specs.Designs.{PlainComponent, PlainForm}
 use Rattle.cx_meaning.specs.Instances.{Instance, instance_at, tree_of}
 use Rattle.cx_meaning.specs.Cycles.{every_cell}
 use Rattle.cx_meaning.specs.Islands.{form_length}
 use Rattle.cx_design.specs.PlainForms.{plain_component, plain_form}
 use Rattle.cx_turns.specs.Machines.{design_of, rows_of}
+use Rattle.cx_turns.specs.Marks.{HasMarks, set_count}
 use Rattle.cx_turns.specs.Rooms.{HasRoom}
 use Rattle.cx_turns.proofs.IslandLemmas.{there, stands_there}
 use Rattle.cx_turns.proofs.RestLemmas.{rows_at}
+use Rattle.cx_turns.proofs.RoomLemmas.{room_listed, room_marks}
 use Rattle.cx_laws.specs.Samples.{Samples}
 use Rattle.cx_rewrites.specs.Tallies.{Tally}
 use Rattle.cx_profiling.specs.StatementCounts.{sampled_count_from}
@@ -21,6 +26,29 @@ use Rattle.cx_interp.proofs.LoopLemmas.{done_rested}
 use Rattle.cx_interp.proofs.ControlCounts.{island_counts}
 use Rattle.cx_interp.proofs.GrowthLemmas.{counted_same_at}
 use Rattle.cx_interp.proofs.islands.run_island.Goals as goal
+
+pub driven_cells-requires-clause-marks : goal.driven_cells-requires-clause-marks
+driven_cells-requires-clause-marks c =
+    subst (λ xs. HasMarks (design_of c.args.plan.now) c.args.instance xs) (sym c.deref_mut.ensures.value)
+    (room_marks (design_of c.args.plan.now) c.requires.plan.design c.args.plan.now.table.rows.items c.args.plan.now.table.children.items c.requires.plan.table c.args.instance c.args.machine.now.room c.requires.machine.room)
+
+pub driven_cells-requires-clause-clear : goal.driven_cells-requires-clause-clear
+driven_cells-requires-clause-clear c = ap (λ xs. set_count xs) c.deref_mut.ensures.value ∙ c.requires.machine.room.clear
+
+pub driven_cells-requires-clause-room : goal.driven_cells-requires-clause-room
+driven_cells-requires-clause-room c = subst (λ (xs : List Bool). length xs ≤ vec_capacity c.args.machine.now.room.cells) (sym c.deref_mut.ensures.value) c.requires.machine.room.lists
+
+pub take_cycles-answer-requires-clause-machine : goal.take_cycles-answer-requires-clause-machine
+take_cycles-answer-requires-clause-machine c =
+    let room = c.args.machine.now.room in
+    let marks : (with_items room.marks c.driven_cells.new.marks).items ≡ c.driven_cells.new.marks = with_items_is room.marks c.driven_cells.new.marks (c.driven_cells.ensures.length ∙ c.deref_mut.ensures.len) in
+    record {
+      evaluator = c.requires.machine.evaluator;
+      state = c.requires.machine.state;
+      room = room_listed (design_of c.args.plan.now) room (with_items room.marks c.driven_cells.new.marks) c.driven_cells.new.cells c.requires.machine.room
+          (ap (λ (xs : List Bool). length xs) marks ∙ c.driven_cells.ensures.length ∙ ap (λ (xs : List Bool). length xs) c.deref_mut.ensures.value)
+          (ap (λ (xs : List Bool). set_count xs) marks ∙ c.driven_cells.ensures.clear) c.driven_cells.ensures.room;
+    }
 
 pub returns-clause-machine : goal.returns-clause-machine
 returns-clause-machine c = record {

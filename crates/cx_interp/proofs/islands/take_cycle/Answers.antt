@@ -1,13 +1,13 @@
-use Rattle.std.proofs.Common.{Result, Ok, Err, sym, subst, arith}
+use Rattle.std.proofs.Common.{◌≡◌, ℕ, Vec, Global, Result, Ok, Err, sym, ap, ◌∙◌, subst, arith}
 use Rattle.std.specs.Prelude.{IfOk}
 use Rattle.cx_design.specs.declared.actives.PortFault.{PortFault}
-use Rattle.cx_meaning.specs.Cycles.{every_cell}
-use Rattle.cx_meaning.specs.Instances.{part_of}
+use Rattle.cx_meaning.specs.Instances.{Set, part_of}
 use Rattle.cx_design.specs.PlainDesigns.{plain_design}
 use Rattle.cx_design.specs.PlainForms.{plain_component, plain_form}
 use Rattle.cx_state.specs.States.{plain_state, IsStateOf}
 use Rattle.cx_eval.specs.Evaluated.{CanAct, Cycled}
 use Rattle.cx_laws.specs.Samples.{active_by}
+use Rattle.cx_eval_cycle.specs.Passes.{IsAscending, listed_in}
 use Rattle.cx_interp_islands.specs.Rooms.{samples_of}
 use Rattle.cx_turns.specs.declared.turns.Turn.TheVariants as turns
 use Rattle.cx_turns.specs.Machines.{design_of, rows_of}
@@ -49,8 +49,8 @@ activate-requires-clause-room c =
     c.requires.instance c.requires.form c.sample.ensures.machine.room in
     fits.1
 
-pub cycle-requires-clause-active : goal.cycle-requires-clause-active
-cycle-requires-clause-active c =
+pub cycle_of-requires-clause-active : goal.cycle_of-requires-clause-active
+cycle_of-requires-clause-active c =
     let d = design_of c.args.plan.now in
     let part = plain_component c.args.part.now in
     let form = plain_form c.args.form.now in
@@ -74,17 +74,20 @@ returns-clause-taken c =
     let form = plain_form c.args.form.now in
     let kept = samples_in c.args.machine.now in
     let next = samples_in c.sample.new.machine in
-    let new = plain_state c.cycle.new.state in
+    let new = plain_state c.cycle_of.new.state in
     let sampled = sampled_now part form c.sample.ensures.taken.look kept next c.taken_samples_are_of_a_run.ensures.first c.taken_samples_are_of_a_run.ensures.later c.args.cycle c.requires.sampled c.sample.ensures.taken.taken in
     let has : HasActive c.activate.new.active (active_by part next c.args.cycle form) = subst (λ items. HasActive c.activate.new.active (active_by part (samples_of items) c.args.cycle form)) c.deref.ensures.value c.activate.ensures.value in
-    let fits : IsStateOf d new = subst (λ e. IsStateOf (plain_design e) new) c.sample.ensures.machine.evaluator c.cycle.ensures.fits in
-    let cycled : Cycled d rows new c.args.instance c.activate.new.active every_cell c.cycle.result =
-    subst (λ old. Cycled d old new c.args.instance c.activate.new.active every_cell c.cycle.result) c.sample.ensures.rows
-    (subst (λ e. Cycled (plain_design e) (rows_of c.sample.new.machine) new c.args.instance c.activate.new.active every_cell c.cycle.result) c.sample.ensures.machine.evaluator c.cycle.ensures.value) in
-    taken_clear d c.args.instance c.args.cycle form (form_drives form) kept next part rows c.requires.part new c.activate.new.active sampled.0 c.cycle.result c.in_default.ensures.taken fits has
+    let fits : IsStateOf d new = subst (λ e. IsStateOf (plain_design e) new) c.sample.ensures.machine.evaluator c.cycle_of.ensures.fits in
+    let listed : Set = listed_in c.as_slice.result.now in
+    let cycled : Cycled d rows new c.args.instance c.activate.new.active listed c.cycle_of.result =
+    subst (λ old. Cycled d old new c.args.instance c.activate.new.active listed c.cycle_of.result) c.sample.ensures.rows
+    (subst (λ e. Cycled (plain_design e) (rows_of c.sample.new.machine) new c.args.instance c.activate.new.active listed c.cycle_of.result) c.sample.ensures.machine.evaluator c.cycle_of.ensures.value) in
+    let own : c.as_slice.result.now ≡ c.args.machine.now.room.cells.items = c.as_slice.ensures.value ∙ ap (λ (cells : Vec ℕ Global). cells.items) c.sample.ensures.cells in
+    taken_clear d c.args.instance c.args.cycle form (form_drives form) kept next part rows c.requires.part new c.activate.new.active sampled.0 c.cycle_of.result c.in_default.ensures.taken fits has
     (active_is part form c.args.cycle next sampled (λ h kept. c.samples_give_the_cycle.ensures.active part form h c.args.cycle next kept) (λ h. c.timers_give_the_active_groups.ensures part form h c.args.cycle c.requires.within))
     (λ i cell off. c.active_groups_within.ensures.island (part_of i) form c.requires.form.0 sampled.0 c.args.cycle cell off)
-    (λ path held act listed s undriven settled. c.listed_cells_suffice.ensures d path held act listed s c.requires.plan.accepted undriven settled) cycled
+    (λ path held act listed s undriven settled. c.listed_cells_suffice.ensures d path held act listed s c.requires.plan.accepted undriven settled)
+    listed (λ path cell number off. sym (ap (λ xs. listed_in xs cell) own ∙ c.requires.driven path cell number) ∙ off) cycled
 
 pub returns-clause-active : goal.returns-clause-active
 returns-clause-active c =
@@ -92,8 +95,12 @@ returns-clause-active c =
     let form = plain_form c.args.form.now in
     let next = samples_in c.sample.new.machine in
     let has : HasActive c.activate.new.active (active_by part next c.args.cycle form) = subst (λ items. HasActive c.activate.new.active (active_by part (samples_of items) c.args.cycle form)) c.deref.ensures.value c.activate.ensures.value in
-    whatever c.cycle.result has
+    whatever c.cycle_of.result has
   where
     whatever : {P : Type 0} (r : Result (Unit {0}) PortFault) → P → IfOk r (λ _. P)
     whatever (Ok done) p = p
     whatever (Err fault) p = tt
+
+pub cycle_of-requires-clause-ascending : goal.cycle_of-requires-clause-ascending
+cycle_of-requires-clause-ascending c =
+    subst IsAscending (sym (c.as_slice.ensures.value ∙ ap (λ (cells : Vec ℕ Global). cells.items) c.sample.ensures.cells)) c.requires.ascending

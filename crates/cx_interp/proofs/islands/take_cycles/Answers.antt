@@ -1,7 +1,10 @@
-use Rattle.std.proofs.Common.{◌≡◌, ◌+◌, ◌<◌, ◌≤◌, ℕ, suc, refl, sym, ◌∙◌, subst, arith}
+use Rattle.std.proofs.Common.{◌≡◌, ◌+◌, ◌<◌, ◌≤◌, ℕ, Vec, Global, suc, refl, sym, ◌∙◌, subst, arith}
 use Rattle.cx_meaning.specs.Designs.{PlainComponent, PlainForm}
+use Rattle.cx_meaning.specs.Control as control
 use Rattle.cx_meaning.specs.Islands.{form_length}
 use Rattle.cx_design.specs.PlainForms.{plain_component, plain_form}
+use Rattle.cx_eval_cycle.specs.Passes.{IsAscending}
+use Rattle.cx_turns.specs.Groups.{ListDriven}
 use Rattle.cx_turns.specs.Islands.{SampledBefore}
 use Rattle.cx_turns.specs.Machines.{design_of, rows_of}
 use Rattle.cx_turns.proofs.IslandLemmas.{island_short, length_told}
@@ -22,7 +25,15 @@ loop-cycle-init c = (
       (rows_of c.args.machine.now) (plain_counts c.args.counts.now),
   tt,
   refl,
+  refl,
 )
+
+pub take_cycle-requires-clause-driven : goal.take_cycle-requires-clause-driven
+take_cycle-requires-clause-driven c =
+    subst (λ (cells : Vec ℕ Global). ListDriven (design_of c.args.plan.now) c.args.instance cells.items (λ part. control.form_drives part (plain_form c.args.form.now))) (sym c.loop-cycle.invariant.4) c.requires.driven
+
+pub take_cycle-requires-clause-ascending : goal.take_cycle-requires-clause-ascending
+take_cycle-requires-clause-ascending c = subst (λ (cells : Vec ℕ Global). IsAscending cells.items) (sym c.loop-cycle.invariant.4) c.requires.ascending
 
 pub returns-in-Err-clause-paused : goal.returns-in-Err-clause-paused
 returns-in-Err-clause-paused c =
@@ -58,6 +69,7 @@ loop-cycle-preserved c =
           (c.add_active.ensures.grows _ c.in_default.ensures.active) c.loop-cycle.invariant.1 c.in_default.ensures.taken,
       subst (λ t. SampledBefore part t form (samples_in c.take_cycle.new.machine)) next c.in_default.ensures.sampled,
       c.add_active.ensures.shape ∙ c.loop-cycle.invariant.3,
+      c.in_default.ensures.cells ∙ c.loop-cycle.invariant.4,
     )
 
 pub returns-then-length-budget-clause-paused : goal.returns-then-length-budget-clause-paused

@@ -1,3 +1,4 @@
+use Rattle.std.proofs.Common.{◌≡◌}
 use Rattle.cx_meaning.specs.Islands.{form_length}
 use Rattle.cx_design.specs.PlainForms.{plain_component, plain_form}
 use Rattle.cx_turns.specs.Islands.{SampledBefore}
@@ -17,3 +18,4 @@ invariant-loop-cycle l =
     (samples_in l.machine) l.cycle
     × SampledBefore (plain_component l.part) l.cycle (plain_form l.form) (samples_in l.machine)
     × KeepsShape (plain_counts l.initial.counts) (plain_counts l.counts)
+    × (l.machine.room.cells ≡ l.initial.machine.room.cells)

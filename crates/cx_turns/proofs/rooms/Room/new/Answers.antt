@@ -22,4 +22,7 @@ returns c = record {
       let same : length c.deref-component-items.result.now ≡ length c.args.design.now.components.items = ap length c.deref-component-items.ensures.value in
       let all = c.loop-component-test.false in
       c.loop-component.invariant k (omega (arith, lt, long, same, all));
+  marks = λ k lt. (let most = c.most_cells-count.ensures k lt in let count = c.in_ok-marks.ensures.count in let whole = c.in_ok-marks.marks.ok.0 in omega (arith, most, count, whole));
+  clear = c.in_ok-marks.ensures.unset;
+  lists = let count = c.in_ok-marks.ensures.count in let whole = c.in_ok-marks.marks.ok.0 in let room = c.in_ok-cells.ensures.capacity in omega (arith, count, whole, room);
 }
