@@ -5,10 +5,9 @@ use Rattle.cx_meaning.specs.Designs.{PlainDesign}
 use Rattle.cx_meaning.specs.Instances.{Instance, Path, State, part_of, instance_at, tree_of}
 use Rattle.cx_meaning.specs.Control.{group_drives}
 use Rattle.cx_state.specs.States.{PlainInstance, StandsFor, under_path, put_path}
-use Rattle.cx_turns.specs.Groups.{ListGroup}
+use Rattle.cx_turns.specs.Groups.{ListDriven, ListGroup}
 use Rattle.cx_turns.proofs.PathLemmas.{put_same}
 use Rattle.cx_orders.specs.Leaves.{rested, test_drives}
-use Rattle.cx_weave.specs.Strands.{ListDriven}
 use Rattle.cx_weave.specs.Strides.{HasRested}
 
 or_none : (b : Bool) → b ≡ (b || false)

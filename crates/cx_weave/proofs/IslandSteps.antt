@@ -33,7 +33,8 @@ use Rattle.cx_weave.specs.declared.strands.Strand.{Strand}
 use Rattle.cx_orders.specs.Open.{InIsland}
 use Rattle.cx_orders.specs.Steps.{step, turned}
 use Rattle.cx_orders.specs.Leaves.{is_tested, sampled_now, samples_now, own_island}
-use Rattle.cx_weave.specs.Strands.{AnIsland, IsAtCycle, IsShown, KeptBefore, Knows, ListDriven, Shows, plain_strand}
+use Rattle.cx_turns.specs.Groups.{ListDriven}
+use Rattle.cx_weave.specs.Strands.{AnIsland, IsAtCycle, IsShown, KeptBefore, Knows, Shows, plain_strand}
 use Rattle.cx_weave.specs.Strides.{TurnTold, HasRested, HasStepped, IslandTaken, StepTold}
 use Rattle.cx_orders.proofs.Runs.{tested_fine}
 use Rattle.cx_weave.proofs.TurnsTaken.{ends_told}

@@ -18,7 +18,7 @@ use Rattle.cx_weave.specs.declared.spares.Spares.{Spares}
 use Rattle.cx_weave.specs.declared.strands.Strand.{Strand}
 use Rattle.cx_weave.specs.Takes.{island_takes, call_takes, kind_need, below_need, need}
 use Rattle.cx_weave.specs.Ledger.{Lengths, Kind, Pieces, Lacks, box_amount, amount, inputs_amount, island_amount, island_lacks, left_amount, places_for, stock, Ledger, HasPlaces}
-use Rattle.cx_weave.specs.Marks.{HasMarks, set_count}
+use Rattle.cx_turns.specs.Marks.{HasMarks, set_count}
 use Rattle.cx_weave.specs.Supplied.{MayOpen, Supplied}
 use Rattle.cx_weave.proofs.Ledgers.{and_then}
 use Rattle.cx_weave.proofs.OpenSupplies.{none_taken}

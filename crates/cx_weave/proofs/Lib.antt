@@ -23,7 +23,5 @@ mod CellKinds
 mod WeaveSteps
 mod ArmSteps
 mod StrandFolds
-mod MarkSteps
-mod MarkLists
 mod StrandSizes
 mod EndSteps

@@ -17,7 +17,7 @@ use Rattle.cx_weave.specs.declared.needs.Piece.TheVariants as pieces
 use Rattle.cx_weave.specs.declared.spares.IslandLists.{IslandLists}
 use Rattle.cx_weave.specs.declared.spares.Spares.{Spares}
 use Rattle.cx_weave.specs.Takes.{control_need}
-use Rattle.cx_weave.specs.Marks.{set_count}
+use Rattle.cx_turns.specs.Marks.{set_count}
 use Rattle.cx_weave.specs.Ledger.{Lengths, lists_lack, pieces_spare, places_for, total}
 use Rattle.cx_weave.specs.Supplied.{Suffice, Supplied}
 use Rattle.cx_meaning.proofs.InstancesLemmas.{here, main_first}

@@ -1,5 +1,5 @@
 -- Spare parts for statements as they are opened, and the ledger of it.
-use Rattle.std.proofs.Common.{◌≡◌, ℕ, ◌+◌, ◌≤◌, ◌<◌, max, Vec, Global, List, [], ◌∷◌, ◌++◌, length, Option, None, refl, sym, ap, ◌∙◌, subst, arith}
+use Rattle.std.proofs.Common.{◌≡◌, ℕ, ◌+◌, ◌≤◌, ◌<◌, max, Vec, Global, List, [], ◌∷◌, ◌++◌, length, None, refl, sym, ap, ◌∙◌, subst, arith}
 use Rattle.std.specs.Prelude.{vec_len, vec_capacity}
 use Rattle.cx_meaning.specs.declared.sights.Seen.{Seen}
 use Rattle.cx_meaning.specs.Designs.{PlainDesign, PlainStatement, PlainStatements, Placed, no_place, Enable, Seq, Par, list_of}
@@ -19,7 +19,7 @@ use Rattle.cx_orders.specs.Open.{open_statement, open_statements}
 use Rattle.cx_weave.specs.Strands.{plain_strand, plain_arms, CallsCell}
 use Rattle.cx_weave.specs.Strides.{OpensAs, OpenAs}
 use Rattle.cx_weave.specs.Takes.{box_takes, par_takes, call_takes, arms_take, arms_in, need, needs, all_needs, room, taken}
-use Rattle.cx_weave.specs.Ledger.{Kind, Pieces, Lacks, amount, arms_amount, left_amount, inputs_amount, box_amount, arms_box_amount, Ledger, Opened, ArmsOpened}
+use Rattle.cx_weave.specs.Ledger.{Kind, Pieces, Lacks, amount, arms_amount, inputs_amount, box_amount, arms_box_amount, Ledger, Opened, ArmsOpened}
 use Rattle.cx_weave.specs.Supplied.{Supplied, MayOpen, MayOpenAll}
 use Rattle.cx_weave.proofs.Amounts.{amount_call}
 use Rattle.cx_weave.proofs.Ledgers.{and_then, untouched}
@@ -116,11 +116,6 @@ next_asked d n spares parts later part are s =
 
 pub round_asked : (d : PlainDesign) (n : ℕ) (spares : Spares) (body : PlainStatement) → Supplied d n spares (λ k i. box_takes k + need k i body) box_amount → MayOpen d n spares body
 round_asked d n spares body s = less_asked d n spares (λ k i. box_takes k + need k i body) (λ k i. need k i body) box_amount box_amount (λ x. 0) s (λ x. omega arith) (λ k i. omega arith)
-
--- a part has ended
-pub ended_supplied : (d : PlainDesign) (n : ℕ) (spares : Spares) (left : Option Strand) (asked : Piece → Instance → ℕ) → left ≡ None → Supplied d n spares asked (λ x. box_amount x + left_amount x left) → Supplied d n spares asked box_amount
-ended_supplied d n spares left asked none s =
-    less_asked d n spares asked asked (λ x. box_amount x + left_amount x left) (λ x. 0) box_amount s (λ x. (let e : left_amount x left ≡ 0 = ap (left_amount x) none in omega (arith, e))) (λ k i. omega arith)
 
 -- A REPEAT, and the body of a while: the body
 pub body_asked : (d : PlainDesign) (n : ℕ) (spares : Spares) (body : PlainStatement) → Supplied d n spares (λ k i. box_takes k + need k i body) (λ x. 0) → MayOpen d n spares body

@@ -27,22 +27,8 @@ told_after old new before a after is l = record {
 }
 
 -- A BOX goes back to its place
-pub box_place : (s : Spares) (more : Kind → ℕ) → HasPlaces s (λ x. box_amount x + more x) → vec_len s.boxes < vec_capacity s.boxes
-box_place s more places = (let p = places pieces.Boxes in omega (arith, p))
-
 pub one_place : (s : Spares) → HasPlaces s box_amount → vec_len s.boxes < vec_capacity s.boxes
 one_place s places = (let p = places pieces.Boxes in omega (arith, p))
-
--- the part goes on in its box
-pub part_kept : (s : Spares) (left : Option Strand) (run whole : Strand) → left ≡ Some run → ((x : Kind) → amount x whole ≡ box_amount x + amount x run) → Ledger s s (λ x. box_amount x + left_amount x left) (λ x. left_amount x (Some whole))
-part_kept s left run whole some is =
-    same_amounts s (λ x. box_amount x + left_amount x left) (λ x. left_amount x (Some whole))
-    (λ x. (let e : left_amount x left ≡ amount x run = ap (left_amount x) some in let f = is x in omega (arith, e, f)))
-
--- it has ended
-pub part_ended : (old new : Spares) (left after : Option Strand) → left ≡ None → Ledger old new box_amount (λ x. left_amount x after) → Ledger old new (λ x. box_amount x + left_amount x left) (λ x. left_amount x after)
-part_ended old new left after none l =
-    told_before old new box_amount (λ x. box_amount x + left_amount x left) (λ x. left_amount x after) (λ x. (let e : left_amount x left ≡ 0 = ap (left_amount x) none in omega (arith, e))) l
 
 -- what is open behind it is in the same box
 pub next_boxed : (old new : Spares) (run whole : Strand) → Opened old new run → ((x : Kind) → amount x whole ≡ box_amount x + amount x run) → Ledger old new box_amount (λ x. left_amount x (Some whole))
@@ -54,20 +40,8 @@ pub leaf_behind : (old new : Spares) (leaf : Strand) → Ledger old new box_amou
 leaf_behind old new leaf l is = told_after old new box_amount (λ x. 0) (λ x. left_amount x (Some leaf)) is l
 
 -- ARMS
-pub arms_place : (s : Spares) (more : Kind → ℕ) → HasPlaces s (λ x. arms_box_amount x + more x) → vec_len s.arms < vec_capacity s.arms
-arms_place s more places = (let p = places pieces.Arms in omega (arith, p))
-
 pub one_arms_place : (s : Spares) → HasPlaces s arms_box_amount → vec_len s.arms < vec_capacity s.arms
 one_arms_place s places = (let p = places pieces.Arms in omega (arith, p))
-
-pub arms_kept : (s : Spares) (left : Option Arms) (arms : Arms) (whole : Strand) → left ≡ Some arms → ((x : Kind) → amount x whole ≡ arms_box_amount x + arms_amount x arms) → Ledger s s (λ x. arms_box_amount x + arms_left_amount x left) (λ x. left_amount x (Some whole))
-arms_kept s left arms whole some is =
-    same_amounts s (λ x. arms_box_amount x + arms_left_amount x left) (λ x. left_amount x (Some whole))
-    (λ x. (let e : arms_left_amount x left ≡ arms_amount x arms = ap (arms_left_amount x) some in let f = is x in omega (arith, e, f)))
-
-pub arms_ended : (old new : Spares) (left : Option Arms) → left ≡ None → Ledger old new arms_box_amount (λ x. 0) → Ledger old new (λ x. arms_box_amount x + arms_left_amount x left) (λ x. 0)
-arms_ended old new left none l =
-    told_before old new arms_box_amount (λ x. arms_box_amount x + arms_left_amount x left) (λ x. 0) (λ x. (let e : arms_left_amount x left ≡ 0 = ap (arms_left_amount x) none in omega (arith, e))) l
 
 -- halves: of two, what is had of the one and of the other
 pub halves_kept : (s : Spares) (left : Option Arms) (arms whole : Arms) (other both : Kind → ℕ) → left ≡ Some arms → ((x : Kind) → both x ≡ (arms_box_amount x + arms_left_amount x left) + (arms_box_amount x + other x))

@@ -1,17 +1,19 @@
 -- A turn of a part, as one of the statement around it.
-use Rattle.std.proofs.Common.{◌≡◌, ℕ, ◌+◌, ◌<◌, List, Option, Some, None, Ok, Err, refl, sym, ap, ◌∙◌, subst, arith}
+use Rattle.std.proofs.Common.{◌≡◌, ℕ, ◌+◌, ◌<◌, Bool, true, false, List, Option, Some, None, Result, Ok, Err, refl, sym, ap, ◌∙◌, subst, arith}
 use Rattle.cx_design.specs.declared.actives.PortFault.{PortFault}
 use Rattle.cx_meaning.specs.declared.ports.PlacedPort.{PlacedPort}
-use Rattle.cx_meaning.specs.Designs.{PlainDesign, PlainStatement, PlainStatements}
+use Rattle.cx_meaning.specs.Designs.{PlainDesign, While, PlainStatement, PlainStatements}
 use Rattle.cx_meaning.specs.Instances.{Instance, Path, State, instance_at, tree_of}
 use Rattle.cx_meaning.specs.Sights.{Held}
+use Rattle.cx_state.specs.Tables.{IsNumber}
 use Rattle.cx_state.specs.States.{PlainInstance, inputs_held, under_path}
+use Rattle.cx_turns.specs.Machines.{FormStands, StandIn, StandsIn}
 use Rattle.cx_weave.specs.declared.strands.Strand.{Strand}
 use Rattle.cx_weave.specs.declared.strands.Arms.{Arms}
-use Rattle.cx_orders.specs.Open.{Open, InSeq, InPar, InLoop, InRepeat, Opens, no_arms, an_arm, beside, leaves_of, leaves_of_all}
+use Rattle.cx_orders.specs.Open.{Open, Testing, InSeq, InPar, InLoop, InRepeat, Opens, no_arms, an_arm, beside, leaves_of, leaves_of_all}
 use Rattle.cx_orders.specs.Steps.{Stepped, Now, Stops, step, step_arms, within, seq_left, loop_left, repeat_left, par_left, arms_left}
-use Rattle.cx_weave.specs.Strands.{PlainStrand, AnIdling, AGroup, AChoice, ATest, AnIsland, ACapture, AClosing, AWaiting, ASeq, APar, ALoop, ARepeat, ACall, PlainArms, one_arm, both_arms, plain_arms, strand_leaves, arms_leaves, IsCounted, AreCounted, IsBoth, Shows, ShowsAll, IsShown, AreShown}
-use Rattle.cx_weave.specs.Strides.{LeftShown, LeavesAs, StepTold, HasStepped, ArmsTold, HaveStepped, IsArmOf, IsParOf, IsInFront, IsBehind}
+use Rattle.cx_weave.specs.Strands.{PlainStrand, AnIdling, AGroup, AChoice, ATest, AnIsland, ACapture, AClosing, AWaiting, ASeq, APar, ALoop, ARepeat, ACall, PlainArms, one_arm, both_arms, plain_arms, plain_strand, body_of, later_of, rounds_of, strand_leaves, arms_leaves, IsCounted, AreCounted, IsBoth, Shows, ShowsAll, IsShown, AreShown}
+use Rattle.cx_weave.specs.Strides.{LeftShown, LeavesAs, StepTold, HasStepped, ArmsTold, HaveStepped, IsArmOf, IsParOf, IsInFront, IsBehind, left_by}
 use Rattle.cx_weave.proofs.ArmSteps.{leaves_beside, step_first, step_front, step_back}
 
 -- LEAVES of a strand are those of what it shows
@@ -86,16 +88,34 @@ pub both_shown : (d : PlainDesign) (n : ℕ) (one other arms : PlainArms) (front
 both_shown d n one other arms front back (leaves, is, tells) first later =
     subst (λ x. ShowsAll d n x (beside front back)) (sym is) (front, back, refl, first, later, tells (all_counted d n one front first) (all_counted d n other back later))
 
+-- A PART THAT GOES ON, in its place
+module _ (d : PlainDesign) (n : ℕ) (run kept : Strand) where
+  seq_stays : (later : PlainStatements) → plain_strand kept ≡ ASeq (plain_strand run) later → StandIn d n later → (path : Path) (o : Option Open) → IsNumber d n path → LeftShown d n (Some run) o → LeftShown d n (Some kept) (seq_left (instance_at (tree_of d) path) later o)
+  seq_stays later is stand path None number h = absurd h
+  seq_stays later is stand path (Some o) number h = subst (λ p. Shows d n p (InSeq o later)) (sym is) (o, refl, h, stand)
+
+  loop_stays : (port : PlacedPort) (comb : Option ℕ) (body : PlainStatement) → plain_strand kept ≡ ALoop (plain_strand run) port comb body → FormStands d n (While port comb body) → (path : Path) (o : Option Open) → IsNumber d n path → LeftShown d n (Some run) o
+      → LeftShown d n (Some kept) (loop_left port.port comb body o)
+  loop_stays port comb body is stand path None number h = absurd h
+  loop_stays port comb body is stand path (Some o) number h = subst (λ p. Shows d n p (InLoop o port.port comb body)) (sym is) (o, refl, h, stand)
+
+  repeat_stays : (rounds : ℕ) (body : PlainStatement) → plain_strand kept ≡ ARepeat (plain_strand run) rounds body → StandsIn d n body → (path : Path) (o : Option Open) → IsNumber d n path → LeftShown d n (Some run) o
+      → LeftShown d n (Some kept) (repeat_left (instance_at (tree_of d) path) rounds body o)
+  repeat_stays rounds body is stand path None number h = absurd h
+  repeat_stays rounds body is stand path (Some o) number h = subst (λ p. Shows d n p (InRepeat o rounds body)) (sym is) (o, refl, h, stand)
+
+-- and the test behind the body of a while
+loop_tests : (d : PlainDesign) (n : ℕ) (tested : Strand) (port : PlacedPort) (comb : Option ℕ) (body : PlainStatement) → plain_strand tested ≡ ATest port comb body → FormStands d n (While port comb body) → (path : Path) (o : Option Open) → IsNumber d n path → LeftShown d n None o
+    → LeftShown d n (Some tested) (loop_left port.port comb body o)
+loop_tests d n tested port comb body is stand path None number h = subst (λ p. Shows d n p (Testing port.port comb body)) (sym is) (refl, stand)
+loop_tests d n tested port comb body is stand path (Some o) number h = absurd h
+
 module _ (d : PlainDesign) (old new : List PlainInstance) (n k : ℕ) where
   -- what is left of the part tells what is left around it
   around_goes : (path : Path) (s : State) (left after : Option Strand) (f : Option Open → Option Open) (x : Stepped (Option Open)) → ((o : Option Open) → LeftShown d n left o → LeftShown d n after (f o))
       → StepTold d n path s new (Ok left) x → StepTold d n path s new (Ok after) (within f x)
   around_goes path s left after f (Now o t) turn told = (told.0, turn o told.1)
   around_goes path s left after f (Stops fault) turn told = absurd told
-
-  around_stops : (path : Path) (s : State) (halt : PortFault) (f : Option Open → Option Open) (x : Stepped (Option Open)) → StepTold d n path s new (Err halt) x → StepTold d n path s new (Err halt) (within f x)
-  around_stops path s told f (Now o t) bad = absurd bad
-  around_stops path s told f (Stops fault) tells = tells
 
   -- A STATEMENT OF WHICH ONE PART IS OPEN
   module _ (whole p : PlainStrand) (wrap : Open → Open) (around : Instance → Option Open → Option Open) (parts : (o : Open) → Shows d n whole o → (run : Open) × (o ≡ wrap run) × Shows d n p run)
@@ -110,36 +130,35 @@ module _ (d : PlainDesign) (old new : List PlainInstance) (n k : ℕ) where
       held = stepped.held;
     }
 
-    part_stops : (halt : PortFault) → HasStepped d old new n p k (Err halt) → HasStepped d old new n whole k (Err halt)
-    part_stops halt stepped = record {
-      tells = λ path s o number stands shown.
-          let i = instance_at (tree_of d) path in
-          let r = parts o shown in
-          subst (λ x. StepTold d n path s new (Err halt) x) (sym (ap (λ x. step i (inputs_held old n) x k (under_path path s)) r.1 ∙ steps i (inputs_held old n) r.0 (under_path path s)))
-          (around_stops path s halt (around i) (step i (inputs_held old n) r.0 k (under_path path s)) (stepped.tells path s r.0 number stands r.2));
-      held = stepped.held;
-    }
-
   module _ (p : PlainStrand) (later : PlainStatements) where
     pub seq_goes : (left after : Option Strand) → HasStepped d old new n p k (Ok left) → LeavesAs d n left after (λ i. seq_left i later) → HasStepped d old new n (ASeq p later) k (Ok after)
     seq_goes = part_goes (ASeq p later) p (λ run. InSeq run later) (λ i. seq_left i later) (λ o shown. (shown.0, shown.1, shown.2)) (λ i held run s. refl)
 
-    pub seq_stops : (halt : PortFault) → HasStepped d old new n p k (Err halt) → HasStepped d old new n (ASeq p later) k (Err halt)
-    seq_stops = part_stops (ASeq p later) p (λ run. InSeq run later) (λ i. seq_left i later) (λ o shown. (shown.0, shown.1, shown.2)) (λ i held run s. refl)
+    pub seq_on : (whole : PlainStrand) (run kept : Strand) → whole ≡ ASeq p later → plain_strand kept ≡ ASeq (plain_strand run) later → StandIn d n later → HasStepped d old new n p k (Ok (Some run)) → HasStepped d old new n whole k (Ok (Some kept))
+    seq_on whole run kept same is stand stepped = subst (λ w. HasStepped d old new n w k (Ok (Some kept))) (sym same) (seq_goes (Some run) (Some kept) stepped (seq_stays d n run kept later is stand))
+
+    pub seq_off : (whole behind : PlainStrand) (after : Option Strand) → whole ≡ ASeq p later → later_of behind ≡ later → LeavesAs d n None after (λ i. seq_left i (later_of behind)) → HasStepped d old new n p k (Ok None) → HasStepped d old new n whole k (Ok after)
+    seq_off whole behind after same is leaves stepped = subst (λ w. HasStepped d old new n w k (Ok after)) (sym same) (seq_goes None after stepped (subst (λ l. LeavesAs d n None after (λ i. seq_left i l)) is leaves))
 
   module _ (p : PlainStrand) (port : PlacedPort) (comb : Option ℕ) (body : PlainStatement) where
     pub loop_goes : (left after : Option Strand) → HasStepped d old new n p k (Ok left) → LeavesAs d n left after (λ i. loop_left port.port comb body) → HasStepped d old new n (ALoop p port comb body) k (Ok after)
     loop_goes = part_goes (ALoop p port comb body) p (λ run. InLoop run port.port comb body) (λ i. loop_left port.port comb body) (λ o shown. (shown.0, shown.1, shown.2)) (λ i held run s. refl)
 
-    pub loop_stops : (halt : PortFault) → HasStepped d old new n p k (Err halt) → HasStepped d old new n (ALoop p port comb body) k (Err halt)
-    loop_stops = part_stops (ALoop p port comb body) p (λ run. InLoop run port.port comb body) (λ i. loop_left port.port comb body) (λ o shown. (shown.0, shown.1, shown.2)) (λ i held run s. refl)
+    pub loop_on : (whole : PlainStrand) (run kept : Strand) → whole ≡ ALoop p port comb body → plain_strand kept ≡ ALoop (plain_strand run) port comb body → FormStands d n (While port comb body) → HasStepped d old new n p k (Ok (Some run)) → HasStepped d old new n whole k (Ok (Some kept))
+    loop_on whole run kept same is stand stepped = subst (λ w. HasStepped d old new n w k (Ok (Some kept))) (sym same) (loop_goes (Some run) (Some kept) stepped (loop_stays d n run kept port comb body is stand))
+
+    pub loop_off : (whole : PlainStrand) (tested : Strand) → whole ≡ ALoop p port comb body → plain_strand tested ≡ ATest port comb body → FormStands d n (While port comb body) → HasStepped d old new n p k (Ok None) → HasStepped d old new n whole k (Ok (Some tested))
+    loop_off whole tested same is stand stepped = subst (λ w. HasStepped d old new n w k (Ok (Some tested))) (sym same) (loop_goes None (Some tested) stepped (loop_tests d n tested port comb body is stand))
 
   module _ (p : PlainStrand) (rounds : ℕ) (body : PlainStatement) where
     pub repeat_goes : (left after : Option Strand) → HasStepped d old new n p k (Ok left) → LeavesAs d n left after (λ i. repeat_left i rounds body) → HasStepped d old new n (ARepeat p rounds body) k (Ok after)
     repeat_goes = part_goes (ARepeat p rounds body) p (λ run. InRepeat run rounds body) (λ i. repeat_left i rounds body) (λ o shown. (shown.0, shown.1, shown.2)) (λ i held run s. refl)
 
-    pub repeat_stops : (halt : PortFault) → HasStepped d old new n p k (Err halt) → HasStepped d old new n (ARepeat p rounds body) k (Err halt)
-    repeat_stops = part_stops (ARepeat p rounds body) p (λ run. InRepeat run rounds body) (λ i. repeat_left i rounds body) (λ o shown. (shown.0, shown.1, shown.2)) (λ i held run s. refl)
+    pub repeat_on : (whole : PlainStrand) (run kept : Strand) → whole ≡ ARepeat p rounds body → plain_strand kept ≡ ARepeat (plain_strand run) rounds body → StandsIn d n body → HasStepped d old new n p k (Ok (Some run)) → HasStepped d old new n whole k (Ok (Some kept))
+    repeat_on whole run kept same is stand stepped = subst (λ w. HasStepped d old new n w k (Ok (Some kept))) (sym same) (repeat_goes (Some run) (Some kept) stepped (repeat_stays d n run kept rounds body is stand))
+
+    pub repeat_off : (whole behind part : PlainStrand) (after : Option Strand) → whole ≡ ARepeat p rounds body → behind ≡ ARepeat part rounds body → LeavesAs d n None after (λ i. repeat_left i (rounds_of behind) (body_of behind)) → HasStepped d old new n p k (Ok None) → HasStepped d old new n whole k (Ok after)
+    repeat_off whole behind part after same is leaves stepped = subst (λ w. HasStepped d old new n w k (Ok after)) (sym same) (repeat_goes None after stepped (subst (λ b. LeavesAs d n None after (λ i. repeat_left i (rounds_of b) (body_of b))) is leaves))
 
 -- the part that is open is shown too
 pub part_shown_seq : (d : PlainDesign) (n : ℕ) (p : PlainStrand) (later : PlainStatements) → IsShown d n (ASeq p later) → IsShown d n p
@@ -203,6 +222,11 @@ module _ (d : PlainDesign) (old new : List PlainInstance) (n : ℕ) where
           (one_stops path s v halt (step (instance_at (tree_of d) path) (inputs_held old n) first k (under_path path s)) (stepped.tells path s first number stands shown));
       held = stepped.held;
     }
+
+    pub arm_turned : (whole : PlainArms) (kept : Strand) (left : Arms) (r : Result Bool PortFault) → whole ≡ one_arm arm → plain_arms left ≡ one_arm (plain_strand kept) → HasStepped d old new n arm k (left_by r kept) → HaveStepped d old new n whole k (left_by r left)
+    arm_turned whole kept left (Ok true) same is stepped = subst (λ w. HaveStepped d old new n w k (Ok (Some left))) (sym same) (arm_goes (Some kept) (Some left) stepped (left, refl, is))
+    arm_turned whole kept left (Ok false) same is stepped = subst (λ w. HaveStepped d old new n w k (Ok None)) (sym same) (arm_goes None None stepped refl)
+    arm_turned whole kept left (Err halt) same is stepped = subst (λ w. HaveStepped d old new n w k (Err halt)) (sym same) (arm_stops halt stepped)
 
   -- A HALF goes on, or ends
   front_told : (path : Path) (s : State) (other after : PlainArms) (arms : Arms) (left : Option Arms) (back : Opens) (x : Stepped Opens) → plain_arms arms ≡ after → IsInFront left other after → ShowsAll d n other back
@@ -294,10 +318,6 @@ module _ (d : PlainDesign) (old new : List PlainInstance) (n : ℕ) where
       (told.0, subst (λ p. Shows d n p (InPar list)) (sym plain) (list, refl, told.1)))
   par_told path s left after (Stops fault) is told = absurd told
 
-  par_halts : (path : Path) (s : State) (halt : PortFault) (x : Stepped Opens) → ArmsTold d n path s new (Err halt) x → StepTold d n path s new (Err halt) (within par_left x)
-  par_halts path s told (Now list t) bad = absurd bad
-  par_halts path s told (Stops fault) tells = tells
-
   module _ (arms : PlainArms) (k : ℕ) where
     pub par_goes : (left : Option Arms) (after : Option Strand) → HaveStepped d old new n arms k (Ok left) → IsParOf left after → HasStepped d old new n (APar arms) k (Ok after)
     par_goes left after stepped behind = record {
@@ -308,11 +328,8 @@ module _ (d : PlainDesign) (old new : List PlainInstance) (n : ℕ) where
       held = stepped.held;
     }
 
-    pub par_stops : (halt : PortFault) → HaveStepped d old new n arms k (Err halt) → HasStepped d old new n (APar arms) k (Err halt)
-    par_stops halt stepped = record {
-      tells = λ path s o number stands (list, e, shown).
-          let i = instance_at (tree_of d) path in
-          subst (λ x. StepTold d n path s new (Err halt) (step i (inputs_held old n) x k (under_path path s))) (sym e)
-          (par_halts path s halt (step_arms i (inputs_held old n) list k (under_path path s)) (stepped.tells path s list number stands shown));
-      held = stepped.held;
-    }
+    pub par_on : (whole : PlainStrand) (left : Arms) (kept : Strand) → whole ≡ APar arms → plain_strand kept ≡ APar (plain_arms left) → HaveStepped d old new n arms k (Ok (Some left)) → HasStepped d old new n whole k (Ok (Some kept))
+    par_on whole left kept same is stepped = subst (λ w. HasStepped d old new n w k (Ok (Some kept))) (sym same) (par_goes (Some left) (Some kept) stepped (kept, refl, is))
+
+    pub par_off : (whole : PlainStrand) → whole ≡ APar arms → HaveStepped d old new n arms k (Ok None) → HasStepped d old new n whole k (Ok None)
+    par_off whole same stepped = subst (λ w. HasStepped d old new n w k (Ok None)) (sym same) (par_goes None None stepped refl)

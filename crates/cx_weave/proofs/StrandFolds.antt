@@ -53,3 +53,7 @@ is_one arm = ap plain_arms (sym (parts.rolls-One arm)) ∙ fold-roll-Arms PlainA
 
 pub is_both : (leaves : ℕ) (one other : _) → plain_arms (parts.Both leaves one other) ≡ both_arms leaves (plain_arms one.value) (plain_arms other.value)
 is_both leaves one other = ap plain_arms (sym (parts.rolls-Both leaves one other)) ∙ fold-roll-Arms PlainArms PlainStrand arms_step strand_step _
+
+-- two halves are not one arm
+pub no_arm : (leaves : ℕ) (one other : _) (arm : Strand) → parts.Both leaves one other ≡ parts.One arm → ⊥
+no_arm leaves one other arm e = (let f : both_arms leaves (plain_arms one.value) (plain_arms other.value) ≡ one_arm (plain_strand arm) = sym (is_both leaves one other) ∙ ap plain_arms e ∙ is_one arm in cc)

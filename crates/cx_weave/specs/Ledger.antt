@@ -7,7 +7,7 @@ use Rattle.cx_weave.specs.declared.spares.Spares.{Spares}
 use Rattle.cx_weave.specs.declared.strands.Strand.{Strand, Strand-F, fold-Strand}
 use Rattle.cx_weave.specs.declared.strands.Arms.{Arms, Arms-F, fold-Arms}
 use Rattle.cx_weave.specs.declared.strands.Arms.TheOpen as strands
-use Rattle.cx_weave.specs.Marks.{set_count}
+use Rattle.cx_turns.specs.Marks.{set_count}
 use Rattle.cx_weave.specs.Strands.{plain_strand, plain_arms}
 use Rattle.cx_weave.specs.Takes.{box_takes, island_takes, inputs_taken, arms_take, taken, all_taken}
 
@@ -104,7 +104,9 @@ marks_lack l marks = (l.cells - length marks) + (length marks - l.cells) + set_c
 
 abbrev pub stock : Kind → Spares → ℕ
 stock (Pieces k) spares = pieces_spare k spares
-stock (Lacks l) spares = total (lists_lack l) spares.islands.items + total (λ list. l.inputs - vec_capacity list) spares.inputs.items + marks_lack l spares.marks.items
+stock (Lacks l) spares =
+    total (lists_lack l) spares.islands.items
+    + total (λ list. l.inputs - vec_capacity list) spares.inputs.items + marks_lack l spares.marks.items
 
 -- how many pieces there is room for
 abbrev pub places_for : Piece → Spares → ℕ

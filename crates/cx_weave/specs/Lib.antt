@@ -6,5 +6,4 @@ pub mod Takes
 pub mod Rows
 pub mod Ledger
 pub mod Supplied
-pub mod Marks
 pub mod Deep

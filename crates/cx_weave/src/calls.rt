@@ -12,11 +12,11 @@ ghost use Rattle.cx_orders.specs.Steps as steps;
 ghost use Rattle.cx_weave.specs.Calls.{HoldsAs, HoldsList};
 ghost use Rattle.cx_weave.specs.Ledger.{HasPlaces, Lacks, Ledger, Lengths, box_amount, inputs_amount, left_amount, stock};
 ghost use Rattle.cx_weave.specs.Strands.{CallsCell, InputsFit, seen_items};
-ghost use Rattle.cx_weave.specs.Strides.{LeftShown};
+ghost use Rattle.cx_weave.specs.Strides.{LeftShown, kept_if};
 ghost use Rattle.cx_weave.specs.Supplied.{Supplied};
 ghost use Rattle.cx_weave.specs.Takes.{call_takes};
 
-use crate::spares::{Spares, give_box, give_inputs, refilled, take_inputs};
+use crate::spares::{Spares, give_box, give_inputs, take_inputs};
 use crate::strands::Strand;
 use cx_meaning::Seen;
 use cx_turns::calls::group_row;
@@ -53,9 +53,12 @@ fn hold_listed(
 fn held_inputs(spares: &mut Spares<'_>, machine: &Machine<'_>, instance: usize) -> Vec<Seen>
     requires instance { instance < length (rows_of machine.now) }
     requires some { 0 < vec_len spares.old.inputs }
-    requires room { (l : Lengths) × (length (instance_state (rows_of machine.now) instance).held ≤ l.inputs) × (stock (Lacks l) spares.old ≤ 0) }
+    requires room { (l : Lengths) ×
+        (length (instance_state (rows_of machine.now) instance).held ≤ l.inputs) ×
+        (stock (Lacks l) spares.old ≤ 0) }
     ensures held { result.items ≡ (instance_state (rows_of machine.now) instance).held }
-    ensures ledger { Ledger spares.old spares.new (λ x. 0) (λ x. inputs_amount (λ list. vec_capacity list) x (Some result)) }
+    ensures ledger { Ledger spares.old spares.new (λ x. 0)
+        (λ x. inputs_amount (λ list. vec_capacity list) x (Some result)) }
 {
     let mut inputs = take_inputs(spares);
     for seen in &machine.sight.state.instances[instance].held {
@@ -82,11 +85,16 @@ pub(crate) fn hold_call(
     requires part { IsPart (design_of plan.now) instance cell }
     requires child { HasChild (design_of plan.now) instance cell child }
     requires inputs { InputsFit (design_of plan.now) instance cell (seen_items (λ v. v.items) inputs) }
-    requires supplied { Supplied (design_of plan.now) instance spares.old (λ k i. call_takes k) (λ x. box_amount x + inputs_amount (λ list. vec_capacity list) x inputs) }
+    requires supplied { Supplied (design_of plan.now) instance spares.old (λ k i. call_takes k)
+        (λ x. box_amount x + inputs_amount (λ list. vec_capacity list) x inputs) }
     ensures machine { IsAt plan.now machine.new }
-    ensures held { HoldsAs (design_of plan.now) (rows_of machine.old) (rows_of machine.new) instance group cell child (seen_items (λ v. v.items) inputs) result.items }
-    ensures ledger { Ledger spares.old spares.new (λ x. inputs_amount (λ list. vec_capacity list) x inputs) (λ x. inputs_amount (λ list. vec_capacity list) x (Some result)) }
-    ensures others { (m input : ℕ) → m ≢ child → inputs_held (rows_of machine.new) m input ≡ inputs_held (rows_of machine.old) m input }
+    ensures held { HoldsAs (design_of plan.now) (rows_of machine.old)
+        (rows_of machine.new) instance group cell child (seen_items (λ v. v.items) inputs) result.items }
+    ensures ledger { Ledger spares.old spares.new
+        (λ x. inputs_amount (λ list. vec_capacity list) x inputs)
+        (λ x. inputs_amount (λ list. vec_capacity list) x (Some result)) }
+    ensures others { (m input : ℕ) → m ≢ child →
+        inputs_held (rows_of machine.new) m input ≡ inputs_held (rows_of machine.old) m input }
 {
     match inputs {
         Some(inputs) => {
@@ -108,8 +116,8 @@ pub(crate) fn call_left<'a>(
     group: u32,
     cell: u32,
     inputs: Vec<Seen>,
-    room: Box<Strand<'a>>,
-    left: Option<Strand<'a>>,
+    child: Box<Strand<'a>>,
+    goes: bool,
     number: usize,
 ) -> Option<Strand<'a>>
     requires plan { IsPlan plan.now }
@@ -118,32 +126,34 @@ pub(crate) fn call_left<'a>(
     requires calls { CallsCell (design_of plan.now) instance group cell }
     requires child { HasChild (design_of plan.now) instance cell number }
     requires inputs { InputsFit (design_of plan.now) instance cell (Some inputs.items) }
-    requires places { HasPlaces spares.old (λ x. box_amount x + inputs_amount (λ list. vec_capacity list) x (Some inputs) + left_amount x left) }
-    ensures leaves { (path : Path) (o : Option Open) → IsNumber (design_of plan.now) instance path → LeftShown (design_of plan.now) number left.entry o
-        → LeftShown (design_of plan.now) instance result (steps.call_left (instance_at (tree_of (design_of plan.now)) path) group cell inputs.items o) }
-    ensures ledger { Ledger spares.old spares.new (λ x. box_amount x + inputs_amount (λ list. vec_capacity list) x (Some inputs) + left_amount x left.entry) (λ x. left_amount x result) }
+    requires places { HasPlaces spares.old
+        (λ x. box_amount x + inputs_amount (λ list. vec_capacity list) x (Some inputs)
+        + left_amount x (kept_if goes child.value)) }
+    ensures leaves { (path : Path) (o : Option Open) → IsNumber (design_of plan.now) instance path →
+        LeftShown (design_of plan.now) number (kept_if goes child.entry.value) o
+        → LeftShown (design_of plan.now) instance result
+        (steps.call_left (instance_at (tree_of (design_of plan.now)) path) group cell inputs.items o) }
+    ensures ledger { Ledger spares.old spares.new
+        (λ x. box_amount x + inputs_amount (λ list. vec_capacity list) x (Some inputs)
+        + left_amount x (kept_if goes child.entry.value))
+        (λ x. left_amount x result) }
 {
     let _ = number;
-    match left {
-        Some(child) => {
-            let child = refilled(room, child);
-            let inputs = Some(inputs);
-            Some(Strand::InCall {
-                group,
-                cell,
-                inputs,
-                child,
-            })
-        }
-        None => {
-            give_box(spares, room);
-            give_inputs(spares, inputs);
-            let row = group_row(plan, instance, group);
-            if row.captures {
-                Some(Strand::Capturing { group, cell })
-            } else {
-                Some(Strand::Closing(group))
-            }
-        }
+    if goes {
+        let inputs = Some(inputs);
+        return Some(Strand::InCall {
+            group,
+            cell,
+            inputs,
+            child,
+        });
+    }
+    give_box(spares, child);
+    give_inputs(spares, inputs);
+    let row = group_row(plan, instance, group);
+    if row.captures {
+        Some(Strand::Capturing { group, cell })
+    } else {
+        Some(Strand::Closing(group))
     }
 }

@@ -12,7 +12,8 @@ ghost use Rattle.cx_design.specs.PlainForms.{plain_component, plain_form};
 ghost use Rattle.cx_turns.specs.Islands.{HasPart, IsIsland, SampledBefore, SamplesTaken};
 ghost use Rattle.cx_turns.specs.Machines.{design_of, rows_of, IsPlan, IsAt, IsInstance, FormStands};
 ghost use Rattle.cx_weave.specs.Ledger.{HasPlaces, Turned, island_amount};
-ghost use Rattle.cx_weave.specs.Strands.{AnIsland, IsShown, IsSampledBefore, IsWithinIsland, ListDriven};
+ghost use Rattle.cx_turns.specs.Groups.{ListDriven};
+ghost use Rattle.cx_weave.specs.Strands.{AnIsland, IsShown, IsSampledBefore, IsWithinIsland};
 ghost use Rattle.cx_weave.specs.Strides.{HasStepped, IslandTaken};
 
 use crate::resting::rest_listed;
@@ -53,7 +54,9 @@ fn sample(
     ensures machine { IsAt plan.now machine.new }
     ensures rows { rows_of machine.new ≡ rows_of machine.old }
     ensures length { length samples.new ≡ length samples.old }
-    ensures taken { SamplesTaken (design_of plan.now) (rows_of machine.old) instance (plain_component part.now) (plain_form form.now) cycle (samples_of samples.old) (samples_of samples.new) result }
+    ensures taken { SamplesTaken (design_of plan.now) (rows_of machine.old) instance
+        (plain_component part.now) (plain_form form.now) cycle (samples_of samples.old)
+        (samples_of samples.new) result }
 {
     rows_stand();
     states_are_seen_alike();
@@ -83,11 +86,13 @@ fn take_cycle(
     requires within { IsWithinIsland (design_of plan.now) instance (plain_form form.now) cycle }
     requires sampled { IsSampledBefore (design_of plan.now) instance cycle (plain_form form.now) (samples_of samples.old) }
     requires samples { form_ifs (plain_form form.now) ≤ length samples.old }
-    requires driven { ListDriven (design_of plan.now) instance cells.now (λ part. form_drives part (plain_form form.now)) }
+    requires driven { ListDriven (design_of plan.now) instance cells.now
+        (λ part. form_drives part (plain_form form.now)) }
     requires ascending { IsAscending cells.now }
     ensures machine { IsAt plan.now machine.new }
     ensures length { length samples.new ≡ length samples.old }
-    ensures taken { IslandTaken (design_of plan.now) (rows_of machine.old) (rows_of machine.new) instance (plain_form form.now) cycle (samples_of samples.old) (samples_of samples.new) result }
+    ensures taken { IslandTaken (design_of plan.now) (rows_of machine.old) (rows_of machine.new) instance
+        (plain_form form.now) cycle (samples_of samples.old) (samples_of samples.new) result }
 {
     accepted_islands_are_short();
     accepted_has_no_empty_if();
@@ -119,11 +124,17 @@ pub(crate) fn step_island<'a>(
     requires plan { IsPlan plan.now }
     requires machine { IsAt plan.now machine.old }
     requires instance { IsInstance (design_of plan.now) instance }
-    requires shown { IsShown (design_of plan.now) instance (AnIsland (plain_form island.form.now) island.cycle island.left island.samples.items island.cells.items) }
-    requires places { HasPlaces spares.old (λ x. island_amount x (vec_capacity island.cells) (length island.samples.items)) }
+    requires shown { IsShown (design_of plan.now) instance
+        (AnIsland
+        (plain_form island.form.now) island.cycle island.left island.samples.items island.cells.items) }
+    requires places { HasPlaces spares.old
+        (λ x. island_amount x (vec_capacity island.cells) (length island.samples.items)) }
     ensures machine { IsAt plan.now machine.new }
-    ensures stepped { HasStepped (design_of plan.now) (rows_of machine.old) (rows_of machine.new) instance (AnIsland (plain_form island.entry.form.now) island.entry.cycle island.entry.left island.entry.samples.items island.entry.cells.items) leaf result }
-    ensures ledger { Turned spares.old spares.new (λ x. island_amount x (vec_capacity island.entry.cells) (length island.entry.samples.items)) result }
+    ensures stepped { HasStepped (design_of plan.now) (rows_of machine.old) (rows_of machine.new) instance
+        (AnIsland (plain_form island.entry.form.now) island.entry.cycle island.entry.left
+        island.entry.samples.items island.entry.cells.items) leaf result }
+    ensures ledger { Turned spares.old spares.new
+        (λ x. island_amount x (vec_capacity island.entry.cells) (length island.entry.samples.items)) result }
 {
     rows_stand();
     accepted_islands_are_short();

@@ -2,7 +2,6 @@
 #![tactic(auto)]
 
 mod calls;
-mod driven;
 mod islands;
 pub mod laws;
 mod leaf_turns;

@@ -4,7 +4,6 @@ ghost use Rattle.std.specs.Prelude.{◌≡◌, ◌≤◌, ◌<◌, ℕ, All, IfO
 ghost use Rattle.cx_meaning.specs.Designs.{component_at};
 ghost use Rattle.cx_turns.specs.Machines.{design_of, IsPlan};
 ghost use Rattle.cx_turns.specs.Rooms.{HasRoom};
-ghost use Rattle.cx_weave.specs.Marks.{set_count};
 ghost use Rattle.cx_weave.specs.Supplied.{Supplied};
 ghost use Rattle.cx_weave.specs.Takes.{control_need};
 
@@ -14,7 +13,7 @@ use crate::strands::{Arms, Strand};
 use cx_meaning::Seen;
 use cx_text::Memory;
 use cx_turns::plan::Plan;
-use cx_turns::rooms::Room;
+use cx_turns::rooms::{Room, make_unset, most_cells};
 use std::alloc::Global;
 
 fn make_boxes<'a>(alloc: Global, count: usize) -> Result<Vec<Box<Strand<'a>>>, Memory>
@@ -48,16 +47,6 @@ fn make_inputs(alloc: Global, count: usize, most: usize) -> Result<Vec<Vec<Seen>
     Ok(inputs)
 }
 
-/// So many samples, or marks, of which none is set.
-fn make_unset(alloc: Global, count: usize) -> Result<Vec<bool>, Memory>
-    ensures count { IfOk result (λ unset. vec_len unset ≡ count) }
-    ensures unset { IfOk result (λ unset. set_count unset.items ≡ 0) }
-{
-    let mut unset = Vec::new(alloc);
-    unset.resize(count, false)?;
-    Ok(unset)
-}
-
 fn make_islands(
     alloc: Global,
     count: usize,
@@ -77,20 +66,10 @@ fn make_islands(
     Ok(islands)
 }
 
-/// The most cells that a component has.
-fn most_cells(plan: &Plan<'_>) -> usize
-    ensures { (k : ℕ) → k < length (design_of plan.now).components → length (component_at (design_of plan.now) k).cells ≤ result }
-{
-    let mut most = 0usize;
-    for component in &plan.design.components {
-        most = most.max(component.cells.len());
-    }
-    most
-}
-
 /// The most inputs that a component has.
 fn most_inputs(plan: &Plan<'_>) -> usize
-    ensures { (k : ℕ) → k < length (design_of plan.now).components → length (component_at (design_of plan.now) k).inputs ≤ result }
+    ensures { (k : ℕ) → k < length (design_of plan.now).components →
+        length (component_at (design_of plan.now) k).inputs ≤ result }
 {
     let mut most = 0usize;
     for component in &plan.design.components {
@@ -110,7 +89,7 @@ pub(crate) fn make_spares<'a>(
     ensures { IfOk result (λ spares. Supplied (design_of plan.now) 0 spares (λ k i. control_need k i) (λ x. 0)) }
 {
     let ifs = room.samples.len();
-    let cells = most_cells(plan);
+    let cells = most_cells(plan.design);
     let seen = most_inputs(plan);
     let count = main_need(alloc, Piece::Boxes, plan)?;
     let boxes = make_boxes(alloc, count)?;

@@ -10,42 +10,56 @@ ghost use Rattle.cx_state.specs.Tables.{IsNumber};
 ghost use Rattle.cx_weave.specs.Ledger.{HasPlaces, Kind, Ledger, Opened, amount, arms_amount, arms_box_amount, arms_left_amount, box_amount, left_amount};
 ghost use Rattle.cx_orders.specs.Open.{InLoop, open_statement};
 ghost use Rattle.cx_orders.specs.Steps as steps;
-ghost use Rattle.cx_weave.specs.Strands.{plain_arms, plain_strand, Shows};
-ghost use Rattle.cx_weave.specs.Strides.{IsArmOf, IsBehind, IsInFront, IsParOf, LeavesAs};
+ghost use Rattle.cx_weave.specs.Strands.{IsLoop, IsPar, IsRepeat, IsSeq, body_of, later_of, plain_arms, plain_strand, rounds_of, test_of, Shows};
+ghost use Rattle.cx_weave.specs.Strides.{IsBehind, IsInFront, LeavesAs, kept_if};
 ghost use Rattle.cx_weave.specs.Supplied.{Supplied};
 ghost use Rattle.cx_weave.specs.Takes.{box_takes, need, needs};
 
 use crate::leaves::both;
 use crate::opening::open_statement;
-use crate::spares::{Spares, give_arms, give_box, refilled, refilled_arms, take_box};
+use crate::spares::{Spares, give_arms, give_box, refilled, take_box};
 use crate::strands::{Arms, Strand};
 use cx_design::Statement;
 use cx_meaning::PlacedPort;
 use cx_turns::plan::Plan;
 use std::mem::replace;
 
+/// Puts what is left in the place of a strand: whether anything is.
+pub(crate) fn put<'a>(strand: &mut Strand<'a>, left: Option<Strand<'a>>) -> bool
+    ensures { kept_if result strand.new ≡ left.entry }
+{
+    match left {
+        Some(left) => {
+            *strand = left;
+            true
+        }
+        None => false,
+    }
+}
+
 /// A seq: behind a part that has ended comes the next one.
-pub(crate) fn seq_left<'a>(
+pub(crate) fn seq_ended<'a>(
     spares: &mut Spares<'a>,
     plan: &'a Plan<'_>,
     instance: usize,
-    room: Box<Strand<'a>>,
-    left: Option<Strand<'a>>,
-    later: &'a [Statement],
-) -> Option<Strand<'a>>
+    strand: &mut Strand<'a>,
+) -> bool
     requires plan { IsPlan plan.now }
     requires instance { IsInstance (design_of plan.now) instance }
-    requires later { StandIn (design_of plan.now) instance (plain_statements later.now) }
-    requires supplied { Supplied (design_of plan.now) instance spares.old (λ k i. box_takes k + needs k i (plain_statements later.now)) (λ x. box_amount x + left_amount x left) }
-    ensures leaves { LeavesAs (design_of plan.now) instance left.entry result (λ i. steps.seq_left i (plain_statements later.now)) }
-    ensures ledger { Ledger spares.old spares.new (λ x. box_amount x + left_amount x left.entry) (λ x. left_amount x result) }
+    requires seq { IsSeq strand.old }
+    requires later { StandIn (design_of plan.now) instance (later_of (plain_strand strand.old)) }
+    requires supplied { Supplied (design_of plan.now) instance spares.old
+        (λ k i. box_takes k + needs k i (later_of (plain_strand strand.old))) box_amount }
+    ensures leaves { LeavesAs (design_of plan.now) instance None (kept_if result strand.new)
+        (λ i. steps.seq_left i (later_of (plain_strand strand.old))) }
+    ensures ledger { Ledger spares.old spares.new box_amount (λ x. left_amount x (kept_if result strand.new)) }
 {
-    match left {
-        Some(run) => {
-            let first = refilled(room, run);
-            Some(Strand::InSeq { first, later })
+    match replace(strand, Strand::Waiting) {
+        Strand::InSeq { first, later } => {
+            let left = next_part(spares, plan, instance, first, later);
+            put(strand, left)
         }
-        None => next_part(spares, plan, instance, room, later),
+        _ => unreachable!(),
     }
 }
 
@@ -59,8 +73,10 @@ fn next_part<'a>(
     requires plan { IsPlan plan.now }
     requires instance { IsInstance (design_of plan.now) instance }
     requires later { StandIn (design_of plan.now) instance (plain_statements later.now) }
-    requires supplied { Supplied (design_of plan.now) instance spares.old (λ k i. box_takes k + needs k i (plain_statements later.now)) box_amount }
-    ensures leaves { LeavesAs (design_of plan.now) instance None result (λ i. steps.seq_left i (plain_statements later.now)) }
+    requires supplied { Supplied (design_of plan.now) instance spares.old
+        (λ k i. box_takes k + needs k i (plain_statements later.now)) box_amount }
+    ensures leaves { LeavesAs (design_of plan.now) instance None result
+        (λ i. steps.seq_left i (plain_statements later.now)) }
     ensures ledger { Ledger spares.old spares.new box_amount (λ x. left_amount x result) }
 {
     match later.split_first() {
@@ -77,64 +93,49 @@ fn next_part<'a>(
 }
 
 /// A while: behind its body comes its test.
-pub(crate) fn loop_left<'a>(
-    spares: &mut Spares<'a>,
-    plan: &'a Plan<'_>,
-    instance: usize,
-    room: Box<Strand<'a>>,
-    left: Option<Strand<'a>>,
-    port: PlacedPort,
-    comb: Option<u32>,
-    body: &'a Statement,
-) -> Option<Strand<'a>>
-    requires stands { FormStands (design_of plan.now) instance (While port comb (plain_statement body.now)) }
-    requires places { HasPlaces spares.old (λ x. box_amount x + left_amount x left) }
-    ensures leaves { LeavesAs (design_of plan.now) instance left.entry result (λ i. steps.loop_left port.port comb (plain_statement body.now)) }
-    ensures ledger { Ledger spares.old spares.new (λ x. box_amount x + left_amount x left.entry) (λ x. left_amount x result) }
+pub(crate) fn loop_ended<'a>(spares: &mut Spares<'a>, strand: &mut Strand<'a>)
+    requires loops { IsLoop strand.old }
+    requires places { HasPlaces spares.old box_amount }
+    ensures tests { plain_strand strand.new ≡ test_of (plain_strand strand.old) }
+    ensures ledger { Ledger spares.old spares.new box_amount (λ x. amount x strand.new) }
 {
-    let _ = plan;
-    let _ = instance;
-    match left {
-        Some(run) => {
-            let run = refilled(room, run);
-            Some(Strand::InLoop {
-                run,
-                port,
-                comb,
-                body,
-            })
+    match replace(strand, Strand::Waiting) {
+        Strand::InLoop {
+            run,
+            port,
+            comb,
+            body,
+        } => {
+            give_box(spares, run);
+            *strand = Strand::Testing { port, comb, body };
         }
-        None => {
-            give_box(spares, room);
-            Some(Strand::Testing { port, comb, body })
-        }
+        _ => unreachable!(),
     }
 }
 
 /// A repeat: behind a round comes the next one.
-pub(crate) fn repeat_left<'a>(
+pub(crate) fn repeat_ended<'a>(
     spares: &mut Spares<'a>,
     plan: &'a Plan<'_>,
     instance: usize,
-    room: Box<Strand<'a>>,
-    left: Option<Strand<'a>>,
-    rounds: u64,
-    body: &'a Statement,
-) -> Option<Strand<'a>>
+    strand: &mut Strand<'a>,
+) -> bool
     requires plan { IsPlan plan.now }
     requires instance { IsInstance (design_of plan.now) instance }
-    requires body { StandsIn (design_of plan.now) instance (plain_statement body.now) }
-    requires supplied { Supplied (design_of plan.now) instance spares.old (λ k i. box_takes k + need k i (plain_statement body.now)) (λ x. box_amount x + left_amount x left) }
-    ensures leaves { LeavesAs (design_of plan.now) instance left.entry result (λ i. steps.repeat_left i rounds (plain_statement body.now)) }
-    ensures ledger { Ledger spares.old spares.new (λ x. box_amount x + left_amount x left.entry) (λ x. left_amount x result) }
+    requires repeats { IsRepeat strand.old }
+    requires body { StandsIn (design_of plan.now) instance (body_of (plain_strand strand.old)) }
+    requires supplied { Supplied (design_of plan.now) instance spares.old
+        (λ k i. box_takes k + need k i (body_of (plain_strand strand.old))) box_amount }
+    ensures leaves { LeavesAs (design_of plan.now) instance None (kept_if result strand.new)
+        (λ i. steps.repeat_left i (rounds_of (plain_strand strand.old)) (body_of (plain_strand strand.old))) }
+    ensures ledger { Ledger spares.old spares.new box_amount (λ x. left_amount x (kept_if result strand.new)) }
 {
-    match left {
-        Some(run) => {
-            let run = refilled(room, run);
-            let left = rounds;
-            Some(Strand::InRepeat { run, left, body })
+    match replace(strand, Strand::Waiting) {
+        Strand::InRepeat { run, left, body } => {
+            let left = next_round(spares, plan, instance, run, left, body);
+            put(strand, left)
         }
-        None => next_round(spares, plan, instance, room, rounds, body),
+        _ => unreachable!(),
     }
 }
 
@@ -149,8 +150,10 @@ fn next_round<'a>(
     requires plan { IsPlan plan.now }
     requires instance { IsInstance (design_of plan.now) instance }
     requires body { StandsIn (design_of plan.now) instance (plain_statement body.now) }
-    requires supplied { Supplied (design_of plan.now) instance spares.old (λ k i. box_takes k + need k i (plain_statement body.now)) box_amount }
-    ensures leaves { LeavesAs (design_of plan.now) instance None result (λ i. steps.repeat_left i rounds (plain_statement body.now)) }
+    requires supplied { Supplied (design_of plan.now) instance spares.old
+        (λ k i. box_takes k + need k i (plain_statement body.now)) box_amount }
+    ensures leaves { LeavesAs (design_of plan.now) instance None result
+        (λ i. steps.repeat_left i rounds (plain_statement body.now)) }
     ensures ledger { Ledger spares.old spares.new box_amount (λ x. left_amount x result) }
 {
     if rounds == 0 {
@@ -175,9 +178,12 @@ pub(crate) fn open_loop<'a>(
     requires plan { IsPlan plan.now }
     requires instance { IsInstance (design_of plan.now) instance }
     requires stands { FormStands (design_of plan.now) instance (While port comb (plain_statement body.now)) }
-    requires supplied { Supplied (design_of plan.now) instance spares.old (λ k i. box_takes k + need k i (plain_statement body.now)) (λ x. 0) }
+    requires supplied { Supplied (design_of plan.now) instance spares.old
+        (λ k i. box_takes k + need k i (plain_statement body.now)) (λ x. 0) }
     ensures opens { (path : Path) → IsNumber (design_of plan.now) instance path
-        → Shows (design_of plan.now) instance (plain_strand result) (InLoop (open_statement (instance_at (tree_of (design_of plan.now)) path) (plain_statement body.now)) port.port comb (plain_statement body.now)) }
+        → Shows (design_of plan.now) instance (plain_strand result)
+        (InLoop (open_statement (instance_at (tree_of (design_of plan.now)) path)
+        (plain_statement body.now)) port.port comb (plain_statement body.now)) }
     ensures ledger { Opened spares.old spares.new result }
 {
     let run = open_statement(spares, plan, instance, body);
@@ -190,74 +196,58 @@ pub(crate) fn open_loop<'a>(
     }
 }
 
-/// An arm that has not ended.
-pub(crate) fn arm_left<'a>(left: Option<Strand<'a>>) -> Option<Arms<'a>>
-    ensures arm { IsArmOf left.entry result }
-    ensures amount { (x : Kind) → arms_left_amount x result ≡ left_amount x left.entry }
+/// A par ends with its last arm.
+pub(crate) fn par_ended<'a>(spares: &mut Spares<'a>, strand: &mut Strand<'a>)
+    requires par { IsPar strand.old }
+    requires places { HasPlaces spares.old arms_box_amount }
+    ensures ledger { Ledger spares.old spares.new arms_box_amount (λ x. 0) }
 {
-    match left {
-        Some(arm) => Some(Arms::One(arm)),
-        None => None,
-    }
-}
-
-/// A par: it ends with its last arm.
-pub(crate) fn par_left<'a>(
-    spares: &mut Spares<'a>,
-    room: Box<Arms<'a>>,
-    left: Option<Arms<'a>>,
-) -> Option<Strand<'a>>
-    requires places { HasPlaces spares.old (λ x. arms_box_amount x + arms_left_amount x left) }
-    ensures par { IsParOf left.entry result }
-    ensures ledger { Ledger spares.old spares.new (λ x. arms_box_amount x + arms_left_amount x left.entry) (λ x. left_amount x result) }
-{
-    match left {
-        Some(arms) => Some(Strand::InPar(refilled_arms(room, arms))),
-        None => {
-            give_arms(spares, room);
-            None
-        }
+    match replace(strand, Strand::Waiting) {
+        Strand::InPar(arms) => give_arms(spares, arms),
+        _ => unreachable!(),
     }
 }
 
 /// The first half of some arms behind a turn: where it has ended, the other alone is open.
 pub(crate) fn front_left<'a>(
     spares: &mut Spares<'a>,
-    room: Box<Arms<'a>>,
-    left: Option<Arms<'a>>,
+    one: Box<Arms<'a>>,
+    goes: bool,
     other: Box<Arms<'a>>,
 ) -> Arms<'a>
-    requires places { HasPlaces spares.old (λ x. (arms_box_amount x + arms_left_amount x left) + (arms_box_amount x + arms_amount x other.value)) }
-    ensures front { IsInFront left.entry (plain_arms other.entry.value) (plain_arms result) }
-    ensures ledger { Ledger spares.old spares.new (λ x. (arms_box_amount x + arms_left_amount x left.entry) + (arms_box_amount x + arms_amount x other.entry.value)) (λ x. arms_amount x result) }
+    requires places { HasPlaces spares.old (λ x. (arms_box_amount x + arms_left_amount x (kept_if goes one.value))
+        + (arms_box_amount x + arms_amount x other.value)) }
+    ensures front { IsInFront (kept_if goes one.entry.value) (plain_arms other.entry.value) (plain_arms result) }
+    ensures ledger { Ledger spares.old spares.new
+        (λ x. (arms_box_amount x + arms_left_amount x (kept_if goes one.entry.value))
+        + (arms_box_amount x + arms_amount x other.entry.value)) (λ x. arms_amount x result) }
 {
-    match left {
-        Some(one) => both(refilled_arms(room, one), other),
-        None => {
-            give_arms(spares, room);
-            only(spares, other)
-        }
+    if goes {
+        return both(one, other);
     }
+    give_arms(spares, one);
+    only(spares, other)
 }
 
 /// The second half of some arms behind a turn: where it has ended, the first alone is open.
 pub(crate) fn back_left<'a>(
     spares: &mut Spares<'a>,
     one: Box<Arms<'a>>,
-    room: Box<Arms<'a>>,
-    left: Option<Arms<'a>>,
+    other: Box<Arms<'a>>,
+    goes: bool,
 ) -> Arms<'a>
-    requires places { HasPlaces spares.old (λ x. (arms_box_amount x + arms_amount x one.value) + (arms_box_amount x + arms_left_amount x left)) }
-    ensures behind { IsBehind left.entry (plain_arms one.entry.value) (plain_arms result) }
-    ensures ledger { Ledger spares.old spares.new (λ x. (arms_box_amount x + arms_amount x one.entry.value) + (arms_box_amount x + arms_left_amount x left.entry)) (λ x. arms_amount x result) }
+    requires places { HasPlaces spares.old (λ x. (arms_box_amount x + arms_amount x one.value)
+        + (arms_box_amount x + arms_left_amount x (kept_if goes other.value))) }
+    ensures behind { IsBehind (kept_if goes other.entry.value) (plain_arms one.entry.value) (plain_arms result) }
+    ensures ledger { Ledger spares.old spares.new
+        (λ x. (arms_box_amount x + arms_amount x one.entry.value)
+        + (arms_box_amount x + arms_left_amount x (kept_if goes other.entry.value))) (λ x. arms_amount x result) }
 {
-    match left {
-        Some(other) => both(one, refilled_arms(room, other)),
-        None => {
-            give_arms(spares, room);
-            only(spares, one)
-        }
+    if goes {
+        return both(one, other);
     }
+    give_arms(spares, other);
+    only(spares, one)
 }
 
 /// The half that alone is open.

@@ -5,11 +5,10 @@ ghost use Rattle.cx_eval_cycle.specs.Passes.{IsAscending};
 ghost use Rattle.cx_meaning.specs.Cycles.{every_cell};
 ghost use Rattle.cx_meaning.specs.Designs.{PlainComponent};
 ghost use Rattle.cx_meaning.specs.Instances.{Set};
-ghost use Rattle.cx_turns.specs.Groups.{ListWithin};
+ghost use Rattle.cx_turns.specs.Groups.{ListDriven, ListWithin};
 ghost use Rattle.cx_turns.specs.Machines.{design_of, rows_of, IsPlan, IsAt, IsInstance};
 ghost use Rattle.cx_state.specs.States.{PlainInstance};
 ghost use Rattle.cx_weave.specs.Deep.{IsCellOf, IsDeep, with_one};
-ghost use Rattle.cx_weave.specs.Strands.{ListDriven};
 ghost use Rattle.cx_weave.specs.Strides.{HasRested};
 
 use cx_design::CellKind;
@@ -26,7 +25,8 @@ fn rest_instance(plan: &Plan<'_>, machine: &mut Machine<'_>, instance: usize)
     requires machine { IsAt plan.now machine.old }
     requires instance { IsInstance (design_of plan.now) instance }
     ensures machine { IsAt plan.now machine.new }
-    ensures rested { HasRested (design_of plan.now) (rows_of machine.old) (rows_of machine.new) instance (λ part. every_cell) }
+    ensures rested { HasRested (design_of plan.now) (rows_of machine.old) (rows_of machine.new) instance
+        (λ part. every_cell) }
 {
     rest_all(plan, machine, instance);
     let count = instance_part(plan, instance).cells.len();
@@ -43,7 +43,8 @@ fn rest_below(plan: &Plan<'_>, machine: &mut Machine<'_>, instance: usize, cell:
     requires instance { IsInstance (design_of plan.now) instance }
     requires cell { IsCellOf (design_of plan.now) instance cell }
     ensures machine { IsAt plan.now machine.new }
-    ensures rested { (rows : List PlainInstance) (below top : Set) → below cell ≡ false → IsDeep (design_of plan.now) rows (rows_of machine.old) instance below top
+    ensures rested { (rows : List PlainInstance) (below top : Set) → below cell ≡ false →
+        IsDeep (design_of plan.now) rows (rows_of machine.old) instance below top
         → IsDeep (design_of plan.now) rows (rows_of machine.new) instance (with_one cell below) top }
 {
     let own = &instance_part(plan, instance).cells[cell as usize];

@@ -8,13 +8,13 @@ ghost use Rattle.cx_weave.specs.Ledger.{Opened};
 ghost use Rattle.cx_weave.specs.Strides.{OpensAs};
 ghost use Rattle.cx_weave.specs.Supplied.{MayOpen};
 
-use crate::driven::driven_cells;
 use crate::spares::{IslandLists, Spares, take_island};
 use crate::strands::{Island, Strand};
 use cx_design::Form;
 use cx_design_sizes::form_length;
 use cx_interp_islands::accepted_islands_are_short;
 use cx_turns::calls::instance_part;
+use cx_turns::driven::driven_cells;
 use cx_turns::plan::Plan;
 
 /// A static statement of dynamic control, or the enable of a static group there, as it is opened.

@@ -67,8 +67,11 @@ fn weave_on<'a>(
     requires some { 0 < length list.now }
     requires supplied { Supplied (design_of plan.now) 0 spares.old (λ k i. control_need k i) (λ x. 0) }
     ensures machine { IsAt plan.now machine.new }
-    ensures woven { (words : List (List ℕ)) → StandsFor (tree_of (design_of plan.now)) (rows_of machine.old) (start (tree_of (design_of plan.now)) words)
-        → EndsIn (design_of plan.now) (rows_of machine.new) result (woven (design_of plan.now) words (by_list list.now) steps) }
+    ensures woven { (words : List (List ℕ)) →
+        StandsFor (tree_of (design_of plan.now)) (rows_of machine.old)
+        (start (tree_of (design_of plan.now)) words)
+        → EndsIn (design_of plan.now) (rows_of machine.new) result
+        (woven (design_of plan.now) words (by_list list.now) steps) }
 {
     rows_stand();
     takes_no_more();
@@ -77,11 +80,11 @@ fn weave_on<'a>(
     let mut sum = 0u128;
     for made in 0..steps {
         let leaf = chosen_leaf(list, made, &strand);
-        strand = match step(spares, plan, machine, 0, strand, leaf) {
-            Ok(Some(left)) => left,
-            Ok(None) => return Wove::End(made + 1, sum + u128::from(leaf)),
+        match step(spares, plan, machine, 0, &mut strand, leaf) {
+            Ok(true) => {}
+            Ok(false) => return Wove::End(made + 1, sum + u128::from(leaf)),
             Err(fault) => return Wove::Fault(fault, made),
-        };
+        }
         sum += u128::from(leaf);
     }
     Wove::More
@@ -100,15 +103,18 @@ fn weave_plan(
     requires unheld { IsUnheld (rows_of machine.old) }
     requires some { 0 < length list.now }
     ensures machine { IsAt plan.now machine.new }
-    ensures woven { (words : List (List ℕ)) → StandsFor (tree_of (design_of plan.now)) (rows_of machine.old) (start (tree_of (design_of plan.now)) words)
-        → IfOk result (λ wove. EndsIn (design_of plan.now) (rows_of machine.new) wove (woven (design_of plan.now) words (by_list list.now) steps)) }
+    ensures woven { (words : List (List ℕ)) →
+        StandsFor (tree_of (design_of plan.now)) (rows_of machine.old)
+        (start (tree_of (design_of plan.now)) words)
+        → IfOk result (λ wove. EndsIn (design_of plan.now) (rows_of machine.new) wove
+        (woven (design_of plan.now) words (by_list list.now) steps)) }
 {
     let mut spares = make_spares(alloc, plan, &machine.room)?;
     Ok(weave_on(&mut spares, plan, machine, list, steps))
 }
 
-/// Runs a design without static components by choices: choice j is the entry of the list at j modulo its length, and names a leaf modulo their number.
-/// Where the run ends the memories get their words; else they are as they were.
+/// Runs a design without static components by choices: choice j is the entry of the list at j modulo its length, and
+/// names a leaf modulo their number. Where the run ends the memories get their words; else they are as they were.
 pub fn weave(
     alloc: Global,
     design: &Checked,
@@ -119,10 +125,17 @@ pub fn weave(
     requires flat { IsFlat (plain_design design.now) }
     requires fits { FitsRows (external_rows (plain_design design.now)) (plain_loaded loaded.old) }
     requires some { 0 < length list.now }
-    ensures woven { IfOk result (λ wove. TellsWoven (plain_design design.now) wove (woven (plain_design design.now) (words_in loaded.old.memories.items) (by_list list.now) steps)) }
-    ensures run { IfOk result (λ wove. TellsRun (plain_design design.now) (words_in loaded.old.memories.items) wove (woven (plain_design design.now) (words_in loaded.old.memories.items) (by_list list.now) steps)) }
-    ensures arm { IfOk result (λ wove. TellsArm (plain_design design.now) (words_in loaded.old.memories.items) (by_list list.now) wove (woven (plain_design design.now) (words_in loaded.old.memories.items) (by_list list.now) steps)) }
-    ensures words { IfOk result (λ wove. LeavesWords (plain_design design.now) (plain_loaded loaded.old) (plain_loaded loaded.new) (woven (plain_design design.now) (words_in loaded.old.memories.items) (by_list list.now) steps)) }
+    ensures woven { IfOk result (λ wove. TellsWoven (plain_design design.now) wove
+        (woven (plain_design design.now) (words_in loaded.old.memories.items) (by_list list.now) steps)) }
+    ensures run { IfOk result (λ wove. TellsRun (plain_design design.now)
+        (words_in loaded.old.memories.items) wove
+        (woven (plain_design design.now) (words_in loaded.old.memories.items) (by_list list.now) steps)) }
+    ensures arm { IfOk result (λ wove. TellsArm (plain_design design.now)
+        (words_in loaded.old.memories.items) (by_list list.now) wove
+        (woven (plain_design design.now) (words_in loaded.old.memories.items) (by_list list.now) steps)) }
+    ensures words { IfOk result (λ wove. LeavesWords (plain_design design.now) (plain_loaded loaded.old)
+        (plain_loaded loaded.new)
+        (woven (plain_design design.now) (words_in loaded.old.memories.items) (by_list list.now) steps)) }
     ensures kept { IfErr result (λ _. plain_loaded loaded.new ≡ plain_loaded loaded.old) }
     ensures fits { FitsRows (external_rows (plain_design design.now)) (plain_loaded loaded.new) }
 {

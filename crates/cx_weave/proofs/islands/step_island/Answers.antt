@@ -14,7 +14,8 @@ use Rattle.cx_turns.proofs.IslandLemmas.{island_short}
 use Rattle.cx_state.specs.ReadStates.{state_in}
 use Rattle.cx_weave.specs.declared.strands.Island.{Island}
 use Rattle.cx_weave.specs.declared.strands.Strand.TheVariants as strands
-use Rattle.cx_weave.specs.Strands.{AnIsland, KeptBefore, ListDriven}
+use Rattle.cx_turns.specs.Groups.{ListDriven}
+use Rattle.cx_weave.specs.Strands.{AnIsland, KeptBefore}
 use Rattle.cx_weave.specs.Strides.{HasStepped, IslandTaken}
 use Rattle.cx_weave.proofs.IslandSteps.{island_ends, island_goes, island_held, island_kept, island_stops}
 use Rattle.cx_weave.proofs.StrandFolds.{is_island}

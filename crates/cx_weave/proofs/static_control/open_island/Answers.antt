@@ -15,7 +15,7 @@ use Rattle.cx_weave.specs.Ledger.{amount}
 use Rattle.cx_orders.specs.Open.{InIsland}
 use Rattle.cx_weave.specs.Strands.{AnIsland}
 use Rattle.cx_weave.proofs.Amounts.{amount_island}
-use Rattle.cx_weave.specs.Marks.{HasMarks, set_count}
+use Rattle.cx_turns.specs.Marks.{HasMarks, set_count}
 use Rattle.cx_weave.proofs.IslandSupplies.{cells_fit, cells_listed, lists_left, marks_clear, marks_fit, samples_fit}
 use Rattle.cx_weave.proofs.OpenSteps.{island_opens, opens_as}
 use Rattle.cx_weave.proofs.StrandFolds.{is_island}
