@@ -70,10 +70,25 @@ abbrev pub plain_port : PortItem → PlainPort
 plain_port p = record { attributes = p.attributes.items; name = p.name; width = p.width; place = p.place }
 
 abbrev pub plain_cell : CellItem → PlainCell
-plain_cell c = record { attributes = c.attributes.items; name = c.name; marks = c.marks.items; kind = c.kind; numbers = c.numbers.items; place = c.place }
+plain_cell c =
+    record {
+      attributes = c.attributes.items;
+      name = c.name;
+      marks = c.marks.items;
+      kind = c.kind;
+      numbers = c.numbers.items;
+      place = c.place;
+    }
 
 abbrev pub plain_assign : AssignItem → PlainAssign
-plain_assign a = record { attributes = a.attributes.items; target = a.target; guard = option_map plain_guard a.guard; source = a.source; place = a.place }
+plain_assign a =
+    record {
+      attributes = a.attributes.items;
+      target = a.target;
+      guard = option_map plain_guard a.guard;
+      source = a.source;
+      place = a.place;
+    }
 
 abbrev pub plain_group : GroupItem → PlainGroup
 plain_group g = record {

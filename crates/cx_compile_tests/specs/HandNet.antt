@@ -14,7 +14,9 @@ register_done = OfPort (ports.Cell 0 3)
 
 -- the component goes, the register is not done, and register 0 is 0
 abbrev pub hand_starts : PlainNetExpr
-hand_starts = AllOf (exprs_of (OfGo ∷ Inverse register_done ∷ Compares comparisons.Equal (OfRegister 0) (number 32 0) ∷ []))
+hand_starts =
+    AllOf
+    (exprs_of (OfGo ∷ Inverse register_done ∷ Compares comparisons.Equal (OfRegister 0) (number 32 0) ∷ []))
 
 abbrev pub hand_drivers : List PlainNetDriver
 hand_drivers =
@@ -30,10 +32,26 @@ abbrev pub eight_bits : PrimitiveRow
 eight_bits = record { name = primitives.Reg; numbers = 8 ∷ [] }
 
 abbrev pub hand_cell : PlainCell
-hand_cell = record { name = codes "r"; kind = OfPrimitive eight_bits; external = false; place = record { line = 1; column = 1 } }
+hand_cell =
+    record {
+      name = codes "r";
+      kind = OfPrimitive eight_bits;
+      external = false;
+      place = record { line = 1; column = 1 };
+    }
 
 abbrev pub hand_part : PlainNetComponent
-hand_part = record { name = codes "main"; inputs = []; outputs = []; cells = hand_cell ∷ []; registers = 32 ∷ []; wires = 1 ∷ 3 ∷ []; holes = 0; drivers = hand_drivers }
+hand_part =
+    record {
+      name = codes "main";
+      inputs = [];
+      outputs = [];
+      cells = hand_cell ∷ [];
+      registers = 32 ∷ [];
+      wires = 1 ∷ 3 ∷ [];
+      holes = 0;
+      drivers = hand_drivers;
+    }
 
 abbrev pub hand_net : PlainNet
 hand_net = record { components = hand_part ∷ []; main = 0 }

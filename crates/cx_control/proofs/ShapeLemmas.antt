@@ -25,7 +25,7 @@ use Rattle.cx_text.proofs.NumberLaws.{equal, never}
 use Rattle.cx_rules.proofs.ShapeRulesLemmas.{some_in, a_target}
 use Rattle.cx_rules.specs.Accepted.{IsAccepted}
 use Rattle.cx_meaning.proofs.InstancesLemmas.{just_true}
-use Rattle.cx_text.proofs.OptionLaws.{none_some, some_inj}
+use Rattle.cx_text.proofs.OptionLaws.{none_some, some_is}
 use Rattle.cx_meaning.proofs.ControlLemmas.{called_child as called_instance}
 use Rattle.cx_meaning.proofs.ActiveLemmas.{group_stands}
 
@@ -46,7 +46,7 @@ called_driving cells (a ∷ rest) c e = of_target a.target refl e (λ f. more_dr
     of_at : (at : At) (d p : ℕ) → a.target ≡ ports.Cell d p → if_instance at d (called_in cells rest) ≡ Some c → (called_in cells rest ≡ Some c → Driving cells (a ∷ rest) c) → Driving cells (a ∷ rest) c
     of_at Nothing d p is f later = later f
     of_at (OfRow row) d p is f later = later f
-    of_at (OfInstance child) d p is f later = record { assign = a; is_in = inl refl; port = p; target = is ∙ ap (λ k. ports.Cell k p) (some_inj d c f) }
+    of_at (OfInstance child) d p is f later = record { assign = a; is_in = inl refl; port = p; target = is ∙ ap (λ k. ports.Cell k p) (some_is d c f) }
 
     of_target : (p : PortRef) → a.target ≡ p → called_by cells p (called_in cells rest) ≡ Some c → (called_in cells rest ≡ Some c → Driving cells (a ∷ rest) c) → Driving cells (a ∷ rest) c
     of_target (ports.Cell d n) is f later = of_at (cell_at cells d) d n is f later

@@ -19,7 +19,8 @@ beside_right count a b j =
     let back : (count + j) - count ≡ j = omega arith in
     ap (λ t. if t then a (count + j) else b ((count + j) - count)) (le-ltb (count + j) count (omega arith)) ∙ ap b back
 
-pub beside_none : (count : ℕ) (a b : ℕ → ℕ) → ((j : ℕ) → a j ≡ 0) → ((j : ℕ) → b j ≡ 0) → (j : ℕ) → beside count a b j ≡ 0
+pub beside_none : (count : ℕ) (a b : ℕ → ℕ) → ((j : ℕ) → a j ≡ 0) → ((j : ℕ) → b j ≡ 0) → (j : ℕ)
+    → beside count a b j ≡ 0
 beside_none count a b first second j = either (nat_lt j count)
   where
     either : (t : Bool) → ◌≡◌ {A = ℕ} (if t then a j else b (j - count)) 0
@@ -29,7 +30,8 @@ beside_none count a b first second j = either (nat_lt j count)
 left_same : (count more : ℕ) (a b : ℕ → ℕ) → SameUpTo (count + more) a b → SameUpTo count a b
 left_same count more a b same = λ j less. same j (omega arith)
 
-right_same : (count more : ℕ) (a b : ℕ → ℕ) → SameUpTo (count + more) a b → SameUpTo more (shift count a) (shift count b)
+right_same : (count more : ℕ) (a b : ℕ → ℕ) → SameUpTo (count + more) a b
+    → SameUpTo more (shift count a) (shift count b)
 right_same count more a b same = λ j less. same (count + j) (omega arith)
 
 either_alike : {A : Type 0} (t : Bool) (a b c d : A) → a ≡ b → c ≡ d → (if t then a else c) ≡ (if t then b else d)
@@ -39,11 +41,14 @@ same_place : {P : Type 0} (p q : P) (k : Control P) → k ≡ At p → k ≡ At 
 same_place p q k e f = cc
 
 -- where a part goes on or the whole goes next
-within_fine : {C W : Type 0} (fine : C → Type 0) (whole : W → Type 0) (f : C → W) (next : Control W) → ((c : C) → fine c → whole (f c)) → at_fine whole next → (k : Control C) → at_fine fine k → at_fine whole (within f next k)
+within_fine : {C W : Type 0} (fine : C → Type 0) (whole : W → Type 0) (f : C → W) (next : Control W)
+    → ((c : C) → fine c → whole (f c)) → at_fine whole next → (k : Control C) → at_fine fine k
+    → at_fine whole (within f next k)
 within_fine fine whole f next into after (At c) is = into c is
 within_fine fine whole f next into after Done is = after
 
-by_test_fine : {F C : Type 0} (fine : C → Type 0) (test : Test F) (a b : Control C) → at_fine fine a → at_fine fine b → at_fine fine (by_test test a b)
+by_test_fine : {F C : Type 0} (fine : C → Type 0) (test : Test F) (a b : Control C) → at_fine fine a
+    → at_fine fine b → at_fine fine (by_test test a b)
 by_test_fine fine Holds a b first second = first
 by_test_fine fine Fails a b first second = second
 by_test_fine fine (Unclear fault) a b first second = second
@@ -74,7 +79,8 @@ module _ {X : Type 0} {V : X → Type 0} where
     pub stays : (p : M.Place) (s : Store X V) → bank.IsFine p → at_fine bank.IsFine (M.step p s)
 
   -- one place
-  pub unit_is : (start : Control (Unit {0})) (step : Unit {0} → Store X V → Control (Unit {0})) (writes : Unit {0} → Store X V → (x : X) → Option (V x)) (faults : Unit {0} → Store X V → Bool)
+  pub unit_is : (start : Control (Unit {0})) (step : Unit {0} → Store X V → Control (Unit {0}))
+      (writes : Unit {0} → Store X V → (x : X) → Option (V x)) (faults : Unit {0} → Store X V → Bool)
       → IsCoding (record { Place = Unit {0}; start = start; step = step; writes = writes; faults = faults }) unit_coding
   unit_is start step writes faults = record {
     local = λ n a b same. refl;
@@ -106,26 +112,39 @@ module _ {X : Type 0} {V : X → Type 0} where
   module _ (A B : Machine X V) (a : Coding A.Place) (b : Coding B.Place) (ia : IsCoding A a) (ib : IsCoding B b) where
     seq_local : (n : ℕ) (f g : ℕ → ℕ) → SameUpTo (a.extra + b.extra) f g → seq_place a b n f ≡ seq_place a b n g
     seq_local n f g same =
-        either_alike (nat_lt n a.size) _ _ _ _ (ap (option_map First) (ia.local n f g (left_same a.extra b.extra f g same)))
-        (ap (option_map Second) (ib.local (n - a.size) (shift a.extra f) (shift a.extra g) (right_same a.extra b.extra f g same)))
+        either_alike (nat_lt n a.size) _ _ _ _
+        (ap (option_map First) (ia.local n f g (left_same a.extra b.extra f g same)))
+        (ap (option_map Second)
+        (ib.local (n - a.size) (shift a.extra f) (shift a.extra g) (right_same a.extra b.extra f g same)))
 
-    seq_found : (p : InSeq A.Place B.Place) → seq_fine a b p → seq_place a b (seq_number a b p) (seq_other a b p) ≡ Some p
+    seq_found : (p : InSeq A.Place B.Place) → seq_fine a b p
+        → seq_place a b (seq_number a b p) (seq_other a b p) ≡ Some p
     seq_found (First p) fine =
-        ap (λ t. if t then option_map First (a.place (a.number p) (beside a.extra (a.other p) zeros)) else option_map Second (b.place (a.number p - a.size) (shift a.extra (beside a.extra (a.other p) zeros))))
+        ap (λ t. if t then option_map First (a.place (a.number p) (beside a.extra (a.other p) zeros))
+        else option_map Second
+        (b.place (a.number p - a.size) (shift a.extra (beside a.extra (a.other p) zeros))))
         (lt-ltb (a.number p) a.size (ia.below p))
-        ∙ ap (option_map First) (ia.local (a.number p) _ (a.other p) (λ j less. beside_left a.extra (a.other p) zeros j less) ∙ ia.found p fine)
+        ∙ ap (option_map First) (ia.local (a.number p) _ (a.other p)
+        (λ j less. beside_left a.extra (a.other p) zeros j less) ∙ ia.found p fine)
     seq_found (Second p) fine =
         let back : (a.size + b.number p) - a.size ≡ b.number p = omega arith in
-        ap (λ t. if t then option_map First (a.place (a.size + b.number p) (beside a.extra zeros (b.other p))) else option_map Second (b.place ((a.size + b.number p) - a.size) (shift a.extra (beside a.extra zeros (b.other p)))))
+        ap (λ t. if t
+        then option_map First (a.place (a.size + b.number p) (beside a.extra zeros (b.other p)))
+        else option_map Second
+        (b.place ((a.size + b.number p) - a.size) (shift a.extra (beside a.extra zeros (b.other p)))))
         (le-ltb (a.size + b.number p) a.size (omega arith))
         ∙ ap (λ n. option_map Second (b.place n (shift a.extra (beside a.extra zeros (b.other p))))) back
-        ∙ ap (option_map Second) (ib.local (b.number p) _ (b.other p) (λ j less. beside_right a.extra zeros (b.other p) j) ∙ ib.found p fine)
+        ∙ ap (option_map Second) (ib.local (b.number p) _ (b.other p)
+        (λ j less. beside_right a.extra zeros (b.other p) j) ∙ ib.found p fine)
 
     seq_ended : (f : ℕ → ℕ) → seq_place a b (a.size + b.size) f ≡ None
     seq_ended f =
         let back : (a.size + b.size) - a.size ≡ b.size = omega arith in
-        ap (λ t. if t then option_map First (a.place (a.size + b.size) f) else option_map Second (b.place ((a.size + b.size) - a.size) (shift a.extra f))) (le-ltb (a.size + b.size) a.size (omega arith))
-        ∙ ap (λ n. option_map Second (b.place n (shift a.extra f))) back ∙ ap (option_map Second) (ib.ended (shift a.extra f))
+        ap (λ t. if t then option_map First (a.place (a.size + b.size) f)
+        else option_map Second (b.place ((a.size + b.size) - a.size) (shift a.extra f)))
+        (le-ltb (a.size + b.size) a.size (omega arith))
+        ∙ ap (λ n. option_map Second (b.place n (shift a.extra f))) back
+        ∙ ap (option_map Second) (ib.ended (shift a.extra f))
 
     seq_below : (p : InSeq A.Place B.Place) → seq_number a b p < a.size + b.size
     seq_below (First p) = let less : a.number p < a.size = ia.below p in omega arith
@@ -134,9 +153,13 @@ module _ {X : Type 0} {V : X → Type 0} where
     second_fine : at_fine (seq_fine a b) (second_start A B)
     second_fine = within_fine b.IsFine (seq_fine a b) Second Done (λ c is. is) tt B.start ib.starts
 
-    seq_stays : (p : InSeq A.Place B.Place) (s : Store X V) → seq_fine a b p → at_fine (seq_fine a b) (Machine.step (seq_machine A B) p s)
-    seq_stays (First p) s fine = within_fine a.IsFine (seq_fine a b) First (second_start A B) (λ c is. is) second_fine (A.step p s) (ia.stays p s fine)
-    seq_stays (Second p) s fine = within_fine b.IsFine (seq_fine a b) Second Done (λ c is. is) tt (B.step p s) (ib.stays p s fine)
+    seq_stays : (p : InSeq A.Place B.Place) (s : Store X V) → seq_fine a b p
+        → at_fine (seq_fine a b) (Machine.step (seq_machine A B) p s)
+    seq_stays (First p) s fine =
+        within_fine a.IsFine (seq_fine a b) First (second_start A B) (λ c is. is) second_fine (A.step p s)
+        (ia.stays p s fine)
+    seq_stays (Second p) s fine =
+        within_fine b.IsFine (seq_fine a b) Second Done (λ c is. is) tt (B.step p s) (ib.stays p s fine)
 
     pub seq_is : HasFront A → IsCoding (seq_machine A B) (seq_coding a b)
     seq_is front = record {
@@ -146,7 +169,10 @@ module _ {X : Type 0} {V : X → Type 0} where
       below = seq_below;
       starts = within_fine a.IsFine (seq_fine a b) First (second_start A B) (λ c is. is) second_fine A.start ia.starts;
       zero_at = λ p e. subst (λ q. seq_number a b q ≡ 0) (is_front p e) (ia.zero_at front.first front.starts);
-      zeros_at = λ p e. subst (λ q. (j : ℕ) → seq_other a b q j ≡ 0) (is_front p e) (beside_none a.extra (a.other front.first) zeros (ia.zeros_at front.first front.starts) (λ j. refl));
+      zeros_at =
+          λ p e. subst (λ q. (j : ℕ) → seq_other a b q j ≡ 0) (is_front p e)
+          (beside_none a.extra (a.other front.first) zeros (ia.zeros_at front.first front.starts)
+          (λ j. refl));
       stays = seq_stays;
     }
       where
@@ -171,11 +197,16 @@ module _ {X : Type 0} {V : X → Type 0} where
       if_below (InThen p) = let less : a.number p < a.size = ia.below p in omega arith
       if_below (InElse p) = let less : b.number p < b.size = ib.below p in omega arith
 
-      if_stays : (p : InIf A.Place B.Place) (s : Store X V) → if_fine a b p → at_fine (if_fine a b) (Machine.step (if_machine test A B) p s)
+      if_stays : (p : InIf A.Place B.Place) (s : Store X V) → if_fine a b p
+          → at_fine (if_fine a b) (Machine.step (if_machine test A B) p s)
       if_stays AtTest s fine =
-          by_test_fine (if_fine a b) (test s) _ _ (within_fine a.IsFine (if_fine a b) InThen Done (λ c is. is) tt A.start ia.starts) (within_fine b.IsFine (if_fine a b) InElse Done (λ c is. is) tt B.start ib.starts)
-      if_stays (InThen p) s fine = within_fine a.IsFine (if_fine a b) InThen Done (λ c is. is) tt (A.step p s) (ia.stays p s fine)
-      if_stays (InElse p) s fine = within_fine b.IsFine (if_fine a b) InElse Done (λ c is. is) tt (B.step p s) (ib.stays p s fine)
+          by_test_fine (if_fine a b) (test s) _ _
+          (within_fine a.IsFine (if_fine a b) InThen Done (λ c is. is) tt A.start ia.starts)
+          (within_fine b.IsFine (if_fine a b) InElse Done (λ c is. is) tt B.start ib.starts)
+      if_stays (InThen p) s fine =
+          within_fine a.IsFine (if_fine a b) InThen Done (λ c is. is) tt (A.step p s) (ia.stays p s fine)
+      if_stays (InElse p) s fine =
+          within_fine b.IsFine (if_fine a b) InElse Done (λ c is. is) tt (B.step p s) (ib.stays p s fine)
 
       pub if_is : IsCoding (if_machine test A B) (if_coding a b)
       if_is = record {
@@ -185,7 +216,9 @@ module _ {X : Type 0} {V : X → Type 0} where
         below = if_below;
         starts = tt;
         zero_at = λ p e. subst (λ q. if_number a b q ≡ 0) (same_place AtTest p (At AtTest) refl e) refl;
-        zeros_at = λ p e. subst (λ q. (j : ℕ) → if_other a b q j ≡ 0) (same_place AtTest p (At AtTest) refl e) (λ j. refl);
+        zeros_at =
+            λ p e. subst (λ q. (j : ℕ) → if_other a b q j ≡ 0) (same_place AtTest p (At AtTest) refl e)
+            (λ j. refl);
         stays = if_stays;
       }
 
@@ -206,9 +239,14 @@ module _ {X : Type 0} {V : X → Type 0} where
       while_below AtHead = omega arith
       while_below (InBody p) = let less : a.number p < a.size = ia.below p in omega arith
 
-      while_stays : (p : InWhile A.Place) (s : Store X V) → while_fine a p → at_fine (while_fine a) (Machine.step (while_machine test A) p s)
-      while_stays AtHead s fine = by_test_fine (while_fine a) (test s) _ _ (within_fine a.IsFine (while_fine a) InBody (At AtHead) (λ c is. is) tt A.start ia.starts) tt
-      while_stays (InBody p) s fine = within_fine a.IsFine (while_fine a) InBody (At AtHead) (λ c is. is) tt (A.step p s) (ia.stays p s fine)
+      while_stays : (p : InWhile A.Place) (s : Store X V) → while_fine a p
+          → at_fine (while_fine a) (Machine.step (while_machine test A) p s)
+      while_stays AtHead s fine =
+          by_test_fine (while_fine a) (test s) _ _
+          (within_fine a.IsFine (while_fine a) InBody (At AtHead) (λ c is. is) tt A.start ia.starts) tt
+      while_stays (InBody p) s fine =
+          within_fine a.IsFine (while_fine a) InBody (At AtHead) (λ c is. is) tt (A.step p s)
+          (ia.stays p s fine)
 
       pub while_is : IsCoding (while_machine test A) (while_coding a)
       while_is = record {
@@ -218,7 +256,9 @@ module _ {X : Type 0} {V : X → Type 0} where
         below = while_below;
         starts = tt;
         zero_at = λ p e. subst (λ q. while_number a q ≡ 0) (same_place AtHead p (At AtHead) refl e) refl;
-        zeros_at = λ p e. subst (λ q. (j : ℕ) → while_other a q j ≡ 0) (same_place AtHead p (At AtHead) refl e) (λ j. refl);
+        zeros_at =
+            λ p e. subst (λ q. (j : ℕ) → while_other a q j ≡ 0) (same_place AtHead p (At AtHead) refl e)
+            (λ j. refl);
         stays = while_stays;
       }
 
@@ -232,7 +272,8 @@ module _ {X : Type 0} {V : X → Type 0} where
         either true e =
             let less : n < count = ltb-true n count e in
             let back : count - suc (count - suc n) ≡ n = omega arith in
-            ap (λ t. if t then count - suc (count - suc n) else count - suc n) (lt-ltb (count - suc n) count (omega arith)) ∙ back
+            ap (λ t. if t then count - suc (count - suc n) else count - suc n)
+            (lt-ltb (count - suc n) count (omega arith)) ∙ back
         either false e = ap (λ t. if t then count - suc n else n) e
 
     module _ (front : HasFront A) (k : ℕ) where
@@ -244,32 +285,55 @@ module _ {X : Type 0} {V : X → Type 0} where
 
       rounds_fine : (left : ℕ) → left ≤ suc k → at_fine (IsFineRound a (suc k)) (next_round A left)
       rounds_fine zero less = tt
-      rounds_fine (suc left) less = within_fine a.IsFine (IsFineRound a (suc k)) (in_round left) (next_round A left) (λ c is. record { less = omega arith; body = is }) (rounds_fine left (omega arith)) A.start ia.starts
+      rounds_fine (suc left) less =
+          within_fine a.IsFine (IsFineRound a (suc k)) (in_round left) (next_round A left)
+          (λ c is. record { less = omega arith; body = is })
+          (rounds_fine left (omega arith)) A.start ia.starts
 
       is_front : (p : InRepeat A.Place) → next_round A (suc k) ≡ At p → in_round k front.first ≡ p
       is_front p e = same_place (in_round k front.first) p _ (ap (within (in_round k) (next_round A k)) front.starts) e
 
       pub repeat_is : IsCoding (repeat_machine (suc k) A) (repeat_coding a (suc k))
       repeat_is = record {
-        local = λ n f g same. ap (λ v. option_map (in_round (turned a (suc k) v)) (a.place n (shift 1 f))) (same 0 (omega arith))
-            ∙ ap (option_map (in_round (turned a (suc k) (g 0)))) (ia.local n (shift 1 f) (shift 1 g) (λ j less. same (1 + j) (omega arith)));
-        found = λ p fine. ap (λ v. option_map (in_round v) (a.place (a.number p.place) (shift 1 (repeat_other a (suc k) p)))) (turned_twice (suc k) p.left)
-            ∙ ap (option_map (in_round p.left)) (ia.local (a.number p.place) _ (a.other p.place) (λ j less. let next : 1 + j ≡ suc j = omega arith in ap (repeat_other a (suc k) p) next) ∙ ia.found p.place (IsFineRound.body fine));
+        local =
+            λ n f g same. ap (λ v. option_map (in_round (turned a (suc k) v)) (a.place n (shift 1 f)))
+            (same 0 (omega arith))
+            ∙ ap (option_map (in_round (turned a (suc k) (g 0))))
+            (ia.local n (shift 1 f) (shift 1 g) (λ j less. same (1 + j) (omega arith)));
+        found =
+            λ p fine. ap
+            (λ v. option_map (in_round v) (a.place (a.number p.place) (shift 1 (repeat_other a (suc k) p))))
+            (turned_twice (suc k) p.left)
+            ∙ ap (option_map (in_round p.left)) (ia.local (a.number p.place) _ (a.other p.place)
+            (λ j less. let next : 1 + j ≡ suc j = omega arith in ap (repeat_other a (suc k) p) next) ∙
+            ia.found p.place (IsFineRound.body fine));
         ended = λ f. ap (option_map (in_round (turned a (suc k) (f 0)))) (ia.ended (shift 1 f));
         below = λ p. ia.below p.place;
         starts = rounds_fine (suc k) (omega arith);
-        zero_at = λ p e. subst (λ (q : InRepeat A.Place). a.number q.place ≡ 0) (is_front p e) (ia.zero_at front.first front.starts);
+        zero_at =
+            λ p e. subst (λ (q : InRepeat A.Place). a.number q.place ≡ 0) (is_front p e)
+            (ia.zero_at front.first front.starts);
         zeros_at = λ p e. subst (λ q. (j : ℕ) → repeat_other a (suc k) q j ≡ 0) (is_front p e) first_round_zeros;
         stays = λ p s fine. let less : p.left < suc k = IsFineRound.less fine in
-            within_fine a.IsFine (IsFineRound a (suc k)) (in_round p.left) (next_round A p.left) (λ c is. record { less = less; body = is }) (rounds_fine p.left (omega arith)) (A.step p.place s) (ia.stays p.place s (IsFineRound.body fine));
+            within_fine a.IsFine (IsFineRound a (suc k)) (in_round p.left) (next_round A p.left)
+            (λ c is. record { less = less; body = is }) (rounds_fine p.left (omega arith))
+            (A.step p.place s) (ia.stays p.place s (IsFineRound.body fine));
       }
 
       pub repeat_front : HasFront (repeat_machine (suc k) A)
-      repeat_front = record { first = in_round k front.first; starts = ap (within (in_round k) (next_round A k)) front.starts }
+      repeat_front =
+          record {
+            first = in_round k front.first;
+            starts = ap (within (in_round k) (next_round A k)) front.starts;
+          }
 
     -- control of a region in its bank
-    bank_decoded : (k : Control A.Place) → at_fine a.IsFine k → control_at a (a.place (bank_code a k 0) (shift 1 (bank_code a k))) ≡ k
-    bank_decoded (At p) fine = ap (control_at a) (ia.local (a.number p) _ (a.other p) (λ j less. let next : 1 + j ≡ suc j = omega arith in ap (bank_code a (At p)) next) ∙ ia.found p fine)
+    bank_decoded : (k : Control A.Place) → at_fine a.IsFine k
+        → control_at a (a.place (bank_code a k 0) (shift 1 (bank_code a k))) ≡ k
+    bank_decoded (At p) fine =
+        ap (control_at a) (ia.local (a.number p) _ (a.other p)
+        (λ j less. let next : 1 + j ≡ suc j = omega arith in ap (bank_code a (At p)) next) ∙
+        ia.found p fine)
     bank_decoded Done fine = ap (control_at a) (ia.ended (shift 1 (bank_code a Done)))
 
     bank_zeros : (p : A.Place) → a.number p ≡ 0 → ((j : ℕ) → a.other p j ≡ 0) → (j : ℕ) → bank_code a (At p) j ≡ 0
@@ -278,15 +342,29 @@ module _ {X : Type 0} {V : X → Type 0} where
 
     pub region_bank_is : HasFront A → IsBank A (region_bank a)
     region_bank_is front = record {
-      local = λ f g same. ap (λ n. control_at a (a.place n (shift 1 f))) (same 0 (omega arith)) ∙ ap (control_at a) (ia.local (g 0) (shift 1 f) (shift 1 g) (λ j less. same (1 + j) (omega arith)));
+      local =
+          λ f g same. ap (λ n. control_at a (a.place n (shift 1 f))) (same 0 (omega arith))
+          ∙ ap (control_at a)
+          (ia.local (g 0) (shift 1 f) (shift 1 g) (λ j less. same (1 + j) (omega arith)));
       decoded = bank_decoded;
       starts = ia.starts;
-      zeros_at = λ j. ap (λ k. bank_code a k j) front.starts ∙ bank_zeros front.first (ia.zero_at front.first front.starts) (ia.zeros_at front.first front.starts) j;
+      zeros_at =
+          λ j. ap (λ k. bank_code a k j) front.starts
+          ∙ bank_zeros front.first (ia.zero_at front.first front.starts)
+          (ia.zeros_at front.first front.starts) j;
       stays = ia.stays;
     }
 
   pub done_bank_is : IsBank (done_machine X V) done_bank
-  done_bank_is = record { local = λ f g same. refl; decoded = decoded; starts = tt; zeros_at = λ j. refl; stays = λ p s fine. absurd p }
+  done_bank_is =
+      record {
+        local = λ f g same.
+            refl;
+        decoded = decoded;
+        starts = tt;
+        zeros_at = λ j. refl;
+        stays = λ p s fine. absurd p;
+      }
     where
       decoded : (k : Control ⊥) → at_fine (λ p. Unit {0}) k → Done ≡ k
       decoded (At p) fine = absurd p
@@ -311,13 +389,16 @@ module _ {X : Type 0} {V : X → Type 0} where
     right_joined Done (At q) = refl
     right_joined Done Done = refl
 
-    join_fine : (k : Control A.Place) (m : Control B.Place) → at_fine a.IsFine k → at_fine b.IsFine m → at_fine (AreFine a b) (join k m)
+    join_fine : (k : Control A.Place) (m : Control B.Place) → at_fine a.IsFine k → at_fine b.IsFine m
+        → at_fine (AreFine a b) (join k m)
     join_fine (At p) (At q) first second = record { left = first; right = second }
     join_fine (At p) Done first second = record { left = first; right = second }
     join_fine Done (At q) first second = record { left = first; right = second }
     join_fine Done Done first second = tt
 
-    step_fine : (M : Machine X V) (fine : M.Place → Type 0) → ((p : M.Place) (s : Store X V) → fine p → at_fine fine (M.step p s)) → (k : Control M.Place) (s : Store X V) → at_fine fine k → at_fine fine (step M k s)
+    step_fine : (M : Machine X V) (fine : M.Place → Type 0)
+        → ((p : M.Place) (s : Store X V) → fine p → at_fine fine (M.step p s))
+        → (k : Control M.Place) (s : Store X V) → at_fine fine k → at_fine fine (step M k s)
     step_fine M fine stays (At p) s is = stays p s is
     step_fine M fine stays Done s is = tt
 
@@ -331,24 +412,46 @@ module _ {X : Type 0} {V : X → Type 0} where
 
     pub par_bank_is : IsBank (par_machine A B) (par_bank a b)
     par_bank_is = record {
-      local = λ f g same. ap (λ k. join k (b.decode (shift a.count f))) (ia.local f g (left_same a.count b.count f g same))
+      local =
+          λ f g same.
+          ap (λ k. join k (b.decode (shift a.count f))) (ia.local f g (left_same a.count b.count f g same))
           ∙ ap (join (a.decode g)) (ib.local (shift a.count f) (shift a.count g) (right_same a.count b.count f g same));
       decoded = λ k fine.
-          ap (λ m. join m (b.decode (shift a.count (beside a.count (a.code (left_control k)) (b.code (right_control k))))))
-          (ia.local _ (a.code (left_control k)) (λ j less. beside_left a.count (a.code (left_control k)) (b.code (right_control k)) j less) ∙ ia.decoded (left_control k) (left_fine k fine))
-          ∙ ap (join (left_control k)) (ib.local _ (b.code (right_control k)) (λ j less. beside_right a.count (a.code (left_control k)) (b.code (right_control k)) j) ∙ ib.decoded (right_control k) (right_fine k fine))
+          ap (λ m. join m (b.decode
+          (shift a.count (beside a.count (a.code (left_control k)) (b.code (right_control k))))))
+          (ia.local _ (a.code (left_control k))
+          (λ j less. beside_left a.count (a.code (left_control k)) (b.code (right_control k)) j less) ∙
+          ia.decoded (left_control k) (left_fine k fine))
+          ∙ ap (join (left_control k)) (ib.local _ (b.code (right_control k))
+          (λ j less. beside_right a.count (a.code (left_control k)) (b.code (right_control k)) j) ∙
+          ib.decoded (right_control k) (right_fine k fine))
           ∙ joined k;
       starts = join_fine A.start B.start ia.starts ib.starts;
-      zeros_at = beside_none a.count _ _ (λ j. ap (λ k. a.code k j) (left_joined A.start B.start) ∙ ia.zeros_at j) (λ j. ap (λ k. b.code k j) (right_joined A.start B.start) ∙ ib.zeros_at j);
-      stays = λ p s fine. join_fine (step A (left_of p) s) (step B (right_of p) s) (step_fine A a.IsFine ia.stays (left_of p) s (AreFine.left fine)) (step_fine B b.IsFine ib.stays (right_of p) s (AreFine.right fine));
+      zeros_at =
+          beside_none a.count _ _ (λ j. ap (λ k. a.code k j) (left_joined A.start B.start) ∙ ia.zeros_at j)
+          (λ j. ap (λ k. b.code k j) (right_joined A.start B.start) ∙ ib.zeros_at j);
+      stays =
+          λ p s fine. join_fine (step A (left_of p) s) (step B (right_of p) s)
+          (step_fine A a.IsFine ia.stays (left_of p) s (AreFine.left fine))
+          (step_fine B b.IsFine ib.stays (right_of p) s (AreFine.right fine));
     }
 
     pub par_front : HasFront A → HasFront (par_machine A B)
     par_front front = by_second B.start refl
       where
         by_second : (m : Control B.Place) → B.start ≡ m → HasFront (par_machine A B)
-        by_second (At q) e = record { first = Both front.first q; starts = ap (λ k. join k B.start) front.starts ∙ ap (join (At front.first)) e }
-        by_second Done e = record { first = LeftOnly front.first; starts = ap (λ k. join k B.start) front.starts ∙ ap (join (At front.first)) e }
+        by_second (At q) e =
+            record {
+              first = Both front.first q;
+              starts = ap (λ k. join k B.start) front.starts ∙
+                  ap (join (At front.first)) e;
+            }
+        by_second Done e =
+            record {
+              first = LeftOnly front.first;
+              starts = ap (λ k. join k B.start) front.starts ∙
+                  ap (join (At front.first)) e;
+            }
 
   -- a par as one place
   pub bank_coding_is : (M : Machine X V) (b : Bank M.Place) → IsBank M b → IsCoding M (bank_coding b)

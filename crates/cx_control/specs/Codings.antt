@@ -41,10 +41,26 @@ one_place zero = Some tt
 one_place (suc n) = None
 
 abbrev pub unit_coding : Coding (Unit {0})
-unit_coding = record { size = 1; extra = 0; number = λ p. 0; other = λ p. zeros; place = λ n numbers. one_place n; IsFine = λ p. Unit {0} }
+unit_coding =
+    record {
+      size = 1;
+      extra = 0;
+      number = λ p. 0;
+      other = λ p. zeros;
+      place = λ n numbers. one_place n;
+      IsFine = λ p. Unit {0};
+    }
 
 abbrev pub no_coding : Coding ⊥
-no_coding = record { size = 0; extra = 0; number = λ p. 0; other = λ p. zeros; place = λ n numbers. None; IsFine = λ p. Unit {0} }
+no_coding =
+    record {
+      size = 0;
+      extra = 0;
+      number = λ p. 0;
+      other = λ p. zeros;
+      place = λ n numbers. None;
+      IsFine = λ p. Unit {0};
+    }
 
 module _ {A B : Type 0} (a : Coding A) (b : Coding B) where
   -- the places of the first part, and behind them those of the second
@@ -57,14 +73,24 @@ module _ {A B : Type 0} (a : Coding A) (b : Coding B) where
   seq_other (Second p) = beside a.extra zeros (b.other p)
 
   abbrev pub seq_place : ℕ → (ℕ → ℕ) → Option (InSeq A B)
-  seq_place n numbers = if nat_lt n a.size then option_map First (a.place n numbers) else option_map Second (b.place (n - a.size) (shift a.extra numbers))
+  seq_place n numbers =
+      if nat_lt n a.size then option_map First (a.place n numbers)
+      else option_map Second (b.place (n - a.size) (shift a.extra numbers))
 
   abbrev pub seq_fine : InSeq A B → Type 0
   seq_fine (First p) = a.IsFine p
   seq_fine (Second p) = b.IsFine p
 
   abbrev pub seq_coding : Coding (InSeq A B)
-  seq_coding = record { size = a.size + b.size; extra = a.extra + b.extra; number = seq_number; other = seq_other; place = seq_place; IsFine = seq_fine }
+  seq_coding =
+      record {
+        size = a.size + b.size;
+        extra = a.extra + b.extra;
+        number = seq_number;
+        other = seq_other;
+        place = seq_place;
+        IsFine = seq_fine;
+      }
 
   -- the test, and behind it the places of the branches
   abbrev pub branch_of : InSeq A B → InIf A B
@@ -91,7 +117,15 @@ module _ {A B : Type 0} (a : Coding A) (b : Coding B) where
   if_fine (InElse p) = b.IsFine p
 
   abbrev pub if_coding : Coding (InIf A B)
-  if_coding = record { size = suc (a.size + b.size); extra = a.extra + b.extra; number = if_number; other = if_other; place = if_place; IsFine = if_fine }
+  if_coding =
+      record {
+        size = suc (a.size + b.size);
+        extra = a.extra + b.extra;
+        number = if_number;
+        other = if_other;
+        place = if_place;
+        IsFine = if_fine;
+      }
 
 module _ {A : Type 0} (a : Coding A) where
   abbrev pub while_number : InWhile A → ℕ
@@ -111,7 +145,15 @@ module _ {A : Type 0} (a : Coding A) where
   while_fine (InBody p) = a.IsFine p
 
   abbrev pub while_coding : Coding (InWhile A)
-  while_coding = record { size = suc a.size; extra = a.extra; number = while_number; other = while_other; place = while_place; IsFine = while_fine }
+  while_coding =
+      record {
+        size = suc a.size;
+        extra = a.extra;
+        number = while_number;
+        other = while_other;
+        place = while_place;
+        IsFine = while_fine;
+      }
 
   -- rounds that are over from those that are left, of so many, and the other way
   abbrev pub turned : ℕ → ℕ → ℕ
@@ -147,7 +189,13 @@ module _ {A : Type 0} (a : Coding A) where
   control_at (Some p) = At p
 
   abbrev pub region_bank : Bank A
-  region_bank = record { count = suc a.extra; code = bank_code; decode = λ numbers. control_at (a.place (numbers 0) (shift 1 numbers)); IsFine = a.IsFine }
+  region_bank =
+      record {
+        count = suc a.extra;
+        code = bank_code;
+        decode = λ numbers. control_at (a.place (numbers 0) (shift 1 numbers));
+        IsFine = a.IsFine;
+      }
 
 abbrev pub done_bank : Bank ⊥
 done_bank = record { count = 0; code = λ k. zeros; decode = λ numbers. Done; IsFine = λ p. Unit {0} }
@@ -184,4 +232,13 @@ only_place k (suc n) = None
 
 -- a par is one place of the region around it
 abbrev pub bank_coding : {P : Type 0} → Bank P → Coding P
-bank_coding b = record { size = 1; extra = b.count; number = λ p. 0; other = λ p. b.code (At p); place = λ n numbers. only_place (b.decode numbers) n; IsFine = b.IsFine }
+bank_coding b =
+    record {
+      size = 1;
+      extra = b.count;
+      number = λ p.
+          0;
+      other = λ p. b.code (At p);
+      place = λ n numbers. only_place (b.decode numbers) n;
+      IsFine = b.IsFine;
+    }

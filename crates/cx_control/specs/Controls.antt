@@ -26,7 +26,9 @@ island_other LastTurn (suc zero) = 1
 island_other LastTurn (suc (suc n)) = 0
 
 abbrev pub island_place : ℕ → ℕ → (ℕ → ℕ) → Option InIsland
-island_place ifs zero numbers = Some (if numbers 1 == 0 then Cycle (numbers 0) (λ n. if nat_lt n ifs then not (numbers (2 + n) == 0) else false) else LastTurn)
+island_place ifs zero numbers =
+    Some (if numbers 1 == 0
+    then Cycle (numbers 0) (λ n. if nat_lt n ifs then not (numbers (2 + n) == 0) else false) else LastTurn)
 island_place ifs (suc n) numbers = None
 
 -- it has not come to its end, and no static if is beyond its last
@@ -39,7 +41,16 @@ island_fine part form (Cycle t kept) = IsFineCycle part form t kept
 island_fine part form LastTurn = Unit {0}
 
 abbrev pub island_coding : PlainComponent → PlainForm → Coding InIsland
-island_coding part form = record { size = 1; extra = 2 + form_ifs form; number = λ p. 0; other = island_other; place = island_place (form_ifs form); IsFine = island_fine part form }
+island_coding part form =
+    record {
+      size = 1;
+      extra = 2 + form_ifs form;
+      number = λ p.
+          0;
+      other = island_other;
+      place = island_place (form_ifs form);
+      IsFine = island_fine part form;
+    }
 
 -- of the leaves of an instance, over the control of its children
 module _ (i : Instance) (children : ℕ → Coded) where
@@ -53,10 +64,19 @@ module _ (i : Instance) (children : ℕ → Coded) where
   kind_coding g (kinds.Timed n) = island_coding (part_of i) (Enable g)
 
   abbrev pub leaf_codings : LeafCodings (leaf_machines i children)
-  leaf_codings = record { enable = λ g. kind_coding g (group_at (part_of i) g).kind; island = λ form. island_coding (part_of i) form }
+  leaf_codings =
+      record {
+        enable = λ g.
+            kind_coding g (group_at (part_of i) g).kind;
+        island = λ form. island_coding (part_of i) form;
+      }
 
   abbrev pub coded_statement : PlainStatement → Coded
-  coded_statement s = record { machine = machine_of (leaf_machines i children) s; coding = statement_coding (leaf_machines i children) leaf_codings s }
+  coded_statement s =
+      record {
+        machine = machine_of (leaf_machines i children) s;
+        coding = statement_coding (leaf_machines i children) leaf_codings s;
+      }
 
 -- THE CONTROL of an instance, and of the children at its cells
 abbrev mutual

@@ -77,7 +77,8 @@ module _ (i : Instance) (form : PlainForm) where
 
   abbrev pub island_now : ℕ → Samples → Kept → Turn State Fault
   island_now t kept s =
-      unless_unclear (first_unclear (seen i (held_in s) nothing (cells_in s)) (begun_by (part_of i) (sampled_now t kept s) t form))
+      unless_unclear (first_unclear (seen i (held_in s) nothing (cells_in s))
+      (begun_by (part_of i) (sampled_now t kept s) t form))
       (cycle i (held_in s) (entries (active_by (part_of i) (sampled_now t kept s) t form)) (cells_in s))
 
   abbrev pub next_cycle : ℕ → Samples → Control InIsland
@@ -96,7 +97,14 @@ module _ (i : Instance) (form : PlainForm) where
   island_faults LastTurn s = false
 
   abbrev pub island_machine : Machine Spot Holds
-  island_machine = record { Place = InIsland; start = island_start (form_length (part_of i) form); step = island_step; writes = island_writes; faults = island_faults }
+  island_machine =
+      record {
+        Place = InIsland;
+        start = island_start (form_length (part_of i) form);
+        step = island_step;
+        writes = island_writes;
+        faults = island_faults;
+      }
 
 -- CONTROL with its places as numbers
 pub record Coded : Type 1 where
@@ -132,10 +140,15 @@ module _ (i : Instance) (child : Coded) (g c : ℕ) (capturing : Bool) where
   -- the child's cells and numbers, for its go; or what is captured
   abbrev pub child_writes : Control (Machine.Place child.machine) → Kept → (x : Spot) → Option (Holds x)
   child_writes (At p) s (Cell []) = None
-  child_writes (At p) s (Cell (e ∷ path)) = if just c e then Machine.writes child.machine p (pull c (inputs_now s) s) (Cell path) else None
+  child_writes (At p) s (Cell (e ∷ path)) =
+      if just c e then Machine.writes child.machine p (pull c (inputs_now s) s) (Cell path) else None
   child_writes (At p) s (Number [] n) = None
-  child_writes (At p) s (Number (e ∷ []) n) = if just c e then Some (code_of child (Machine.step child.machine p (pull c (inputs_now s) s)) n) else None
-  child_writes (At p) s (Number (e ∷ f ∷ path) n) = if just c e then Machine.writes child.machine p (pull c (inputs_now s) s) (Number (f ∷ path) n) else None
+  child_writes (At p) s (Number (e ∷ []) n) =
+      if just c e then Some (code_of child (Machine.step child.machine p (pull c (inputs_now s) s)) n)
+      else None
+  child_writes (At p) s (Number (e ∷ f ∷ path) n) =
+      if just c e then Machine.writes child.machine p (pull c (inputs_now s) s) (Number (f ∷ path) n)
+      else None
   child_writes (At p) s (Input n) = None
   child_writes Done s x = if capturing then turn_writes (form_drives (part_of i) (Enable g)) (capture_now s) x else None
 

@@ -43,7 +43,15 @@ module _ (name : List ℕ → List ℕ) where
   }
 
   abbrev pub named_group : PlainGroup → PlainGroup
-  named_group g = record { attributes = g.attributes; kind = g.kind; name = g.name; marks = g.marks; assigns = map named_assign g.assigns; place = g.place }
+  named_group g =
+      record {
+        attributes = g.attributes;
+        kind = g.kind;
+        name = g.name;
+        marks = g.marks;
+        assigns = map named_assign g.assigns;
+        place = g.place;
+      }
 
   abbrev pub named_wire : PlainWire → PlainWire
   named_wire (Group g) = Group (named_group g)
@@ -60,13 +68,16 @@ module _ (name : List ℕ → List ℕ) where
     named_form (Par marks block) = Par marks (named_block block)
     named_form (StaticSeq length marks block) = StaticSeq length marks (named_block block)
     named_form (StaticPar length marks block) = StaticPar length marks (named_block block)
-    named_form (If test comb yes_block otherwise) = If (named_operand test) comb (named_block yes_block) (named_else otherwise)
-    named_form (StaticIf length test yes_block otherwise) = StaticIf length (named_operand test) (named_block yes_block) (named_else otherwise)
+    named_form (If test comb yes_block otherwise) =
+        If (named_operand test) comb (named_block yes_block) (named_else otherwise)
+    named_form (StaticIf length test yes_block otherwise) =
+        StaticIf length (named_operand test) (named_block yes_block) (named_else otherwise)
     named_form (While test comb body) = While (named_operand test) comb (named_block body)
     named_form (Repeat count body) = Repeat count (named_block body)
     named_form (StaticRepeat length count body) = StaticRepeat length count (named_block body)
     named_form (Invoke cell inputs outputs) = Invoke (name cell) (map named_bind inputs) (map named_bind outputs)
-    named_form (StaticInvoke length cell inputs outputs) = StaticInvoke length (name cell) (map named_bind inputs) (map named_bind outputs)
+    named_form (StaticInvoke length cell inputs outputs) =
+        StaticInvoke length (name cell) (map named_bind inputs) (map named_bind outputs)
 
     pub named_else : PlainElse → PlainElse
     named_else NoElse = NoElse

@@ -4,7 +4,7 @@ use Rattle.std.specs.List.{filter}
 use Rattle.std.specs.List.Sorted.{IsSortedBy, IsStableBy, ties}
 use Rattle.std.specs.Cmp.{IsStrictWeakOrder}
 use Rattle.std.proofs.lemmas.List.Sorted.{sorted_far}
-use Rattle.cx_text.proofs.BoolLaws.{from_not, and_first, and_no, false_if, cases_of}
+use Rattle.cx_text.proofs.BoolLaws.{from_not, and_left, and_no, false_if, cases_of}
 
 module _ {X : Type 0} (lt : X → X → Bool) where
   abbrev pub placed : X → List X → List X
@@ -80,7 +80,7 @@ module _ {X : Type 0} (lt : X → X → Bool) where
     -- what is less than one that ties ties no more
     no_tie : (x a b : X) → lt b a ≡ true → ties lt x a ≡ true → ties lt x b ≡ false
     no_tie x a b e h =
-        let after : lt x a ≡ false = from_not (lt x a) (and_first (not (lt x a)) (not (lt a x)) h) in
+        let after : lt x a ≡ false = from_not (lt x a) (and_left (not (lt x a)) (not (lt a x)) h) in
         cases_of (lt b x) (ties lt x b ≡ false)
         (λ t. and_no (not (lt x b)) (not (lt b x)) (ap not t))
         (λ f. absurd (true≢false (sym e ∙ o.chain b x a f after)))

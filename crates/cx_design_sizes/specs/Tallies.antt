@@ -10,10 +10,22 @@ use Rattle.cx_design_sizes.specs.declared.tallies.LimitTally.{LimitTally}
 
 -- of an instance with all below it, and of cells
 abbrev pub tally_of : Instance → LimitTally
-tally_of i = record { instances = capped (instances_below i); depth = capped (depth_below i); words = capped (words_below i); weight = capped (weight_below i) }
+tally_of i =
+    record {
+      instances = capped (instances_below i);
+      depth = capped (depth_below i);
+      words = capped (words_below i);
+      weight = capped (weight_below i);
+    }
 
 abbrev pub tally_in : Cells → LimitTally
-tally_in cells = record { instances = capped (instances_in cells); depth = capped (depth_in cells); words = capped (words_in cells); weight = capped (weight_in cells) }
+tally_in cells =
+    record {
+      instances = capped (instances_in cells);
+      depth = capped (depth_in cells);
+      words = capped (words_in cells);
+      weight = capped (weight_in cells);
+    }
 
 abbrev pub no_tally : LimitTally
 no_tally = record { instances = 0; depth = 0; words = 0; weight = 0 }
@@ -29,7 +41,8 @@ beside a b = record {
 
 -- where the tallies of the components are known
 abbrev pub kind_tally : List LimitTally → PlainKind → LimitTally
-kind_tally tallies (OfPrimitive primitive) = record { instances = 0; depth = 0; words = capped (shape_words (row_of primitive).shape); weight = 0 }
+kind_tally tallies (OfPrimitive primitive) =
+    record { instances = 0; depth = 0; words = capped (shape_words (row_of primitive).shape); weight = 0 }
 kind_tally tallies (OfComponent k) = get_or tallies k no_tally
 
 abbrev pub cells_tally : List LimitTally → List PlainCell → LimitTally

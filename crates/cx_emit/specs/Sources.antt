@@ -29,7 +29,8 @@ cell_decls c cell = with_numbers (port_decl c) cell.ports
 -- an input is driven by its chain, an output by the instance
 abbrev pub port_assigns : List PlainNetDriver → ℕ → ℕ → PlainPort → List PlainAssign
 port_assigns ds c p port =
-    if port.output then [] else assign (cell_port_name c p) (chain_to (ToPort (ports.Cell c p)) (literal port.width 0) ds) ∷ []
+    if port.output then []
+    else assign (cell_port_name c p) (chain_to (ToPort (ports.Cell c p)) (literal port.width 0) ds) ∷ []
 
 abbrev pub cell_assigns : List PlainNetDriver → ℕ → PlainCellPorts → List PlainAssign
 cell_assigns ds c cell = lists_from (port_assigns ds c) 0 cell.ports
@@ -44,7 +45,9 @@ abbrev pub cell_instance : ℕ → PlainCellPorts → PlainInstance
 cell_instance c cell = record {
   kind = cell.kind;
   name = instance_name c;
-  conns = conn (codes "clk") (codes "clk") ∷ conn (codes "reset") (codes "reset") ∷ with_numbers (port_conn c) cell.ports;
+  conns =
+      conn (codes "clk") (codes "clk") ∷ conn (codes "reset") (codes "reset")
+      ∷ with_numbers (port_conn c) cell.ports;
 }
 
 abbrev pub wire_decl : ℕ → ℕ → PlainDecl
@@ -75,11 +78,16 @@ register_step ds n width = SetTo (register_assign ds n width)
 abbrev pub edge_of : PlainNetComponent → Option PlainEdge
 edge_of part =
     if length part.registers == 0 then None
-    else Some (record { reset = with_numbers register_reset part.registers; step = with_numbers (register_step part.drivers) part.registers })
+    else Some (record {
+      reset = with_numbers register_reset part.registers;
+      step = with_numbers (register_step part.drivers) part.registers;
+    })
 
 -- what a component declares, and what it assigns, where its cells have these ports
 abbrev pub decls_with : PlainNetComponent → List PlainCellPorts → List PlainDecl
-decls_with part cells = lists_from cell_decls 0 cells ++ with_numbers wire_decl part.wires ++ with_numbers register_decl part.registers
+decls_with part cells =
+    lists_from cell_decls 0 cells ++ with_numbers wire_decl part.wires
+    ++ with_numbers register_decl part.registers
 
 abbrev pub assigns_with : PlainNetComponent → List PlainCellPorts → List PlainAssign
 assigns_with part cells =
@@ -114,7 +122,9 @@ primitives_among parts = flat_map (λ part. primitives_in part.cells) parts
 -- each primitive once, where it comes first; none whose name is among those given
 abbrev pub firsts : List (List ℕ) → List PrimitiveRow → List PrimitiveRow
 firsts names [] = []
-firsts names (p ∷ ps) = if has_name names (primitive_name p) then firsts names ps else p ∷ firsts (names ++ primitive_name p ∷ []) ps
+firsts names (p ∷ ps) =
+    if has_name names (primitive_name p) then firsts names ps
+    else p ∷ firsts (names ++ primitive_name p ∷ []) ps
 
 -- modules, and behind them those of the primitives of which none is there
 abbrev pub with_primitives : List PlainModule → List PrimitiveRow → List PlainModule

@@ -39,7 +39,8 @@ fn one_bit(alloc: Global, output: bool, name: &str) -> Result<ModulePort, Memory
 
 /// Adds the inputs of a signature.
 fn add_inputs(alloc: Global, ports: &mut Vec<ModulePort>, inputs: &[PortDecl]) -> Result<(), Memory>
-    ensures value { OnOk result (map plain_port ports.new.items ≡ map plain_port ports.old.items ++ with_numbers plain.input_port inputs.now) }
+    ensures value { OnOk result (map plain_port ports.new.items ≡
+        map plain_port ports.old.items ++ with_numbers plain.input_port inputs.now) }
 {
     for (number, input) in inputs.iter().enumerate() {
         ports.push(ModulePort {
@@ -57,7 +58,8 @@ fn add_outputs(
     ports: &mut Vec<ModulePort>,
     outputs: &[PortDecl],
 ) -> Result<(), Memory>
-    ensures value { OnOk result (map plain_port ports.new.items ≡ map plain_port ports.old.items ++ with_numbers plain.output_port outputs.now) }
+    ensures value { OnOk result (map plain_port ports.new.items ≡
+        map plain_port ports.old.items ++ with_numbers plain.output_port outputs.now) }
 {
     for (number, output) in outputs.iter().enumerate() {
         ports.push(ModulePort {
@@ -75,7 +77,8 @@ fn add_signature(
     ports: &mut Vec<ModulePort>,
     part: &NetComponent,
 ) -> Result<(), Memory>
-    ensures value { OnOk result (map plain_port ports.new.items ≡ map plain_port ports.old.items ++ plain.signature_of (plain_net_component part.now)) }
+    ensures value { OnOk result (map plain_port ports.new.items ≡
+        map plain_port ports.old.items ++ plain.signature_of (plain_net_component part.now)) }
 {
     ports.push(one_bit(alloc, false, "go")?)?;
     add_inputs(alloc, ports, &part.inputs)?;
@@ -86,7 +89,8 @@ fn add_signature(
 
 /// The ports of a component's module.
 pub fn module_ports(alloc: Global, part: &NetComponent) -> Result<Vec<ModulePort>, Memory>
-    ensures value { IfOk result (λ ports. map plain_port ports.items ≡ plain.module_ports (plain_net_component part.now)) }
+    ensures value { IfOk result
+        (λ ports. map plain_port ports.items ≡ plain.module_ports (plain_net_component part.now)) }
 {
     let mut ports = Vec::new(alloc);
     ports.push(one_bit(alloc, false, "clk")?)?;
@@ -126,7 +130,8 @@ fn copied(alloc: Global, ports: &[ModulePort]) -> Result<Vec<ModulePort>, Memory
 
 /// The ports of a component's cell. There are none where no component has the number.
 fn part_ports(alloc: Global, net: &Net, number: u32) -> Result<Vec<ModulePort>, Memory>
-    ensures value { IfOk result (λ ports. map plain_port ports.items ≡ plain.signature_at (slice_get (plain_net net.now).components number)) }
+    ensures value { IfOk result (λ ports.
+        map plain_port ports.items ≡ plain.signature_at (slice_get (plain_net net.now).components number)) }
 {
     let mut ports = Vec::new(alloc);
     if let Some(part) = net.components().get(number as usize) {
@@ -137,7 +142,11 @@ fn part_ports(alloc: Global, net: &Net, number: u32) -> Result<Vec<ModulePort>, 
 
 /// The name of a primitive's module, and its ports behind the clock and the reset.
 fn primitive_ports(alloc: Global, primitive: &Primitive) -> Result<CellPorts, Memory>
-    ensures value { IfOk result (λ own. plain_cell_ports own ≡ record { kind = primitive_name primitive.now; ports = drop 2 (plain.primitive_module primitive.now).ports }) }
+    ensures value { IfOk result (λ own. plain_cell_ports own ≡
+        record {
+          kind = primitive_name primitive.now;
+          ports = drop 2 (plain.primitive_module primitive.now).ports;
+        }) }
 {
     let name = primitive_name(alloc, primitive)?;
     let module = primitive.module(alloc, &name)?;
@@ -150,7 +159,8 @@ fn primitive_ports(alloc: Global, primitive: &Primitive) -> Result<CellPorts, Me
 
 /// The ports of a cell.
 fn cell_ports(alloc: Global, net: &Net, cell: &Cell) -> Result<CellPorts, Memory>
-    ensures value { IfOk result (λ own. plain_cell_ports own ≡ plain.cell_ports (plain_net net.now) (plain_cell cell.now)) }
+    ensures value { IfOk result
+        (λ own. plain_cell_ports own ≡ plain.cell_ports (plain_net net.now) (plain_cell cell.now)) }
 {
     match &cell.kind {
         CellKind::Prim(primitive) => primitive_ports(alloc, primitive),
@@ -163,7 +173,8 @@ fn cell_ports(alloc: Global, net: &Net, cell: &Cell) -> Result<CellPorts, Memory
 
 /// The ports of cells.
 pub fn all_cell_ports(alloc: Global, net: &Net, cells: &[Cell]) -> Result<Vec<CellPorts>, Memory>
-    ensures value { IfOk result (λ all. map plain_cell_ports all.items ≡ map (plain.cell_ports (plain_net net.now)) (map plain_cell cells.now)) }
+    ensures value { IfOk result (λ all. map plain_cell_ports all.items ≡
+        map (plain.cell_ports (plain_net net.now)) (map plain_cell cells.now)) }
 {
     let mut all = Vec::with_capacity(alloc, cells.len())?;
     for cell in cells {

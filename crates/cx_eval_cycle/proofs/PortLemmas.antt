@@ -12,7 +12,7 @@ use Rattle.cx_meaning.specs.declared.sights.Seen.TheVariants.{Value}
 use Rattle.cx_eval_drives.specs.Gathers.{AreWide}
 use Rattle.cx_eval_cycle.specs.Ports.{AllStand, AreNumbered, KeepStanding, Stands, is_side, numbers_from}
 use Rattle.cx_text.proofs.BoolLaws.{not_both}
-use Rattle.cx_text.proofs.ListLaws.{append_none}
+use Rattle.cx_text.proofs.ListLaws.{nothing_more}
 
 -- SIDES
 pub enable_side : (side : Side) → is_side Enable side ≡ is_enable_side side
@@ -54,7 +54,7 @@ module _ (test : ℕ → Bool) (count : ℕ) where
   pub so_far_end : (numbers : List ℕ) (p : ℕ) → count ≤ p → AreSoFar numbers p → AreNumbered test count numbers
   so_far_end numbers p past far =
       let none : count - p ≡ 0 = omega arith in
-      sym (append_none numbers) ∙ ap (λ n. numbers ++ numbers_from test p n) (sym none) ∙ far
+      sym (nothing_more numbers) ∙ ap (λ n. numbers ++ numbers_from test p n) (sym none) ∙ far
 
 -- without any, all ports fail
 pub none_pass : (test : ℕ → Bool) (p n : ℕ) → numbers_from test p n ≡ [] → (k : ℕ) → k < n → test (p + k) ≡ false

@@ -11,7 +11,7 @@ use Rattle.cx_eval_cycle.specs.Passes.{IsAscending, kind_at, listed_in}
 use Rattle.cx_eval_cycle.specs.Stepping.{AreStepping, HaveNumbers, IsKeptOf, can_step, kept_at}
 use Rattle.cx_eval_cycle.proofs.PassLemmas.{Above, not_listed, or_false}
 use Rattle.cx_eval_cycle.proofs.PassesLemmas.{no_kind}
-use Rattle.cx_text.proofs.ListLaws.{append_none}
+use Rattle.cx_text.proofs.ListLaws.{nothing_more}
 use Rattle.cx_text.proofs.NumberLaws.{apart_numbers, same_numbers}
 
 -- the last of a list, and those before
@@ -139,4 +139,4 @@ drop_all (k ∷ kept) (suc n) le = drop_all kept n (omega (arith, le))
 
 pub all_numbers : (kept : List (Option SteppingCell)) (numbers : List ℕ) (n : ℕ) → length kept ≤ n → AreSoFar kept numbers n → HaveNumbers kept numbers
 all_numbers kept numbers n le far =
-    have_numbers kept numbers (sym (append_none numbers) ∙ ap (λ ks. numbers ++ numbers_from ks n) (sym (drop_all kept n le)) ∙ far)
+    have_numbers kept numbers (sym (nothing_more numbers) ∙ ap (λ ks. numbers ++ numbers_from ks n) (sym (drop_all kept n le)) ∙ far)

@@ -18,7 +18,15 @@ use Rattle.cx_eval_network.specs.Nodes.{node_at}
 use Rattle.cx_eval_network.specs.Networks.{Asked, IsNetwork, node_shown, path_at}
 
 abbrev pub asked : PlainDesign → List InstanceRow → List ℕ → List PlainInstance → ℕ → Active → Asked
-asked d rows children state n active = record { design = d; rows = rows; children = children; state = state; instance = n; active = plain_active (instance_at (tree_of d) (path_at d n)) active }
+asked d rows children state n active =
+    record {
+      design = d;
+      rows = rows;
+      children = children;
+      state = state;
+      instance = n;
+      active = plain_active (instance_at (tree_of d) (path_at d n)) active;
+    }
 
 -- the asked instance is there, in an accepted design, in a state of it
 pub record CanAsk (a : Asked) (nodes : Nodes) : Type 0 where
@@ -36,8 +44,10 @@ held_in asked state n = if nat_eq n asked then (instance_state state n).held els
 
 -- what marks show of the outputs of the instances at the cells of one, where there is such an instance
 abbrev pub child_in : List InstanceRow → List ℕ → ℕ → ℕ → Option ℕ
-child_in rows children n c = let child = child_of rows children n c in if nat_lt child (length rows) then Some child else None
+child_in rows children n c =
+    let child = child_of rows children n c in if nat_lt child (length rows) then Some child else None
 
 abbrev pub child_shown : PlainDesign → List InstanceRow → List NodeMark → Option ℕ → ℕ → Seen
 child_shown d rows marks None output = Undefined
-child_shown d rows marks (Some child) output = node_shown marks (ports.Output output) (node_at d rows child (ports.Output output))
+child_shown d rows marks (Some child) output =
+    node_shown marks (ports.Output output) (node_at d rows child (ports.Output output))

@@ -23,7 +23,7 @@ use Rattle.cx_rules.specs.InvokeShape.{latency_at, is_static_port, input_port, I
 use Rattle.cx_rules.specs.Wellformed.{IsThere, StandsIn, IsForm, IsWith}
 use Rattle.cx_rules.proofs.FoundLemmas.{same_is}
 use Rattle.cx_text.proofs.NumberLaws.{same_or_not}
-use Rattle.cx_text.proofs.BoolLaws.{or_either, and_true, and_first, and_second}
+use Rattle.cx_text.proofs.BoolLaws.{or_either, and_true, and_left, and_second}
 use Rattle.cx_flattening.specs.Events.{no_invoke, the_invoke, source_in, source_to}
 use Rattle.cx_flattening.specs.Whole.{is_static}
 use Rattle.cx_flattening.specs.Flattened.{Kids, kid_at, flat_kids}
@@ -326,7 +326,7 @@ module _ (part : PlainComponent) (cells : Cells) (ruled : IsRuled part (Node par
     form_timed context (StaticPar length arms) g long j = all_timed arms g long j
     form_timed context (StaticIf length test a b) g long j =
         ⊎_elim
-        (one_timed Branch a g (and_first (has_length part Branch a) (has_length part Branch b) long))
+        (one_timed Branch a g (and_left (has_length part Branch a) (has_length part Branch b) long))
         (one_timed Branch b g (and_second (has_length part Branch a) (has_length part Branch b) long))
         (in_either (groups_of a) (groups_of b) g j)
     form_timed context (StaticRepeat length count a) g long j = one_timed InStatic a g long j
@@ -339,7 +339,7 @@ module _ (part : PlainComponent) (cells : Cells) (ruled : IsRuled part (Node par
     all_timed no_statements g long j = absurd j
     all_timed (a_statement s ss) g long j =
         ⊎_elim
-        (one_timed InStatic s g (and_first (has_length part InStatic s) (all_have_length part ss) long))
+        (one_timed InStatic s g (and_left (has_length part InStatic s) (all_have_length part ss) long))
         (all_timed ss g (and_second (has_length part InStatic s) (all_have_length part ss) long))
         (in_either (groups_of s) (groups_in_all ss) g j)
 

@@ -1,7 +1,7 @@
 -- EACH COMPONENT that the flat main reaches, with what is below it, is flattened in the flat design.
 use Rattle.std.proofs.Common.{◌≡◌, ℕ, zero, suc, ◌+◌, ◌<◌, ◌≤◌, inl, inr, ⊎_elim, Bool, true, false, ◌||◌, nat_eq, List, [], ◌∷◌, ◌++◌, length, map, Some, None, refl, ap, ◌∙◌, subst, arith}
 use Rattle.std.proofs.lemmas.Bool.{eqb-true}
-use Rattle.cx_text.proofs.BoolLaws.{either_true}
+use Rattle.cx_text.proofs.BoolLaws.{or_either}
 use Rattle.cx_text.proofs.MemberLaws.{in_either}
 use Rattle.cx_meaning.specs.declared.kinds.PortDecl.{PortDecl}
 use Rattle.cx_meaning.specs.Designs.{PlainKind, OfPrimitive, OfComponent, PlainCell, PlainComponent, PlainDesign, component_at}
@@ -126,7 +126,7 @@ module _ (d : PlainDesign) (design : IsDesign d) where
       let r = any_from (leads_within d n k) (flat_of d j).cells h in
       let g = flat_cell (length d.components) path j way (omega arith) r.1 (kind_in (flat_of d j).cells r.0 (OfComponent r.1) r.2) in
       walk n g.on r.1 (j ∷ ups) g.way (further_top d design ups j r.1 r.0 top r.2 (g.way.there r.1 (inl refl)) (λ i. g.way.apart.0 (inside g.on r.1 g.within r.1 i))) (inside g.on r.1 g.within) k r.3)
-      (either_true (nat_eq j k) (any_of (leads_within d n k) (flat_of d j).cells) leads)
+      (or_either (nat_eq j k) (any_of (leads_within d n k) (flat_of d j).cells) leads)
     where
       inside : (on : List ℕ) (x : ℕ) → ((y : ℕ) → In (j ∷ path) y → In on y) → (y : ℕ) → In (j ∷ ups) y → In on y
       inside on x further_within y (inl e) = further_within y (inl e)

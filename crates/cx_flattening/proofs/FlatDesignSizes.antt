@@ -23,7 +23,7 @@ use Rattle.cx_flattening.proofs.FlatStages.{good_component}
 use Rattle.cx_flattening.proofs.FlatWeights.{flat_size}
 use Rattle.cx_flattening.proofs.Reached.{itself}
 use Rattle.cx_flattening.proofs.TreeLevels.{IsWay, further, way_is_short}
-use Rattle.cx_text.proofs.BoolLaws.{either_true}
+use Rattle.cx_text.proofs.BoolLaws.{or_either}
 use Rattle.cx_text.proofs.OptionLaws.{none_of}
 
 -- A CELL THAT IS KEPT is of no static component
@@ -79,7 +79,7 @@ module _ (d : PlainDesign) (design : IsDesign d) where
       let cell = kind_in (flat_of d j).cells r.0 (OfComponent r.1) r.2 in
       let f : IsFound d design j = found d design j reached in
       leads_dynamic k n r.1 (also_reached d design j r.1 reached cell).1 (cell_dynamic (length d.components) f.path j f.way (omega arith) r.1 cell) r.3)
-      (either_true (nat_eq j k) (any_of (leads_within d n k) (flat_of d j).cells) leads)
+      (or_either (nat_eq j k) (any_of (leads_within d n k) (flat_of d j).cells) leads)
 
   pub reached_dynamic : (k : ℕ) → is_reached d k ≡ true → (component_at d k).latency ≡ None
   reached_dynamic k reached = leads_dynamic k (length d.components) d.main (itself d (length d.components) d.main) design.main_dynamic reached

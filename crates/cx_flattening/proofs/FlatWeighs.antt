@@ -1,7 +1,7 @@
 -- PARTS OF THE FLAT DESIGN: each of its components stands in its tree, so its size is at most its weight.
 use Rattle.std.proofs.Common.{◌≡◌, ◌≢◌, ℕ, zero, suc, ◌+◌, ◌-◌, ◌<◌, ◌≤◌, inl, inr, ⊎_elim, true, nat_eq, List, [], ◌∷◌, ◌++◌, length, map, get_or, refl, sym, ap, ◌∙◌, subst, arith}
 use Rattle.std.proofs.lemmas.Bool.{eqb-true}
-use Rattle.cx_text.proofs.BoolLaws.{either_true}
+use Rattle.cx_text.proofs.BoolLaws.{or_either}
 use Rattle.cx_text.proofs.MemberLaws.{in_image, in_left, in_right}
 use Rattle.cx_meaning.specs.Designs.{PlainKind, OfPrimitive, OfComponent, PlainCell, PlainComponent, PlainDesign, component_at, no_component}
 use Rattle.cx_meaning.specs.Instances.{Instance, add_cell, cells_for, tree_within, tree_of}
@@ -116,7 +116,7 @@ module _ (d : PlainDesign) (design : IsDesign d) where
       inr (subst (λ (p : PlainComponent). In (cells_numbers (numbers_within flat n) p.cells) (reached_below d k)) (sym (flat_component_is d j less reached))
       (in_cells (numbers_within flat n) (map (renumbered_cell d) (flat_of d j).cells) (renumbered_cell d c.0) (reached_below d r.1) (reached_below d k) (in_image (renumbered_cell d) (flat_of d j).cells c.0 c.1)
       (renumbered_is c.0.kind r.1 c.2) (in_numbers n k r.1 x.0 x.1 r.3))))
-      (either_true (nat_eq j k) (any_of (leads_within d n k) (flat_of d j).cells) leads)
+      (or_either (nat_eq j k) (any_of (leads_within d n k) (flat_of d j).cells) leads)
     where
       renumbered_is : (kind : PlainKind) (x : ℕ) → kind ≡ OfComponent x → renumbered_kind d kind ≡ OfComponent (reached_below d x)
       renumbered_is kind x e = ap (renumbered_kind d) e

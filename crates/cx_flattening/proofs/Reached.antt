@@ -8,7 +8,7 @@ use Rattle.cx_meaning.specs.Designs.{PlainKind, OfPrimitive, OfComponent, PlainC
 use Rattle.cx_flattening.specs.Copies.{count_if}
 use Rattle.cx_flattening.specs.FlatDesign.{kind_of, any_of, flat_of, leads_within, is_reached, reached_from, reached_below, renumbered_part, flat_design}
 use Rattle.cx_flattening.proofs.CellLayout.{kind_at}
-use Rattle.cx_text.proofs.BoolLaws.{either_true, or_left, or_right}
+use Rattle.cx_text.proofs.BoolLaws.{or_either, or_left, or_right}
 
 zero_plus : (a : ℕ) → 0 + a ≡ a
 zero_plus a = omega arith
@@ -33,7 +33,7 @@ any_more one other more (c ∷ cs) e =
     ⊎_elim
     (λ f. or_left (kind_of other c.kind) (any_of other cs) (kind_more one other more c.kind f))
     (λ f. or_right (kind_of other c.kind) (any_of other cs) (any_more one other more cs f))
-    (either_true (kind_of one c.kind) (any_of one cs) e)
+    (or_either (kind_of one c.kind) (any_of one cs) e)
 
 module _ (d : PlainDesign) where
   -- with a step more
@@ -43,7 +43,7 @@ module _ (d : PlainDesign) where
       ⊎_elim
       (λ f. or_left (nat_eq j k) (any_of (leads_within d (suc n) k) (flat_of d j).cells) f)
       (λ f. or_right (nat_eq j k) (any_of (leads_within d (suc n) k) (flat_of d j).cells) (any_more (leads_within d n k) (leads_within d (suc n) k) (leads_more n k) (flat_of d j).cells f))
-      (either_true (nat_eq j k) (any_of (leads_within d n k) (flat_of d j).cells) e)
+      (or_either (nat_eq j k) (any_of (leads_within d n k) (flat_of d j).cells) e)
 
   pub leads_far : (more n k j : ℕ) → leads_within d n k j ≡ true → leads_within d (more + n) k j ≡ true
   leads_far zero n k j e = subst (λ m. leads_within d m k j ≡ true) (sym (zero_plus n)) e
@@ -68,7 +68,7 @@ module _ (d : PlainDesign) where
       ⊎_elim (begins_here (suc n) a k j e is)
       (λ g. or_right (nat_eq a j) (any_of (leads_within d (suc n) j) (flat_of d a).cells)
       (any_more (leads_within d n k) (leads_within d (suc n) j) (λ x l. leads_further n x k j e l is) (flat_of d a).cells g))
-      (either_true (nat_eq a k) (any_of (leads_within d n k) (flat_of d a).cells) h)
+      (or_either (nat_eq a k) (any_of (leads_within d n k) (flat_of d a).cells) h)
 
   -- THE NEW NUMBERS. Those that are reached of more are those of fewer, and then the others
   from_both : (k a b : ℕ) → reached_from d k (a + b) ≡ reached_from d k a ++ reached_from d (k + a) b

@@ -52,7 +52,13 @@ abbrev pub later_by : ℕ → Beginning → Beginning
 later_by n b = record { at = b.at; bound = b.bound; from = b.from + n; conditions = b.conditions }
 
 abbrev pub also_if : Spot → Bool → Beginning → Beginning
-also_if spot wanted b = record { at = b.at; bound = b.bound; from = b.from; conditions = record { spot = spot; cycle = b.from; wanted = wanted } ∷ b.conditions }
+also_if spot wanted b =
+    record {
+      at = b.at;
+      bound = b.bound;
+      from = b.from;
+      conditions = record { spot = spot; cycle = b.from; wanted = wanted } ∷ b.conditions;
+    }
 
 abbrev pub group_events : ℕ → Option ℕ → Events
 group_events g None b = []
@@ -85,7 +91,12 @@ bound_below bound at c inputs (ports.Literal w v) = spot (at ++ (c ∷ [])) (por
 abbrev pub invoke_events : (ℕ → Events) → PlainInvoke → Events
 invoke_events below v b =
     Feeds b.at v.cell v.inputs b.from (b.from + or_zero v.latency) b.conditions
-    ∷ (below v.cell (record { at = b.at ++ (v.cell ∷ []); bound = bound_below b.bound b.at v.cell v.inputs; from = b.from; conditions = b.conditions })
+    ∷ (below v.cell (record {
+      at = b.at ++ (v.cell ∷ []);
+      bound = bound_below b.bound b.at v.cell v.inputs;
+      from = b.from;
+      conditions = b.conditions;
+    })
     ++ capture_events v.captures (later_by (or_zero v.latency) b))
 
 -- THE LIST of a static statement, in source order; below gives those of the control of the child at a cell
@@ -102,7 +113,8 @@ abbrev mutual
   form_events part below (StaticPar length arms) b = par_events part below arms b
   form_events part below (StaticIf length test x y) b =
       Looks (b.bound test.port) b.from b.conditions
-      ∷ (events part below x (also_if (b.bound test.port) true b) ++ events part below y (also_if (b.bound test.port) false b))
+      ∷ (events part below x (also_if (b.bound test.port) true b) ++
+      events part below y (also_if (b.bound test.port) false b))
   form_events part below (StaticRepeat length count x) b = rounds_events (events part below x) (lasts part x) count b
   form_events part below (Timed k) b = invoke_events below (the_invoke part k) b
 
@@ -111,7 +123,8 @@ abbrev mutual
 
   pub seq_events : PlainComponent → (ℕ → Events) → PlainStatements → Events
   seq_events part below no_statements b = []
-  seq_events part below (a_statement s ss) b = events part below s b ++ seq_events part below ss (later_by (lasts part s) b)
+  seq_events part below (a_statement s ss) b =
+      events part below s b ++ seq_events part below ss (later_by (lasts part s) b)
 
   pub par_events : PlainComponent → (ℕ → Events) → PlainStatements → Events
   par_events part below no_statements b = []

@@ -48,4 +48,8 @@ module _ (d : PlainDesign) where
   renumbered_part part = record part { cells = map renumbered_cell part.cells }
 
   abbrev pub flat_design : PlainDesign
-  flat_design = record { components = map (λ k. renumbered_part (flat_of k)) (reached_from 0 (length d.components)); main = reached_below d.main }
+  flat_design =
+      record {
+        components = map (λ k. renumbered_part (flat_of k)) (reached_from 0 (length d.components));
+        main = reached_below d.main;
+      }

@@ -18,10 +18,17 @@ abbrev pub point : List ℕ
 point = codes "."
 
 abbrev pub inner_cell : PlainCell → PlainCell → PlainCell
-inner_cell c inner = record { name = c.name ++ point ++ inner.name; kind = inner.kind; external = false; place = c.place }
+inner_cell c inner =
+    record { name = c.name ++ point ++ inner.name; kind = inner.kind; external = false; place = c.place }
 
 abbrev pub wire_of : PlainCell → PortDecl → PlainCell
-wire_of c output = record { name = c.name ++ point ++ output.name ++ point; kind = OfPrimitive (record { name = primitives.Wire; numbers = output.width ∷ [] }); external = false; place = c.place }
+wire_of c output =
+    record {
+      name = c.name ++ point ++ output.name ++ point;
+      kind = OfPrimitive (record { name = primitives.Wire; numbers = output.width ∷ [] });
+      external = false;
+      place = c.place;
+    }
 
 -- kids gives, for each cell in order, the flat component of a static child, or none for a cell that is kept
 abbrev pub Kids : Type 0
@@ -120,7 +127,8 @@ module _ (kids : Kids) (part : PlainComponent) where
   -- THE GROUPS: the caller's own, and for each static invoke, by number, copies of those that the child's control enables
   abbrev pub copies_if : Option PlainComponent → PlainInvoke → List PlainGroup
   copies_if None v = []
-  copies_if (Some child) v = map (copied_group (invoke_port child v)) (enabled_groups (groups_of child.control) 0 child.groups)
+  copies_if (Some child) v =
+      map (copied_group (invoke_port child v)) (enabled_groups (groups_of child.control) 0 child.groups)
 
   abbrev pub copies : PlainInvoke → List PlainGroup
   copies v = copies_if (kid_at kids v.cell) v
@@ -138,7 +146,8 @@ module _ (kids : Kids) (part : PlainComponent) where
   -- CONTROL: an invoke is a copy of the child's control, and the group that captures after it
   abbrev pub inlined : Option PlainComponent → ℕ → PlainInvoke → PlainForm
   inlined None k v = Empty
-  inlined (Some child) k v = with_capture v.captures (copied_statement (invoke_port child v) (copy_of child k) child.control)
+  inlined (Some child) k v =
+      with_capture v.captures (copied_statement (invoke_port child v) (copy_of child k) child.control)
 
   abbrev mutual
     pub flat_form : PlainForm → PlainForm
@@ -151,7 +160,8 @@ module _ (kids : Kids) (part : PlainComponent) where
     flat_form (Repeat count a) = Repeat count (flat_statement a)
     flat_form (StaticSeq length ss) = StaticSeq length (flat_statements ss)
     flat_form (StaticPar length arms) = StaticPar length (flat_statements arms)
-    flat_form (StaticIf length test a b) = StaticIf length (moved_port own_port test) (flat_statement a) (flat_statement b)
+    flat_form (StaticIf length test a b) =
+        StaticIf length (moved_port own_port test) (flat_statement a) (flat_statement b)
     flat_form (StaticRepeat length count a) = StaticRepeat length count (flat_statement a)
     flat_form (Timed k) = inlined (kid_at kids (the_invoke part k).cell) k (the_invoke part k)
 

@@ -26,7 +26,7 @@ use Rattle.cx_frames.proofs.AlikeLemmas.{Frames, AlikeTurn, hole_alike, then_ali
 use Rattle.cx_frames.proofs.RuleLemmas.{IsKept}
 use Rattle.cx_frames.proofs.SightFrames.{InFrame, IsThrough, IsWithin, IsAmong, seen_alike, cycle_alike}
 use Rattle.cx_frames.proofs.CircleFrames.{capture_acyclic}
-use Rattle.cx_text.proofs.OptionLaws.{none_some, some_inj}
+use Rattle.cx_text.proofs.OptionLaws.{none_some, some_is}
 use Rattle.cx_meaning.proofs.InstancesLemmas.{just_same}
 
 pub nothing_among : IsAmong nothing []
@@ -48,7 +48,7 @@ called_drives cells (a ∷ rest) c e = of_target a.target e (called_drives cells
     of_at : (at : At) (d : ℕ) → if_instance at d (called_in cells rest) ≡ Some c → (called_in cells rest ≡ Some c → assigns_drive rest c ≡ true) → (just d c || assigns_drive rest c) ≡ true
     of_at Nothing d e h = or_right (just d c) (assigns_drive rest c) (h e)
     of_at (OfRow row) d e h = or_right (just d c) (assigns_drive rest c) (h e)
-    of_at (OfInstance child) d e h = ap (λ x. just x c || assigns_drive rest c) (some_inj d c e) ∙ ap (λ b. b || assigns_drive rest c) (just_same c)
+    of_at (OfInstance child) d e h = ap (λ x. just x c || assigns_drive rest c) (some_is d c e) ∙ ap (λ b. b || assigns_drive rest c) (just_same c)
 
     of_target : (p : PortRef) → called_by cells p (called_in cells rest) ≡ Some c → (called_in cells rest ≡ Some c → assigns_drive rest c ≡ true) → (targets_cell p c || assigns_drive rest c) ≡ true
     of_target (ports.Cell d n) e h = of_at (cell_at cells d) d e h

@@ -16,7 +16,14 @@ acts_of Go = OfGo
 acts_of (Par wire) = OfWire wire
 
 abbrev pub plain_stand : Stand → stands.Stand
-plain_stand s = record { wire = s.wire; register = s.register; position = s.position; region = s.region; acts = acts_of s.acts }
+plain_stand s =
+    record {
+      wire = s.wire;
+      register = s.register;
+      position = s.position;
+      region = s.region;
+      acts = acts_of s.acts;
+    }
 
 -- so many wires, registers and positions further on
 abbrev pub past : stands.Stand → ℕ → ℕ → ℕ → stands.Stand
@@ -30,7 +37,14 @@ past x wires registers positions = record {
 
 -- at the same position, with the wires and registers that are left behind another place
 abbrev pub beside : stands.Stand → stands.Stand → stands.Stand
-beside x other = record { wire = other.wire; register = other.register; position = x.position; region = x.region; acts = x.acts }
+beside x other =
+    record {
+      wire = other.wire;
+      register = other.register;
+      position = x.position;
+      region = x.region;
+      acts = x.acts;
+    }
 
 abbrev pub islands_of : Plan → List PlainIsland
 islands_of plan = map plain_island plan.islands.now

@@ -73,7 +73,9 @@ name = One (t.Name ∷ []) named
 
 -- any word
 abbrev pub words : List Terminal
-words = t.Name ∷ t.Import ∷ t.Component ∷ t.Cells ∷ t.Wires ∷ t.Control ∷ t.Group ∷ t.Comb ∷ t.Static ∷ t.Seq ∷ t.Par ∷ t.If ∷ t.Else ∷ t.While ∷ t.Repeat ∷ t.Invoke ∷ t.With ∷ t.Ref ∷ []
+words =
+    t.Name ∷ t.Import ∷ t.Component ∷ t.Cells ∷ t.Wires ∷ t.Control ∷ t.Group ∷ t.Comb ∷ t.Static ∷ t.Seq
+    ∷ t.Par ∷ t.If ∷ t.Else ∷ t.While ∷ t.Repeat ∷ t.Invoke ∷ t.With ∷ t.Ref ∷ []
 
 abbrev pub word : Grammar (List ℕ)
 word = One words (λ token. word_of token.kind)
@@ -162,7 +164,9 @@ abbrev pub hole_form : List ℕ → List ℕ → OperandForm
 hole_form hole group = operands.Hole group hole
 
 unfoldable pub reference : Grammar (List ℕ → OperandForm)
-reference = Choice (behind t.Dot (mapped port_form name)) (Choice (within t.OpenBracket (mapped hole_form word) t.CloseBracket) (Empty (λ p. operands.Own p)))
+reference =
+    Choice (behind t.Dot (mapped port_form name))
+    (Choice (within t.OpenBracket (mapped hole_form word) t.CloseBracket) (Empty (λ p. operands.Own p)))
 
 abbrev pub target_of : Named → (List ℕ → OperandForm) → OperandItem
 target_of n form = record { form = form n.0; place = n.1 }
@@ -184,11 +188,14 @@ cmp =
     (Choice (mapped (λ _. comparisons.NotEqual) (sign t.NotEqual))
     (Choice (mapped (λ _. comparisons.Less) (sign t.Less))
     (Choice (mapped (λ _. comparisons.Greater) (sign t.Greater))
-    (Choice (mapped (λ _. comparisons.LessEqual) (sign t.LessEqual)) (mapped (λ _. comparisons.GreaterEqual) (sign t.GreaterEqual))))))
+    (Choice (mapped (λ _. comparisons.LessEqual) (sign t.LessEqual))
+    (mapped (λ _. comparisons.GreaterEqual) (sign t.GreaterEqual))))))
 
 -- "%" number | "%" "[" number ":" number "]"
 unfoldable pub window_range : Grammar PlainGuard
-window_range = behind t.OpenBracket (Pair (λ from to. During from to) number (behind t.Colon (before number t.CloseBracket)))
+window_range =
+    behind t.OpenBracket
+    (Pair (λ from to. During from to) number (behind t.Colon (before number t.CloseBracket)))
 
 unfoldable pub window : Grammar PlainGuard
 window = behind t.Percent (Choice (mapped (λ n. At n) number) window_range)
@@ -278,14 +285,18 @@ optional_length = maybe length_of
 
 -- ["comb" | "static" "<" number ">"] "group"
 unfoldable pub group_word : Grammar (GroupWord × Place)
-group_word = Choice (Pair (λ p _. (group_words.Comb, p)) (sign t.Comb) (sign t.Group)) (Choice (Pair (λ p n. (group_words.Timed n, p)) (sign t.Static) (before length_of t.Group)) (mapped (λ p. (group_words.Plain, p)) (sign t.Group)))
+group_word =
+    Choice (Pair (λ p _. (group_words.Comb, p)) (sign t.Comb) (sign t.Group))
+    (Choice (Pair (λ p n. (group_words.Timed n, p)) (sign t.Static) (before length_of t.Group))
+    (mapped (λ p. (group_words.Plain, p)) (sign t.Group)))
 
 -- group = {attr} group_word name [marks] "{" {assign} "}"; here without its attributes
 unfoldable pub assigns : Grammar (List PlainAssign)
 assigns = many assign
 
 abbrev pub group_of : GroupWord × Place → Named × (List Mark × List PlainAssign) → List Attribute → PlainGroup
-group_of k r attrs = record { attributes = attrs; kind = k.0; name = r.0.0; marks = r.1.0; assigns = r.1.1; place = k.1 }
+group_of k r attrs =
+    record { attributes = attrs; kind = k.0; name = r.0.0; marks = r.1.0; assigns = r.1.1; place = k.1 }
 
 unfoldable pub bare_group : Grammar (List Attribute → PlainGroup)
 bare_group = Pair group_of group_word (pair name (pair marks (within t.OpenBrace assigns t.CloseBrace)))
@@ -320,7 +331,15 @@ unfoldable pub cell_kind : Grammar (Named × List ℕ)
 cell_kind = pair name (before (within t.OpenParen numbers t.CloseParen) t.Semicolon)
 
 abbrev pub cell_of : List Attribute → Named × (List Mark × (Named × List ℕ)) → PlainCell
-cell_of attrs r = record { attributes = attrs; name = r.0.0; marks = r.1.0; kind = r.1.1.0.0; numbers = r.1.1.1; place = r.0.1 }
+cell_of attrs r =
+    record {
+      attributes = attrs;
+      name = r.0.0;
+      marks = r.1.0;
+      kind = r.1.1.0.0;
+      numbers = r.1.1.1;
+      place = r.0.1;
+    }
 
 unfoldable pub cell : Grammar PlainCell
 cell = Pair cell_of attributes (pair name (pair marks (behind t.Equal cell_kind)))
@@ -413,7 +432,8 @@ static_rest =
     Choice (behind t.Seq (mapped static_seq_of marked_block))
     (Choice (behind t.Par (mapped static_par_of marked_block))
     (Choice (behind t.If static_if_rest)
-    (Choice (behind t.Repeat (mapped static_repeat_of repeat_rest)) (behind t.Invoke (mapped static_invoke_of invoke_rest)))))
+    (Choice (behind t.Repeat (mapped static_repeat_of repeat_rest))
+    (behind t.Invoke (mapped static_invoke_of invoke_rest)))))
 
 unfoldable pub static_form : Grammar PlainForm
 static_form = Pair (λ l f. f l) optional_length static_rest
@@ -462,7 +482,9 @@ unfoldable pub static_statement : Grammar (PlainForm × Place)
 static_statement = Pair form_of (sign t.Static) static_form
 
 unfoldable pub form : Grammar (PlainForm × Place)
-form = Choice enable (Choice seq (Choice par (Choice if_form (Choice while_form (Choice repeat (Choice invoke static_statement))))))
+form =
+    Choice enable (Choice seq
+    (Choice par (Choice if_form (Choice while_form (Choice repeat (Choice invoke static_statement))))))
 
 -- stmt = {attr} form
 abbrev pub statement_of : List Attribute → PlainForm × Place → PlainStatement
@@ -478,11 +500,16 @@ statements = many statement
 unfoldable pub nest : (n : Nest) → Grammar (Nested n)
 nest Negation = Pair (λ _ g. guards.Not g) (sign t.Not) unary
 nest Parens = within t.OpenParen guard t.CloseParen
-nest Braces = Pair (λ place ss. plain.Braces (statements_of ss) place) (sign t.OpenBrace) (before statements t.CloseBrace)
+nest Braces =
+    Pair (λ place ss. plain.Braces (statements_of ss) place) (sign t.OpenBrace)
+    (before statements t.CloseBrace)
 
--- component = {attr} ["static" "<" number ">"] "component" name [marks] "(" [ports] ")" ["->" "(" [ports] ")"] "{" cells wires [control] "}"
+-- component = {attr} ["static" "<" number ">"] "component" name [marks] "(" [ports] ")" ["->" "(" [ports] ")"] "{"
+-- cells wires [control] "}"
 unfoldable pub component_word : Grammar (Option ℕ × Place)
-component_word = Choice (Pair (λ p n. (Some n, p)) (sign t.Static) (before length_of t.Component)) (mapped (λ p. (None, p)) (sign t.Component))
+component_word =
+    Choice (Pair (λ p n. (Some n, p)) (sign t.Static) (before length_of t.Component))
+    (mapped (λ p. (None, p)) (sign t.Component))
 
 -- name, marks, inputs and outputs
 abbrev pub Signature : Type 0

@@ -6,12 +6,12 @@ use Rattle.cx_text.specs.Members.{In}
 use Rattle.cx_graphs.specs.Graphs.{Edges, targets_of}
 use Rattle.cx_graphs.specs.Grounds.{IsGrounded, grounded, ends_before, is_grounded}
 use Rattle.cx_graphs.proofs.Counting.{count, same_or_more, all_pass}
-use Rattle.cx_text.proofs.BoolLaws.{and_first, and_second, and_true}
+use Rattle.cx_text.proofs.BoolLaws.{and_left, and_second, and_true}
 use Rattle.cx_text.proofs.NumberLaws.{lt_true}
 
 each_of : (test : ℕ → Bool) (ms : List ℕ) → list_all test ms ≡ true → (m : ℕ) → In ms m → test m ≡ true
 each_of test [] h m i = absurd i
-each_of test (x ∷ ms) h m (inl e) = subst (λ y. test y ≡ true) e (and_first (test x) (list_all test ms) h)
+each_of test (x ∷ ms) h m (inl e) = subst (λ y. test y ≡ true) e (and_left (test x) (list_all test ms) h)
 each_of test (x ∷ ms) h m (inr i) = each_of test ms (and_second (test x) (list_all test ms) h) m i
 
 all_of : (test : ℕ → Bool) (ms : List ℕ) → ((m : ℕ) → In ms m → test m ≡ true) → list_all test ms ≡ true
@@ -20,7 +20,7 @@ all_of test (x ∷ ms) h = and_true (test x) (list_all test ms) (h x (inl refl))
 
 module _ (g : Edges) where
   node_within : (k n : ℕ) → ends_before g (suc k) n ≡ true → n < length g
-  node_within k n h = ltb-true n (length g) (and_first (nat_lt n (length g)) (list_all (ends_before g k) (targets_of g n)) h)
+  node_within k n h = ltb-true n (length g) (and_left (nat_lt n (length g)) (list_all (ends_before g k) (targets_of g n)) h)
 
   targets_end : (k n : ℕ) → ends_before g (suc k) n ≡ true → (m : ℕ) → In (targets_of g n) m → ends_before g k m ≡ true
   targets_end k n h = each_of (ends_before g k) (targets_of g n) (and_second (nat_lt n (length g)) (list_all (ends_before g k) (targets_of g n)) h)

@@ -16,7 +16,15 @@ use Rattle.cx_limits.specs.declared.rows.TreeCounts.{TreeCounts}
 use Rattle.cx_limits.specs.Inners.{capped_inner, below_at}
 
 abbrev pub plain_inner : Inner → counts.Inner
-plain_inner x = record { cells = x.cells; always = x.always; groups = x.groups; copies = x.copies; statements = x.statements; occurrences = x.occurrences }
+plain_inner x =
+    record {
+      cells = x.cells;
+      always = x.always;
+      groups = x.groups;
+      copies = x.copies;
+      statements = x.statements;
+      occurrences = x.occurrences;
+    }
 
 abbrev pub plain_inners : List (Option Inner) → Inners
 plain_inners below = map (option_map plain_inner) below
@@ -30,7 +38,13 @@ abbrev pub no_trees : TreeCounts
 no_trees = record { instances = 0; depth = 0; weight = 0 }
 
 abbrev pub no_row : Row
-no_row = record { inner = record { cells = 0; always = 0; groups = 0; copies = 0; statements = 0; occurrences = 0 }; size = 0; trees = no_trees }
+no_row =
+    record {
+      inner =
+          record { cells = 0; always = 0; groups = 0; copies = 0; statements = 0; occurrences = 0 };
+      size = 0;
+      trees = no_trees;
+    }
 
 -- WHAT STANDS at the cells of a component, by the rows of the components
 abbrev pub inner_by : PlainDesign → List Row → PlainKind → Option counts.Inner
@@ -42,11 +56,21 @@ inners_by d rows cells = map (λ c. inner_by d rows c.kind) cells
 
 -- TREES beside others
 abbrev pub beside : TreeCounts → TreeCounts → TreeCounts
-beside a b = record { instances = capped (a.instances + b.instances); depth = max a.depth b.depth; weight = capped (a.weight + b.weight) }
+beside a b =
+    record {
+      instances = capped (a.instances + b.instances);
+      depth = max a.depth b.depth;
+      weight = capped (a.weight + b.weight);
+    }
 
 -- a component above the trees of its cells
 abbrev pub tree_above : Row → TreeCounts
-tree_above row = record { instances = capped (row.trees.instances + 1); depth = capped (row.trees.depth + 1); weight = capped (capped (row.size + 1) + row.trees.weight) }
+tree_above row =
+    record {
+      instances = capped (row.trees.instances + 1);
+      depth = capped (row.trees.depth + 1);
+      weight = capped (capped (row.size + 1) + row.trees.weight);
+    }
 
 -- the tree at a cell, by the row: a static component has nothing of its own in it
 abbrev pub tree_at : Option ℕ → Row → TreeCounts
@@ -63,7 +87,12 @@ trees_by d rows [] = no_trees
 trees_by d rows (c ∷ cs) = beside (tree_by d rows c.kind) (trees_by d rows cs)
 
 abbrev pub trees_in : Cells → TreeCounts
-trees_in cells = record { instances = capped (instances_within cells); depth = capped (depth_within cells); weight = capped (weight_within cells) }
+trees_in cells =
+    record {
+      instances = capped (instances_within cells);
+      depth = capped (depth_within cells);
+      weight = capped (weight_within cells);
+    }
 
 -- A ROW, where so much stands at the cells of a component
 pub record IsRowWith (part : PlainComponent) (below : Inners) (trees : TreeCounts) (row : Row) : Type 0 where
@@ -78,7 +107,8 @@ IsRowOf (Node part cells) row = IsRowWith part (inners_of cells) (trees_in cells
 -- the rows of the first so many components of an order, and of as many levels
 pub record IsTable (d : PlainDesign) (order : List ℕ) (done : ℕ) (rows : List Row) : Type 0 where
   pub sized : length rows ≡ length d.components
-  pub known : (i k m : ℕ) → i < done → slice_get order i ≡ Some k → i < m → IsRowOf (tree_within d m k) (get_or rows k no_row)
+  pub known : (i k m : ℕ) → i < done → slice_get order i ≡ Some k → i < m
+      → IsRowOf (tree_within d m k) (get_or rows k no_row)
 
 -- the rows of all components, and what stands at their cells by them
 pub record AreRows (d : PlainDesign) (rows : List Row) : Type 0 where
@@ -88,4 +118,10 @@ pub record AreRows (d : PlainDesign) (rows : List Row) : Type 0 where
 
 -- the counts over the tree of an instance
 abbrev pub counts_of : Instance → LimitTally
-counts_of i = record { instances = capped (counted_instances i); depth = capped (counted_depth i); words = capped (words_below i); weight = capped (counted_weight i) }
+counts_of i =
+    record {
+      instances = capped (counted_instances i);
+      depth = capped (counted_depth i);
+      words = capped (words_below i);
+      weight = capped (counted_weight i);
+    }

@@ -34,7 +34,9 @@ fn together(one: ControlCounts, other: ControlCounts) -> ControlCounts
 
 /// The statements of a static invoke.
 fn invoke_statements(part: &Component, below: &[Option<Inner>], number: u32) -> u64
-    ensures { result ≡ capped (counts.statement_count_of (counts.inner_for (plain_inners below.now) (invoke_at (plain_component part.now) number)) (counts.captures_in (invoke_at (plain_component part.now) number))) }
+    ensures { result ≡ capped (counts.statement_count_of
+        (counts.inner_for (plain_inners below.now) (invoke_at (plain_component part.now) number))
+        (counts.captures_in (invoke_at (plain_component part.now) number))) }
 {
     let captures = captures_in(part, number);
     match inner_for(part, below, number) {
@@ -47,7 +49,8 @@ fn invoke_statements(part: &Component, below: &[Option<Inner>], number: u32) -> 
 
 /// The statements that a statement counts for itself.
 fn own_statements(part: &Component, below: &[Option<Inner>], form: &Form) -> u64
-    ensures { result ≡ capped (counts.statements_for (plain_component part.now) (plain_inners below.now) (invoke_in (plain_form form.now))) }
+    ensures { result ≡ capped (counts.statements_for (plain_component part.now) (plain_inners below.now)
+        (invoke_in (plain_form form.now))) }
 {
     match form {
         Form::StaticInvoke(number) => invoke_statements(part, below, *number),
@@ -68,7 +71,9 @@ fn own_statements(part: &Component, below: &[Option<Inner>], form: &Form) -> u64
 
 /// The occurrences of a static invoke.
 fn invoke_occurrences(part: &Component, below: &[Option<Inner>], number: u32) -> u64
-    ensures { result ≡ capped (counts.occurrence_count_of (counts.inner_for (plain_inners below.now) (invoke_at (plain_component part.now) number)) (counts.captures_in (invoke_at (plain_component part.now) number))) }
+    ensures { result ≡ capped (counts.occurrence_count_of
+        (counts.inner_for (plain_inners below.now) (invoke_at (plain_component part.now) number))
+        (counts.captures_in (invoke_at (plain_component part.now) number))) }
 {
     match inner_for(part, below, number) {
         Some(inner) => inner.occurrences.saturating_add(captures_in(part, number)),
@@ -79,7 +84,8 @@ fn invoke_occurrences(part: &Component, below: &[Option<Inner>], number: u32) ->
 /// The occurrences of static groups in a form, before repetition, with those of static components.
 #[cycle(occurrences)]
 pub fn form_counted(part: &Component, below: &[Option<Inner>], form: &Form) -> u64
-    ensures { result ≡ capped (counts.form_counted (plain_component part.now) (plain_inners below.now) (plain_form form.now)) }
+    ensures { result ≡ capped
+        (counts.form_counted (plain_component part.now) (plain_inners below.now) (plain_form form.now)) }
 {
     match form {
         Form::Enable(group) => u64::from(group_length(part, *group).is_some()),
@@ -104,7 +110,8 @@ pub fn form_counted(part: &Component, below: &[Option<Inner>], form: &Form) -> u
 /// The occurrences in a statement.
 #[cycle(occurrences)]
 fn counted(part: &Component, below: &[Option<Inner>], statement: &Statement) -> u64
-    ensures { result ≡ capped (counts.counted (plain_component part.now) (plain_inners below.now) (plain_statement statement.now)) }
+    ensures { result ≡ capped
+        (counts.counted (plain_component part.now) (plain_inners below.now) (plain_statement statement.now)) }
 {
     form_counted(part, below, &statement.form)
 }
@@ -112,7 +119,8 @@ fn counted(part: &Component, below: &[Option<Inner>], statement: &Statement) -> 
 /// The occurrences in statements together.
 #[cycle(occurrences)]
 fn counted_in(part: &Component, below: &[Option<Inner>], parts: &[Statement]) -> u64
-    ensures { result ≡ capped (counts.counted_in (plain_component part.now) (plain_inners below.now) (plain_statements parts.now)) }
+    ensures { result ≡ capped
+        (counts.counted_in (plain_component part.now) (plain_inners below.now) (plain_statements parts.now)) }
 {
     let mut count = 0u64;
     for statement in parts {
@@ -154,7 +162,12 @@ fn is_invoke(part: &Component, form: &Form) -> bool
 
 /// Whether a statement that stands so is an island, or a static invoke in dynamic control.
 pub fn is_any_island(part: &Component, context: LimitContext, statement: &Statement) -> bool
-    ensures { result ≡ counts.is_any_island (plain_component part.now) (record { context = context_of context; form = form_of (plain_statement statement.now); place = place_of (plain_statement statement.now) }) }
+    ensures { result ≡ counts.is_any_island (plain_component part.now)
+        (record {
+          context = context_of context;
+          form = form_of (plain_statement statement.now);
+          place = place_of (plain_statement statement.now);
+        }) }
 {
     context == LimitContext::Dynamic
         && (is_island_form(part, &statement.form) || is_invoke(part, &statement.form))
@@ -167,8 +180,17 @@ fn own_counts(
     context: LimitContext,
     statement: &Statement,
 ) -> ControlCounts
-    ensures statements { result.statements ≡ capped (counts.statements_for (plain_component part.now) (plain_inners below.now) (invoke_in (form_of (plain_statement statement.now)))) }
-    ensures occurrences { result.occurrences ≡ capped (counts.island_counted (plain_component part.now) (plain_inners below.now) (counts.is_any_island (plain_component part.now) (record { context = context_of context; form = form_of (plain_statement statement.now); place = place_of (plain_statement statement.now) })) (form_of (plain_statement statement.now))) }
+    ensures statements { result.statements ≡
+        capped (counts.statements_for (plain_component part.now) (plain_inners below.now)
+        (invoke_in (form_of (plain_statement statement.now)))) }
+    ensures occurrences { result.occurrences ≡
+        capped (counts.island_counted (plain_component part.now) (plain_inners below.now)
+        (counts.is_any_island (plain_component part.now)
+        (record {
+          context = context_of context;
+          form = form_of (plain_statement statement.now);
+          place = place_of (plain_statement statement.now);
+        })) (form_of (plain_statement statement.now))) }
 {
     let occurrences = if is_any_island(part, context, statement) {
         form_counted(part, below, &statement.form)
@@ -189,7 +211,8 @@ fn statement_counts(
     context: LimitContext,
     statement: &Statement,
 ) -> ControlCounts
-    ensures { IsCounted (plain_component part.now) (plain_inners below.now) (visit (context_of context) (plain_statement statement.now)) result }
+    ensures { IsCounted (plain_component part.now) (plain_inners below.now)
+        (visit (context_of context) (plain_statement statement.now)) result }
 {
     together(
         own_counts(part, below, context, statement),
@@ -205,7 +228,8 @@ fn parts_counts(
     context: LimitContext,
     form: &Form,
 ) -> ControlCounts
-    ensures { IsCounted (plain_component part.now) (plain_inners below.now) (visit_parts (context_of context) (plain_form form.now)) result }
+    ensures { IsCounted (plain_component part.now) (plain_inners below.now)
+        (visit_parts (context_of context) (plain_form form.now)) result }
 {
     match form {
         Form::Empty | Form::Enable(_) | Form::StaticInvoke(_) | Form::Timed(_) => ControlCounts {
@@ -243,7 +267,8 @@ fn all_counts(
     context: LimitContext,
     statements: &[Statement],
 ) -> ControlCounts
-    ensures { IsCounted (plain_component part.now) (plain_inners below.now) (visit_all (context_of context) (plain_statements statements.now)) result }
+    ensures { IsCounted (plain_component part.now) (plain_inners below.now)
+        (visit_all (context_of context) (plain_statements statements.now)) result }
 {
     let mut counts = ControlCounts {
         statements: 0,
@@ -257,7 +282,8 @@ fn all_counts(
 
 /// The statements of a component's control, and the occurrences in its islands.
 pub fn control_counts(part: &Component, below: &[Option<Inner>]) -> ControlCounts
-    ensures { IsCounted (plain_component part.now) (plain_inners below.now) (statements_in (plain_component part.now)) result }
+    ensures { IsCounted (plain_component part.now) (plain_inners below.now)
+        (statements_in (plain_component part.now)) result }
 {
     statement_counts(part, below, LimitContext::Dynamic, &part.control)
 }

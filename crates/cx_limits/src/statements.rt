@@ -54,7 +54,12 @@ fn statement_limit(
     context: LimitContext,
     statement: &Statement,
 ) -> Option<Limited>
-    ensures { result ≡ option_map told (limit_at (plain_component part.now) (plain_inners below.now) (record { context = context_of context; form = form_of (plain_statement statement.now); place = place_of (plain_statement statement.now) })) }
+    ensures { result ≡ option_map told (limit_at (plain_component part.now) (plain_inners below.now)
+        (record {
+          context = context_of context;
+          form = form_of (plain_statement statement.now);
+          place = place_of (plain_statement statement.now);
+        })) }
 {
     if is_too_many(count_in(&statement.form)) {
         return Some(Limited::Repeat);
@@ -80,7 +85,8 @@ fn past(
     context: LimitContext,
     statement: &Statement,
 ) -> Option<FoundBreak>
-    ensures { result ≡ past_statements (plain_component part.now) (plain_inners below.now) best (visit (context_of context) (plain_statement statement.now)) }
+    ensures { result ≡ past_statements (plain_component part.now) (plain_inners below.now) best
+        (visit (context_of context) (plain_statement statement.now)) }
 {
     let limited = statement_limit(part, below, context, statement);
     past_parts(
@@ -101,7 +107,8 @@ fn past_parts(
     context: LimitContext,
     form: &Form,
 ) -> Option<FoundBreak>
-    ensures { result ≡ past_statements (plain_component part.now) (plain_inners below.now) best (visit_parts (context_of context) (plain_form form.now)) }
+    ensures { result ≡ past_statements (plain_component part.now) (plain_inners below.now) best
+        (visit_parts (context_of context) (plain_form form.now)) }
 {
     match form {
         Form::Empty | Form::Enable(_) | Form::StaticInvoke(_) | Form::Timed(_) => best,
@@ -135,7 +142,8 @@ fn past_all(
     context: LimitContext,
     statements: &[Statement],
 ) -> Option<FoundBreak>
-    ensures { result ≡ past_statements (plain_component part.now) (plain_inners below.now) best (visit_all (context_of context) (plain_statements statements.now)) }
+    ensures { result ≡ past_statements (plain_component part.now) (plain_inners below.now) best
+        (visit_all (context_of context) (plain_statements statements.now)) }
 {
     let mut best = best;
     for statement in statements {
@@ -150,7 +158,8 @@ pub fn past_control(
     below: &[Option<Inner>],
     best: Option<FoundBreak>,
 ) -> Option<FoundBreak>
-    ensures { result ≡ past_statements (plain_component part.now) (plain_inners below.now) best (statements_in (plain_component part.now)) }
+    ensures { result ≡ past_statements (plain_component part.now) (plain_inners below.now) best
+        (statements_in (plain_component part.now)) }
 {
     past(part, below, best, LimitContext::Dynamic, &part.control)
 }

@@ -10,7 +10,14 @@ within f next Done = next
 
 module _ (X : Type 0) (V : X → Type 0) where
   abbrev pub idle_machine : Machine X V
-  idle_machine = record { Place = Unit {0}; start = At tt; step = λ c s. Done; writes = λ c s x. None; faults = λ c s. false }
+  idle_machine =
+      record {
+        Place = Unit {0};
+        start = At tt;
+        step = λ c s. Done;
+        writes = λ c s x. None;
+        faults = λ c s. false;
+      }
 
   abbrev pub done_machine : Machine X V
   done_machine = record { Place = ⊥; start = Done; step = λ c s. Done; writes = λ c s x. None; faults = λ c s. false }
@@ -91,7 +98,14 @@ module _ {X : Type 0} {V : X → Type 0} where
   seq_faults A B (Second c) s = B.faults c s
 
   abbrev pub seq_machine : Machine X V → Machine X V → Machine X V
-  seq_machine A B = record { Place = InSeq A.Place B.Place; start = within First (second_start A B) A.start; step = seq_step A B; writes = seq_writes A B; faults = seq_faults A B }
+  seq_machine A B =
+      record {
+        Place = InSeq A.Place B.Place;
+        start = within First (second_start A B) A.start;
+        step = seq_step A B;
+        writes = seq_writes A B;
+        faults = seq_faults A B;
+      }
 
   abbrev pub par_machine : Machine X V → Machine X V → Machine X V
   par_machine A B = record {
@@ -119,7 +133,14 @@ module _ {X : Type 0} {V : X → Type 0} where
     if_faults A B (InElse c) s = B.faults c s
 
     abbrev pub if_machine : Machine X V → Machine X V → Machine X V
-    if_machine A B = record { Place = InIf A.Place B.Place; start = At AtTest; step = if_step A B; writes = if_writes A B; faults = if_faults A B }
+    if_machine A B =
+        record {
+          Place = InIf A.Place B.Place;
+          start = At AtTest;
+          step = if_step A B;
+          writes = if_writes A B;
+          faults = if_faults A B;
+        }
 
     abbrev pub while_step : (A : Machine X V) → InWhile A.Place → Store X V → Control (InWhile A.Place)
     while_step A AtHead s = by_test (test s) (within InBody (At AtHead) A.start) Done
@@ -134,7 +155,14 @@ module _ {X : Type 0} {V : X → Type 0} where
     while_faults A (InBody c) s = A.faults c s
 
     abbrev pub while_machine : Machine X V → Machine X V
-    while_machine A = record { Place = InWhile A.Place; start = At AtHead; step = while_step A; writes = while_writes A; faults = while_faults A }
+    while_machine A =
+        record {
+          Place = InWhile A.Place;
+          start = At AtHead;
+          step = while_step A;
+          writes = while_writes A;
+          faults = while_faults A;
+        }
 
   abbrev pub next_round : (A : Machine X V) → ℕ → Control (InRepeat A.Place)
   next_round A zero = Done

@@ -10,7 +10,7 @@ use Rattle.cx_meaning.specs.Instances.{At, Cells, Instance, Nothing, OfInstance,
 use Rattle.cx_meaning.specs.Calls.{called_in, called_by, if_instance}
 use Rattle.cx_meaning.specs.declared.ports.PortRef.{PortRef}
 use Rattle.cx_meaning.specs.declared.ports.PortRef.TheVariants as ports
-use Rattle.cx_text.proofs.OptionLaws.{none_some, some_inj}
+use Rattle.cx_text.proofs.OptionLaws.{none_some, some_is}
 
 module _ {S F : Type 0} (L : control.Leaves S F) where
   -- the leaves are steady
@@ -123,7 +123,7 @@ called_child cells (a ∷ rest) c e = of_target a.target e (called_child cells r
     of_at : (at : At) (d : ℕ) → cell_at cells d ≡ at → if_instance at d (called_in cells rest) ≡ Some c → (called_in cells rest ≡ Some c → (child : Instance) × (cell_at cells c ≡ OfInstance child)) → (child : Instance) × (cell_at cells c ≡ OfInstance child)
     of_at Nothing d is e later = later e
     of_at (OfRow row) d is e later = later e
-    of_at (OfInstance child) d is e later = (child, ap (cell_at cells) (sym (some_inj d c e)) ∙ is)
+    of_at (OfInstance child) d is e later = (child, ap (cell_at cells) (sym (some_is d c e)) ∙ is)
 
     of_target : (p : PortRef) → called_by cells p (called_in cells rest) ≡ Some c → (called_in cells rest ≡ Some c → (child : Instance) × (cell_at cells c ≡ OfInstance child)) → (child : Instance) × (cell_at cells c ≡ OfInstance child)
     of_target (ports.Cell d n) e later = of_at (cell_at cells d) d refl e later

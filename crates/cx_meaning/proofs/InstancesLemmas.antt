@@ -63,10 +63,6 @@ idle_below-row (an_instance own rest) (suc c) row d e = idle_below-row rest c ro
 pub nothing_instance : (child : Instance) → Nothing ≡ OfInstance child → ⊥
 nothing_instance child e = cc
 
-pub append_none : (path : Path) → path ++ [] ≡ path
-append_none [] = refl
-append_none (c ∷ path) = ap (λ p. c ∷ p) (append_none path)
-
 pub nothing_row : (row : Row) → Nothing ≡ OfRow row → ⊥
 nothing_row row e = cc
 

@@ -141,7 +141,19 @@ abbrev pub no_group : PlainGroup
 no_group = record { name = []; kind = Plain; assigns = []; place = no_place }
 
 abbrev pub no_component : PlainComponent
-no_component = record { name = []; latency = None; inputs = []; outputs = []; cells = []; groups = []; invokes = []; always = []; control = Placed Empty no_place; place = no_place }
+no_component =
+    record {
+      name = [];
+      latency = None;
+      inputs = [];
+      outputs = [];
+      cells = [];
+      groups = [];
+      invokes = [];
+      always = [];
+      control = Placed Empty no_place;
+      place = no_place;
+    }
 
 abbrev pub group_at : PlainComponent → ℕ → PlainGroup
 group_at part g = get_or part.groups g no_group

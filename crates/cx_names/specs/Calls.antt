@@ -7,12 +7,25 @@ use Rattle.cx_numbering.specs.DesignOf.{Invoke, one, port_of, cell_port, registe
 use Rattle.cx_names.specs.declared.invokes.Call.{Call}
 
 abbrev pub invoke_of : Call → Invoke
-invoke_of call = record { cell = call.cell.now; written = call.is_written; length = call.length; inputs = call.inputs.now; outputs = call.outputs.now; place = call.place }
+invoke_of call =
+    record {
+      cell = call.cell.now;
+      written = call.is_written;
+      length = call.length;
+      inputs = call.inputs.now;
+      outputs = call.outputs.now;
+      place = call.place;
+    }
 
 -- of an output, the assignment to its register, and that of the register's enable
 abbrev pub capture_of : PlainTree → PlainComponent → Invoke → BindItem → PlainAssign
 capture_of tree part k bind =
-    record { target = port_of tree part bind.value.form; guard = Always; source = record { port = cell_port tree part k.cell bind.name; place = bind.place }; place = k.place }
+    record {
+      target = port_of tree part bind.value.form;
+      guard = Always;
+      source = record { port = cell_port tree part k.cell bind.name; place = bind.place };
+      place = k.place;
+    }
 
 abbrev pub enable_of : PlainTree → PlainComponent → Invoke → BindItem → PlainAssign
 enable_of tree part k bind = record {

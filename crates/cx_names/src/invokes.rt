@@ -33,7 +33,9 @@ pub(crate) const ONE: PortRef = PortRef::Literal(1, 1);
 /// Adds the assignment of each bound input.
 pub(crate) fn add_inputs(site: &Site, assigns: &mut Vec<Assign>, call: Call) -> Result<(), Memory>
     requires { IsSite site.now }
-    ensures { OnOk result (plain_assigns assigns.new.items ≡ plain_assigns assigns.old.items ++ map (design.input_assign (tree_at site.now) (part_at site.now) (invoke_of call.entry)) call.entry.inputs.now) }
+    ensures { OnOk result (plain_assigns assigns.new.items ≡
+        plain_assigns assigns.old.items ++ map (design.input_assign (tree_at site.now) (part_at site.now)
+        (invoke_of call.entry)) call.entry.inputs.now) }
 {
     for bind in call.inputs {
         let target = cell_port(site, call.cell, &bind.name)?;
@@ -51,7 +53,8 @@ pub(crate) fn add_inputs(site: &Site, assigns: &mut Vec<Assign>, call: Call) -> 
 // The name of the port that an invoke of a cell drives. A cell that has none has an empty one.
 fn go_name(site: &Site, cell: &Name) -> &'static str
     requires { IsSite site.now }
-    ensures { result.now ≡ unwrap_or (design.found_go (tree_at site.now) (part_at site.now) (cell_among cell.now (part_at site.now).cells)) [] }
+    ensures { result.now ≡ unwrap_or (design.found_go (tree_at site.now) (part_at site.now)
+        (cell_among cell.now (part_at site.now).cells)) [] }
 {
     let Some(found) = site.scope.cell(cell) else {
         return "";
@@ -62,7 +65,9 @@ fn go_name(site: &Site, cell: &Name) -> &'static str
 // The port of a cell that an invoke drives.
 fn go_port(alloc: Global, site: &Site, cell: &Name) -> Result<PortRef, Memory>
     requires { IsSite site.now }
-    ensures { IfOk result (λ p. p ≡ design.go_port (tree_at site.now) (part_at site.now) (design.found_go (tree_at site.now) (part_at site.now) (cell_among cell.now (part_at site.now).cells)) cell.now) }
+    ensures { IfOk result (λ p. p ≡ design.go_port (tree_at site.now) (part_at site.now)
+        (design.found_go (tree_at site.now) (part_at site.now) (cell_among cell.now (part_at site.now).cells))
+        cell.now) }
 {
     let name = go_name(site, cell);
     let port = known_port(alloc, site, cell, name.as_bytes())?;
@@ -72,7 +77,11 @@ fn go_port(alloc: Global, site: &Site, cell: &Name) -> Result<PortRef, Memory>
 // The done of a cell, at a place.
 fn cell_done(alloc: Global, site: &Site, cell: &Name, place: Place) -> Result<PlacedPort, Memory>
     requires { IsSite site.now }
-    ensures { IfOk result (λ p. p ≡ record { port = design.cell_port (tree_at site.now) (part_at site.now) cell.now (codes "done"); place = place }) }
+    ensures { IfOk result (λ p. p ≡ record {
+      port = design.cell_port (tree_at site.now)
+          (part_at site.now) cell.now (codes "done");
+      place = place;
+    }) }
 {
     let port = known_port(alloc, site, cell, b"done")?;
     Ok(PlacedPort { port, place })
@@ -81,7 +90,8 @@ fn cell_done(alloc: Global, site: &Site, cell: &Name, place: Place) -> Result<Pl
 // The guard of a go: with outputs it is cut by the done.
 fn go_guard(alloc: Global, site: &Site, call: Call) -> Result<Guard, Memory>
     requires { IsSite site.now }
-    ensures { IfOk result (λ g. plain_guard g ≡ design.go_guard (tree_at site.now) (part_at site.now) (invoke_of call.entry) call.entry.outputs.now) }
+    ensures { IfOk result (λ g. plain_guard g ≡
+        design.go_guard (tree_at site.now) (part_at site.now) (invoke_of call.entry) call.entry.outputs.now) }
 {
     if call.outputs.is_empty() {
         return Ok(Guard::True);
@@ -93,7 +103,8 @@ fn go_guard(alloc: Global, site: &Site, call: Call) -> Result<Guard, Memory>
 // The assignment of the go.
 fn go(alloc: Global, site: &Site, call: Call) -> Result<Assign, Memory>
     requires { IsSite site.now }
-    ensures { IfOk result (λ a. plain_assign a ≡ design.go_assign (tree_at site.now) (part_at site.now) (invoke_of call.entry)) }
+    ensures { IfOk result (λ a.
+        plain_assign a ≡ design.go_assign (tree_at site.now) (part_at site.now) (invoke_of call.entry)) }
 {
     let target = go_port(alloc, site, call.cell)?;
     let guard = go_guard(alloc, site, call)?;
@@ -117,7 +128,8 @@ pub(crate) fn register_port(
     port: &[u8],
 ) -> Result<PortRef, Memory>
     requires { IsSite site.now }
-    ensures { IfOk result (λ p. p ≡ design.cell_port (tree_at site.now) (part_at site.now) (design.register_of (tree_at site.now) (part_at site.now) bind.now) port.now) }
+    ensures { IfOk result (λ p. p ≡ design.cell_port (tree_at site.now) (part_at site.now)
+        (design.register_of (tree_at site.now) (part_at site.now) bind.now) port.now) }
 {
     if let OperandForm::Port(cell, _) = &bind.value.form {
         return known_port(alloc, site, cell, port);
@@ -134,7 +146,11 @@ fn register_done(
     place: Place,
 ) -> Result<PlacedPort, Memory>
     requires { IsSite site.now }
-    ensures { IfOk result (λ p. p ≡ record { port = design.cell_port (tree_at site.now) (part_at site.now) (design.register_of (tree_at site.now) (part_at site.now) bind.now) (codes "done"); place = place }) }
+    ensures { IfOk result (λ p. p ≡ record {
+      port = design.cell_port (tree_at site.now) (part_at site.now)
+          (design.register_of (tree_at site.now) (part_at site.now) bind.now) (codes "done");
+      place = place;
+    }) }
 {
     let port = register_port(alloc, site, bind, b"done")?;
     Ok(PlacedPort { port, place })
@@ -148,7 +164,8 @@ pub(crate) fn capture(
     bind: &BindItem,
 ) -> Result<Assign, Memory>
     requires { IsSite site.now }
-    ensures { IfOk result (λ a. plain_assign a ≡ capture_of (tree_at site.now) (part_at site.now) (invoke_of call.entry) bind.now) }
+    ensures { IfOk result (λ a.
+        plain_assign a ≡ capture_of (tree_at site.now) (part_at site.now) (invoke_of call.entry) bind.now) }
 {
     let target = port(site, &bind.value.form)?;
     let source = cell_port(site, call.cell, &bind.name)?;
@@ -166,7 +183,8 @@ pub(crate) fn capture(
 // The assignment of the enable of an output's register.
 fn enable(alloc: Global, site: &Site, call: Call, bind: &BindItem) -> Result<Assign, Memory>
     requires { IsSite site.now }
-    ensures { IfOk result (λ a. plain_assign a ≡ enable_of (tree_at site.now) (part_at site.now) (invoke_of call.entry) bind.now) }
+    ensures { IfOk result (λ a.
+        plain_assign a ≡ enable_of (tree_at site.now) (part_at site.now) (invoke_of call.entry) bind.now) }
 {
     let target = register_port(alloc, site, bind, b"write_en")?;
     let source = cell_done(alloc, site, call.cell, call.place)?;
@@ -186,7 +204,10 @@ fn add_captures(
     call: Call,
 ) -> Result<(), Memory>
     requires { IsSite site.now }
-    ensures { OnOk result (plain_assigns assigns.new.items ≡ plain_assigns assigns.old.items ++ flat_map (design.capture_assigns (tree_at site.now) (part_at site.now) (invoke_of call.entry)) call.entry.outputs.now) }
+    ensures { OnOk result (plain_assigns assigns.new.items ≡
+        plain_assigns assigns.old.items ++ flat_map
+        (design.capture_assigns (tree_at site.now) (part_at site.now) (invoke_of call.entry))
+        call.entry.outputs.now) }
 {
     for bind in call.outputs {
         assigns.push(capture(alloc, site, call, bind)?)?;
@@ -198,7 +219,9 @@ fn add_captures(
 // The dones of the registers of the outputs, as guards.
 fn register_guards(alloc: Global, site: &Site, call: Call) -> Result<Vec<Guard>, Memory>
     requires { IsSite site.now }
-    ensures { IfOk result (λ gs. map plain_guard gs.items ≡ map (λ b. Atom (design.register_done (tree_at site.now) (part_at site.now) (invoke_of call.entry) b)) call.entry.outputs.now) }
+    ensures { IfOk result (λ gs. map plain_guard gs.items ≡
+        map (λ b. Atom (design.register_done (tree_at site.now) (part_at site.now) (invoke_of call.entry) b))
+        call.entry.outputs.now) }
 {
     let mut all = Vec::with_capacity(alloc, call.outputs.len())?;
     for bind in call.outputs {
@@ -211,7 +234,9 @@ fn register_guards(alloc: Global, site: &Site, call: Call) -> Result<Vec<Guard>,
 // The assignment of the done of the group.
 fn done(alloc: Global, site: &Site, group: u32, call: Call) -> Result<Assign, Memory>
     requires { IsSite site.now }
-    ensures { IfOk result (λ a. plain_assign a ≡ design.done_assign (tree_at site.now) (part_at site.now) (invoke_of call.entry) group call.entry.outputs.now) }
+    ensures { IfOk result (λ a. plain_assign a ≡
+        design.done_assign (tree_at site.now) (part_at site.now)
+        (invoke_of call.entry) group call.entry.outputs.now) }
 {
     match call.outputs {
         [] => {
@@ -235,7 +260,8 @@ fn done(alloc: Global, site: &Site, group: u32, call: Call) -> Result<Assign, Me
 
 // The assignment of the done of a group from this.
 fn done_when(group: u32, guard: Guard, source: PlacedPort, place: Place) -> Assign
-    ensures { plain_assign result ≡ record { target = PortRef.Done group; guard = plain_guard guard; source = source; place = place } }
+    ensures { plain_assign result ≡
+        record { target = PortRef.Done group; guard = plain_guard guard; source = source; place = place } }
 {
     Assign {
         target: PortRef::Done(group),
@@ -253,7 +279,8 @@ pub(crate) fn invoke_group(
     call: Call,
 ) -> Result<Group, Memory>
     requires { IsSite site.now }
-    ensures { IfOk result (λ g. plain_group g ≡ design.invoke_group (tree_at site.now) (part_at site.now) group (invoke_of call.entry)) }
+    ensures { IfOk result (λ g. plain_group g ≡
+        design.invoke_group (tree_at site.now) (part_at site.now) group (invoke_of call.entry)) }
 {
     let mut assigns = Vec::new(alloc);
     add_inputs(site, &mut assigns, call)?;

@@ -34,7 +34,17 @@ net_cell_at (a_child child rest) zero = AChild child
 net_cell_at (a_child child rest) (suc c) = net_cell_at rest c
 
 abbrev pub no_net_component : PlainNetComponent
-no_net_component = record { name = []; inputs = []; outputs = []; cells = []; registers = []; wires = []; holes = 0; drivers = [] }
+no_net_component =
+    record {
+      name = [];
+      inputs = [];
+      outputs = [];
+      cells = [];
+      registers = [];
+      wires = [];
+      holes = 0;
+      drivers = [];
+    }
 
 abbrev pub net_component_at : PlainNet → ℕ → PlainNetComponent
 net_component_at n k = get_or n.components k no_net_component
@@ -49,7 +59,8 @@ net_cells_for child (c ∷ cs) = add_net_cell child c.kind (net_cells_for child 
 
 abbrev pub net_within : PlainNet → ℕ → ℕ → NetInstance
 net_within n zero k = NetNode (net_component_at n k) no_net_cells
-net_within n (suc levels) k = NetNode (net_component_at n k) (net_cells_for (net_within n levels) (net_component_at n k).cells)
+net_within n (suc levels) k =
+    NetNode (net_component_at n k) (net_cells_for (net_within n levels) (net_component_at n k).cells)
 
 abbrev pub net_tree : PlainNet → NetInstance
 net_tree n = net_within n (length n.components) n.main

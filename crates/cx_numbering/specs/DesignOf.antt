@@ -1,5 +1,5 @@
--- THE DESIGN OF A TREE: its parts by number, and a group for each invoke that calls or captures. Where a name names nothing, its number is 0; a
--- tree that keeps the rules on names has none such.
+-- THE DESIGN OF A TREE: its parts by number, and a group for each invoke that calls or captures. Where a name names
+-- nothing, its number is 0; a tree that keeps the rules on names has none such.
 use Rattle.std.specs.Prelude.{ℕ, suc, ◌+◌, ◌^◌, ◌-◌, Bool, true, false, ◌||◌, is_some, nat_lt, List, [], ◌∷◌, ◌++◌, Option, Some, None, codes, map, flat_map, length, unwrap_or, if◌then◌else◌}
 use Rattle.cx_text.specs.declared.places.Place.{Place}
 use Rattle.cx_ast.specs.declared.operands.OperandItem.{OperandItem}
@@ -49,10 +49,13 @@ own_port None output = ports.Output output
 
 module _ (tree : ast.PlainTree) (part : ast.PlainComponent) where
   abbrev pub cell_port : List ℕ → List ℕ → PortRef
-  cell_port cell port = ports.Cell (number_or_0 cell (cell_names part)) (number_or_0 port (found_cell_ports tree (cell_among cell part.cells)))
+  cell_port cell port =
+      ports.Cell (number_or_0 cell (cell_names part))
+      (number_or_0 port (found_cell_ports tree (cell_among cell part.cells)))
 
   abbrev pub port_of : OperandForm → PortRef
-  port_of (operands.Own name) = own_port (number_of name (port_names part.inputs)) (number_or_0 name (port_names part.outputs))
+  port_of (operands.Own name) =
+      own_port (number_of name (port_names part.inputs)) (number_or_0 name (port_names part.outputs))
   port_of (operands.Port cell port) = cell_port cell port
   port_of (operands.Hole group hole) = ports.Done (number_or_0 group (group_names part))
   port_of (operands.Literal width value) = ports.Literal width value
@@ -88,7 +91,13 @@ module _ (tree : ast.PlainTree) (part : ast.PlainComponent) where
   guard_or_always (Some g) = guard_of g
 
   abbrev pub assign_of : ast.PlainAssign → PlainAssign
-  assign_of a = record { target = port_of a.target.form; guard = guard_or_always a.guard; source = placed_of a.source; place = a.place }
+  assign_of a =
+      record {
+        target = port_of a.target.form;
+        guard = guard_or_always a.guard;
+        source = placed_of a.source;
+        place = a.place;
+      }
 
   abbrev pub kind_of : GroupWord → GroupKind
   kind_of words.Plain = kinds.Plain
@@ -115,7 +124,13 @@ module _ (tree : ast.PlainTree) (part : ast.PlainComponent) where
 
   -- each named input is driven by its source
   abbrev pub input_assign : Invoke → BindItem → PlainAssign
-  input_assign k bind = record { target = cell_port k.cell bind.name; guard = Always; source = placed_of bind.value; place = k.place }
+  input_assign k bind =
+      record {
+        target = cell_port k.cell bind.name;
+        guard = Always;
+        source = placed_of bind.value;
+        place = k.place;
+      }
 
   -- with outputs the go is cut by the done
   abbrev pub go_guard : Invoke → List BindItem → PlainGuard
@@ -123,7 +138,13 @@ module _ (tree : ast.PlainTree) (part : ast.PlainComponent) where
   go_guard k (bind ∷ binds) = Negation (Atom (at k.place (cell_port k.cell (codes "done"))))
 
   abbrev pub go_assign : Invoke → PlainAssign
-  go_assign k = record { target = go_port (found_go (cell_among k.cell part.cells)) k.cell; guard = go_guard k k.outputs; source = at k.place one; place = k.place }
+  go_assign k =
+      record {
+        target = go_port (found_go (cell_among k.cell part.cells)) k.cell;
+        guard = go_guard k k.outputs;
+        source = at k.place one;
+        place = k.place;
+      }
 
   -- the cell of an output's register
   abbrev pub register_of : BindItem → List ℕ
@@ -138,25 +159,49 @@ module _ (tree : ast.PlainTree) (part : ast.PlainComponent) where
   -- r.in = c.q; r.write_en = c.done
   abbrev pub capture_assigns : Invoke → BindItem → List PlainAssign
   capture_assigns k bind =
-      record { target = port_of bind.value.form; guard = Always; source = at bind.place (cell_port k.cell bind.name); place = k.place }
-      ∷ record { target = cell_port (register_of bind) (codes "write_en"); guard = Always; source = at k.place (cell_port k.cell (codes "done")); place = k.place } ∷ []
+      record {
+        target = port_of bind.value.form;
+        guard = Always;
+        source = at bind.place (cell_port k.cell bind.name);
+        place = k.place;
+      }
+      ∷ record {
+        target = cell_port (register_of bind) (codes "write_en");
+        guard = Always;
+        source = at k.place (cell_port k.cell (codes "done"));
+        place = k.place;
+      } ∷ []
 
   abbrev pub register_done : Invoke → BindItem → PlacedPort
   register_done k bind = at k.place (cell_port (register_of bind) (codes "done"))
 
   -- the done of group g: c.done, or r.done of one register, or 1'd1 under the conjunction of several
   abbrev pub done_assign : Invoke → ℕ → List BindItem → PlainAssign
-  done_assign k g [] = record { target = ports.Done g; guard = Always; source = at k.place (cell_port k.cell (codes "done")); place = k.place }
-  done_assign k g (bind ∷ []) = record { target = ports.Done g; guard = Always; source = register_done k bind; place = k.place }
+  done_assign k g [] =
+      record {
+        target = ports.Done g;
+        guard = Always;
+        source = at k.place (cell_port k.cell (codes "done"));
+        place = k.place;
+      }
+  done_assign k g (bind ∷ []) =
+      record { target = ports.Done g; guard = Always; source = register_done k bind; place = k.place }
   done_assign k g (bind ∷ other ∷ binds) =
-      record { target = ports.Done g; guard = All (guards_of (map (λ b. Atom (register_done k b)) (bind ∷ other ∷ binds))); source = at k.place one; place = k.place }
+      record {
+        target = ports.Done g;
+        guard = All (guards_of (map (λ b. Atom (register_done k b)) (bind ∷ other ∷ binds)));
+        source = at k.place one;
+        place = k.place;
+      }
 
   -- the group of an invoke, of number g: the inputs in the order of the binds, the go, the captures, the done
   abbrev pub invoke_group : ℕ → Invoke → PlainGroup
   invoke_group g k = record {
     name = [];
     kind = kinds.Plain;
-    assigns = map (input_assign k) k.inputs ++ (go_assign k ∷ (flat_map (capture_assigns k) k.outputs ++ (done_assign k g k.outputs ∷ [])));
+    assigns =
+        map (input_assign k) k.inputs
+        ++ (go_assign k ∷ (flat_map (capture_assigns k) k.outputs ++ (done_assign k g k.outputs ∷ [])));
     place = k.place;
   }
 
@@ -170,11 +215,27 @@ module _ (tree : ast.PlainTree) (part : ast.PlainComponent) where
   -- what it captures: r.in = c.q; r.write_en = 1'd1
   abbrev pub static_capture : Invoke → BindItem → List PlainAssign
   static_capture k bind =
-      record { target = port_of bind.value.form; guard = Always; source = at bind.place (cell_port k.cell bind.name); place = k.place }
-      ∷ record { target = cell_port (register_of bind) (codes "write_en"); guard = Always; source = at k.place one; place = k.place } ∷ []
+      record {
+        target = port_of bind.value.form;
+        guard = Always;
+        source = at bind.place (cell_port k.cell bind.name);
+        place = k.place;
+      }
+      ∷ record {
+        target = cell_port (register_of bind) (codes "write_en");
+        guard = Always;
+        source = at k.place one;
+        place = k.place;
+      } ∷ []
 
   abbrev pub capture_group : Invoke → PlainGroup
-  capture_group k = record { name = []; kind = kinds.Timed 1; assigns = flat_map (static_capture k) k.outputs; place = k.place }
+  capture_group k =
+      record {
+        name = [];
+        kind = kinds.Timed 1;
+        assigns = flat_map (static_capture k) k.outputs;
+        place = k.place;
+      }
 
   -- NUMBERS. A static invoke has one of its own; each other invoke has a group, and so has a static one that captures
   abbrev pub capture_count : List BindItem → ℕ
@@ -215,7 +276,8 @@ abbrev mutual
   invokes_in (statements.StaticSeq length marks block) place = invokes_of block
   invokes_in (statements.StaticPar length marks block) place = invokes_of block
   invokes_in (statements.If test comb yes_block otherwise) place = invokes_of yes_block ++ invokes_else otherwise
-  invokes_in (statements.StaticIf length test yes_block otherwise) place = invokes_of yes_block ++ invokes_else otherwise
+  invokes_in (statements.StaticIf length test yes_block otherwise) place =
+      invokes_of yes_block ++ invokes_else otherwise
   invokes_in (statements.While test comb body) place = invokes_of body
   invokes_in (statements.Repeat count body) place = invokes_of body
   invokes_in (statements.StaticRepeat length count body) place = invokes_of body
@@ -233,7 +295,8 @@ abbrev mutual
 
   pub invokes_all : statements.PlainStatements → List Invoke
   invokes_all statements.NoStatements = []
-  invokes_all (statements.StatementThen (statements.Placed attributes form place) rest) = invokes_in form place ++ invokes_all rest
+  invokes_all (statements.StatementThen (statements.Placed attributes form place) rest) =
+      invokes_in form place ++ invokes_all rest
 
 -- STATEMENTS. n has the numbers that come next
 module _ (tree : ast.PlainTree) (part : ast.PlainComponent) where
@@ -253,7 +316,8 @@ module _ (tree : ast.PlainTree) (part : ast.PlainComponent) where
   abbrev pub of_block : Bool → Place → PlainStatements → PlainStatement
   of_block static place no_statements = Placed plain.Empty place
   of_block static place (a_statement s no_statements) = s
-  of_block static place (a_statement s (a_statement t rest)) = Placed (seq_form static (a_statement s (a_statement t rest))) place
+  of_block static place (a_statement s (a_statement t rest)) =
+      Placed (seq_form static (a_statement s (a_statement t rest))) place
 
   abbrev pub invoke_form : Bool → Next → PlainForm
   invoke_form true n = plain.Timed n.invoke
@@ -267,14 +331,25 @@ module _ (tree : ast.PlainTree) (part : ast.PlainComponent) where
     form_of n place (statements.StaticSeq length marks block) = plain.StaticSeq length (parts_of n block)
     form_of n place (statements.StaticPar length marks block) = plain.StaticPar length (parts_of n block)
     form_of n place (statements.If test comb block otherwise) =
-        plain.If (placed_of tree part test) (comb_number comb) (block_of false n block) (else_of false (past tree part n (invokes_of block)) place otherwise)
+        plain.If (placed_of tree part test) (comb_number comb) (block_of false n block)
+        (else_of false (past tree part n (invokes_of block)) place otherwise)
     form_of n place (statements.StaticIf written test block otherwise) =
-        plain.StaticIf written (placed_of tree part test) (block_of true n block) (else_of true (past tree part n (invokes_of block)) place otherwise)
-    form_of n place (statements.While test comb body) = plain.While (placed_of tree part test) (comb_number comb) (block_of false n body)
+        plain.StaticIf written (placed_of tree part test) (block_of true n block)
+        (else_of true (past tree part n (invokes_of block)) place otherwise)
+    form_of n place (statements.While test comb body) =
+        plain.While (placed_of tree part test) (comb_number comb) (block_of false n body)
     form_of n place (statements.Repeat count body) = plain.Repeat count (block_of false n body)
     form_of n place (statements.StaticRepeat length count body) = plain.StaticRepeat length count (block_of true n body)
     form_of n place (statements.Invoke cell inputs outputs) =
-        invoke_form (is_static_invoke tree part (record { cell = cell; written = false; length = None; inputs = inputs; outputs = outputs; place = place })) n
+        invoke_form (is_static_invoke tree part
+        (record {
+          cell = cell;
+          written = false;
+          length = None;
+          inputs = inputs;
+          outputs = outputs;
+          place = place;
+        })) n
     form_of n place (statements.StaticInvoke length cell inputs outputs) = plain.Timed n.invoke
 
     -- an absent block is the empty statement, with the place of the statement that lacks it
@@ -334,7 +409,13 @@ module _ (tree : ast.PlainTree) (part : ast.PlainComponent) where
   kind_or (AComponent component) = OfComponent (number_or_0 component.name (component_names tree))
 
   abbrev pub plain_cell_of : ast.PlainCell → PlainCell
-  plain_cell_of cell = record { name = cell.name; kind = kind_or (cell_of tree cell); external = is_external cell; place = cell.place }
+  plain_cell_of cell =
+      record {
+        name = cell.name;
+        kind = kind_or (cell_of tree cell);
+        external = is_external cell;
+        place = cell.place;
+      }
 
   abbrev pub decl_of : ast.PlainPort → PortDecl
   decl_of port = record { name = port.name; width = port.width }
@@ -355,4 +436,8 @@ module _ (tree : ast.PlainTree) (part : ast.PlainComponent) where
 
 -- THE DESIGN
 abbrev pub design_of : ast.PlainTree → PlainDesign
-design_of tree = record { components = map (component_of tree) tree.components; main = number_or_0 (codes "main") (component_names tree) }
+design_of tree =
+    record {
+      components = map (component_of tree) tree.components;
+      main = number_or_0 (codes "main") (component_names tree);
+    }

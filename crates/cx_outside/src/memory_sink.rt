@@ -37,7 +37,14 @@ impl MemSink {
     /// call stays at 2^64 - 1 once it is reached.
     pub fn new(most: usize, fails: Vec<u64>, room: Vec<u8>) -> MemSink
         requires some { 0 < most }
-        ensures value { result ≡ record { most = most; fails = fails.items; room = length room.items; written = []; calls = 0; faults = 0 } }
+        ensures value { result ≡ record {
+          most = most;
+          fails = fails.items;
+          room = length room.items;
+          written = [];
+          calls = 0;
+          faults = 0;
+        } }
     {
         MemSink {
             most,

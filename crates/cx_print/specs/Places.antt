@@ -38,13 +38,16 @@ abbrev mutual
   bare_form (plain.Par marks block) = plain.Par marks (bare_block block)
   bare_form (plain.StaticSeq length marks block) = plain.StaticSeq length marks (bare_block block)
   bare_form (plain.StaticPar length marks block) = plain.StaticPar length marks (bare_block block)
-  bare_form (plain.If test comb body otherwise) = plain.If (bare_operand test) comb (bare_block body) (bare_else otherwise)
-  bare_form (plain.StaticIf length test body otherwise) = plain.StaticIf length (bare_operand test) (bare_block body) (bare_else otherwise)
+  bare_form (plain.If test comb body otherwise) =
+      plain.If (bare_operand test) comb (bare_block body) (bare_else otherwise)
+  bare_form (plain.StaticIf length test body otherwise) =
+      plain.StaticIf length (bare_operand test) (bare_block body) (bare_else otherwise)
   bare_form (plain.While test comb body) = plain.While (bare_operand test) comb (bare_block body)
   bare_form (plain.Repeat count body) = plain.Repeat count (bare_block body)
   bare_form (plain.StaticRepeat length count body) = plain.StaticRepeat length count (bare_block body)
   bare_form (plain.Invoke cell inputs outputs) = plain.Invoke cell (map bare_bind inputs) (map bare_bind outputs)
-  bare_form (plain.StaticInvoke length cell inputs outputs) = plain.StaticInvoke length cell (map bare_bind inputs) (map bare_bind outputs)
+  bare_form (plain.StaticInvoke length cell inputs outputs) =
+      plain.StaticInvoke length cell (map bare_bind inputs) (map bare_bind outputs)
 
   pub bare_else : PlainElse → PlainElse
   bare_else NoElse = NoElse
@@ -67,13 +70,36 @@ abbrev pub bare_port : PlainPort → PlainPort
 bare_port p = record { attributes = p.attributes; name = p.name; width = p.width; place = start }
 
 abbrev pub bare_cell : PlainCell → PlainCell
-bare_cell c = record { attributes = c.attributes; name = c.name; marks = c.marks; kind = c.kind; numbers = c.numbers; place = start }
+bare_cell c =
+    record {
+      attributes = c.attributes;
+      name = c.name;
+      marks = c.marks;
+      kind = c.kind;
+      numbers = c.numbers;
+      place = start;
+    }
 
 abbrev pub bare_assign : PlainAssign → PlainAssign
-bare_assign a = record { attributes = a.attributes; target = bare_operand a.target; guard = option_map bare_guard a.guard; source = bare_operand a.source; place = start }
+bare_assign a =
+    record {
+      attributes = a.attributes;
+      target = bare_operand a.target;
+      guard = option_map bare_guard a.guard;
+      source = bare_operand a.source;
+      place = start;
+    }
 
 abbrev pub bare_group : PlainGroup → PlainGroup
-bare_group g = record { attributes = g.attributes; kind = g.kind; name = g.name; marks = g.marks; assigns = map bare_assign g.assigns; place = start }
+bare_group g =
+    record {
+      attributes = g.attributes;
+      kind = g.kind;
+      name = g.name;
+      marks = g.marks;
+      assigns = map bare_assign g.assigns;
+      place = start;
+    }
 
 abbrev pub bare_wire : PlainWire → PlainWire
 bare_wire (wires.Group g) = wires.Group (bare_group g)

@@ -15,10 +15,24 @@ use Rattle.cx_profile.specs.Counted.{counts_group}
 -- GROUPS: a counted one has the assignments of its counter behind its own; the next counter's register is cell c
 module _ (move : PortRef → PortRef) where
   abbrev pub moved_invoke : PlainInvoke → PlainInvoke
-  moved_invoke v = record { cell = v.cell; written = v.written; length = v.length; latency = v.latency; inputs = map (moved_assign move) v.inputs; captures = v.captures }
+  moved_invoke v =
+      record {
+        cell = v.cell;
+        written = v.written;
+        length = v.length;
+        latency = v.latency;
+        inputs = map (moved_assign move) v.inputs;
+        captures = v.captures;
+      }
 
   abbrev pub grown_group : Place → ℕ → PlainGroup → PlainGroup
-  grown_group place c g = record { name = g.name; kind = g.kind; assigns = map (moved_assign move) g.assigns ++ counter_assigns place c; place = g.place }
+  grown_group place c g =
+      record {
+        name = g.name;
+        kind = g.kind;
+        assigns = map (moved_assign move) g.assigns ++ counter_assigns place c;
+        place = g.place;
+      }
 
   abbrev pub counted_group : List PlainCell → Place → ℕ → PlainGroup → PlainGroup
   counted_group cells place c g = if counts_group cells g then grown_group place c g else moved_group move g
@@ -29,7 +43,8 @@ next_register cells c g = if counts_group cells g then c + 2 else c
 module _ (move : PortRef → PortRef) where
   abbrev pub counted_groups : List PlainCell → Place → ℕ → List PlainGroup → List PlainGroup
   counted_groups cells place c [] = []
-  counted_groups cells place c (g ∷ gs) = counted_group move cells place c g ∷ counted_groups cells place (next_register cells c g) gs
+  counted_groups cells place c (g ∷ gs) =
+      counted_group move cells place c g ∷ counted_groups cells place (next_register cells c g) gs
 
 -- PORTS THAT SHOW COUNTS: so many registers, which are every second cell; and so many ports of a cell
 abbrev pub register_ports : ℕ → ℕ → List PortRef
@@ -61,7 +76,13 @@ port_assigns place n (p ∷ ps) = drive place (ports.Output n) p ∷ port_assign
 -- STORES of counts as words from j on
 module _ (place : Place) (names : List (List ℕ)) (memory width : ℕ) where
   abbrev pub store_group : ℕ → ℕ → ℕ → PortRef → PlainGroup
-  store_group n g j port = record { name = name_at names (n + j); kind = kinds.Plain; assigns = store_assigns place memory width (g + j) j port; place = place }
+  store_group n g j port =
+      record {
+        name = name_at names (n + j);
+        kind = kinds.Plain;
+        assigns = store_assigns place memory width (g + j) j port;
+        place = place;
+      }
 
   abbrev pub store_groups : ℕ → ℕ → ℕ → List PortRef → List PlainGroup
   store_groups n g j [] = []
@@ -109,9 +130,12 @@ module _ (move : PortRef → PortRef) (part : PlainComponent) where
     latency = part.latency;
     inputs = part.inputs;
     outputs = part.outputs;
-    cells = (part.cells ++ counter_cells part.place names 0 own) ++ memory_cell part.place (name_at names (2 * own)) (length shown) ∷ [];
+    cells =
+        (part.cells ++ counter_cells part.place names 0 own)
+        ++ memory_cell part.place (name_at names (2 * own)) (length shown) ∷ [];
     groups = counted_groups move part.cells part.place (length part.cells) part.groups
-        ++ store_groups part.place names (length part.cells + 2 * own) (address_width (length shown)) (2 * own + 1) (length part.groups) 0 shown;
+        ++ store_groups part.place names (length part.cells + 2 * own) (address_width (length shown))
+        (2 * own + 1) (length part.groups) 0 shown;
     invokes = map (moved_invoke move) part.invokes;
     always = map (moved_assign move) part.always;
     control = then_stores part.place (moved_statement move part.control) (length part.groups) (length shown);

@@ -22,13 +22,22 @@ renumber cells (ports.Literal w v) = ports.Literal w v
 -- the number of a cell's done, and the new one
 abbrev pub done_of : PlainDesign → PlainKind → NewDone
 done_of d (OfPrimitive primitive) = record { old = 0; new = 0 }
-done_of d (OfComponent k) = record { old = first_gained (component_at d k); new = first_gained (component_at d k) + gained d k }
+done_of d (OfComponent k) =
+    record { old = first_gained (component_at d k); new = first_gained (component_at d k) + gained d k }
 
 abbrev pub dones_of : PlainDesign → List PlainCell → List NewDone
 dones_of d cells = map (λ cell. done_of d cell.kind) cells
 
 abbrev pub renumbered_invoke : List NewDone → PlainInvoke → PlainInvoke
-renumbered_invoke cells v = record { cell = v.cell; written = v.written; length = v.length; latency = v.latency; inputs = map (moved_assign (renumber cells)) v.inputs; captures = v.captures }
+renumbered_invoke cells v =
+    record {
+      cell = v.cell;
+      written = v.written;
+      length = v.length;
+      latency = v.latency;
+      inputs = map (moved_assign (renumber cells)) v.inputs;
+      captures = v.captures;
+    }
 
 -- the components of cells are there
 abbrev pub IsThereKind : ℕ → PlainKind → Type 0

@@ -14,7 +14,7 @@ use Rattle.cx_rules.specs.Items.{operands_of, operands_in}
 use Rattle.cx_rules.specs.Footprints.{AssignNames}
 use Rattle.cx_race.specs.Cells.{cell_in, port_cell, target_in, named_in, driven_in, driven_by}
 use Rattle.cx_meaning.proofs.InstancesLemmas.{just_true, just_same}
-use Rattle.cx_text.proofs.BoolLaws.{or_right, either_true, or_left}
+use Rattle.cx_text.proofs.BoolLaws.{or_right, or_either, or_left}
 use Rattle.cx_rules.proofs.FoundLemmas.{guard_operand, operand_named}
 
 -- the list of a group, where the lists are those of all groups
@@ -59,7 +59,7 @@ driven_target (ports.Literal w v) c i = absurd i
 assigns_driven : (assigns : List PlainAssign) (c : ℕ) → assigns_drive assigns c ≡ true → In (driven_in assigns) c
 assigns_driven [] c h = absurd (cc)
 assigns_driven (a ∷ rest) c h =
-    ⊎_elim (λ x. in_left (target_in a) (driven_in rest) c (target_driven a.target c x)) (λ y. in_right (target_in a) (driven_in rest) c (assigns_driven rest c y)) (either_true (targets_cell a.target c) (assigns_drive rest c) h)
+    ⊎_elim (λ x. in_left (target_in a) (driven_in rest) c (target_driven a.target c x)) (λ y. in_right (target_in a) (driven_in rest) c (assigns_driven rest c y)) (or_either (targets_cell a.target c) (assigns_drive rest c) h)
 
 driven_assigns : (assigns : List PlainAssign) (c : ℕ) → In (driven_in assigns) c → assigns_drive assigns c ≡ true
 driven_assigns [] c i = absurd i
@@ -76,7 +76,7 @@ module _ (part : PlainComponent) where
       ⊎_elim
       (λ x. in_left (of_group g) (flat_map of_group gs) c (assigns_driven (group_at part g).assigns c x))
       (λ y. in_right (of_group g) (flat_map of_group gs) c (groups_driven gs c y))
-      (either_true (assigns_drive (group_at part g).assigns c) (groups_drive part gs c) h)
+      (or_either (assigns_drive (group_at part g).assigns c) (groups_drive part gs c) h)
 
   pub driven_groups : (gs : List ℕ) (c : ℕ) → In (flat_map of_group gs) c → groups_drive part gs c ≡ true
   driven_groups [] c i = absurd i

@@ -8,7 +8,7 @@ use Rattle.cx_rules.specs.Items.{option_list}
 use Rattle.cx_rules.specs.Invokes.{invoke_at, invokes_of, capture_of, captures_of, is_cell_of, invokes_cell, drives_all}
 use Rattle.cx_race.specs.Cells.{named_in_all, targets_in_group, targets_in_capture, named_in_capture, targets_in_invoke, named_in_invoke, targets_in_invokes, invoked_by, driven_by, driven_all_by}
 use Rattle.cx_race.proofs.CellLemmas.{groups_driven, driven_groups, in_driven, is_driven}
-use Rattle.cx_text.proofs.BoolLaws.{or_right, either_true, or_left}
+use Rattle.cx_text.proofs.BoolLaws.{or_right, or_either, or_left}
 use Rattle.cx_text.proofs.NumberLaws.{from_eq, same_numbers}
 
 module _ (part : PlainComponent) where
@@ -71,7 +71,7 @@ module _ (part : PlainComponent) where
       ⊎_elim
       (λ x. in_left (targets_at k) (targets_in_invokes part ks) c (cell_invoked (invoke_at part k) c x))
       (λ y. in_right (targets_at k) (targets_in_invokes part ks) c (cells_invoked ks c y))
-      (either_true (is_cell_of (invoke_at part k) c) (invokes_cell part ks c) h)
+      (or_either (is_cell_of (invoke_at part k) c) (invokes_cell part ks c) h)
 
   invoked_cells : (ks : List ℕ) (k c : ℕ) → In ks k → is_cell_of (invoke_at part k) c ≡ true → invokes_cell part ks c ≡ true
   invoked_cells [] k c i h = absurd i
@@ -102,8 +102,8 @@ module _ (part : PlainComponent) where
       ⊎_elim
       (λ x. in_right (invoked_by part s) (driven_by part s) c (in_driven part s c x))
       (λ y. in_left (invoked_by part s) (driven_by part s) c
-      (⊎_elim (λ l. cells_invoked ks c l) (λ r. captures_invoked ks c r) (either_true (invokes_cell part ks c) (groups_drive part (captures_of part ks) c) y)))
-      (either_true (drives part s c) (invokes_cell part ks c || groups_drive part (captures_of part ks) c) h)
+      (⊎_elim (λ l. cells_invoked ks c l) (λ r. captures_invoked ks c r) (or_either (invokes_cell part ks c) (groups_drive part (captures_of part ks) c) y)))
+      (or_either (drives part s c) (invokes_cell part ks c || groups_drive part (captures_of part ks) c) h)
 
   pub is_driven_all : (s : PlainStatement) (c : ℕ) → In (driven_all_by part s) c → drives_all part s c ≡ true
   is_driven_all s c i =

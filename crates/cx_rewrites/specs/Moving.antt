@@ -26,7 +26,13 @@ module _ (move : PortRef → PortRef) where
     moved_guards (a_guard g gs) = a_guard (moved_guard g) (moved_guards gs)
 
   abbrev pub moved_assign : PlainAssign → PlainAssign
-  moved_assign a = record { target = move a.target; guard = moved_guard a.guard; source = moved_port a.source; place = a.place }
+  moved_assign a =
+      record {
+        target = move a.target;
+        guard = moved_guard a.guard;
+        source = moved_port a.source;
+        place = a.place;
+      }
 
   abbrev pub moved_group : PlainGroup → PlainGroup
   moved_group g = record { name = g.name; kind = g.kind; assigns = map moved_assign g.assigns; place = g.place }

@@ -25,7 +25,13 @@ abbrev mutual
   unplaced_guards (a_guard g gs) = a_guard (unplaced_guard g) (unplaced_guards gs)
 
 abbrev pub unplaced_assign : PlainAssign → PlainAssign
-unplaced_assign a = record { target = a.target; guard = unplaced_guard a.guard; source = unplaced_port a.source; place = no_place }
+unplaced_assign a =
+    record {
+      target = a.target;
+      guard = unplaced_guard a.guard;
+      source = unplaced_port a.source;
+      place = no_place;
+    }
 
 abbrev pub unplaced_group : PlainGroup → PlainGroup
 unplaced_group g = record { name = g.name; kind = g.kind; assigns = map unplaced_assign g.assigns; place = no_place }
@@ -34,7 +40,15 @@ abbrev pub unplaced_cell : PlainCell → PlainCell
 unplaced_cell c = record { name = c.name; kind = c.kind; external = c.external; place = no_place }
 
 abbrev pub unplaced_invoke : PlainInvoke → PlainInvoke
-unplaced_invoke v = record { cell = v.cell; written = v.written; length = v.length; latency = v.latency; inputs = map unplaced_assign v.inputs; captures = v.captures }
+unplaced_invoke v =
+    record {
+      cell = v.cell;
+      written = v.written;
+      length = v.length;
+      latency = v.latency;
+      inputs = map unplaced_assign v.inputs;
+      captures = v.captures;
+    }
 
 abbrev pub unplaced_owned : Owned → Owned
 unplaced_owned o = record { owner = o.owner; assign = unplaced_assign o.assign }

@@ -14,7 +14,12 @@ numbers_of (OfPrimitive primitive) = primitive.numbers
 numbers_of (OfComponent k) = []
 
 abbrev pub row_for : PlainCell → PlainRow
-row_for cell = record { name = cell.name; width = first_number (numbers_of cell.kind); sizes = sizes_in (numbers_of cell.kind) }
+row_for cell =
+    record {
+      name = cell.name;
+      width = first_number (numbers_of cell.kind);
+      sizes = sizes_in (numbers_of cell.kind);
+    }
 
 abbrev pub if_external : Bool → PlainCell → List PlainRow → List PlainRow
 if_external true cell rest = row_for cell ∷ rest

@@ -30,12 +30,12 @@ use Rattle.cx_shape_calls.proofs.BoolLemmas.{any_in, any_has}
 use Rattle.cx_callees.proofs.TargetLemmas.{callee, target_of, is_dynamic}
 use Rattle.cx_callees.proofs.CalledLemmas.{called_sound, called_all, driven_by, part_callee}
 use Rattle.cx_shape_calls.proofs.WrongLemmas.{IsBroken, sound, complete}
-use Rattle.cx_text.proofs.OptionLaws.{some_is, none_some_also, same_some}
+use Rattle.cx_text.proofs.OptionLaws.{some_is, none_some, same_some}
 use Rattle.cx_text.proofs.ListLaws.{front, get_end}
 use Rattle.cx_text.proofs.NumberLaws.{before_more}
 use Rattle.cx_meaning.proofs.DesignsLemmas.{there_below, same_part as part_is}
 use Rattle.cx_rules.proofs.KeyOrder.{before_irreflexive}
-use Rattle.cx_text.proofs.BoolLaws.{from_not, or_left, or_right, both_true}
+use Rattle.cx_text.proofs.BoolLaws.{from_not, or_left, or_right, and_both}
 use Rattle.std.proofs.lemmas.Bool.{not_from_false}
 
 get_is : (groups : List PlainGroup) (n : ℕ) (group : PlainGroup) → slice_get groups n ≡ Some group → (get_or groups n no_group ≡ group) × (n < length groups)
@@ -127,7 +127,7 @@ module _ (d : PlainDesign) (k : ℕ) (within : k < length d.components) (shapes 
   shape_of g h = let r = are g h in (r.0, ap or_none r.1, r.2)
 
   plain_calling : (group : PlainGroup) → is_calling i group ≡ true → is_plain group.kind ≡ true
-  plain_calling group h = (both_true (is_plain group.kind) (not (is_none (called_of i group.assigns))) h).0
+  plain_calling group h = (and_both (is_plain group.kind) (not (is_none (called_of i group.assigns))) h).0
 
   group_sound : (o : Owned) (g : ℕ) → is_static_port i o.assign.target ≡ false → o.owner ≡ Some g → In (group_at (part_of i) g).assigns o.assign → (s : Option GroupShape) → IsShapeOf i g (group_at (part_of i) g) s
       → is_wrong_by i g o.assign s ≡ true → IsOutside i o ⊎ IsMisshapen i o
@@ -167,7 +167,7 @@ module _ (d : PlainDesign) (k : ℕ) (within : k < length d.components) (shapes 
       let plain : is_plain (group_at (part_of i) g).kind ≡ true = subst (λ n. is_plain (group_at (part_of i) n).kind ≡ true) same m.plain in
       let calls : Calls i (group_at (part_of i) g).assigns m.cell = subst (λ n. Calls i (group_at (part_of i) n).assigns m.cell) same m.calls in
       absurd (true≢false (sym (is_called i (group_at (part_of i) g) m.cell plain calls) ∙ idle))
-  group_complete o g e there (Some s) is (inl (part, inl none)) = absurd (none_some_also g (sym none ∙ e))
+  group_complete o g e there (Some s) is (inl (part, inl none)) = absurd (none_some g (sym none ∙ e))
   group_complete o g e there (Some s) is (inl (part, inr other)) =
       let same : other.0 ≡ g = some_is other.0 g (sym other.1 ∙ e) in
       absurd (true≢false (sym (plain_calling (group_at (part_of i) g) is.0.calling) ∙ subst (λ n. is_plain (group_at (part_of i) n).kind ≡ false) same other.2))
@@ -188,7 +188,7 @@ module _ (d : PlainDesign) (k : ℕ) (within : k < length d.components) (shapes 
     where
       bare : o.owner ≡ None → IsOutside i o ⊎ IsMisshapen i o → is_part_port i o.assign.target ≡ true
       bare none (inl outside) = outside.0
-      bare none (inr m) = absurd (none_some_also m.group (sym none ∙ m.owner))
+      bare none (inr m) = absurd (none_some m.group (sym none ∙ m.owner))
 
   -- AN ASSIGNMENT breaks the rule on calls or that on static cells, as is told
   bad_sound : (o : Owned) → In (source_order (component_at d k)) o → is_refused i shapes o ≡ true

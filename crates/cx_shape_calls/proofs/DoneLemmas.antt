@@ -18,7 +18,7 @@ use Rattle.cx_rules.specs.CallShape.{go_port, register_done, wanted_dones, with_
 use Rattle.cx_callees.specs.Callees.{PlainCallee, plain_callee, done_of, called_of}
 use Rattle.cx_shape_calls.specs.Forms.{count_of, is_wrong_done, lacks_go_or_done, is_none, is_calling}
 use Rattle.cx_shape_calls.proofs.CaptureLemmas.{eq_sym}
-use Rattle.cx_text.proofs.BoolLaws.{both_true}
+use Rattle.cx_text.proofs.BoolLaws.{and_both}
 use Rattle.cx_text.proofs.NumberLaws.{from_eq}
 
 both_same : (a b c d : ℕ) → nat_eq a b && nat_eq c d ≡ nat_eq b a && nat_eq d c
@@ -73,7 +73,7 @@ with_one false o n h = omega arith
 
 pub same_key : (times : ℕ → ℕ → ℕ) (c p d q : ℕ) → nat_eq c d && nat_eq p q ≡ true → times d q ≡ times c p
 same_key times c p d q h =
-    let is = both_true (nat_eq c d) (nat_eq p q) h in
+    let is = and_both (nat_eq c d) (nat_eq p q) h in
     sym (ap (λ v. times v p) (from_eq c d is.0) ∙ ap (λ v. times d v) (from_eq p q is.1))
 
 pub targets_counted : (w : PortRef) (assigns : List Assign) → count_of w (map (λ a. a.target) assigns) ≡ length (with_target w (map plain_assign assigns))

@@ -30,7 +30,7 @@ use Rattle.cx_shape_calls.proofs.BoolLemmas.{any_in, any_has}
 use Rattle.cx_shape_state.specs.Resting.{rests_at}
 use Rattle.cx_shape_state.specs.StateBreaks.{all_rest}
 use Rattle.cx_shape_state.proofs.StateLemmas.{one_fails, all_fail, unrested, never_rests}
-use Rattle.cx_text.proofs.BoolLaws.{from_not, either_true, or_left, or_right}
+use Rattle.cx_text.proofs.BoolLaws.{from_not, or_either, or_left, or_right}
 use Rattle.std.proofs.lemmas.Bool.{not_from_false}
 use Rattle.cx_rules.proofs.FoundLemmas.{source_in, source_named}
 
@@ -68,7 +68,7 @@ module _ (c : ℕ) (inputs : List PlainAssign) where
       ⊎_elim
       (λ l. (count, omega arith, from_not (is_bound c inputs count) l))
       (λ r. let x = unbound_sound count r in (x.0, omega (arith, x.1), x.2))
-      (either_true (not (is_bound c inputs count)) (some_unbound c inputs count) h)
+      (or_either (not (is_bound c inputs count)) (some_unbound c inputs count) h)
 
   pub unbound_complete : (count n : ℕ) → n < count → is_bound c inputs n ≡ false → some_unbound c inputs count ≡ true
   unbound_complete zero n h e = absurd (omega (arith, h))

@@ -19,7 +19,7 @@ use Rattle.cx_shape_calls.proofs.BoolLemmas.{not_same, other_than, grouped, any_
 use Rattle.cx_callees.proofs.TargetLemmas.{callee, Target, target_of, is_dynamic}
 use Rattle.cx_callees.proofs.CalledLemmas.{callee_is, driven_by, called_sound, called_all, part_callee, part_port_is}
 use Rattle.cx_text.proofs.NumberLaws.{from_eq, equal}
-use Rattle.cx_text.proofs.BoolLaws.{from_not, either_true, or_left, or_right, both_true}
+use Rattle.cx_text.proofs.BoolLaws.{from_not, or_either, or_left, or_right, and_both}
 use Rattle.std.proofs.lemmas.Bool.{not_from_false}
 use Rattle.cx_meaning.proofs.PortsLemmas.{same_self}
 
@@ -161,7 +161,7 @@ module _ (i : Instance) (g : ℕ) where
 
     hole_sound : is_hole_of g a.target && is_bad ≡ true → IsBroken a.target
     hole_sound h =
-        let b = both_true (is_hole_of g a.target) is_bad h in
+        let b = and_both (is_hole_of g a.target) is_bad h in
         let dones = with_target (ports.Done g) assigns in
         let registers = captured (part_of i) assigns in
         let r = any_in (λ k. not (is_right_done (wanted_dones (done_of k) registers) dones)) called (sym bad_is ∙ b.1) in
@@ -187,7 +187,7 @@ module _ (i : Instance) (g : ℕ) where
             ⊎_elim
             (λ o. other_sound other k t e o)
             (λ p. port_sound other k t (part_port k.part (port_number a.target)) refl p)
-            (either_true (calls_other called k.cell) (wrong_port driven dependent a k (port_number a.target) (part_port k.part (port_number a.target))) h)
+            (or_either (calls_other called k.cell) (wrong_port driven dependent a k (port_number a.target) (part_port k.part (port_number a.target))) h)
 
     -- A BREAK, so wrong
     of_callee : (k : PlainCallee) (t : PortRef) → callee_of i t ≡ Some k → (calls_other called k.cell ≡ true) ⊎ (wrong_port driven dependent a k (port_number t) (part_port k.part (port_number t)) ≡ true)

@@ -24,7 +24,7 @@ use Rattle.cx_shape_rules.specs.ShapeBreaks.{ShapeFamily, told_if, lacks_done, i
 use Rattle.cx_shape_rules.proofs.PartLemmas.{group_there, below_there}
 use Rattle.cx_rules.proofs.KeyOrder.{before_irreflexive}
 use Rattle.cx_meaning.proofs.DesignsLemmas.{there_below, same_part}
-use Rattle.cx_text.proofs.BoolLaws.{both_true, and_true, either_true, or_left, or_right, from_not}
+use Rattle.cx_text.proofs.BoolLaws.{and_both, and_true, or_either, or_left, or_right, from_not}
 
 -- what the list tells is a break
 abbrev Holds : PlainDesign → Broken → Type 0
@@ -64,7 +64,7 @@ module _ (d : PlainDesign) (k n : ℕ) (g : PlainGroup) (within : k < length d.c
 
   no_done : lacks_done n g ≡ true → BreaksNoDone (component_of d k) n g.place g.name
   no_done h =
-      let two = both_true (is_plain g.kind) (not (some_target (is_hole_of n) g.assigns)) h in
+      let two = and_both (is_plain g.kind) (not (some_target (is_hole_of n) g.assigns)) h in
       subst (λ x. (is_plain x.kind ≡ true) × (some_target (is_hole_of n) x.assigns ≡ false) × Tells g.place g.name x.place x.name) (sym seen)
       (two.0, from_not (some_target (is_hole_of n) g.assigns) two.1, (refl, refl))
 
@@ -96,7 +96,7 @@ comb_owner part (Some g) h = (g, refl, h)
 bad_among : (n : Option ℕ) (rs : List Range) → some_bad n rs ≡ true → (r : Range) × In rs r × (is_bad_range n r ≡ true)
 bad_among n [] h = absurd (true≢false (sym h))
 bad_among n (r ∷ rs) h =
-    ⊎_elim (λ p. (r, inl refl, p)) (λ p. let rest = bad_among n rs p in (rest.0, inr rest.1, rest.2)) (either_true (is_bad_range n r) (some_bad n rs) h)
+    ⊎_elim (λ p. (r, inl refl, p)) (λ p. let rest = bad_among n rs p in (rest.0, inr rest.1, rest.2)) (or_either (is_bad_range n r) (some_bad n rs) h)
 
 among_bad : (n : Option ℕ) (rs : List Range) (r : Range) → In rs r → is_bad_range n r ≡ true → some_bad n rs ≡ true
 among_bad n [] r i h = absurd i
@@ -131,13 +131,13 @@ module _ (d : PlainDesign) (k n : ℕ) (a : Owned) (within : k < length d.compon
   always_holds : (b : Broken) → In always b → Holds d b
   always_holds b h =
       let found = told_in (is_always_enable at a) rules.AlwaysEnable here a.assign.place called b h in
-      let two = both_true (is_none a.owner) (is_primitive_enable at a.assign.target) found.0 in
+      let two = and_both (is_none a.owner) (is_primitive_enable at a.assign.target) found.0 in
       subst (Holds d) found.1 (inr (inr (inl (refl, on_assign BreaksAlwaysEnable (owner_none a.owner two.0, two.1, (refl, refl))))))
 
   comb_holds : (b : Broken) → In comb b → Holds d b
   comb_holds b h =
       let found = told_in (is_comb_enable at a) rules.CombEnable here a.assign.place called b h in
-      let two = both_true (is_owned_by_comb (part_of at) a.owner) enables found.0 in
+      let two = and_both (is_owned_by_comb (part_of at) a.owner) enables found.0 in
       let owner = comb_owner (part_of at) a.owner two.0 in
       subst (Holds d) found.1 (inr (inr (inr (inl (refl, on_assign BreaksCombEnable (owner.0, owner.1, owner.2, two.1, (refl, refl)))))))
 
@@ -172,7 +172,7 @@ zero_is : (n : ℕ) → n ≡ 0 → nat_eq n 0 ≡ true
 zero_is n h = grind (arith, tests)
 
 wrong_length : (o : Option ℕ) (n : ℕ) → is_wrong o n ≡ true → ((w : ℕ) × (o ≡ Some w) × (w ≢ n)) ⊎ (n ≡ 0)
-wrong_length o n h = ⊎_elim (λ p. inl (other_length o n p)) (λ p. inr (is_zero n p)) (either_true (is_other o n) (nat_eq n 0) h)
+wrong_length o n h = ⊎_elim (λ p. inl (other_length o n p)) (λ p. inr (is_zero n p)) (or_either (is_other o n) (nat_eq n 0) h)
 
 is_wrong_length : (o : Option ℕ) (n : ℕ) → ((w : ℕ) × (o ≡ Some w) × (w ≢ n)) ⊎ (n ≡ 0) → is_wrong o n ≡ true
 is_wrong_length o n (inl p) = or_left (is_other o n) (nat_eq n 0) (is_other_length o n p.0 p.1 p.2)
@@ -180,21 +180,21 @@ is_wrong_length o n (inr p) = or_right (is_other o n) (nat_eq n 0) (zero_is n p)
 
 amiss_breaks : (i : Instance) (v : Visited) → is_amiss (part_of i) v ≡ true → BreaksStaticControl i v v.place (enabled_name (part_of i) v.form)
 amiss_breaks i v h =
-    let two = both_true (is_in_static v.context) (not (may_stand (part_of i) v.context v.form)) h in
+    let two = and_both (is_in_static v.context) (not (may_stand (part_of i) v.context v.form)) h in
     (two.0, from_not (may_stand (part_of i) v.context v.form) two.1, (refl, refl))
 
 length_breaks : (i : Instance) (v : Visited) → has_wrong_length (part_of i) v ≡ true → BreaksLength i v v.place []
 length_breaks i v h =
     let part = part_of i in
-    let two = both_true (is_static v.form && form_has_length part v.context v.form) (is_wrong (written_length v.form) (form_lasts part v.form)) h in
-    let one = both_true (is_static v.form) (form_has_length part v.context v.form) two.0 in
+    let two = and_both (is_static v.form && form_has_length part v.context v.form) (is_wrong (written_length v.form) (form_lasts part v.form)) h in
+    let one = and_both (is_static v.form) (form_has_length part v.context v.form) two.0 in
     (one.0, one.1, wrong_length (written_length v.form) (form_lasts part v.form) two.1, (refl, refl))
 
 wrong_invoke : (o : Option PlainInvoke) → is_wrong_invoke o ≡ true
     → (w : PlainInvoke) × (o ≡ Some w) × (is_timed (Some w) ≡ true) × (((n : ℕ) × (w.length ≡ Some n) × (n ≢ invoke_length (Some w))) ⊎ (invoke_length (Some w) ≡ 0))
 wrong_invoke None h = absurd (true≢false (sym h))
 wrong_invoke (Some w) h =
-    let two = both_true (is_timed (Some w)) (is_wrong w.length (invoke_length (Some w))) h in
+    let two = and_both (is_timed (Some w)) (is_wrong w.length (invoke_length (Some w))) h in
     (w, refl, two.0, wrong_length w.length (invoke_length (Some w)) two.1)
 
 -- a form of which a static invoke is told is one
@@ -290,11 +290,11 @@ module _ (part : PlainComponent) where
 
   wrong_control : (o : Option ℕ) → is_wrong_control part o ≡ true → (latency : ℕ) × (o ≡ Some latency) × IsWrongControl part latency
   wrong_control None h = absurd (true≢false (sym h))
-  wrong_control (Some latency) h = (latency, refl, ⊎_elim (λ p. inl (from_not (may_stand part InStatic body) p)) unlike (either_true is_misplaced (is_unlike latency) h))
+  wrong_control (Some latency) h = (latency, refl, ⊎_elim (λ p. inl (from_not (may_stand part InStatic body) p)) unlike (or_either is_misplaced (is_unlike latency) h))
     where
       unlike : is_unlike latency ≡ true → IsWrongControl part latency
       unlike p =
-          let two = both_true (form_has_length part InStatic body) (is_other (Some latency) (form_lasts part body)) p in
+          let two = and_both (form_has_length part InStatic body) (is_other (Some latency) (form_lasts part body)) p in
           inr (has_length_of part InStatic part.control ∙ two.0, λ e. other_than latency (form_lasts part body) two.1 (sym e ∙ lasts_of part part.control))
 
   control_is_wrong : (latency : ℕ) → IsWrongControl part latency → is_wrong_control part (Some latency) ≡ true

@@ -11,11 +11,17 @@ abbrev pub capped : ℕ → ℕ
 capped n = min n (2 ^ 128 - 1)
 
 abbrev pub measure_in : PlainComponent → Context → PlainForm → Measure
-measure_in part context form = record { has_length = form_has_length part context form; cycles = capped (form_lasts part form) }
+measure_in part context form =
+    record { has_length = form_has_length part context form; cycles = capped (form_lasts part form) }
 
 abbrev pub measure_of : PlainComponent → Visited → Measure
 measure_of part v = measure_in part v.context v.form
 
 -- of statements one after the other, and side by side
 abbrev pub totals_of : PlainComponent → PlainStatements → Totals
-totals_of part parts = record { all_have_length = all_have_length part parts; sum = capped (sum_lasts part parts); longest = capped (max_lasts part parts) }
+totals_of part parts =
+    record {
+      all_have_length = all_have_length part parts;
+      sum = capped (sum_lasts part parts);
+      longest = capped (max_lasts part parts);
+    }

@@ -6,7 +6,7 @@ use Rattle.cx_graphs.specs.Edges.{with_edge, no_edges}
 use Rattle.cx_shape_state.specs.Waits.{if_reader, tabled}
 use Rattle.cx_shape_state.specs.Joining.{with_edges, joined}
 use Rattle.cx_text.proofs.NumberLaws.{apart_numbers, apart_above, same_numbers}
-use Rattle.cx_text.proofs.ListLaws.{append_none}
+use Rattle.cx_text.proofs.ListLaws.{nothing_more}
 
 pub with_edge-edges : (g : Edges) (n m : ℕ) → with_edge g n m ≡ with_edges g n (m ∷ [])
 with_edge-edges [] n m = refl
@@ -15,7 +15,7 @@ with_edge-edges (ms ∷ rest) (suc n) m = ap (λ g. ms ∷ g) (with_edge-edges r
 
 pub with_edges-none : (g : Edges) (n : ℕ) → with_edges g n [] ≡ g
 with_edges-none [] n = refl
-with_edges-none (ms ∷ rest) zero = ap (λ l. l ∷ rest) (append_none ms)
+with_edges-none (ms ∷ rest) zero = ap (λ l. l ∷ rest) (nothing_more ms)
 with_edges-none (ms ∷ rest) (suc n) = ap (λ g. ms ∷ g) (with_edges-none rest n)
 
 pub with_edges-more : (g : Edges) (n : ℕ) (xs ys : List ℕ) → with_edges (with_edges g n xs) n ys ≡ with_edges g n (xs ++ ys)
@@ -25,7 +25,7 @@ with_edges-more (ms ∷ rest) (suc n) xs ys = ap (λ g. ms ∷ g) (with_edges-mo
 
 pub joined-none : (g : Edges) (n : ℕ) → joined g n (λ c. []) ≡ g
 joined-none [] n = refl
-joined-none (ms ∷ rest) n = ap (λ l. l ∷ joined rest (suc n) (λ c. [])) (append_none ms) ∙ ap (λ g. ms ∷ g) (joined-none rest (suc n))
+joined-none (ms ∷ rest) n = ap (λ l. l ∷ joined rest (suc n) (λ c. [])) (nothing_more ms) ∙ ap (λ g. ms ∷ g) (joined-none rest (suc n))
 
 pub joined-same : (g : Edges) (n : ℕ) (f h : ℕ → List ℕ) → ((c : ℕ) → f c ≡ h c) → joined g n f ≡ joined g n h
 joined-same [] n f h e = refl
@@ -39,7 +39,7 @@ joined_past : (g : Edges) (n : ℕ) (f : ℕ → List ℕ) → ((c : ℕ) → n 
 joined_past [] n f e = refl
 joined_past (ms ∷ rest) n f e =
     ap (λ l. (ms ++ l) ∷ joined rest (suc n) f) (e n (omega arith))
-    ∙ ap (λ l. l ∷ joined rest (suc n) f) (append_none ms)
+    ∙ ap (λ l. l ∷ joined rest (suc n) f) (nothing_more ms)
     ∙ ap (λ g. ms ∷ g) (joined_past rest (suc n) f (λ c h. e c (omega (arith, h))))
 
 -- what one node gets
@@ -53,7 +53,7 @@ joined-one (ms ∷ rest) n t zero f e =
 joined-one (ms ∷ rest) n t (suc d) f e =
     let apart : cond (nat_eq t n) (f n) [] ≡ [] = ap (λ b. cond b (f n) []) (apart_above t n (omega (arith, e))) in
     ap (λ g. ms ∷ g) (joined-one rest (suc n) t d f (omega (arith, e)))
-    ∙ ap (λ l. l ∷ joined rest (suc n) (λ c. if_reader (Some t) c (f c))) (sym (append_none ms) ∙ ap (λ l. ms ++ l) (sym apart))
+    ∙ ap (λ l. l ∷ joined rest (suc n) (λ c. if_reader (Some t) c (f c))) (sym (nothing_more ms) ∙ ap (λ l. ms ++ l) (sym apart))
 
 pub joined_no_edges : (f : ℕ → List ℕ) (n k : ℕ) → joined (no_edges k) n f ≡ tabled f n k
 joined_no_edges f n zero = refl

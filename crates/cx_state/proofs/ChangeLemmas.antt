@@ -16,7 +16,8 @@ use Rattle.cx_state.specs.States.{PlainInstance, no_instance, instance_state, St
 use Rattle.cx_state.proofs.StandLemmas.{past}
 use Rattle.cx_state.proofs.ReadLemmas.{Entered, enter, inside_back}
 use Rattle.cx_text.proofs.NumberLaws.{same_or}
-use Rattle.cx_meaning.proofs.InstancesLemmas.{just_true, just_same, append_none}
+use Rattle.cx_meaning.proofs.InstancesLemmas.{just_true, just_same}
+use Rattle.cx_text.proofs.ListLaws.{nothing_more}
 use Rattle.cx_state.proofs.StatesLemmas.{put_empty}
 use Rattle.cx_text.proofs.OptionLaws.{none_is_some}
 
@@ -119,5 +120,5 @@ cycle_changed d rows s after n path new held act listed lt stands at goes own =
     let u : State = state_after (outcome_of listed (seen (instance_at (tree_of d) path) held act (under_path path s)) (cells_of (instance_at (tree_of d) path)) (under_path path s)) (under_path path s) in
     let same : u ≡ after = (goes_to _ u after goes).1 in
     changed d rows s after n path new lt stands at own
-    (ap (λ (v : State). v []) (sym same) ∙ ap s (append_none path))
+    (ap (λ (v : State). v []) (sym same) ∙ ap s (nothing_more path))
     (λ c e below. ap (λ (v : State). v (c ∷ e ∷ below)) (sym same))

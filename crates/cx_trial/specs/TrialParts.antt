@@ -40,7 +40,9 @@ abbrev pub finish : List ℕ → List ℕ → PlainAssign
 finish group cell = assign_of (record { form = Hole group (codes "done"); place = place }) (port_of cell (codes "done"))
 
 abbrev pub group_of : List ℕ → List PlainAssign → PlainWire
-group_of name assigns = Group (record { attributes = []; kind = Plain; name = name; marks = []; assigns = assigns; place = place })
+group_of name assigns =
+    Group
+    (record { attributes = []; kind = Plain; name = name; marks = []; assigns = assigns; place = place })
 
 -- a group that adds a number to a register
 abbrev pub sum_group : List ℕ → List ℕ → List ℕ → ℕ → PlainWire
@@ -53,7 +55,9 @@ sum_group name adder register number = group_of name (
 
 -- step k of arm i adds seed + 5i + 3k, modulo 1000
 abbrev pub step_group : ℕ → ℕ → ℕ → PlainWire
-step_group seed arm step = sum_group (step_name arm step) (indexed (codes "a") arm) (indexed (codes "r") arm) ((seed + (5 * arm + 3 * step)) % 1000)
+step_group seed arm step =
+    sum_group (step_name arm step) (indexed (codes "a") arm) (indexed (codes "r") arm)
+    ((seed + (5 * arm + 3 * step)) % 1000)
 
 -- the sum of an arm's registers goes to its word of the memory
 abbrev pub store_group : ℕ → PlainWire
@@ -67,7 +71,15 @@ store_group arm = group_of (indexed (codes "t") arm) (
 
 -- a cell of 32 bits
 abbrev pub cell : List ℕ → ℕ → List ℕ → PlainCell
-cell letter arm kind = record { attributes = []; name = indexed letter arm; marks = []; kind = kind; numbers = 32 ∷ []; place = place }
+cell letter arm kind =
+    record {
+      attributes = [];
+      name = indexed letter arm;
+      marks = [];
+      kind = kind;
+      numbers = 32 ∷ [];
+      place = place;
+    }
 
 -- @external mem = std_mem_d1(32, 16, 4)
 abbrev pub memory_cell : PlainCell

@@ -100,7 +100,15 @@ edge_of i = if length i.step == 0 then None else Some (record { reset = i.reset;
 
 -- a module of these ports without instances
 abbrev pub module_with : List ℕ → List PlainPort → Interior → PlainModule
-module_with name ports i = record { name = name; ports = ports; decls = i.decls; assigns = i.assigns; instances = []; edge = edge_of i }
+module_with name ports i =
+    record {
+      name = name;
+      ports = ports;
+      decls = i.decls;
+      assigns = i.assigns;
+      instances = [];
+      edge = edge_of i;
+    }
 
 -- the module of a primitive, under a name
 abbrev pub module_of : PrimitiveRow → List ℕ → PlainModule

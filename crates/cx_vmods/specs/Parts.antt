@@ -35,7 +35,9 @@ nothing = record { decls = []; assigns = []; reset = []; step = [] }
 
 -- one piece more
 unfoldable pub with_piece : Interior → Piece → Interior
-with_piece i (Wire name width value) = record i { decls = i.decls ++ WireOf (spelled name) width ∷ []; assigns = i.assigns ++ assign name value ∷ [] }
+with_piece i (Wire name width value) =
+    record i
+    { decls = i.decls ++ WireOf (spelled name) width ∷ []; assigns = i.assigns ++ assign name value ∷ [] }
 with_piece i (Output name value) = record i { assigns = i.assigns ++ assign name value ∷ [] }
 with_piece i (Register name width next) = record i {
   decls = i.decls ++ RegisterOf (spelled name) width ∷ [];
@@ -44,7 +46,10 @@ with_piece i (Register name width next) = record i {
 }
 with_piece i (Array name width size) = record i { decls = i.decls ++ ArrayOf (spelled name) width size ∷ [] }
 with_piece i (Store guard array index value) =
-    record i { step = i.step ++ StoreTo (record { guard = guard; array = spelled array; index = index; value = value }) ∷ [] }
+    record i {
+      step = i.step ++
+          StoreTo (record { guard = guard; array = spelled array; index = index; value = value }) ∷ [];
+    }
 
 -- more pieces, in their order
 abbrev pub with_pieces : Interior → List Piece → Interior

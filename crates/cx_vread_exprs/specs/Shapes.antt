@@ -18,19 +18,26 @@ abbrev pub width_behind : Option ℕ → Option ℕ → Option ℕ
 width_behind first second = option_and_then (λ v. second) first
 
 abbrev pub indexed : Shape → Shape → Shape
-indexed array index = record { misnamed = array.misnamed || index.misnamed; width = width_behind index.width array.width }
+indexed array index =
+    record { misnamed = array.misnamed || index.misnamed; width = width_behind index.width array.width }
 
 abbrev pub operator_width : Operator → Option ℕ → Option ℕ → Option ℕ
 operator_width op left right = option_and_then (λ v. option_and_then (applied_width op v) right) left
 
 abbrev pub applied : Operator → Shape → Shape → Shape
-applied op left right = record { misnamed = left.misnamed || right.misnamed; width = operator_width op left.width right.width }
+applied op left right =
+    record { misnamed = left.misnamed || right.misnamed; width = operator_width op left.width right.width }
 
 abbrev pub choice_width : Option ℕ → Option ℕ → Option ℕ → Option ℕ
-choice_width test one other = option_and_then (λ t. option_and_then (λ v. option_and_then (chosen_width t v) other) one) test
+choice_width test one other =
+    option_and_then (λ t. option_and_then (λ v. option_and_then (chosen_width t v) other) one) test
 
 abbrev pub chosen : Shape → Shape → Shape → Shape
-chosen test one other = record { misnamed = test.misnamed || one.misnamed || other.misnamed; width = choice_width test.width one.width other.width }
+chosen test one other =
+    record {
+      misnamed = test.misnamed || one.misnamed || other.misnamed;
+      width = choice_width test.width one.width other.width;
+    }
 
 abbrev pub sides_width : Option ℕ → Option ℕ → Option ℕ
 sides_width high low = option_and_then (λ v. option_and_then (joined_width v) low) high

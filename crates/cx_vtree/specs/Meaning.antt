@@ -26,13 +26,18 @@ running s = record { state = s; reset = 0; go = 1 }
 -- an input of `main`; the clock, which no expression reads, is 0
 abbrev pub outside_value : Moment → List ℕ → BitVector
 outside_value m name =
-    record { width = 1; value = if same_name name (codes "reset") then m.reset else (if same_name name (codes "go") then m.go else 0) }
+    record {
+      width = 1;
+      value = if same_name name (codes "reset") then m.reset
+          else (if same_name name (codes "go") then m.go else 0);
+    }
 
 -- the word of an array at an index; 0 from its length on
 abbrev pub word_in : (List ℕ → ℕ → ℕ) → List PlainDecl → List ℕ → ℕ → BitVector
 word_in words [] name index = record { width = 0; value = 0 }
 word_in words (ArrayOf n w k ∷ ds) name index =
-    if same_name n name then record { width = w; value = if nat_lt index k then words name index else 0 } else word_in words ds name index
+    if same_name n name then record { width = w; value = if nat_lt index k then words name index else 0 }
+    else word_in words ds name index
 word_in words (WireOf n w ∷ ds) name index = word_in words ds name index
 word_in words (RegisterOf n w ∷ ds) name index = word_in words ds name index
 
@@ -42,10 +47,14 @@ expr_in nets words (Named n) = nets n
 expr_in nets words (Number b) = Some b
 expr_in nets words (Part n high low) = option_map (part_of high low) (nets n)
 expr_in nets words (Word n i) = option_map (λ k. words n k.value) (expr_in nets words i)
-expr_in nets words (Applied op a b) = option_and_then (λ x. option_map (operate op x) (expr_in nets words b)) (expr_in nets words a)
+expr_in nets words (Applied op a b) =
+    option_and_then (λ x. option_map (operate op x) (expr_in nets words b)) (expr_in nets words a)
 expr_in nets words (Inverted a) = option_map inverted (expr_in nets words a)
-expr_in nets words (Chosen c a b) = option_and_then (λ t. if t.value == 0 then expr_in nets words b else expr_in nets words a) (expr_in nets words c)
-expr_in nets words (Joined a b) = option_and_then (λ x. option_map (joined x) (expr_in nets words b)) (expr_in nets words a)
+expr_in nets words (Chosen c a b) =
+    option_and_then (λ t. if t.value == 0 then expr_in nets words b else expr_in nets words a)
+    (expr_in nets words c)
+expr_in nets words (Joined a b) =
+    option_and_then (λ x. option_map (joined x) (expr_in nets words b)) (expr_in nets words a)
 
 -- A look is what is known of the nets so far, by instance and name.
 abbrev pub Look : Type 0
@@ -90,27 +99,36 @@ pub data Asks (tree : List Placed) (m : Moment) (i : ℕ) : PlainExpr → List �
   by_right : {op : _} {a b : PlainExpr} {n : List ℕ} → Asks tree m i b n → Asks tree m i (Applied op a b) n
   by_inner : {a : PlainExpr} {n : List ℕ} → Asks tree m i a n → Asks tree m i (Inverted a) n
   by_test : {c a b : PlainExpr} {n : List ℕ} → Asks tree m i c n → Asks tree m i (Chosen c a b) n
-  by_one : {c a b : PlainExpr} {n : List ℕ} {v : BitVector} → Eval tree m i c v → (v.value ≡ 0 → ⊥) → Asks tree m i a n → Asks tree m i (Chosen c a b) n
-  by_other : {c a b : PlainExpr} {n : List ℕ} {v : BitVector} → Eval tree m i c v → v.value ≡ 0 → Asks tree m i b n → Asks tree m i (Chosen c a b) n
+  by_one : {c a b : PlainExpr} {n : List ℕ} {v : BitVector} → Eval tree m i c v → (v.value ≡ 0 → ⊥)
+      → Asks tree m i a n → Asks tree m i (Chosen c a b) n
+  by_other : {c a b : PlainExpr} {n : List ℕ} {v : BitVector} → Eval tree m i c v → v.value ≡ 0
+      → Asks tree m i b n → Asks tree m i (Chosen c a b) n
   by_high : {a b : PlainExpr} {n : List ℕ} → Asks tree m i a n → Asks tree m i (Joined a b) n
   by_low : {a b : PlainExpr} {n : List ℕ} → Asks tree m i b n → Asks tree m i (Joined a b) n
 
 -- the nets that a net needs
 pub data Needs (tree : List Placed) (m : Moment) : ℕ → List ℕ → ℕ → List ℕ → Type 0 where
   when_tied : {i j : ℕ} {name net : List ℕ} → origin_of tree i name ≡ Some (Tied j net) → Needs tree m i name j net
-  when_given : {i : ℕ} {name net : List ℕ} {e : PlainExpr} → origin_of tree i name ≡ Some (Given e) → Asks tree m i e net → Needs tree m i name i net
+  when_given : {i : ℕ} {name net : List ℕ} {e : PlainExpr} → origin_of tree i name ≡ Some (Given e)
+      → Asks tree m i e net → Needs tree m i name i net
 
 -- a rank goes down along what is needed, and what is needed is a net that something drives
 abbrev pub GoesDown : List Placed → Moment → (ℕ → List ℕ → ℕ) → Type 0
-GoesDown tree m rank = (i : ℕ) (name : List ℕ) (j : ℕ) (net : List ℕ) → Needs tree m i name j net → (rank j net < rank i name) × IsSome (origin_of tree j net)
+GoesDown tree m rank =
+    (i : ℕ) (name : List ℕ) (j : ℕ) (net : List ℕ) → Needs tree m i name j net
+    → (rank j net < rank i name) × IsSome (origin_of tree j net)
 
 -- a net has one value at most
 abbrev pub OneValue : Type 0
-OneValue = (tree : List Placed) (m : Moment) (i : ℕ) (name : List ℕ) (v w : BitVector) → HasValue tree m i name v → HasValue tree m i name w → v ≡ w
+OneValue =
+    (tree : List Placed) (m : Moment) (i : ℕ) (name : List ℕ) (v w : BitVector) → HasValue tree m i name v
+    → HasValue tree m i name w → v ≡ w
 
 -- an expression has one value at most
 abbrev pub OneEval : Type 0
-OneEval = (tree : List Placed) (m : Moment) (i : ℕ) (e : PlainExpr) (v w : BitVector) → Eval tree m i e v → Eval tree m i e w → v ≡ w
+OneEval =
+    (tree : List Placed) (m : Moment) (i : ℕ) (e : PlainExpr) (v w : BitVector) → Eval tree m i e v
+    → Eval tree m i e w → v ≡ w
 
 -- where a rank goes down along what is needed in this cycle, each net that something drives has a value
 abbrev pub RankedHave : Type 0

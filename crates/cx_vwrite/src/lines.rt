@@ -48,7 +48,8 @@ fn external_words(out: &mut Vec<u8>, name: &Name, instance: &Name) -> Result<(),
 
 /// Appends the comment line of an external memory.
 pub fn external(out: &mut Vec<u8>, e: &External) -> Result<(), Memory>
-    ensures { OnOk result (out.new.items ≡ out.old.items ++ (line_text (ExternalLine (plain_external e.now)) ++ codes "\n")) }
+    ensures { OnOk result
+        (out.new.items ≡ out.old.items ++ (line_text (ExternalLine (plain_external e.now)) ++ codes "\n")) }
 {
     external_words(out, &e.name, &e.instance)?;
     decimal(out, u64::from(e.width))?;
@@ -89,7 +90,8 @@ fn comma(out: &mut Vec<u8>, more: bool) -> Result<(), Memory>
 
 /// Appends the line of a port, with a comma where another follows.
 pub fn port(out: &mut Vec<u8>, p: &ModulePort, more: bool) -> Result<(), Memory>
-    ensures { OnOk result (out.new.items ≡ out.old.items ++ (line_text (PortLine (plain_port p.now) more) ++ codes "\n")) }
+    ensures { OnOk result
+        (out.new.items ≡ out.old.items ++ (line_text (PortLine (plain_port p.now) more) ++ codes "\n")) }
 {
     side(out, p.output)?;
     bounds(out, p.width)?;
@@ -131,7 +133,8 @@ pub fn decl(out: &mut Vec<u8>, d: &Decl) -> Result<(), Memory>
 
 /// Appends the line of an assign.
 pub fn assign(out: &mut Vec<u8>, a: &NetAssign) -> Result<(), Memory>
-    ensures { OnOk result (out.new.items ≡ out.old.items ++ (line_text (AssignLine (plain_assign a.now)) ++ codes "\n")) }
+    ensures { OnOk result
+        (out.new.items ≡ out.old.items ++ (line_text (AssignLine (plain_assign a.now)) ++ codes "\n")) }
 {
     push(out, b"  assign ")?;
     push(out, a.name.bytes())?;
@@ -177,7 +180,8 @@ fn conns(out: &mut Vec<u8>, cs: &[Conn]) -> Result<(), Memory>
 
 /// Appends the line of an instance.
 pub fn instance(out: &mut Vec<u8>, i: &Instance) -> Result<(), Memory>
-    ensures { OnOk result (out.new.items ≡ out.old.items ++ (line_text (InstanceLine (plain_instance i.now)) ++ codes "\n")) }
+    ensures { OnOk result
+        (out.new.items ≡ out.old.items ++ (line_text (InstanceLine (plain_instance i.now)) ++ codes "\n")) }
 {
     push(out, b"  ")?;
     push(out, i.module.bytes())?;
@@ -207,7 +211,13 @@ fn store(
     index: &Expr,
     value: &Expr,
 ) -> Result<(), Memory>
-    ensures { OnOk result (out.new.items ≡ out.old.items ++ (line_text (StoreLine (record { guard = plain_expr guard.now; array = array.now; index = plain_expr index.now; value = plain_expr value.now })) ++ codes "\n")) }
+    ensures { OnOk result (out.new.items ≡ out.old.items
+        ++ (line_text (StoreLine (record {
+          guard = plain_expr guard.now;
+          array = array.now;
+          index = plain_expr index.now;
+          value = plain_expr value.now;
+        })) ++ codes "\n")) }
 {
     push(out, b"      if (")?;
     expr(out, guard)?;

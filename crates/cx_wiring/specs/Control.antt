@@ -25,7 +25,8 @@ found_zero x port = both (at x) (Inverse (OfPort port))
 -- ARMS. Each has a region, whose register comes before those of the arm. The position behind all others says that the arm
 -- has ended, and is left where the par ends
 abbrev pub arm_stand : Stand → ℕ → ℕ → Stand
-arm_stand par wire register = record { wire = wire; register = suc register; position = 0; region = register; acts = at par }
+arm_stand par wire register =
+    record { wire = wire; register = suc register; position = 0; region = register; acts = at par }
 
 abbrev pub arm_over : ℕ → ℕ → PlainStatement → PlainNetExpr
 arm_over wire register s = either (equals (OfRegister register) (positions_of s)) (end_of wire)
@@ -44,7 +45,14 @@ abbrev pub in_earlier_round : Stand → ℕ → PlainNetExpr
 in_earlier_round x n = Compares NotEqual (OfRegister x.register) (word n)
 
 abbrev pub counted_inside : Stand → Stand
-counted_inside x = record { wire = suc (suc x.wire); register = suc x.register; position = x.position; region = x.region; acts = x.acts }
+counted_inside x =
+    record {
+      wire = suc (suc x.wire);
+      register = suc x.register;
+      position = x.position;
+      region = x.region;
+      acts = x.acts;
+    }
 
 abbrev pub counting : Stand → ℕ → List PlainNetDriver
 counting x n =
@@ -68,10 +76,12 @@ finishing wire control =
 
 -- a component of so many groups: hole g says that group g is done, and hole groups + g that it goes
 module _ (groups : ℕ) (islands : List PlainIsland) where
-  -- a group goes until its hole says that it is done. What gives it its go looks at the end of its own turn, which is that hole where control
-  -- stands there, so of all that may give it only one reads what changes
+  -- a group goes until its hole says that it is done. What gives it its go looks at the end of its own turn, which is
+  -- that hole where control stands there, so of all that may give it only one reads what changes
   abbrev pub enabled : Stand → ℕ → List PlainNetDriver
-  enabled x g = stands x ∷ ends x (both (at x) (OfHole g)) ∷ drive (ToHole (groups + g)) (at x) (Inverse (end_of x.wire)) ∷ []
+  enabled x g =
+      stands x ∷ ends x (both (at x) (OfHole g))
+      ∷ drive (ToHole (groups + g)) (at x) (Inverse (end_of x.wire)) ∷ []
 
   -- the comb group of a test, where there is one, goes in the turn of the test
   abbrev pub comb_goes : Stand → Option ℕ → List PlainNetDriver
@@ -133,7 +143,8 @@ module _ (groups : ℕ) (islands : List PlainIsland) where
     arms_drivers par wire register no_statements = []
     arms_drivers par wire register (a_statement s ss) =
         arm_restarts par register ∷ (drivers_of (arm_stand par wire register) s
-        ++ arm_finishes wire register s ∷ arms_drivers par (wire + wires_of s) (suc register + length (registers_of islands s)) ss)
+        ++ arm_finishes wire register s
+        ∷ arms_drivers par (wire + wires_of s) (suc register + length (registers_of islands s)) ss)
 
   -- CONTROL, with its first wire
   abbrev pub control_drivers : ℕ → PlainStatement → List PlainNetDriver

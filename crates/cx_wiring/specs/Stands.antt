@@ -35,11 +35,25 @@ goes x guard position = drive (ToRegister x.region) guard (word position)
 
 -- the first part of a statement, at the statement's own first position
 abbrev pub inside : Stand → Stand
-inside x = record { wire = suc (suc x.wire); register = x.register; position = x.position; region = x.region; acts = x.acts }
+inside x =
+    record {
+      wire = suc (suc x.wire);
+      register = x.register;
+      position = x.position;
+      region = x.region;
+      acts = x.acts;
+    }
 
 -- the first part of a statement with a test, which has a position before it
 abbrev pub past_test : Stand → Stand
-past_test x = record { wire = suc (suc x.wire); register = x.register; position = x.position + 1; region = x.region; acts = x.acts }
+past_test x =
+    record {
+      wire = suc (suc x.wire);
+      register = x.register;
+      position = x.position + 1;
+      region = x.region;
+      acts = x.acts;
+    }
 
 -- what follows a statement in its region
 abbrev pub behind : List PlainIsland → PlainStatement → Stand → Stand

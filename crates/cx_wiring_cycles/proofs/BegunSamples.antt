@@ -9,7 +9,7 @@ use Rattle.cx_meaning.specs.Islands.{length_of}
 use Rattle.cx_laws.specs.Positions.{no_port, port_at}
 use Rattle.cx_laws.specs.Samples.{Samples, form_ifs, ifs_of, ifs_in, form_by, statement_by, while_by, parts_by, arms_by, begun_by}
 use Rattle.cx_control.specs.Sampling.{within_length, behind_length, where_so, taken, form_now, statement_now, parts_now, arms_now}
-use Rattle.cx_text.proofs.OptionLaws.{some_inj}
+use Rattle.cx_text.proofs.OptionLaws.{some_is}
 
 so_some : (b : Bool) (o : Option ℕ) (j : ℕ) → where_so b o ≡ Some j → (b ≡ true) × (o ≡ Some j)
 so_some true o j e = (refl, e)
@@ -20,7 +20,7 @@ within_some len None j e = absurd cc
 within_some len (Some i) j e = by (nat_lt i len) refl e
   where
     by : (b : Bool) → nat_lt i len ≡ b → (if b then Some i else None) ≡ Some j → (Some i ≡ Some j) × (nat_lt j len ≡ true)
-    by true f g = (g, ap (λ k. nat_lt k len) (sym (some_inj i j g)) ∙ f)
+    by true f g = (g, ap (λ k. nat_lt k len) (sym (some_is i j g)) ∙ f)
     by false f g = absurd cc
 
 behind_some : (len : ℕ) (o : Option ℕ) (j : ℕ) → option_and_then (behind_length len) o ≡ Some j → (i : ℕ) × (o ≡ Some i) × (nat_lt i len ≡ false) × (i - len ≡ j)
@@ -29,11 +29,11 @@ behind_some len (Some i) j e = by (nat_lt i len) refl e
   where
     by : (b : Bool) → nat_lt i len ≡ b → (if b then None else Some (i - len)) ≡ Some j → (k : ℕ) × (◌≡◌ {A = Option ℕ} (Some i) (Some k)) × (nat_lt k len ≡ false) × (k - len ≡ j)
     by true f g = absurd cc
-    by false f g = (i, refl, f, some_inj (i - len) j g)
+    by false f g = (i, refl, f, some_is (i - len) j g)
 
 map_some : (p : ℕ) (o : Option ℕ) (j : ℕ) → option_map (λ k. k % p) o ≡ Some j → (i : ℕ) × (o ≡ Some i) × (i % p ≡ j)
 map_some p None j e = absurd cc
-map_some p (Some i) j e = (i, refl, some_inj (i % p) j e)
+map_some p (Some i) j e = (i, refl, some_is (i % p) j e)
 
 only_then : {A : Type 0} (b : Bool) (xs ys : List A) (x : A) → In (if b then xs else []) x → In (if b then xs else ys) x
 only_then true xs ys x i = i
@@ -157,4 +157,4 @@ pub begun_samples : (part : PlainComponent) (kept : Samples) (one other : PortRe
     → ((p : PortRef) → In (begun_by part (form_now part other kept form 0 (Some t)) t form) p → one p ≡ other p) → (m : ℕ) → form_now part one kept form 0 (Some t) m ≡ form_now part other kept form 0 (Some t) m
 begun_samples part kept one other form t ports m =
     form_alike part kept one other (form_now part other kept form 0 (Some t)) form 0 (Some t) (λ k low high. refl)
-    (λ j e p i. ports p (subst (λ k. In (form_by part (form_now part other kept form 0 (Some t)) no_port port_at form 0 k) p) (sym (some_inj t j e)) i)) m
+    (λ j e p i. ports p (subst (λ k. In (form_by part (form_now part other kept form 0 (Some t)) no_port port_at form 0 k) p) (sym (some_is t j e)) i)) m

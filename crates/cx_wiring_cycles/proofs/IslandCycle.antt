@@ -30,7 +30,7 @@ use Rattle.cx_wiring_cycles.proofs.TimerHolds.{counts_hold, counts_first}
 use Rattle.cx_wiring_cycles.proofs.CycleBits.{is_there, nested_there, taken_there, active_there}
 use Rattle.cx_wiring_cycles.proofs.IslandValues.{IslandLooks, live, sample, active, all_wanted, sample_wire, live_first, live_within, says_begins, active_is}
 use Rattle.cx_text.proofs.ListLaws.{there_below, there_at}
-use Rattle.cx_text.proofs.OptionLaws.{some_inj}
+use Rattle.cx_text.proofs.OptionLaws.{some_is}
 
 -- a timer within comes behind the one around it
 pub outer_before : (part : PlainComponent) (form : PlainForm) (front : List PlainCell) (n : ℕ) (timer : IslandTimer) → slice_get (island_gathered part form front).timers n ≡ Some timer → (o : ℕ) → timer.outer ≡ Some o → o < n
@@ -41,7 +41,7 @@ outer_before part form front zero timer e o f = let none : timer.outer ≡ None 
 outer_before part form front (suc n) timer e o f =
     let w = (island_listed part form front).within (suc n) timer e (omega arith) in
     let less : w.0 < suc n = TimerFits.before w.2 in
-    let is : w.0 ≡ o = some_inj w.0 o (sym w.1 ∙ f) in omega arith
+    let is : w.0 ≡ o = some_is w.0 o (sym w.1 ∙ f) in omega arith
 
 module _ (part : PlainComponent) (form : PlainForm) (front : List PlainCell) (groups : ℕ) (x : Stand) (first : ℕ) (around : NetAround) (registers : ℕ → Option BitVector) (look : Node → Option BitVector) (count : ℕ → ℕ) (done : Bool)
     (looks : IslandLooks groups x first (island_of (form_length part form) (island_gathered part form front)) around registers look count done) (t : ℕ) (less : t < form_length part form) (cycles : ℕ → ℕ)

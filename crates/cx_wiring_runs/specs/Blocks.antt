@@ -76,7 +76,12 @@ module _ (B : Block) where
   FitsInputs s around = (n : ℕ) (x : BitVector) → s (Input n) ≡ Value x → around.input n ≡ Some x
 
   abbrev pub after_edge : NetAround → NetState → NetLook → NetState
-  after_edge around v look = record { cell = λ path. B.cell_after look path (v.cell path); register = λ path n. B.register_after around v look path n }
+  after_edge around v look =
+      record {
+        cell = λ path.
+            B.cell_after look path (v.cell path);
+        register = λ path n. B.register_after around v look path n;
+      }
 
   abbrev pub block_idle : (x : Spot) → Holds x → Holds x
   block_idle = idle_by (λ path d. B.cell_idle path d) (λ path n v. B.number_idle path n v)
@@ -88,19 +93,27 @@ module _ (B : Block) where
   -- WITH GO, where the net shows a place, it is good and there is no fault, the edge makes the machine's step
   abbrev pub Runs : Type 0
   Runs = (p : Machine.Place (Coded.machine B.coded)) (s : Kept) (v : NetState) (around : NetAround) (look : NetLook)
-      → Coding.IsFine (Coded.coding B.coded) p → B.good (At p) (bare s) → Machine.faults (Coded.machine B.coded) p s ≡ false → Shows (At p) s v → HasGo around true → FitsInputs s around → Solves around v look
-      → Shows (Machine.step (Coded.machine B.coded) p s) (edge block_idle (Coded.machine B.coded) (At p) s) (after_edge around v look)
+      → Coding.IsFine (Coded.coding B.coded) p → B.good (At p) (bare s)
+      → Machine.faults (Coded.machine B.coded) p s ≡ false → Shows (At p) s v → HasGo around true
+      → FitsInputs s around → Solves around v look
+      → Shows (Machine.step (Coded.machine B.coded) p s)
+      (edge block_idle (Coded.machine B.coded) (At p) s) (after_edge around v look)
 
   -- WITHOUT GO, or at the end, the edge is idle, whatever the registers hold: neither the invariant nor a fault comes in
   pub record Idles : Type 0 where
-    pub cells : (v : NetState) (around : NetAround) (look : NetLook) → IsIdle around v → Solves around v look → (path : Path) → B.has_cell path ≡ true → B.cell_after look path (v.cell path) ≡ B.cell_idle path (v.cell path)
-    pub numbers : (v : NetState) (around : NetAround) (look : NetLook) → IsIdle around v → Solves around v look → (path : Path) (n : ℕ)
+    pub cells : (v : NetState) (around : NetAround) (look : NetLook) → IsIdle around v
+        → Solves around v look → (path : Path) → B.has_cell path ≡ true
+        → B.cell_after look path (v.cell path) ≡ B.cell_idle path (v.cell path)
+    pub numbers : (v : NetState) (around : NetAround) (look : NetLook) → IsIdle around v
+        → Solves around v look → (path : Path) (n : ℕ)
         → B.number_in (after_edge around v look) path n ≡ B.number_idle path n (B.number_in v path n)
 
   -- ITS DONE says whether its place is the end
   pub record TellsDone : Type 0 where
-    pub told : (v : NetState) (around : NetAround) (look : NetLook) → Solves around v look → (x : BitVector) × (look [] TheDone ≡ Some x)
-        × (B.number_in v [] 0 ≡ Coding.size (Coded.coding B.coded) → is_true x ≡ true) × ((B.number_in v [] 0 ≡ Coding.size (Coded.coding B.coded) → ⊥) → is_true x ≡ false)
+    pub told : (v : NetState) (around : NetAround) (look : NetLook) → Solves around v look
+        → (x : BitVector) × (look [] TheDone ≡ Some x)
+        × (B.number_in v [] 0 ≡ Coding.size (Coded.coding B.coded) → is_true x ≡ true)
+        × ((B.number_in v [] 0 ≡ Coding.size (Coded.coding B.coded) → ⊥) → is_true x ≡ false)
 
 -- all of them
 pub record BlockLaws (B : Block) : Type 0 where
@@ -108,8 +121,10 @@ pub record BlockLaws (B : Block) : Type 0 where
   pub idles : Idles B
   pub done : TellsDone B
 
--- where the net's state has the numbers of a component, `numbers` says: registers, and of an island the count and the done of its first timer
-module _ (wired : PlainComponent → PlainNetComponent) (timers : PlainComponent → List Row) (numbers : Instance → NetState → ℕ → ℕ) where
+-- where the net's state has the numbers of a component, `numbers` says: registers, and of an island the count and the
+-- done of its first timer
+module _ (wired : PlainComponent → PlainNetComponent) (timers : PlainComponent → List Row)
+    (numbers : Instance → NetState → ℕ → ℕ) where
   abbrev mutual
     pub numbers_at : Instance → NetState → Path → ℕ → ℕ
     numbers_at (instances.Node part cells) v [] n = numbers (instances.Node part cells) v n
@@ -165,4 +180,6 @@ module _ (wired : PlainComponent → PlainNetComponent) (timers : PlainComponent
 
   -- the laws of one node, from those of what stands at its cells
   abbrev pub NodeLaws : PlainComponent → Cells → Type 0
-  NodeLaws part cells = ((c : ℕ) (child : Instance) → cell_at cells c ≡ OfInstance child → BlockLaws (block_below cells (timers part) c)) → BlockLaws (block (instances.Node part cells))
+  NodeLaws part cells =
+      ((c : ℕ) (child : Instance) → cell_at cells c ≡ OfInstance child →
+      BlockLaws (block_below cells (timers part) c)) → BlockLaws (block (instances.Node part cells))

@@ -37,22 +37,37 @@ module _ (i : Instance) (around : NetAround) (s : NetState) (look : NetLook) whe
   value_beyond c p (OfInstance child) = unwrap_or (look (c ∷ []) TheDone) (zero_of (Some 1))
 
   abbrev pub port_value : Values
-  port_value (ports.Cell c p) = if has_port (cell_at (cells_of i) c) p then unwrap_or (look [] (APort (ports.Cell c p))) (zero_of None) else value_beyond c p (cell_at (cells_of i) c)
+  port_value (ports.Cell c p) =
+      if has_port (cell_at (cells_of i) c) p
+      then unwrap_or (look [] (APort (ports.Cell c p))) (zero_of None)
+      else value_beyond c p (cell_at (cells_of i) c)
   port_value (ports.Input n) = unwrap_or (around.input n) (zero_of (declared_width (part_of i).inputs n))
-  port_value (ports.Output n) = if nat_lt n (length (part_of i).outputs) then unwrap_or (look [] (APort (ports.Output n))) (zero_of None) else zero_of (declared_width (part_of i).outputs n)
-  port_value (ports.Done g) = if nat_lt g (length (part_of i).groups) then unwrap_or (look [] (AHole g)) (zero_of (Some 1)) else zero_of (Some 1)
+  port_value (ports.Output n) =
+      if nat_lt n (length (part_of i).outputs)
+      then unwrap_or (look [] (APort (ports.Output n))) (zero_of None)
+      else zero_of (declared_width (part_of i).outputs n)
+  port_value (ports.Done g) =
+      if nat_lt g (length (part_of i).groups) then unwrap_or (look [] (AHole g)) (zero_of (Some 1))
+      else zero_of (Some 1)
   port_value (ports.Literal w n) = record { width = w; value = n }
 
   -- the groups that go. A static group of which no island has an occurrence does not stand in
   -- the net
   abbrev pub goes_now : ℕ → Bool
-  goes_now g = is_true (unwrap_or (look [] (AHole (length (part_of i).groups + g))) (zero_of (Some 1))) && owner_drives (lowered_component (part_of i)) (Some g)
+  goes_now g =
+      is_true (unwrap_or (look [] (AHole (length (part_of i).groups + g))) (zero_of (Some 1)))
+      && owner_drives (lowered_component (part_of i)) (Some g)
 
   abbrev pub offset_now : ℕ → BitVector
   offset_now g = unwrap_or (look [] (AWire g)) (zero_of (Some 32))
 
   abbrev pub active_now : Active
-  active_now = record { offset = λ g. if goes_now g then Some (own_offset (group_length (part_of i) g) (offset_now g)) else None; done_cell = None }
+  active_now =
+      record {
+        offset = λ g. if goes_now g
+            then Some (own_offset (group_length (part_of i) g) (offset_now g)) else None;
+        done_cell = None;
+      }
 
   -- THE PORTS SOLVE their equations
   abbrev pub WiresSolve : Type 0
