@@ -15,7 +15,7 @@ from collections import defaultdict
 from dataclasses import dataclass
 
 CRATES = os.path.join(os.path.dirname(os.path.abspath(__file__)), '..', 'crates')
-DECLARED = re.compile(r'^( {0,4})((?:abbrev )?(?:pub )?)([^\s:]+) : (.*)$')
+DECLARED = re.compile(r'^( {0,4})((?:abbrev )?(?:pub )?)([^\s:()]+) : (.*)$')
 LEAST = 40
 
 
