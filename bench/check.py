@@ -77,6 +77,12 @@ def wide_par(n):
     return design(cells, ''.join(store(f'g{k}', f'r{k}') for k in range(n)), '    par { ' + ' '.join(f'g{k};' for k in range(n)) + ' }\n')
 
 
+def many_drivers(n):
+    """As many assignments to one port in a group, each where another number stands in a register."""
+    drivers = ''.join(f"      r.in = k.out == 32'd{k} ? 32'd{k};\n" for k in range(n))
+    return design('    r = std_reg(32);\n    k = std_reg(32);\n', f"    group g {{\n{drivers}      r.write_en = 1'd1; g[done] = r.done;\n    }}\n", '    g;\n')
+
+
 def many_components(n):
     parts = ''.join(f"component p{k}() -> () {{ cells {{ r = std_reg(1); }} wires {{ group g {{ r.in = 1'd1; r.write_en = 1'd1; "
                     'g[done] = r.done; } } control { g; } }\n' for k in range(n))
@@ -95,6 +101,7 @@ SHAPES = (
     ('groups at the end of a chain', groups_at_a_chain),
     ('the same, driven by a group', groups_at_a_driven_chain),
     ('a par of many arms', wide_par),
+    ('a port of many drivers', many_drivers),
     ('many components', many_components),
     ('control 62 deep, over and over', nested_control),
 )

@@ -1,13 +1,17 @@
 #!/usr/bin/env python3
-"""Times simulations by `sim` beside those of Icarus Verilog, on the same texts.
+"""Times simulations by `sim` beside those of Icarus Verilog, on the same texts, or beside those of the programs that Verilator makes of them.
 
-    bench/sim.py PROGRAM
+    bench/sim.py PROGRAM [--verilator]
 
 PROGRAM is the built calyx_cli. Icarus Verilog is installed where it is not there (Debian's package iverilog); where that fails only `sim` is
 timed. Both have to end in the same cycle with the same words, which is asserted. Printed are the cycles, the best time of three in
 seconds, that of `vvp`, and how many times as long `sim` takes. The time of a run that ends in cycle 1 is left out of both. Then come texts that
 `compile` writes: of these all of a run is timed, and `vvp` without `iverilog`. Last texts of 5, 20 and 80 MB are read and looked at for a cycle: printed are the seconds, and the peak of memory in MiB and for each byte of the text.
 Then come texts of 1,000 to 8,000 modules, each with an instance in `main`.
+
+With `--verilator` a table in Markdown is printed in place of all that: of each run the cycles, the best seconds of three of `sim`, from the start of the process to its
+end, those of the program that `verilator --cc --build` makes of the same text and a loop in C++ that turns its clock, how many times as long `sim` takes, the seconds in
+which that program was built, and how many times as long as the building and one run `sim` takes. Both have to print the same line.
 """
 import json
 import os
@@ -18,10 +22,15 @@ import sys
 import tempfile
 import time
 
+TOOLS = os.path.join(os.path.dirname(os.path.abspath(__file__)), '..', 'tools')
+sys.path.append(TOOLS)
+
+import testbench
+
 ROUNDS = 3
 # `vvp` takes minutes for texts of more enables.
 LONGEST = 5_000
-TESTBENCH = os.path.join(os.path.dirname(os.path.abspath(__file__)), '..', 'tools', 'testbench.py')
+TESTBENCH = os.path.join(TOOLS, 'testbench.py')
 BUDGET = '1000000000000'
 PORTS = '(\n  input wire [0:0] clk,\n  input wire [0:0] reset,\n'
 MAIN = 'module main' + PORTS + '  input wire [0:0] go,\n  output wire [0:0] done\n);\n'
@@ -44,6 +53,41 @@ BENCH = """module bench;
     $finish;
   end
 endmodule
+"""
+
+# What Verilator makes a class of: the words are set before the first edge, and written behind the last.
+HELD = """module bench(input clk, input reset, input go, output done);
+  integer k;
+  main dut(.clk(clk), .reset(reset), .go(go), .done(done));
+  initial begin
+{loads}
+  end
+  final begin
+{dumps}
+  end
+endmodule
+"""
+
+# The same cycles as those of BENCH.
+TURNS = """#include "Vbench.h"
+#include <cstdio>
+
+int main() {
+  Vbench bench;
+  auto step = [&](int clk) { bench.clk = clk; bench.eval(); };
+  bench.reset = 1;
+  bench.go = 0;
+  step(0);
+  step(1);
+  bench.reset = 0;
+  bench.go = 1;
+  step(0);
+  unsigned long cycle = 0;
+  for (; !bench.done; ++cycle) { step(1); step(0); }
+  std::printf("{\\"cycles\\":%lu,\\"memories\\":{", cycle);
+  bench.final();
+  std::printf("}}\\n");
+}
 """
 
 
@@ -148,13 +192,17 @@ def by_icarus(folder, text, words):
     return cycle, held, took
 
 
+def data_of(words):
+    """The data file of a text whose memory has so many words."""
+    return {'mem': {'data': list(range(words)), 'format': {'numeric_type': 'bitnum', 'is_signed': False, 'width': 32}}} if words else {}
+
+
 def by_sim(program, folder, text, words):
     """The cycle, the words and the seconds of `sim`."""
-    held = {'mem': {'data': list(range(words)), 'format': {'numeric_type': 'bitnum', 'is_signed': False, 'width': 32}}} if words else {}
     with open(folder + '/v.v', 'w', encoding='ascii') as file:
         file.write(text)
     with open(folder + '/v.json', 'w', encoding='ascii') as file:
-        json.dump(held, file)
+        json.dump(data_of(words), file)
     out, took = best([program, 'sim', folder + '/v.v', folder + '/v.json', BUDGET])
     told = json.loads(out)
     return told['cycles'], told['memories'].get('mem', []), took
@@ -224,6 +272,53 @@ def compiled(program, folder, design, data, compares):
     return cycles, took, other
 
 
+def by_verilator(folder, text, data):
+    """The line, the seconds of the program that Verilator makes of a text, and those in which it is built."""
+    parts = testbench.Text(text)
+    held = HELD.format(loads='\n'.join(testbench.loads(parts, data)), dumps='\n'.join(testbench.dumps(parts, data)))
+    for name, written in (('bench.v', held), ('text.v', text), ('turns.cpp', TURNS)):
+        with open(f'{folder}/{name}', 'w', encoding='ascii') as file:
+            file.write(written)
+    begin = time.perf_counter()
+    subprocess.run(['verilator', '--cc', '--exe', '--build', '-O3', '-MAKEFLAGS', 'OPT_FAST=-O2', '-Wno-fatal', '-Wno-lint', '--top-module', 'bench', 'bench.v', 'text.v', 'turns.cpp'],
+                   cwd=folder, capture_output=True, check=True)
+    built = time.perf_counter() - begin
+    return *best([folder + '/obj_dir/Vbench']), built
+
+
+def beside_verilator(program, text, data):
+    """The row of a text: its cycles, and the seconds of `sim` and of Verilator's program."""
+    with tempfile.TemporaryDirectory(prefix='sim_') as folder:
+        for name, written in (('v.v', text), ('v.json', json.dumps(data))):
+            with open(f'{folder}/{name}', 'w', encoding='ascii') as file:
+                file.write(written)
+        wanted, ours = best([program, 'sim', folder + '/v.v', folder + '/v.json', BUDGET])
+        line, theirs, built = by_verilator(folder, text, data)
+    assert line == wanted, (line[:200], wanted[:200])
+    return f'{json.loads(wanted)["cycles"]:,} | {ours:.3f} | {theirs:.3f} | {ours / theirs:.2f} | {built:.1f} | {ours / (built + theirs):.4f}'
+
+
+def text_of(program, design):
+    """What `compile` writes of a design."""
+    with tempfile.NamedTemporaryFile('w', suffix='.futil', encoding='ascii') as file:
+        file.write(design)
+        file.flush()
+        return subprocess.run([program, 'compile', file.name], capture_output=True, check=True, text=True).stdout
+
+
+def table_of_verilator(program):
+    """Prints the table beside the programs that Verilator makes."""
+    if not shutil.which('verilator'):
+        sys.exit('verilator is not installed')
+    print("| Run | Cycles | `sim`, seconds | Verilator's program | Times as long | Building it, seconds | Times as long as building and a run |", '|---|---|---|---|---|---|---|', sep='\n')
+    for name, make, cycles, words in SHAPES:
+        print(f'| {name} | {beside_verilator(program, make(cycles), data_of(words))} |', flush=True)
+    for name, make, count in COMPILED:
+        if count <= LONGEST:
+            design, data = make(count)
+            print(f'| compiled: {name} | {beside_verilator(program, text_of(program, design), json.loads(data))} |', flush=True)
+
+
 def long_text(size):
     """Wires that each add 1 to the one before, in a text of about so many bytes."""
     lines = size // 62
@@ -267,6 +362,9 @@ def main():
     if len(sys.argv) < 2:
         sys.exit(__doc__.strip())
     program = os.path.abspath(sys.argv[1])
+    if sys.argv[2:] == ['--verilator']:
+        table_of_verilator(program)
+        return
     compares = has_icarus()
     with tempfile.TemporaryDirectory() as folder:
         for name, make, cycles, words in SHAPES:
