@@ -8,15 +8,21 @@ use Rattle.cx_meaning.specs.declared.sights.Seen.{Seen}
 use Rattle.cx_text.specs.Members.{In}
 use Rattle.cx_eval_network.specs.declared.marks.NodeMark.{NodeMark}
 use Rattle.cx_eval_network.specs.declared.marks.NodeMark.TheVariants.{Unseen, Open, Known}
-use Rattle.cx_eval_network.specs.declared.network.Found.TheVariants.{Worth}
-use Rattle.cx_eval_network.specs.Evaluated.{by_mark}
-use Rattle.cx_eval_network.specs.Touches.{weight, unseen}
 use Rattle.cx_eval_network.specs.Demands.{Way, at_once, by_way_of, IsGrounded, StaysWithin, is_known, known_at, IsRight, Ready, Demanded}
 use Rattle.cx_text.proofs.ListLaws.{there_below, set_other, set_same}
 use Rattle.cx_text.proofs.NumberLaws.{same_or}
 use Rattle.cx_text.proofs.OptionLaws.{none_is_some}
 
 -- HOW MANY ARE UNSEEN
+abbrev pub weight : NodeMark → ℕ
+weight Unseen = 1
+weight Open = 0
+weight (Known x) = 0
+
+abbrev pub unseen : List NodeMark → ℕ
+unseen [] = 0
+unseen (m ∷ ms) = weight m + unseen ms
+
 weight_le : (m : NodeMark) → weight m ≤ 1
 weight_le Unseen = omega arith
 weight_le Open = omega arith
@@ -58,13 +64,6 @@ pub record Going (leads : ℕ → List ℕ) (value : ℕ → Seen) (root : ℕ) 
   pub chain : (j k : ℕ) → j < k → k < depth → Way leads (get_or stack j 0) (get_or stack k 0)
   pub room : depth + unseen marks ≤ length marks
   pub rooted : ((0 < depth) × (get_or stack 0 0 ≡ root)) ⊎ ((depth ≡ 0) × (slice_get marks root ≡ Some (Known (value root))))
-
--- a mark of which a value is found
-pub mark_known : (n : ℕ) (x : Seen) (o : Option NodeMark) → by_mark n o ≡ Worth x → o ≡ Some (Known x)
-mark_known n x None e = absurd (cc)
-mark_known n x (Some Unseen) e = absurd (cc)
-mark_known n x (Some Open) e = absurd (cc)
-mark_known n x (Some (Known y)) e = ap (λ z. Some (Known z)) (let f : Worth y ≡ Worth x = e in cc)
 
 -- what is known already
 pub known_before : (value : ℕ → Seen) (root : ℕ) (marks : List NodeMark) → Ready value marks → known_at marks root ≡ true → Demanded value root marks marks

@@ -19,7 +19,6 @@ use Rattle.cx_eval_drives.specs.Drives.{acting_of, drive_of}
 use Rattle.cx_eval_drives.proofs.DriveLemmas.{seen_of, target_is}
 use Rattle.cx_eval_network.specs.declared.marks.NodeMark.{NodeMark}
 use Rattle.cx_eval_network.specs.declared.marks.NodeMark.TheVariants.{Unseen, Open, Known}
-use Rattle.cx_eval_network.specs.declared.planned.PlannedPort.TheVariants.{Numbered}
 use Rattle.cx_eval_network.specs.Demands.{is_known, known_at}
 use Rattle.cx_eval_network.specs.Evaluated.{Agree, Gives, by_mark, port_found, port_shown, truth_shown, all_shown, any_shown}
 use Rattle.cx_eval_network.specs.LeadPorts.{named_by}
@@ -118,17 +117,6 @@ module _ (i : Instance) (offset : Option ℕ → Option ℕ) where
 
   pub guard_needed : (a : Owned) (n off : ℕ) → Some off ≡ offset a.owner → In (numbers_of i (map (λ q. q.port) (operands_of a.assign.guard))) n → In (needed (a ∷ [])) n
   guard_needed a n off e h = active_named a n off e (in_right (option_to_list (node_of i a.assign.source.port)) (numbers_of i (map (λ q. q.port) (operands_of a.assign.guard))) n h)
-
-  pub source_needed : (a : Owned) (n off : ℕ) → Some off ≡ offset a.owner → port_plan i a.assign.source.port ≡ Numbered n → In (needed (a ∷ [])) n
-  source_needed a n off e is =
-      active_named a n off e (in_left (option_to_list (node_of i a.assign.source.port)) (numbers_of i (map (λ q. q.port) (operands_of a.assign.guard))) n (by (node_of i a.assign.source.port) is))
-    where
-      same : (k : ℕ) → Numbered k ≡ Numbered n → k ≡ n
-      same k f = cc
-
-      by : (o : Option ℕ) → by_number a.assign.source.port o ≡ Numbered n → In (option_to_list o) n
-      by None f = absurd (cc)
-      by (Some k) f = inl (same k f)
 
   one_of : (a : Owned) (rest : List Owned) (n : ℕ) → In (needed (a ∷ [])) n → In (needed (a ∷ rest)) n
   one_of a rest n h = by (offset a.owner) h

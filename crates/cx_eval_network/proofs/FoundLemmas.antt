@@ -73,9 +73,6 @@ module _ (d : PlainDesign) (rows : List InstanceRow) (nodes : Nodes) (h : IsNode
   pub found_is : (node : ℕ) → IsPortOf d rows node (found_at nodes node)
   found_is node = at_node node (slice_get nodes.ports.items node) refl
 
-pub found_port : (d : PlainDesign) (rows : List InstanceRow) (nodes : Nodes) → IsNodesOf d rows nodes → (node : ℕ) (found : Option NodePort) → found ≡ found_at nodes node → IsPortOf d rows node found
-found_port d rows nodes h node found e = subst (IsPortOf d rows node) (sym e) (found_is d rows nodes h node)
-
 -- the node of a port by the number of it in the component
 module _ (d : PlainDesign) (rows : List InstanceRow) (n : ℕ) (ports : InstancePorts) (h : ArePortsOf d rows n ports) (p : PortRef) where
   pub number_is : (number : Option ℕ) → ((i : Instance) → part.IsNodesOf i ports.numbers.now → number ≡ part.node_of i p) → node_at d rows n p ≡ option_map (λ m. ports.first + m) number

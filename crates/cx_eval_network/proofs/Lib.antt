@@ -1,5 +1,5 @@
 pub mod DemandSteps
-pub mod Touching
+pub mod StampLemmas
 pub mod GroundLemmas
 pub mod PartLemmas
 pub mod NodeLemmas

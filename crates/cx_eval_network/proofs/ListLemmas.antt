@@ -1,8 +1,9 @@
 -- Ports that are found in a listed order are found as they are seen.
-use Rattle.std.proofs.Common.{◌≡◌, true, ℕ, ◌+◌, ◌^◌, ◌<◌, ◌≤◌, Option, Some, None, List, [], drop, length, slice_get, set, ⊎_elim, refl, sym, ap, ◌∙◌, subst, arith}
+use Rattle.std.proofs.Common.{◌≡◌, ℕ, ◌+◌, ◌^◌, ◌<◌, ◌≤◌, Option, Some, None, List, [], drop, length, slice_get, set, ⊎_elim, refl, sym, ap, ◌∙◌, subst, arith}
 use Rattle.std.specs.Prelude.{option_map, if◌then◌else◌}
+use Rattle.std.proofs.lemmas.List.{length-set}
 use Rattle.cx_text.proofs.ListLaws.{set_other, set_same, there_at, there_below}
-use Rattle.cx_text.proofs.NumberLaws.{equal, never, same_or}
+use Rattle.cx_text.proofs.NumberLaws.{equal, same_or}
 use Rattle.cx_meaning.specs.declared.ports.PortRef.{PortRef}
 use Rattle.cx_meaning.specs.declared.ports.PortRef.TheVariants.{Cell}
 use Rattle.cx_meaning.specs.declared.sights.Seen.{Seen}
@@ -34,49 +35,68 @@ use Rattle.cx_eval_network.specs.declared.planned.PortPlan.{PortPlan}
 use Rattle.cx_eval_network.specs.declared.planned.PortPlan.TheVariants as plans
 use Rattle.cx_eval_network.specs.Asked.{CanAsk, active_in}
 use Rattle.cx_eval_network.specs.Askings.{IsCellPort, IsFound, asked_of}
-use Rattle.cx_eval_network.specs.Demands.{IsRight, Keeps, Looked, Ready, is_unseen}
-use Rattle.cx_eval_network.specs.Evaluated.{Gives, port_found}
+use Rattle.cx_eval_network.specs.Demands.{IsRight, Keeps, Ready}
+use Rattle.cx_eval_network.specs.Evaluated.{Gives, by_mark, port_found}
 use Rattle.cx_eval_network.specs.Lists.{ActsAs, AreListed, IsFoundBy, IsSource}
 use Rattle.cx_eval_network.specs.Networks.{Asked, seen_at, value_at}
 use Rattle.cx_eval_network.specs.Nodes.{IsInList, IsListOf, IsNodesOf, first_node, node_at, part_at}
 use Rattle.cx_eval_network.specs.Plans.{Inputs, IsPlanOf, decides, planned}
+use Rattle.cx_eval_network.specs.Stamps.{followed}
 use Rattle.cx_eval_network.proofs.LookLemmas.{driven_known}
 use Rattle.cx_eval_network.proofs.NodeLemmas.{nodes_within}
 use Rattle.cx_eval_network.proofs.ValueLemmas.{value_there}
 
-pub unseen_is : (o : Option NodeMark) → is_unseen o ≡ true → o ≡ Some Unseen
-unseen_is None e = never e
-unseen_is (Some Unseen) e = refl
-unseen_is (Some Open) e = never e
-unseen_is (Some (Known x)) e = never e
+-- WHAT A STEP OF A LIST LEAVES: what is known is right, and what was known still is
+pub record Filled (value : ℕ → Seen) (old marks : List NodeMark) : Type 0 where
+  pub ready : Ready value marks
+  pub kept : Keeps old marks
+  pub count : length marks ≡ length old
 
--- a look that finds a value finds the right one
-pub looked_gives : (leads : List ℕ) (value : Seen) (marks : List NodeMark) (found : Found) → Looked leads value marks found → Gives value found
-looked_gives leads value marks (Worth x) l = l
-looked_gives leads value marks (Waits n) l = tt
+pub still_filled : (value : ℕ → Seen) (marks : List NodeMark) → Ready value marks → Filled value marks marks
+still_filled value marks ready = record { ready = ready; kept = λ n x h. h; count = refl }
 
--- A NODE OF WHICH NOTHING WAS KNOWN is known
-module _ (marks : List NodeMark) (node : ℕ) (x : Seen) (unseen : slice_get marks node ≡ Some Unseen) where
+-- a node is known with its value
+module _ (value : ℕ → Seen) (marks : List NodeMark) (node : ℕ) (x : Seen) (ready : Ready value marks) (is : x ≡ value node) where
   abbrev after : List NodeMark
   after = set marks node (Known x)
 
-  here : (n : ℕ) → n ≡ node → slice_get after n ≡ Some (Known x)
-  here n e = ap (slice_get after) e ∙ set_same marks node (Known x) (there_below marks node Unseen unseen)
+  put_is : (m y : NodeMark) → slice_get marks node ≡ Some y → slice_get after node ≡ Some m → m ≡ Known x
+  put_is m y there h = let f : Some (Known x) ≡ Some m = sym (set_same marks node (Known x) (there_below marks node y there)) ∙ h in cc
 
-  pub known_ready : (value : ℕ → Seen) → Ready value marks → x ≡ value node → Ready value after
-  known_ready value ready is = record {
-    right = λ n y h. ⊎_elim
-        (λ s. let f : Some (Known x) ≡ Some (Known y) = sym (here n s) ∙ h in let same : x ≡ y = cc in sym same ∙ is ∙ ap value (sym s))
-        (λ ne. ready.right n y (sym (set_other marks node n (Known x) ne) ∙ h)) (same_or n node);
-    closed = λ n h. ⊎_elim
-        (λ s. absurd (let f : Some (Known x) ≡ Some Open = sym (here n s) ∙ h in cc))
-        (λ ne. ready.closed n (sym (set_other marks node n (Known x) ne) ∙ h)) (same_or n node);
+  was_there : (m : NodeMark) → slice_get after node ≡ Some m → (y : NodeMark) × (slice_get marks node ≡ Some y)
+  was_there m h = there_at marks node (subst (λ n. node < n) (length-set marks node (Known x)) (there_below after node m h))
+
+  put_known : (n : ℕ) (m : NodeMark) → n ≡ node → slice_get after n ≡ Some m → m ≡ Known x
+  put_known n m s h =
+      let at : slice_get after node ≡ Some m = ap (slice_get after) (sym s) ∙ h in
+      let was = was_there m at in
+      put_is m was.0 was.1 at
+
+  pub known_filled : Filled value marks after
+  known_filled = record {
+    ready = record {
+      right = λ n y h. ⊎_elim
+          (λ s. let f : Known y ≡ Known x = put_known n (Known y) s h in let same : y ≡ x = cc in same ∙ is ∙ ap value (sym s))
+          (λ ne. ready.right n y (sym (set_other marks node n (Known x) ne) ∙ h)) (same_or n node);
+      closed = λ n h. ⊎_elim
+          (λ s. absurd (let f : Open ≡ Known x = put_known n Open s h in cc))
+          (λ ne. ready.closed n (sym (set_other marks node n (Known x) ne) ∙ h)) (same_or n node);
+    };
+    kept = λ n y h. ⊎_elim
+        (λ s.
+        let at : slice_get marks node ≡ Some (Known y) = ap (slice_get marks) (sym s) ∙ h in
+        let same : x ≡ y = is ∙ sym (ready.right node y at) in
+        ap (slice_get after) s ∙ set_same marks node (Known x) (there_below marks node (Known y) at) ∙ ap (λ z. Some (Known z)) same)
+        (λ ne. set_other marks node n (Known x) ne ∙ h) (same_or n node);
+    count = length-set marks node (Known x);
   }
 
-  pub known_keeps : Keeps marks after
-  known_keeps n y h = ⊎_elim
-      (λ s. absurd (let f : Some Unseen ≡ Some (Known y) = sym unseen ∙ ap (slice_get marks) (sym s) ∙ h in cc))
-      (λ ne. set_other marks node n (Known x) ne ∙ h) (same_or n node)
+-- or as another one
+pub followed_filled : (value : ℕ → Seen) (marks : List NodeMark) (node number : ℕ) (o : Option NodeMark) → Ready value marks → Gives (value node) (by_mark number o) → Filled value marks (followed marks node o)
+followed_filled value marks node number None ready g = still_filled value marks ready
+followed_filled value marks node number (Some Unseen) ready g = still_filled value marks ready
+followed_filled value marks node number (Some Open) ready g = still_filled value marks ready
+followed_filled value marks node number (Some (Known x)) ready g = known_filled value marks node x ready g
 
 -- THE LIST OF AN INSTANCE, by that of its component
 module _ (d : PlainDesign) (rows : List InstanceRow) (nodes : Nodes) (h : IsNodesOf d rows nodes) (n : ℕ) (lt : n < length rows) where
@@ -119,6 +139,7 @@ module _ (active other : Active) (same : ActsAs active other) where
   found_as port plan (by.Port number) h = source_as plan (Numbered number) h
   found_as port plan (by.Fixed seen) h = source_as plan (Fixed seen) h
   found_as port plan (by.State cell output) h = h
+  found_as port plan (by.Inputs cell output reads) h = h
   found_as port plan by.Look h = h
 
   pub list_as : (d : PlainDesign) (rows : List InstanceRow) (n : ℕ) (list : InstanceList) → IsListOf d rows n active list → IsListOf d rows n other list
@@ -176,7 +197,7 @@ module _ (asking : Asking) (can : CanAsk (asked_of asking) asking.nodes.now) (li
     pub source_known : (source : PlannedPort) → IsSource asking.active.now l.plan source → Gives (value_at a asking.nodes.now node) (port_found own source)
     source_known source s = subst (λ x. Gives x (port_found own source)) (sym value_is) (by_plan l.plan l.plans source s (port_found own source) refl)
 
-  -- one that the state of its cell gives
+  -- an output of a cell
   module _ (cell output : ℕ) (is : l.port ≡ Cell cell output) where
     abbrev port : PortRef
     port = Cell cell output
@@ -184,8 +205,11 @@ module _ (asking : Asking) (can : CanAsk (asked_of asking) asking.nodes.now) (li
     pub state_found : IsCellPort a a.instance cell output
     state_found = record { number = listed.number; from = from_there; within = can.within; at = ap (part.node_of (part_at a.design a.rows a.instance)) (sym is) ∙ l.number }
 
-    pub state_reads : l.plan ≡ plans.Output 0 → decides (part_at a.design a.rows a.instance) port ≡ Inputs 0
-    state_reads e = ap (decides (part_at a.design a.rows a.instance)) (sym is) ∙ sym l.plans ∙ ap planned e
+    pub state_reads : (reads : ℕ) → l.plan ≡ plans.Output reads → decides (part_at a.design a.rows a.instance) port ≡ Inputs reads
+    state_reads reads e = ap (decides (part_at a.design a.rows a.instance)) (sym is) ∙ sym l.plans ∙ ap planned e
+
+    pub output_found : IsFound a (record { instance = a.instance; component = (row_at a.rows a.instance).component; port = port; number = listed.number })
+    output_found = record { from = from_there; within = can.within; component = refl; number = ap (part.node_of (part_at a.design a.rows a.instance)) (sym is) ∙ l.number }
 
     pub state_known : seen_at a a.instance port ≡ value_at a asking.nodes.now node
     state_known = ap (seen_at a a.instance) (sym is) ∙ sym value_is

@@ -1,5 +1,5 @@
 -- Instances placed one behind the other.
-use Rattle.std.proofs.Common.{◌≡◌, ℕ, suc, ◌+◌, ◌<◌, ⊎_elim, inl, inr, Some, List, [], ◌∷◌, ◌++◌, length, slice_get, refl, sym, ap, ◌∙◌, subst, arith}
+use Rattle.std.proofs.Common.{◌≡◌, ℕ, suc, ◌+◌, ◌<◌, ⊎_elim, List, [], ◌∷◌, ◌++◌, length, sym, ap, ◌∙◌, subst, arith}
 use Rattle.std.proofs.lemmas.List.{length-append}
 use Rattle.cx_meaning.specs.declared.ports.PortRef.{PortRef}
 use Rattle.cx_meaning.specs.Designs.{PlainDesign}
@@ -12,34 +12,7 @@ use Rattle.cx_eval_network.specs.declared.numbering.InstanceNodes.{InstanceNodes
 use Rattle.cx_eval_network.specs.declared.numbering.NodePort.{NodePort}
 use Rattle.cx_eval_network.specs.Nodes.{part_at, first_node, IsAt, StandsBehind, StandBehind, ArePlaced}
 
-module _ (instance component : ℕ) (ports : List PortRef) where
-  pub begin_standing : (before : List NodePort) → StandBehind instance component ports 0 before before
-  begin_standing before = record { sized = omega arith; each = λ node found e. inl e }
-
-  pub stand_next : (count : ℕ) (before after more : List NodePort) (last : NodePort) → StandBehind instance component ports count before after
-      → last.instance ≡ instance → last.component ≡ component → last.number ≡ count → slice_get ports count ≡ Some last.port
-      → more ≡ after ++ last ∷ [] → StandBehind instance component ports (count + 1) before more
-  stand_next count before after more last h of_instance of_component number port e = subst (StandBehind instance component ports (count + 1) before) (sym e) (record {
-    sized = length-append after (last ∷ []) ∙ (let s = h.sized in omega (arith, s));
-    each = λ node found f. ⊎_elim (λ g. h.each node found g)
-        (λ (b : (node ≡ length after) × (last ≡ found)). inr (subst (StandsBehind instance component ports (length before) node) b.1 (record {
-          instance_is = of_instance;
-          component_is = of_component;
-          port = ap (slice_get ports) number ∙ port;
-          is = let s = h.sized in let at = b.0 in omega (arith, s, number, at);
-        }))) (get_last after last found node f);
-  })
-
 module _ (d : PlainDesign) (rows : List InstanceRow) where
-  pub begin_placing : (instances : List InstanceNodes) (ports : List NodePort) → instances ≡ [] → ports ≡ [] → ArePlaced d rows 0 instances ports
-  begin_placing instances ports e f = subst (λ xs. ArePlaced d rows 0 xs ports) (sym e) (subst (ArePlaced d rows 0 []) (sym f) (record {
-    sized = refl;
-    components = λ n i g. absurd (cc);
-    firsts = λ n i g. absurd (cc);
-    nodes = refl;
-    each = λ node found g. absurd (cc);
-  }))
-
   -- what stands at a node of the next instance
   stands_there : (n component : ℕ) (list : List PortRef) (before : List NodePort) (node : ℕ) (found : NodePort) → n < length rows
       → component ≡ (row_at rows n).component → ArePorts (part_at d rows n) (part.node_count (part_at d rows n)) list → length before ≡ first_node d rows n

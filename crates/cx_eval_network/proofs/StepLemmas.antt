@@ -1,15 +1,12 @@
 -- What cells of a component hold, and the groups that call them.
-use Rattle.std.proofs.Common.{◌≡◌, ℕ, zero, suc, ◌-◌, ◌<◌, ◌≤◌, List, [], ◌∷◌, get_or, length, drop, Option, Some, None, refl, sym, ap, ◌∙◌, subst, arith}
+use Rattle.std.proofs.Common.{◌≡◌, ℕ, zero, suc, List, [], ◌∷◌, get_or, length, Option, Some, None, refl, sym, ap, ◌∙◌, subst}
 use Rattle.std.specs.Prelude.{slice_get}
-use Rattle.std.proofs.Math.Seq.{drop-cons}
 use Rattle.cx_prim.specs.CellStates.{CellState, IsState}
 use Rattle.cx_prim.specs.Rows.{Row}
 use Rattle.cx_meaning.specs.Calls as calls
 use Rattle.cx_meaning.specs.Designs.{PlainComponent, PlainDesign, PlainGroup, component_at, no_group}
-use Rattle.cx_meaning.specs.Instances.{Cells, OfRow, cell_at, cells_of, part_of, tree_within}
+use Rattle.cx_meaning.specs.Instances.{OfRow, cell_at, cells_of, part_of, tree_within}
 use Rattle.cx_rules.specs.Ports.{component_of}
-use Rattle.cx_design.specs.declared.groups.Assign.{Assign}
-use Rattle.cx_design.specs.PlainForms.{plain_assigns}
 use Rattle.cx_state.specs.States.{HoldCells}
 use Rattle.cx_state.proofs.HeldLemmas.{Holds, cells_hold}
 use Rattle.cx_rules.proofs.PortsLemmas.{part_is}
@@ -43,13 +40,3 @@ pub calls_none : (d : PlainDesign) (k g : ℕ) (part : PlainComponent) → part 
 calls_none d k g part is e =
     ap (λ (group : PlainGroup). calls.called_in (cells_of (component_of d k)) group.assigns)
     (sym (get_none (part_of (component_of d k)).groups g (ap (λ (p : PlainComponent). slice_get p.groups g) (part_is d k ∙ sym is) ∙ e)))
-
-pub called_more : (cells : Cells) (xs : List Assign) (left : ℕ) (x : Assign) (found next : Option ℕ) → 1 ≤ left → left ≤ length xs
-    → found ≡ calls.called_in cells (plain_assigns (drop left xs)) → next ≡ calls.called_by cells (get_or xs (left - 1) x).target found
-    → next ≡ calls.called_in cells (plain_assigns (drop (left - 1) xs))
-called_more cells xs left x found next some within e f =
-    let back : suc (left - 1) ≡ left = omega (arith, some) in
-    let lt : left - 1 < length xs = omega (arith, some, within) in
-    let split : drop (left - 1) xs ≡ get_or xs (left - 1) x ∷ drop (suc (left - 1)) xs = drop-cons xs (left - 1) x lt in
-    f ∙ ap (calls.called_by cells (get_or xs (left - 1) x).target) (e ∙ ap (λ n. calls.called_in cells (plain_assigns (drop n xs))) (sym back))
-    ∙ ap (λ ys. calls.called_in cells (plain_assigns ys)) (sym split)

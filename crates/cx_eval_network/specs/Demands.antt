@@ -29,12 +29,6 @@ is_known (Some (Known x)) = true
 abbrev pub known_at : List NodeMark → ℕ → Bool
 known_at marks n = is_known (slice_get marks n)
 
-abbrev pub is_unseen : Option NodeMark → Bool
-is_unseen None = false
-is_unseen (Some Unseen) = true
-is_unseen (Some Open) = false
-is_unseen (Some (Known x)) = false
-
 -- what a mark shows
 abbrev pub shown : Option NodeMark → Seen
 shown None = Undefined

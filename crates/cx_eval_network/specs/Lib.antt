@@ -1,5 +1,5 @@
 pub mod Demands
-pub mod Touches
+pub mod Stamps
 pub mod Ports
 pub mod Parts
 pub mod LeadPorts

@@ -52,12 +52,13 @@ IsSource active (plans.Driven plan) source = IsSeenAs active plan source
 IsSource active (plans.Output reads) source = ⊥
 IsSource active plans.Apart source = ⊥
 
--- how a port is found: as another one, or as a value, which is a source of it; by the state of its cell, where it is
--- an output that reads no input; or by a look
+-- how a port is found: as another one, or as a value, which is a source of it; as an output of a cell, by the state of
+-- this where it reads no input, and by so many of its inputs; or by a look
 abbrev pub IsFoundBy : Active → PortRef → PortPlan → FoundBy → Type 0
 IsFoundBy active port plan (by.Port number) = IsSource active plan (Numbered number)
 IsFoundBy active port plan (by.Fixed seen) = IsSource active plan (Fixed seen)
 IsFoundBy active port plan (by.State cell output) = (port ≡ Cell cell output) × (plan ≡ plans.Output 0)
+IsFoundBy active port plan (by.Inputs cell output reads) = (port ≡ Cell cell output) × (plan ≡ plans.Output reads)
 IsFoundBy active port plan by.Look = Unit {0}
 
 -- what the drivers of a port come to, by those that are active: none, one without a guard, or others

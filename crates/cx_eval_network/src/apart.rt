@@ -15,15 +15,16 @@ ghost use Rattle.cx_eval_network.specs.Plans.{Apart};
 use crate::asking::Asking;
 use crate::called::called;
 use crate::children::child_in;
-use crate::marked::found_at;
+use crate::marked::node_found;
+use crate::marks::MarkTable;
 use crate::places::{active_of, held_of};
-use crate::{Found, NodeMark, NodePort};
+use crate::{Found, NodePort};
 use cx_design::{Active, Component, PortRef, Seen};
 use cx_design_parts::{At, PartPort, part_port, stands_at};
 use cx_prim::bit;
 
 /// What a port is seen as that depends on no port of its instance, or the node below that it needs, where that is not known.
-pub fn apart_found(asking: &Asking<'_>, marks: &[NodeMark], found: NodePort) -> Found
+pub fn apart_found(asking: &Asking<'_>, marks: &MarkTable, found: NodePort) -> Found
     requires can { IsAsking asking.now }
     requires found { IsFound (asked_of asking.now) found }
     requires apart { decided_by (asked_of asking.now) found ≡ Apart }
@@ -51,7 +52,7 @@ fn held_seen(held: &[Seen], input: u32) -> Seen
 /// The same of a port of a cell.
 fn cell_found(
     asking: &Asking<'_>,
-    marks: &[NodeMark],
+    marks: &MarkTable,
     found: NodePort,
     cell: u32,
     port: u32,
@@ -74,7 +75,7 @@ fn cell_found(
 /// The same of a port of a component cell.
 fn part_found(
     asking: &Asking<'_>,
-    marks: &[NodeMark],
+    marks: &MarkTable,
     found: NodePort,
     cell: u32,
     port: u32,
@@ -101,7 +102,7 @@ fn part_found(
 /// What is known of an output of the instance at a cell, or its node.
 fn child_found(
     asking: &Asking<'_>,
-    marks: &[NodeMark],
+    marks: &MarkTable,
     instance: usize,
     cell: u32,
     output: u32,
@@ -116,7 +117,7 @@ fn child_found(
 {
     match child_in(asking.table, instance, cell) {
         Some(child) => match asking.nodes.node(child, PortRef::Output(output)) {
-            Some(node) => found_at(marks, node),
+            Some(node) => node_found(marks, node),
             None => unreachable!(),
         },
         None => unreachable!(),

@@ -1,7 +1,7 @@
 //! What is asked of a design, as a network.
 
 use crate::looking::look_at_node;
-use crate::{Found, Network, NodeMark, Nodes};
+use crate::{Found, MarkTable, Network, Nodes};
 use cx_design::{Active, Design};
 use cx_state::{InstanceTable, State};
 
@@ -28,7 +28,7 @@ impl Network for Asking<'_> {
 
     ghost sound = { IsAsking };
 
-    fn look(&self, marks: &[NodeMark], node: usize) -> Found {
+    fn look(&self, marks: &MarkTable, node: usize) -> Found {
         look_at_node(self, marks, node)
     }
 }

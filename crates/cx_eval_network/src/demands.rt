@@ -10,10 +10,8 @@ use crate::asking::Asking;
 use crate::filling::{fill, listed_group};
 use crate::finding::find;
 use crate::listed::GroupList;
-use crate::marked::{found_at, shown_at};
-use crate::marks::{NodeMark, unseen_marks};
-use crate::network::{Found, Network};
-use crate::touched::Touched;
+use crate::marks::MarkTable;
+use crate::network::Network;
 use cx_design::Seen;
 use cx_text::Memory;
 use std::alloc::Global;
@@ -22,22 +20,20 @@ use std::marker::Model;
 /// What is known of the nodes of a network, with the room that demands need. Contracts see it as its marks.
 #[derive(Debug, Drop)]
 pub struct Marks {
-    marks: Vec<NodeMark>,
+    marks: MarkTable,
     /// The nodes that wait for one another during a demand. What it holds between demands is of no account.
     stack: Vec<usize>,
-    touched: Touched,
 }
 
 impl Model for Marks {
-    ghost use Rattle.std.specs.Prelude.{List};
+    ghost use Rattle.std.specs.Prelude.{◌≡◌, List, length};
     ghost use Rattle.cx_eval_network.specs.declared.marks.NodeMark.{NodeMark};
-    ghost use Rattle.cx_eval_network.specs.Touches.{HaveRoom};
 
     ghost Value = { List NodeMark };
 
-    ghost view = { λ m. m.marks.items };
+    ghost view = { λ m. m.marks };
 
-    ghost invariant = { λ m. HaveRoom m.marks.items m.stack.items m.touched.nodes.items m.touched.count };
+    ghost invariant = { λ m. length m.stack.items ≡ length m.marks };
 }
 
 impl Marks {
@@ -48,22 +44,18 @@ impl Marks {
         ensures count { IfOk result (λ marks. length marks ≡ count) }
     {
         Ok(Marks {
-            marks: unseen_marks(alloc, count)?,
+            marks: MarkTable::new(alloc, count)?,
             stack: vec![in alloc; 0usize; count]?,
-            touched: Touched {
-                nodes: vec![in alloc; 0usize; count]?,
-                count: 0,
-            },
         })
     }
 
-    /// Forgets all that is known, at the cost of what was known.
+    /// Forgets all that is known, whatever that is.
     pub fn forget(&mut self)
         ensures unseen { AllUnseen self.new }
         ensures ready { (value : ℕ → Seen) → Ready value self.new }
         ensures count { length self.new ≡ length self.old }
     {
-        self.touched.forget(&mut self.marks);
+        self.marks.forget();
     }
 
     /// The value of a node, which is found with those of all that it depends on. It takes no memory, and does not recurse from
@@ -78,17 +70,14 @@ impl Marks {
         ensures value { Demanded (N.value net.now) root self.old self.new }
         ensures count { length self.new ≡ length self.old }
     {
-        if let Found::Worth(seen) = found_at(&self.marks, root) {
-            return seen;
+        if let Some(seen) = self.marks.known(root) {
+            return *seen;
         }
-        find(
-            net,
-            &mut self.marks,
-            &mut self.stack,
-            &mut self.touched,
-            root,
-        );
-        shown_at(&self.marks, root)
+        find(net, &mut self.marks, &mut self.stack, root);
+        match self.marks.known(root) {
+            Some(seen) => *seen,
+            None => unreachable!(),
+        }
     }
 
     /// Finds the ports of a list of the only group that is active in the asked instance, in their order, each at once. What is
@@ -102,7 +91,7 @@ impl Marks {
     {
         if let Some(group) = listed_group(asking.active) {
             let list = asking.nodes.listed(asking.instance, group, list);
-            fill(asking, &mut self.marks, &mut self.touched, list);
+            fill(asking, &mut self.marks, list);
         }
     }
 }

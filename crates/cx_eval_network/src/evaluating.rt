@@ -15,8 +15,7 @@ ghost use Rattle.cx_eval_network.specs.Lacking.{unknown_in};
 ghost use Rattle.cx_eval_network.specs.Planned.{StandFor, assign_plan, numbered_assign, numbered_guard, numbers_of};
 ghost use Rattle.cx_eval_network.specs.declared.planned.PlannedPort.TheVariants.{Numbered};
 
-use crate::marked::{found_at, shown_at};
-use crate::marks::{NodeMark, is_known};
+use crate::marked::{OwnMarks, found_at, is_known, shown_at};
 use crate::network::Found;
 use crate::planned::{DrivenPlan, PlannedAssign, PlannedGuard, PlannedPort};
 use cx_design::{Active, Seen};
@@ -25,7 +24,7 @@ use cx_eval_drives::{
 };
 
 /// What a planned port is seen as.
-fn port_seen(own: &[NodeMark], port: PlannedPort) -> Seen
+fn port_seen(own: &OwnMarks<'_>, port: PlannedPort) -> Seen
     ensures value { result ≡ port_shown own.now port }
 {
     match port {
@@ -35,7 +34,7 @@ fn port_seen(own: &[NodeMark], port: PlannedPort) -> Seen
 }
 
 /// What is known of a planned port, or its number.
-fn source_found(own: &[NodeMark], source: PlannedPort) -> Found
+fn source_found(own: &OwnMarks<'_>, source: PlannedPort) -> Found
     ensures value { result ≡ port_found own.now source }
 {
     match source {
@@ -45,7 +44,7 @@ fn source_found(own: &[NodeMark], source: PlannedPort) -> Found
 }
 
 /// What a planned guard is, at an offset of its group. Guards of a text are at most 64 levels deep.
-fn planned_truth(own: &[NodeMark], offset: u64, guard: &PlannedGuard) -> Truth
+fn planned_truth(own: &OwnMarks<'_>, offset: u64, guard: &PlannedGuard) -> Truth
     ensures value { plain_truth result ≡ truth_shown own.now offset (numbered_guard guard.now) }
 {
     match guard {
@@ -74,7 +73,7 @@ fn planned_truth(own: &[NodeMark], offset: u64, guard: &PlannedGuard) -> Truth
 }
 
 /// The first of some ports that is not known.
-fn unknown_number(own: &[NodeMark], numbers: &[u32]) -> Option<usize>
+fn unknown_number(own: &OwnMarks<'_>, numbers: &[u32]) -> Option<usize>
     ensures value { result ≡ unknown_in own.now numbers.now }
 {
     for number in numbers {
@@ -88,7 +87,7 @@ fn unknown_number(own: &[NodeMark], numbers: &[u32]) -> Option<usize>
 /// Puts a driver before what the drive has already; or answers the number of its source, where that is needed and not known.
 fn add_driver(
     drive: &mut Drive,
-    own: &[NodeMark],
+    own: &OwnMarks<'_>,
     guard: Truth,
     source: PlannedPort,
 ) -> Option<usize>
@@ -112,7 +111,7 @@ fn add_driver(
 /// is not known.
 fn add_assign(
     drive: &mut Drive,
-    own: &[NodeMark],
+    own: &OwnMarks<'_>,
     active: &Active,
     assign: &PlannedAssign,
 ) -> Option<usize>
@@ -134,7 +133,7 @@ fn add_assign(
 }
 
 /// What a driven port is seen as, or the number of a port that it needs and that is not known. It takes no memory.
-pub fn driven_found(own: &[NodeMark], active: &Active, plan: &DrivenPlan) -> Found
+pub fn driven_found(own: &OwnMarks<'_>, active: &Active, plan: &DrivenPlan) -> Found
     ensures value { (i : Instance) (owned : List Owned) (look : Look) →
         StandFor i plan.now.assigns.items owned → Agree i look own.now
         → Looked (numbers_of i (named_by (acting_of (offset_by active.now) owned)))

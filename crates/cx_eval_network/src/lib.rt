@@ -30,14 +30,13 @@ mod planned;
 mod planning;
 mod plans;
 mod soles;
-mod touched;
 
 pub use asking::Asking;
 pub use demands::Marks;
 pub use instance_ports::InstancePorts;
 pub use listed::{FoundBy, GroupList, GroupPorts, InstanceList, ListedPort, PartLists};
 pub use literals::literal_seen;
-pub use marks::{NodeMark, is_known};
+pub use marks::{MarkTable, NodeMark};
 pub use network::{Found, Network};
 pub use network_laws::{
     accepted_designs_are_networks, known_nodes_decide, lead_ports_lead, networks_are_grounded,

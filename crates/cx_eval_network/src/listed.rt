@@ -12,6 +12,8 @@ pub enum FoundBy {
     Fixed(Seen),
     /// It is an output of this cell that reads no input.
     State { cell: u32, port: u32 },
+    /// It is an output of this cell that reads so many inputs, the first.
+    Inputs { cell: u32, port: u32, reads: usize },
     /// By a look at it.
     Look,
 }

@@ -12,15 +12,15 @@ ghost use Rattle.cx_eval_network.specs.declared.network.Found.TheVariants.{Waits
 use crate::apart::apart_found;
 use crate::asking::Asking;
 use crate::evaluating::driven_found;
-use crate::marked::marks_from;
+use crate::marks::MarkTable;
 use crate::outputs::output_found;
 use crate::places::{active_of, asked_port};
 use crate::planned::PortPlan;
-use crate::{Found, NodeMark, NodePort};
+use crate::{Found, NodePort};
 use cx_design::Seen;
 
 /// The value of a node, or a node that it needs and that is not known. It takes no memory.
-pub fn look_at_node(asking: &Asking<'_>, marks: &[NodeMark], node: usize) -> Found
+pub fn look_at_node(asking: &Asking<'_>, marks: &MarkTable, node: usize) -> Found
     requires can { IsAsking asking.now }
     requires right { IsRight (value_at (asked_of asking.now) asking.now.nodes.now) marks.now }
     ensures found { Looked (leads_at (asked_of asking.now) asking.now.nodes.now node)
@@ -33,7 +33,7 @@ pub fn look_at_node(asking: &Asking<'_>, marks: &[NodeMark], node: usize) -> Fou
 }
 
 /// What a port is seen as that is found at a node, or a node that it needs and that is not known.
-fn look_at_port(asking: &Asking<'_>, marks: &[NodeMark], node: usize, found: NodePort) -> Found
+fn look_at_port(asking: &Asking<'_>, marks: &MarkTable, node: usize, found: NodePort) -> Found
     requires can { IsAsking asking.now }
     requires found { IsFound (asked_of asking.now) found }
     requires node { first_node (asked_of asking.now).design (asked_of asking.now).rows found.instance +
@@ -46,11 +46,11 @@ fn look_at_port(asking: &Asking<'_>, marks: &[NodeMark], node: usize, found: Nod
     match found_plan(asking, found) {
         PortPlan::Driven(plan) => {
             let active = active_of(asking, found.instance);
-            from_first(first, driven_found(marks_from(marks, first), active, plan))
+            from_first(first, driven_found(&marks.own_from(first), active, plan))
         }
         PortPlan::Output(reads) => from_first(
             first,
-            output_found(asking, marks_from(marks, first), found, *reads),
+            output_found(asking, &marks.own_from(first), found, *reads),
         ),
         PortPlan::Apart => apart_found(asking, marks, found),
     }

@@ -4,7 +4,7 @@ ghost use Rattle.std.specs.Prelude.{ℕ, List};
 ghost use Rattle.cx_meaning.specs.declared.sights.Seen.{Seen};
 ghost use Rattle.cx_eval_network.specs.Demands.{IsRight, Looked};
 
-use crate::marks::NodeMark;
+use crate::marks::MarkTable;
 use cx_meaning::Seen;
 
 /// What a look at a node finds: its value, or a node that it depends on at once and that is not known.
@@ -26,7 +26,7 @@ pub trait Network {
     ghost sound: { Self → Type 0 };
 
     /// The value of a node; or, where not all nodes that it depends on at once are known, one of these that is not. It takes no memory.
-    fn look(&self, marks: &[NodeMark], node: usize) -> Found
+    fn look(&self, marks: &MarkTable, node: usize) -> Found
         requires sound { sound self.now }
         requires right { IsRight (value self.now) marks.now }
         ensures found { Looked (leads self.now node) (value self.now node) marks.now result };

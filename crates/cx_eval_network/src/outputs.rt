@@ -18,9 +18,9 @@ ghost use Rattle.cx_eval_network.specs.declared.network.Found.TheVariants.{Worth
 ghost use Rattle.cx_eval_network.specs.Plans.{Inputs, decides, side_decides};
 
 use crate::asking::Asking;
-use crate::marked::found_at;
+use crate::marked::{OwnMarks, found_at};
 use crate::places::cells_of;
-use crate::{Found, NodeMark, NodePort};
+use crate::{Found, NodePort};
 use cx_bits::Bits;
 use cx_cells::{PrimState, Primitive};
 use cx_design::{PortRef, Seen};
@@ -35,7 +35,7 @@ use cx_state::width_laws::states_hold_widths;
 pub const ROOM: usize = 9;
 
 /// What an output of a primitive is seen as that reads so many inputs, the first; or the number of one of these that is not known.
-pub fn output_found(asking: &Asking<'_>, own: &[NodeMark], found: NodePort, reads: usize) -> Found
+pub fn output_found(asking: &Asking<'_>, own: &OwnMarks<'_>, found: NodePort, reads: usize) -> Found
     requires can { IsAsking asking.now }
     requires found { IsFound (asked_of asking.now) found }
     requires seen { OwnSeen (asked_of asking.now) found own.now }
@@ -114,9 +114,9 @@ fn held_output(asking: &Asking<'_>, primitive: &Primitive, state: &PrimState, po
 }
 
 /// The same of a port of a cell.
-fn cell_output(
+pub fn cell_output(
     asking: &Asking<'_>,
-    own: &[NodeMark],
+    own: &OwnMarks<'_>,
     found: NodePort,
     cell: u32,
     port: u32,
@@ -140,7 +140,7 @@ fn cell_output(
 /// The same of a primitive, by what it holds.
 fn primitive_output(
     asking: &Asking<'_>,
-    own: &[NodeMark],
+    own: &OwnMarks<'_>,
     found: NodePort,
     cell: u32,
     port: u32,
@@ -186,7 +186,7 @@ fn cell_state(cells: &[Option<PrimState>], cell: u32) -> Option<&PrimState>
 
 /// What an output is seen as, by the number of the first port of its primitive.
 fn output_by(
-    own: &[NodeMark],
+    own: &OwnMarks<'_>,
     first: usize,
     primitive: &Primitive,
     state: &PrimState,
@@ -215,7 +215,7 @@ fn output_by(
 /// Puts the values of the first so many inputs into their slots, where nothing stands; or tells the first that is no value, or the
 /// number of the first that is not known.
 fn gather_known(
-    own: &[NodeMark],
+    own: &OwnMarks<'_>,
     first: usize,
     reads: usize,
     inputs: &mut [Option<Bits>],

@@ -63,11 +63,9 @@ fn output_by(port: PortRef, reads: usize) -> FoundBy
 {
     match port {
         PortRef::Cell(cell, port) if reads == 0 => FoundBy::State { cell, port },
-        PortRef::Cell(_, _)
-        | PortRef::Input(_)
-        | PortRef::Output(_)
-        | PortRef::Done(_)
-        | PortRef::Literal(_, _) => FoundBy::Look,
+        PortRef::Cell(cell, port) => FoundBy::Inputs { cell, port, reads },
+        PortRef::Input(_) | PortRef::Output(_) | PortRef::Done(_) | PortRef::Literal(_, _) =>
+            FoundBy::Look,
     }
 }
 

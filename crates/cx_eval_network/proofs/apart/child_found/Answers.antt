@@ -45,7 +45,7 @@ returns c =
     ∙ ap (λ n. node_at a.design a.rows n (Output c.args.output)) (child_is a.rows a.children c.args.instance c.args.cell c.in-Some.child c.in-Some.ensures.value) in
     record {
       found =
-          subst (Looked (option_to_list (node_at a.design a.rows j (Output c.args.output))) (seen_at a j (Output c.args.output)) marks) (sym c.found_at.ensures.value)
+          subst (Looked (option_to_list (node_at a.design a.rows j (Output c.args.output))) (seen_at a j (Output c.args.output)) marks) (sym c.node_found.ensures.value)
           (looked_mark (option_to_list (node_at a.design a.rows j (Output c.args.output))) (seen_at a j (Output c.args.output)) marks node (subst (λ o. In (option_to_list o) node) is (inl refl))
           (λ x known. c.requires.right node x known ∙ output_value a asking.nodes.now net c.args.instance c.requires.from c.requires.within c.args.cell c.args.output has.0 has.1 node (sym is)));
     }

@@ -2,7 +2,6 @@ use Rattle.std.proofs.Common.{◌≡◌, length}
 use Rattle.cx_eval_network.specs.Askings.{asked_of}
 use Rattle.cx_eval_network.specs.Demands.{Keeps, Ready}
 use Rattle.cx_eval_network.specs.Networks.{value_at}
-use Rattle.cx_eval_network.specs.Touches.{AreTouched}
 use Rattle.cx_eval_network.proofs.filling.fill.Given as goal
 
 -- what is known is right, and stays
@@ -11,5 +10,4 @@ invariant-loop-port l = record {
   ready : Ready (value_at (asked_of l.asking) l.asking.nodes.now) l.marks;
   kept : Keeps l.initial.marks l.marks;
   count : length l.marks ≡ length l.initial.marks;
-  touched : AreTouched l.touched.nodes.items l.touched.count l.marks;
 }

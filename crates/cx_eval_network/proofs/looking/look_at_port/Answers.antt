@@ -17,9 +17,9 @@ from_first-requires c = record {
   fits = λ n e.
       let a = asked_of c.args.asking.now in
       let first = first_is (first_node a.design a.rows c.args.found.instance) c.args.found.number c.args.node c.requires.node in
-      let fits = placed_fits c.args.asking.now c.requires.can.can c.args.found c.requires.found c.marks_from.result.now c.driven_found.result (driven_known c.args.asking.now c.requires.can.can c.args.found c.requires.found c.in-Driven.plan c.active_of-active.result.now c.args.marks.now c.marks_from.result.now c.driven_found.result
+      let fits = placed_fits c.args.asking.now c.requires.can.can c.args.found c.requires.found c.own_from.result c.driven_found.result (driven_known c.args.asking.now c.requires.can.can c.args.found c.requires.found c.in-Driven.plan c.active_of-active.result.now c.args.marks.now c.own_from.result c.driven_found.result
       (ap planned (sym c.in-Driven.is) ∙ c.found_plan.ensures.value) c.active_of-active.ensures.value c.requires.right
-      (c.marks_from.ensures.value ∙ ap (λ m. drop m c.args.marks.now) first) c.driven_found.ensures.value) n e in
+      (c.own_from.ensures.value ∙ ap (λ m. drop m c.args.marks.now) first) c.driven_found.ensures.value) n e in
       omega (arith, first, fits);
 }
 
@@ -29,8 +29,8 @@ output_found-requires-clause-seen c =
     let a = asked_of asking in
     let f = c.requires.found in
     let k = c.args.found.instance in
-    let own = c.marks_from-in-Output.result.now in
-    let is : own ≡ drop (first_node a.design a.rows k) c.args.marks.now = c.marks_from-in-Output.ensures.value ∙ ap (λ m. drop m c.args.marks.now) (first_is (first_node a.design a.rows k) c.args.found.number c.args.node c.requires.node) in
+    let own = c.own_from-in-Output.result in
+    let is : own ≡ drop (first_node a.design a.rows k) c.args.marks.now = c.own_from-in-Output.ensures.value ∙ ap (λ m. drop m c.args.marks.now) (first_is (first_node a.design a.rows k) c.args.found.number c.args.node c.requires.node) in
     own_seen a asking.nodes.now c.requires.can.can.network k f.from f.within c.args.marks.now c.requires.right own is
 
 pub from_first-requires-in-Output : goal.from_first-requires-in-Output
@@ -38,7 +38,7 @@ from_first-requires-in-Output c = record {
   fits = λ n e.
       let a = asked_of c.args.asking.now in
       let first = first_is (first_node a.design a.rows c.args.found.instance) c.args.found.number c.args.node c.requires.node in
-      let fits = placed_fits c.args.asking.now c.requires.can.can c.args.found c.requires.found c.marks_from-in-Output.result.now c.output_found.result c.output_found.ensures.found n e in
+      let fits = placed_fits c.args.asking.now c.requires.can.can c.args.found c.requires.found c.own_from-in-Output.result c.output_found.result c.output_found.ensures.found n e in
       omega (arith, first, fits);
 }
 
@@ -48,15 +48,15 @@ returns-in-Driven c =
     let a = asked_of asking in
     let f = c.requires.found in
     let k = c.args.found.instance in
-    let own = c.marks_from.result.now in
+    let own = c.own_from.result in
     let first = first_is (first_node a.design a.rows k) c.args.found.number c.args.node c.requires.node in
-    let is : own ≡ drop (first_node a.design a.rows k) c.args.marks.now = c.marks_from.ensures.value ∙ ap (λ m. drop m c.args.marks.now) first in
+    let is : own ≡ drop (first_node a.design a.rows k) c.args.marks.now = c.own_from.ensures.value ∙ ap (λ m. drop m c.args.marks.now) first in
     record {
       found = subst (Looked (leads_of a (Some c.args.found)) (seen_at a k c.args.found.port) c.args.marks.now) (sym c.from_first.ensures.value)
           (placed_looked a asking.nodes.now c.requires.can.can.network k f.from f.within c.args.marks.now c.requires.right own is (c.args.node - c.args.found.number) (lead_ports (instance_of a k) (active_at a k) c.args.found.port)
-          (below_nodes a k c.args.found.port) (seen_at a k c.args.found.port) c.driven_found.result first (driven_known c.args.asking.now c.requires.can.can c.args.found c.requires.found c.in-Driven.plan c.active_of-active.result.now c.args.marks.now c.marks_from.result.now c.driven_found.result
+          (below_nodes a k c.args.found.port) (seen_at a k c.args.found.port) c.driven_found.result first (driven_known c.args.asking.now c.requires.can.can c.args.found c.requires.found c.in-Driven.plan c.active_of-active.result.now c.args.marks.now c.own_from.result c.driven_found.result
           (ap planned (sym c.in-Driven.is) ∙ c.found_plan.ensures.value) c.active_of-active.ensures.value c.requires.right
-          (c.marks_from.ensures.value ∙ ap (λ m. drop m c.args.marks.now) first) c.driven_found.ensures.value));
+          (c.own_from.ensures.value ∙ ap (λ m. drop m c.args.marks.now) first) c.driven_found.ensures.value));
     }
 
 pub returns-in-Output : goal.returns-in-Output
@@ -65,9 +65,9 @@ returns-in-Output c =
     let a = asked_of asking in
     let f = c.requires.found in
     let k = c.args.found.instance in
-    let own = c.marks_from-in-Output.result.now in
+    let own = c.own_from-in-Output.result in
     let first = first_is (first_node a.design a.rows k) c.args.found.number c.args.node c.requires.node in
-    let is : own ≡ drop (first_node a.design a.rows k) c.args.marks.now = c.marks_from-in-Output.ensures.value ∙ ap (λ m. drop m c.args.marks.now) first in
+    let is : own ≡ drop (first_node a.design a.rows k) c.args.marks.now = c.own_from-in-Output.ensures.value ∙ ap (λ m. drop m c.args.marks.now) first in
     record {
       found = subst (Looked (leads_of a (Some c.args.found)) (seen_at a k c.args.found.port) c.args.marks.now) (sym c.from_first-in-Output.ensures.value)
           (placed_looked a asking.nodes.now c.requires.can.can.network k f.from f.within c.args.marks.now c.requires.right own is (c.args.node - c.args.found.number) (lead_ports (instance_of a k) (active_at a k) c.args.found.port)
