@@ -3,6 +3,7 @@ mod FaultLemmas
 mod SteppingLemmas
 mod WalkLemmas
 mod NodePlaces
+mod FirstLemmas
 pub mod DesignProp
 mod PartLemmas
 mod TableLemmas

@@ -14,7 +14,7 @@ use Rattle.cx_eval_cycle.specs.Steps.{IsGathered, IsGatheredAt}
 use Rattle.cx_eval_cycle.proofs.RoomLemmas.{filled_inputs, other_inputs, still_rooms}
 use Rattle.cx_eval_cycle.proofs.SteppingLemmas.{kept_below}
 use Rattle.cx_eval_cycle.proofs.StepLemmas.{IsOf, kept_kind, one_gathered}
-use Rattle.cx_eval.specs.Looked.{own_cells, own_held, seen_look}
+use Rattle.cx_eval.specs.Looked.{StandFirst, StandFrom, own_cells, own_held, seen_look}
 use Rattle.cx_eval.proofs.OwnLemmas.{few_own}
 
 module _ (a : Asking) (can : IsAsking a) (kept : List (Option SteppingCell)) (are : AreStepping (own_cells a) kept) (c : ℕ) (stepping : SteppingCell) (is : kept_at kept c ≡ Some stepping) where
@@ -27,6 +27,14 @@ module _ (a : Asking) (can : IsAsking a) (kept : List (Option SteppingCell)) (ar
   -- what it is of
   pub own_of : IsOf (kind_at (own_cells a) c) stepping
   own_of = kept_kind (kind_at (own_cells a) c) (kept_at kept c) stepping (are.each c) is
+
+  -- the node from which on its ports stand
+  module _ (firsts : List ℕ) (stand : StandFirst a firsts) where
+    pub first_below : c < length firsts
+    first_below = let lt = below in let count = stand.count in let all = are.count in omega (arith, lt, count, all)
+
+    pub stands_first : StandFrom a c (row_of stepping.primitive.now).ports (get_or firsts c 0)
+    stands_first = stand.each c (get_or firsts c 0) stepping.primitive.now (slice_get-get_or firsts c 0 first_below) own_of.primitive
 
   -- its room, and the rooms after a look at it
   module _ (rooms : List CellRoom) (have : HaveRooms kept rooms) where

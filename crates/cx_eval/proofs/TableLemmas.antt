@@ -1,5 +1,5 @@
 -- What is asked of the tables of a design, and what stands in them.
-use Rattle.std.proofs.Common.{◌≡◌, ℕ, zero, suc, ◌<◌, ⊎_elim, List, [], ◌∷◌, get_or, length, map, set, Option, Some, None, option_map, refl, sym, ap, ◌∙◌, subst, arith}
+use Rattle.std.proofs.Common.{◌≡◌, Global, ℕ, zero, suc, ◌<◌, ⊎_elim, List, [], ◌∷◌, get_or, length, map, set, Option, Some, None, option_map, refl, sym, ap, ◌∙◌, subst, arith}
 use Rattle.std.specs.Prelude.{slice_get}
 use Rattle.std.specs.declared.vec.Vec.{Vec}
 use Rattle.std.proofs.Math.Logic.{∥∥₁_elim}
@@ -7,6 +7,7 @@ use Rattle.std.proofs.lemmas.Bool.{cases_eq}
 use Rattle.std.proofs.lemmas.List.{get_or-map, length-map, length-set, map-set}
 use Rattle.std.proofs.lemmas.Option.{slice_get-get_or, slice_get-map}
 use Rattle.cx_prim.specs.CellStates.{CellState}
+use Rattle.cx_meaning.specs.Designs.{component_at}
 use Rattle.cx_meaning.specs.Instances.{paths_of, tree_of}
 use Rattle.cx_rules.specs.Wellformed.{IsDesign}
 use Rattle.cx_rules.specs.Flat.{IsFlat}
@@ -20,15 +21,19 @@ use Rattle.cx_state.specs.Tables.{no_row, row_at}
 use Rattle.cx_state.specs.declared.states.InstanceState.{InstanceState}
 use Rattle.cx_state.specs.States.{IsStateOf, PlainInstance, instance_state, no_instance, plain_instance}
 use Rattle.cx_eval_network.proofs.FoundLemmas.{get_same}
-use Rattle.cx_eval_network.specs.Networks.{IsNetwork, instance_of, path_at}
+use Rattle.cx_eval_network.specs.Networks.{Asked, IsNetwork, instance_of, path_at}
 use Rattle.cx_eval_network.proofs.NetworkLemmas.{get_there}
 use Rattle.cx_eval_network.specs.Asked.{CanAsk}
+use Rattle.cx_eval_network.specs.declared.asking.Asking.{Asking}
+use Rattle.cx_eval_network.specs.Askings.{asked_of}
 use Rattle.cx_eval_cycle.specs.declared.rooms.CellRoom.{CellRoom}
 use Rattle.cx_eval_cycle.specs.declared.stepping.SteppingCells.{SteppingCells}
 use Rattle.cx_eval_cycle.specs.Rooms.{HaveRooms}
 use Rattle.cx_eval_cycle.specs.Stepping.{AreStepping, AreSteppingCells}
 use Rattle.cx_eval.specs.declared.tables.Tables.{Tables}
 use Rattle.cx_eval.specs.Cycling.{with_cells}
+use Rattle.cx_eval.specs.Firsts.{AreFirsts}
+use Rattle.cx_eval.specs.Looked as looked
 use Rattle.cx_eval.specs.Evaluated.{CanAct}
 use Rattle.cx_eval.specs.Tables.{AreRooms, AreTables, asked_in, cells_at, design_of, kept_in, kept_of}
 use Rattle.cx_eval.proofs.DesignProp.{design_prop}
@@ -55,6 +60,16 @@ module _ (t : Tables) (are : AreTables t) (n : ℕ) (lt : n < length (paths_of (
 
   pub can_ask : (state : List PlainInstance) (active : Active) → IsStateOf (design_of t) state → IsNetwork (asked_in t state n active) t.nodes → CanAsk (asked_in t state n active) t.nodes
   can_ask state active fits network = record { network = network; within = in_rows; accepted = are.accepted; fits = fits }
+
+  -- the nodes of the first ports of its cells
+  pub firsts_below : n < length t.firsts.items
+  firsts_below = let lt = in_rows in let count = are.firsts.count in omega (arith, lt, count)
+
+  pub first_nodes : (state : List PlainInstance) (active : Active) (asking : Asking) → asked_of asking ≡ asked_in t state n active → (own : Vec ℕ Global) → own ≡ get_or t.firsts.items n own
+      → AreFirsts (asked_of asking).design (asked_of asking).rows asking.instance (length (looked.own_cells asking)) own.items
+  first_nodes state active asking is own at =
+      subst (λ (a : Asked). AreFirsts a.design a.rows a.instance (length (component_at a.design (row_at a.rows a.instance).component).cells) own.items) (sym is)
+      (are.firsts.each n own (slice_get-get_or t.firsts.items n own firsts_below ∙ ap Some (sym at)))
 
   -- the cells of an instance
   module _ (row : InstanceRow) (is : row ≡ get_or rows_here n row) where

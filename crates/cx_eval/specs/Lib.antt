@@ -1,4 +1,5 @@
 pub mod Looked
 pub mod Evaluated
+pub mod Firsts
 pub mod Tables
 pub mod Cycling

@@ -1,11 +1,12 @@
 -- What the ports of the asked instance are seen as, and what its cells hold.
-use Rattle.std.specs.Prelude.{◌≡◌, ℕ, ◌+◌, ◌<◌, Bool, true, List, Option, length}
+use Rattle.std.specs.Prelude.{◌≡◌, ℕ, ◌+◌, ◌<◌, Bool, true, List, Option, Some, length, slice_get}
 use Rattle.cx_prim.specs.CellStates.{CellState}
 use Rattle.cx_prim.specs.declared.ports.PortRow.{PortRow}
 use Rattle.cx_prim.specs.Rows.{Inputs, value_at}
+use Rattle.cx_prim.specs.Table.{PrimitiveRow, row_of}
 use Rattle.cx_meaning.specs.declared.ports.PortRef.TheVariants.{Cell}
 use Rattle.cx_meaning.specs.declared.sights.Seen.{Seen}
-use Rattle.cx_meaning.specs.Designs.{PlainCell, component_at}
+use Rattle.cx_meaning.specs.Designs.{OfPrimitive, PlainCell, component_at}
 use Rattle.cx_meaning.specs.Sights.{Look}
 use Rattle.cx_design.specs.PlainDesigns.{plain_design}
 use Rattle.cx_state.specs.Tables.{row_at}
@@ -18,6 +19,7 @@ use Rattle.cx_eval_network.specs.Networks as networks
 use Rattle.cx_eval_network.specs.Networks.{seen_at}
 use Rattle.cx_eval_network.specs.declared.asking.Asking.{Asking}
 use Rattle.cx_eval_network.specs.Askings.{asked_of}
+use Rattle.cx_eval_cycle.specs.Passes.{kind_at}
 use Rattle.cx_eval_cycle.specs.Ports.{Stands}
 
 -- the value that stands at a port, told whether it is 0
@@ -57,6 +59,12 @@ module _ (a : Asking) where
 
   abbrev pub own_held : List (Option CellState)
   own_held = (instance_state (plain_state a.state.now) a.instance).cells
+
+  -- for each of its cells there is a node, from which on the ports of its primitive stand
+  pub record StandFirst (firsts : List ℕ) : Type 0 where
+    pub count : length firsts ≡ length own_cells
+    pub each : (c first : ℕ) (p : PrimitiveRow) → slice_get firsts c ≡ Some first
+        → kind_at own_cells c ≡ Some (OfPrimitive p) → StandFrom c (row_of p).ports first
 
   -- marks that ports can be demanded with: one for each node, all that is known is right, and none waits
   pub record CanDemand (marks : List NodeMark) : Type 0 where

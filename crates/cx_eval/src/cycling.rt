@@ -12,15 +12,17 @@ ghost use Rattle.cx_eval.specs.Evaluated.{CanAct, Cycled};
 ghost use Rattle.cx_eval.specs.Tables.{AreMarksOf, AreReady, AreRooms, AreTables, asked_in, cells_at, design_of, kept_of};
 
 use crate::faults::first_fault;
-use crate::sights::{fill_in, own_ports};
+use crate::laws::seen_ports_are_wide;
+use crate::sights::fill_list;
 use crate::stepping::step_in;
-use crate::tables::{Tables, ask, stepping_of};
+use crate::tables::{Tables, ask, group_at, stepping_of};
 use cx_design::{Active, GroupKind, PortFault, PortRef};
 use cx_eval_cycle::{CellFault, CellRoom};
 use cx_eval_network::{GroupList, Marks};
 use cx_state::State;
 
 /// The first fault among the listed cells of an instance; where there is none, the rooms have what stands at their ports.
+/// Where a list of what is active is named, its ports are found first, one behind the other, so that looks wait for none.
 fn fault_in(
     tables: &Tables<'_>,
     marks: &mut Marks,
@@ -29,6 +31,7 @@ fn fault_in(
     active: &Active,
     instance: usize,
     listed: &[u32],
+    list: Option<GroupList>,
 ) -> Option<CellFault>
     requires tables { AreTables tables.now }
     requires state { IsStateOf (design_of tables.now) (plain_state state.now) }
@@ -42,10 +45,12 @@ fn fault_in(
     ensures rooms { HaveRooms (kept_of tables.now instance) rooms.new }
     ensures count { AreMarksOf tables.now marks.new }
 {
+    seen_ports_are_wide();
     let asking = ask(tables, state, active, instance);
-    let ports = own_ports(&asking);
+    fill_list(&asking, marks, list);
+    let firsts = tables.firsts[instance].as_slice();
     let stepping = stepping_of(tables, instance);
-    first_fault(&asking, ports, marks, &stepping.cells, rooms, listed)
+    first_fault(&asking, firsts, marks, &stepping.cells, rooms, listed)
 }
 
 /// The fault of a cell of an instance, as it is told.
@@ -70,6 +75,7 @@ fn cycle_in(
     active: &Active,
     instance: usize,
     listed: &[u32],
+    list: Option<GroupList>,
 ) -> Result<(), PortFault>
     requires tables { AreTables tables.now }
     requires state { IsStateOf (design_of tables.now) (plain_state state.old) }
@@ -84,7 +90,7 @@ fn cycle_in(
     ensures rooms { HaveRooms (kept_of tables.now instance) rooms.new }
     ensures count { AreMarksOf tables.now marks.new }
 {
-    if let Some(fault) = fault_in(tables, marks, rooms, state, active, instance, listed) {
+    if let Some(fault) = fault_in(tables, marks, rooms, state, active, instance, listed, list) {
         return Err(told(fault, instance));
     }
     step_in(tables, rooms, state, instance, listed);
@@ -92,6 +98,7 @@ fn cycle_in(
 }
 
 /// A cycle of the listed cells of an instance, where what is marked is right. It takes no memory.
+#[inline(always)]
 pub(crate) fn cycle_listed(
     tables: &Tables<'_>,
     marks: &mut Marks,
@@ -100,6 +107,7 @@ pub(crate) fn cycle_listed(
     active: &Active,
     instance: usize,
     listed: &[u32],
+    list: Option<GroupList>,
 ) -> Result<(), PortFault>
     requires tables { AreTables tables.now }
     requires state { IsStateOf (design_of tables.now) (plain_state state.old) }
@@ -116,7 +124,7 @@ pub(crate) fn cycle_listed(
 {
     let part = tables.table.rows[instance].component as usize;
     let own = &mut rooms[part];
-    cycle_in(tables, marks, own, state, active, instance, listed)
+    cycle_in(tables, marks, own, state, active, instance, listed, list)
 }
 
 /// How many cycles a static group has at most for its ports to be found before its cells are looked at. In a cycle of a longer one
@@ -125,30 +133,25 @@ const SHORT: u64 = 2;
 
 /// Whether a group of an instance is such a static one.
 fn is_short(tables: &Tables<'_>, instance: usize, group: u32) -> bool {
-    let Some(row) = tables.table.rows.get(instance) else {
-        return false;
-    };
-    let Some(part) = tables.design.components.get(row.component as usize) else {
-        return false;
-    };
-    match part.groups.get(group as usize) {
+    match group_at(tables, instance, group) {
         Some(group) => matches!(group.kind, GroupKind::Timed(length) if length <= SHORT),
         None => false,
     }
 }
 
-/// Whether what is active is one short static group of an island.
-fn is_short_island(tables: &Tables<'_>, active: &Active, instance: usize) -> bool {
+/// The list that is gone through before the cells of a cycle are looked at that no turn has begun: that of the one short
+/// static group of an island.
+fn island_list(tables: &Tables<'_>, active: &Active, instance: usize) -> Option<GroupList> {
     match active {
-        Active::Entries(entries) => {
-            entries.len() == 1 && is_short(tables, instance, entries[0].group)
+        Active::Entries(entries)
+            if entries.len() == 1 && is_short(tables, instance, entries[0].group) => {
+            Some(GroupList::Others)
         }
-        Active::Nothing | Active::Group(_) | Active::CallEnd(_) => false,
+        _ => None,
     }
 }
 
-/// A cycle of the listed cells of an instance that no turn has begun. The ports that one short static group of an island drives
-/// are found first, one behind the other, so that looks at cells wait for none. It takes no memory.
+/// A cycle of the listed cells of an instance that no turn has begun. It takes no memory.
 pub(crate) fn cycle_anew(
     tables: &Tables<'_>,
     marks: &mut Marks,
@@ -171,10 +174,8 @@ pub(crate) fn cycle_anew(
     ensures rooms { AreRooms tables.now rooms.new }
     ensures count { AreMarksOf tables.now marks.new }
 {
-    if is_short_island(tables, active, instance) {
-        fill_in(tables, marks, state, active, instance, GroupList::Others);
-    }
-    cycle_listed(tables, marks, rooms, state, active, instance, listed)
+    let list = island_list(tables, active, instance);
+    cycle_listed(tables, marks, rooms, state, active, instance, listed, list)
 }
 
 /// A cycle of all cells of an instance: of those that can step, since the others stay. It takes no memory.

@@ -12,7 +12,7 @@ ghost use Rattle.cx_eval_cycle.specs.Passes.{IsAscending, listed_in};
 ghost use Rattle.cx_rules.specs.Flat.{IsFlat};
 
 use crate::cycling::{cycle_all, cycle_anew};
-use crate::sights::seen_in;
+use crate::sights::{seen_in, test_list};
 use crate::tables::{Tables, rooms_of};
 use crate::turns::{GroupTurn, turn_in};
 use cx_design::{Active, Checked, PortFault, PortRef, Seen};
@@ -74,7 +74,16 @@ impl<'a> Evaluator<'a> {
         ensures same { self.new ≡ self.old }
     {
         self.marks.forget();
-        seen_in(&self.tables, &mut self.marks, state, active, instance, port)
+        let list = test_list(&self.tables, active, instance);
+        seen_in(
+            &self.tables,
+            &mut self.marks,
+            state,
+            active,
+            instance,
+            list,
+            port,
+        )
     }
 
     /// A cycle of an instance under an active set: its next state, or exactly its fault, which leaves the state. It takes no

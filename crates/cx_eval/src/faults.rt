@@ -1,21 +1,19 @@
 //! The first fault among the cells of the asked instance.
 
 ghost use Rattle.std.specs.Prelude.{◌≡◌, ◌≢◌, ℕ, IfNone, IfSome, None, Some};
-ghost use Rattle.cx_design.specs.PlainDesigns.{plain_design};
 ghost use Rattle.cx_eval_network.specs.Askings.{IsAsking};
-ghost use Rattle.cx_eval_network.specs.Nodes.{ArePortsOf};
 ghost use Rattle.cx_eval_cycle.specs.Passes as passes;
 ghost use Rattle.cx_eval_cycle.specs.Passes.{cell_held, first_among, listed_in};
 ghost use Rattle.cx_eval_cycle.specs.Rooms.{HaveRooms, inputs_at};
 ghost use Rattle.cx_eval_cycle.specs.Stepping.{AreStepping};
 ghost use Rattle.cx_eval_cycle.specs.Steps.{AreGathered, IsGatheredAt};
 ghost use Rattle.cx_eval.specs.Looked as looked;
-ghost use Rattle.cx_eval.specs.Looked.{CanDemand, own_cells, seen_look};
+ghost use Rattle.cx_eval.specs.Looked.{CanDemand, StandFirst, own_cells, seen_look};
 
 use crate::looking::look_in;
 use cx_cells::PrimState;
 use cx_eval_cycle::{CellFault, CellRoom, SteppingCell, stepping_at};
-use cx_eval_network::{Asking, InstancePorts, Marks};
+use cx_eval_network::{Asking, Marks};
 
 /// What the cells of the asked instance hold.
 fn own_held<'b>(asking: &Asking<'b>) -> &'b [Option<PrimState>]
@@ -39,7 +37,7 @@ fn held_at(held: &[Option<PrimState>], cell: usize) -> Option<&PrimState>
 /// The fault of a cell. One that cannot step has none, and none has a number that names no cell.
 fn fault_of(
     asking: &Asking<'_>,
-    ports: InstancePorts<'_>,
+    firsts: &[usize],
     marks: &mut Marks,
     cells: &[Option<SteppingCell<'_>>],
     rooms: &mut [CellRoom],
@@ -47,8 +45,7 @@ fn fault_of(
     cell: usize,
 ) -> Option<CellFault>
     requires can { IsAsking asking.now }
-    requires own { ArePortsOf
-        (plain_design asking.now.design.now) asking.now.table.now.rows.items asking.now.instance ports }
+    requires firsts { StandFirst asking.now firsts.now }
     requires ready { CanDemand asking.now marks.old }
     requires cells { AreStepping (own_cells asking.now) cells.now }
     requires rooms { HaveRooms cells.now rooms.old }
@@ -70,9 +67,8 @@ fn fault_of(
     let number = cell as u32;
     match look_in(
         asking,
-        ports,
         marks,
-        number,
+        firsts[cell],
         stepping,
         state,
         &mut rooms[cell],
@@ -86,15 +82,14 @@ fn fault_of(
 /// demanded. Where there is no fault, the rooms have what stands at the ports of the listed cells. It takes no memory.
 pub fn first_fault(
     asking: &Asking<'_>,
-    ports: InstancePorts<'_>,
+    firsts: &[usize],
     marks: &mut Marks,
     cells: &[Option<SteppingCell<'_>>],
     rooms: &mut [CellRoom],
     listed: &[u32],
 ) -> Option<CellFault>
     requires can { IsAsking asking.now }
-    requires own { ArePortsOf
-        (plain_design asking.now.design.now) asking.now.table.now.rows.items asking.now.instance ports }
+    requires firsts { StandFirst asking.now firsts.now }
     requires ready { CanDemand asking.now marks.old }
     requires cells { AreStepping (own_cells asking.now) cells.now }
     requires rooms { HaveRooms cells.now rooms.old }
@@ -108,7 +103,7 @@ pub fn first_fault(
     let held = own_held(asking);
     for number in 0..listed.len() {
         let cell = listed[number] as usize;
-        if let Some(fault) = fault_of(asking, ports, marks, cells, rooms, held, cell) {
+        if let Some(fault) = fault_of(asking, firsts, marks, cells, rooms, held, cell) {
             return Some(fault);
         }
     }

@@ -6,6 +6,7 @@ mod cycling;
 mod demanding;
 mod evaluator;
 mod faults;
+mod firsts;
 pub mod laws;
 mod looking;
 mod sights;

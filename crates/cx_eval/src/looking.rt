@@ -1,46 +1,26 @@
 //! A look at a cell of the asked instance.
 
-ghost use Rattle.std.specs.Prelude.{◌≡◌, ◌+◌, ◌^◌, ◌<◌, true, IfErr, IfOk, List, OnOk, Some, length};
+ghost use Rattle.std.specs.Prelude.{◌≡◌, ◌+◌, ◌^◌, ◌<◌, ℕ, true, IfErr, IfOk, List, OnOk, length};
 ghost use Rattle.cx_prim.specs.CellStates.{IsState};
 ghost use Rattle.cx_prim.specs.declared.ports.PortRow.{PortRow};
 ghost use Rattle.cx_prim.specs.Rows.{FitsPorts, IsLookedAt, IsQuiet};
-ghost use Rattle.cx_prim.specs.Table.{PrimitiveRow, row_of};
-ghost use Rattle.cx_meaning.specs.Designs.{OfPrimitive};
+ghost use Rattle.cx_prim.specs.Table.{row_of};
 ghost use Rattle.cx_meaning.specs.Cycles.{cell_outcome, enables, looks_at};
-ghost use Rattle.cx_design.specs.PlainDesigns.{plain_design};
 ghost use Rattle.cx_eval_drives.specs.Gathers.{AreWide};
 ghost use Rattle.cx_eval_network.specs.Askings.{IsAsking};
-ghost use Rattle.cx_eval_network.specs.Nodes.{ArePortsOf};
-ghost use Rattle.cx_eval_cycle.specs.Passes.{kind_at};
 ghost use Rattle.cx_eval_cycle.specs.Ports.{AllStand, IsLack, KeepStanding, Stands, StopsAt};
 ghost use Rattle.cx_eval_cycle.specs.Rooms.{HasRoom};
 ghost use Rattle.cx_eval_cycle.specs.Stepping.{IsStepping};
 ghost use Rattle.cx_eval_cycle.specs.Stops.{told};
-ghost use Rattle.cx_eval.specs.Looked.{CanDemand, HaveNodes, StandFrom, StandsAs, count_in, own_cells, seen_from, seen_look};
+ghost use Rattle.cx_eval.specs.Looked.{CanDemand, HaveNodes, StandFrom, StandsAs, count_in, seen_from, seen_look};
 
 use crate::demanding::demand_node;
-use crate::laws::seen_ports_are_wide;
 use cx_bits::Bits;
 use cx_cells::PrimState;
-use cx_design::{FaultKind, PortRef, Seen};
+use cx_design::{FaultKind, Seen};
 use cx_eval_cycle::{CellRoom, CellStop, SteppingCell, out_of_range, stop_at};
-use cx_eval_network::{Asking, InstancePorts, Marks};
+use cx_eval_network::{Asking, Marks};
 use cx_prim::Cycle;
-
-/// The node of the first port of a cell, from which on those of its ports stand; 0 for a cell that has no port.
-fn first_node(asking: &Asking<'_>, ports: InstancePorts<'_>, cell: u32) -> usize
-    requires can { IsAsking asking.now }
-    requires own { ArePortsOf
-        (plain_design asking.now.design.now) asking.now.table.now.rows.items asking.now.instance ports }
-    ensures value { (p : PrimitiveRow) → kind_at (own_cells asking.now) cell ≡ Some (OfPrimitive p) →
-        StandFrom asking.now cell (row_of p).ports result }
-{
-    seen_ports_are_wide();
-    match ports.node(PortRef::Cell(cell, 0)) {
-        Some(node) => node,
-        None => 0,
-    }
-}
 
 /// Demands a port of a cell whose ports stand from a node on, keeps what stands there, and tells whether it is 0. A port that
 /// is seen as no value stops the cell.
@@ -170,32 +150,30 @@ fn demand_plain(
     Ok(())
 }
 
-/// Looks at a cell that can step: at its enabling ports in port order, then at the ports that it demands at their values, then
-/// at its addresses. Each port is demanded as it is looked at. Where nothing stops the cell, `inputs` has what stands at these.
+/// Looks at a cell that can step, whose ports stand from a node on: at its enabling ports in port order, then at the
+/// ports that it demands at their values, then at its addresses. Each port is demanded as it is looked at. Where nothing
+/// stops the cell, `inputs` has what stands at these.
 fn look_at(
     asking: &Asking<'_>,
-    ports: InstancePorts<'_>,
     marks: &mut Marks,
-    cell: u32,
+    first: usize,
     stepping: &SteppingCell<'_>,
     state: &PrimState,
     inputs: &mut [Option<Bits>],
 ) -> Result<(), CellStop>
     requires can { IsAsking asking.now }
-    requires own { ArePortsOf
-        (plain_design asking.now.design.now) asking.now.table.now.rows.items asking.now.instance ports }
     requires ready { CanDemand asking.now marks.old }
-    requires cell { kind_at (own_cells asking.now) cell ≡ Some (OfPrimitive stepping.now.primitive.now) }
+    requires nodes { HaveNodes asking.now (row_of stepping.now.primitive.now).ports first }
     requires stepping { IsStepping stepping.now.primitive.now stepping.now }
     requires state { IsState (row_of stepping.now.primitive.now).shape state.now }
     requires fits { FitsPorts (row_of stepping.now.primitive.now).ports inputs.old }
-    ensures value { told (row_of stepping.now.primitive.now) state.now result inputs.new ≡
+    ensures value { (cell : ℕ) → StandFrom asking.now cell (row_of stepping.now.primitive.now).ports first →
+        told (row_of stepping.now.primitive.now) state.now result inputs.new ≡
         cell_outcome (seen_look asking.now) cell (row_of stepping.now.primitive.now) state.now }
     ensures looked_at { OnOk result (IsLookedAt (row_of stepping.now.primitive.now) state.now inputs.new) }
     ensures fits { FitsPorts (row_of stepping.now.primitive.now).ports inputs.new }
     ensures ready { CanDemand asking.now marks.new }
 {
-    let first = first_node(asking, ports, cell);
     let quiet = demand_enabling(asking, marks, first, stepping, inputs)?;
     if quiet {
         return Ok(());
@@ -213,34 +191,24 @@ fn look_at(
 /// Looks at a cell that can step, and leaves in its room what stands at its ports. It takes no memory.
 pub fn look_in(
     asking: &Asking<'_>,
-    ports: InstancePorts<'_>,
     marks: &mut Marks,
-    cell: u32,
+    first: usize,
     stepping: &SteppingCell<'_>,
     state: &PrimState,
     room: &mut CellRoom,
 ) -> Result<(), CellStop>
     requires can { IsAsking asking.now }
-    requires own { ArePortsOf
-        (plain_design asking.now.design.now) asking.now.table.now.rows.items asking.now.instance ports }
     requires ready { CanDemand asking.now marks.old }
-    requires cell { kind_at (own_cells asking.now) cell ≡ Some (OfPrimitive stepping.now.primitive.now) }
+    requires nodes { HaveNodes asking.now (row_of stepping.now.primitive.now).ports first }
     requires stepping { IsStepping stepping.now.primitive.now stepping.now }
     requires state { IsState (row_of stepping.now.primitive.now).shape state.now }
     requires room { HasRoom (row_of stepping.now.primitive.now).ports room.old }
-    ensures value { told (row_of stepping.now.primitive.now) state.now result room.new.inputs.items ≡
+    ensures value { (cell : ℕ) → StandFrom asking.now cell (row_of stepping.now.primitive.now).ports first →
+        told (row_of stepping.now.primitive.now) state.now result room.new.inputs.items ≡
         cell_outcome (seen_look asking.now) cell (row_of stepping.now.primitive.now) state.now }
     ensures looked_at { OnOk result (IsLookedAt (row_of stepping.now.primitive.now) state.now room.new.inputs.items) }
     ensures ready { CanDemand asking.now marks.new }
     ensures room { HasRoom (row_of stepping.now.primitive.now).ports room.new }
 {
-    look_at(
-        asking,
-        ports,
-        marks,
-        cell,
-        stepping,
-        state,
-        &mut room.inputs,
-    )
+    look_at(asking, marks, first, stepping, state, &mut room.inputs)
 }

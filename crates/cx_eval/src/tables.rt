@@ -11,7 +11,8 @@ ghost use Rattle.cx_eval_cycle.specs.Stepping.{AreSteppingCells};
 ghost use Rattle.cx_eval.specs.Evaluated.{CanAct};
 ghost use Rattle.cx_eval.specs.Tables.{AreRooms, AreSteppingParts, AreTables, asked_in, cells_at, design_of, kept_of};
 
-use cx_design::{Active, Checked, Design};
+use crate::firsts::all_firsts;
+use cx_design::{Active, Checked, Design, Group};
 use cx_design_parts::component;
 use cx_eval_cycle::{CellRoom, SteppingCells, rooms_for};
 use cx_eval_network::{Asking, Nodes, accepted_designs_are_networks};
@@ -25,6 +26,8 @@ pub(crate) struct Tables<'a> {
     pub(crate) design: &'a Design,
     pub(crate) table: InstanceTable,
     pub(crate) nodes: Nodes,
+    /// For each instance the nodes of the first ports of its cells.
+    pub(crate) firsts: Vec<Vec<usize>>,
     /// The cells of each component that can step.
     pub(crate) parts: Vec<SteppingCells<'a>>,
     /// The empty active set, for the instances below the asked one.
@@ -41,11 +44,13 @@ impl<'a> Tables<'a> {
         let table = instances(alloc, design)?;
         let design = design.design();
         let nodes = Nodes::new(alloc, design, &table)?;
+        let firsts = all_firsts(alloc, design, &table, &nodes)?;
         let parts = stepping_parts(alloc, design)?;
         Ok(Tables {
             design,
             table,
             nodes,
+            firsts,
             parts,
             nothing: Active::Nothing,
         })
@@ -112,4 +117,15 @@ pub(crate) fn stepping_of<'b, 'a>(tables: &'b Tables<'a>, instance: usize) -> &'
 {
     let part = tables.table.rows[instance].component as usize;
     &tables.parts[part]
+}
+
+/// A group of an instance, where it is there.
+pub(crate) fn group_at<'b>(
+    tables: &'b Tables<'_>,
+    instance: usize,
+    group: u32,
+) -> Option<&'b Group> {
+    let row = tables.table.rows.get(instance)?;
+    let part = tables.design.components.get(row.component as usize)?;
+    part.groups.get(group as usize)
 }

@@ -12,7 +12,7 @@ ghost use Rattle.cx_eval.specs.Evaluated.{CanAct, IsPort, Turned};
 ghost use Rattle.cx_eval.specs.Tables.{AreMarksOf, AreReady, AreRooms, AreTables, design_of};
 
 use crate::cycling::cycle_listed;
-use crate::sights::{fill_in, seen_in};
+use crate::sights::seen_in;
 use crate::tables::Tables;
 use cx_design::{Active, PortFault, PortRef, Seen};
 use cx_eval_cycle::CellRoom;
@@ -62,18 +62,21 @@ pub(crate) fn turn_in(
     ensures sized { AreMarksOf tables.now marks.new }
 {
     let active = Active::Group(group);
-    fill_in(tables, marks, state, &active, instance, GroupList::Hole);
+    let first = Some(GroupList::Hole);
     let hole = seen_in(
         tables,
         marks,
         state,
         &active,
         instance,
+        first,
         PortRef::Done(group),
     );
     if is_zero(&hole) {
-        fill_in(tables, marks, state, &active, instance, GroupList::Others);
-        GroupTurn::Cycled(cycle_listed(tables, marks, rooms, state, &active, instance, cells))
+        let others = Some(GroupList::Others);
+        GroupTurn::Cycled(cycle_listed(
+            tables, marks, rooms, state, &active, instance, cells, others,
+        ))
     } else {
         GroupTurn::Seen(hole)
     }

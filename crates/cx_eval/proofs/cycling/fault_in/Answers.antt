@@ -1,4 +1,4 @@
-use Rattle.std.proofs.Common.{List, Option, sym, ap, ◌∙◌, subst}
+use Rattle.std.proofs.Common.{List, Option, sym, ap, ◌∙◌, subst, arith}
 use Rattle.std.specs.Prelude.{IfNone}
 use Rattle.cx_meaning.specs.Designs.{PlainCell, component_at}
 use Rattle.cx_state.specs.States.{instance_state, plain_state}
@@ -11,10 +11,23 @@ use Rattle.cx_eval_cycle.specs.Rooms.{HaveRooms}
 use Rattle.cx_eval_cycle.specs.Stepping.{AreStepping}
 use Rattle.cx_eval_cycle.specs.Steps.{AreGathered}
 use Rattle.cx_eval.specs.Cycling.{IsFirst}
-use Rattle.cx_eval.specs.Looked.{own_cells, own_held, seen_look}
+use Rattle.cx_eval.specs.Looked.{StandFirst, own_cells, own_held, seen_look}
 use Rattle.cx_eval.specs.Tables.{asked_in, cells_at}
 use Rattle.cx_eval.proofs.AskedLemmas.{are_ready, can_demand, first_of}
+use Rattle.cx_eval.proofs.FirstLemmas.{stand_first}
+use Rattle.cx_eval.proofs.TableLemmas.{first_nodes, firsts_below}
 use Rattle.cx_eval.proofs.cycling.fault_in.Goals as goal
+
+pub index-requires : goal.index-requires
+index-requires c =
+    let below = firsts_below c.args.tables.now c.requires.tables c.args.instance c.requires.instance in
+    omega (arith, below, c.args.tables.now.firsts.ok.0)
+
+pub fill_list-requires : goal.fill_list-requires
+fill_list-requires c = record {
+  can = c.ask-asking.ensures.can;
+  ready = can_demand c.args.tables.now (plain_state c.args.state.now) c.args.instance c.args.active.now c.ask-asking.result c.ask-asking.ensures.asked c.ask-asking.ensures.nodes c.args.marks.now c.requires.ready;
+}
 
 pub first_fault-requires : goal.first_fault-requires
 first_fault-requires c =
@@ -27,8 +40,10 @@ first_fault-requires c =
     let own = ap (λ (a : Asked). (component_at a.design (row_at a.rows a.instance).component).cells) (sym c.ask-asking.ensures.asked) in
     record {
       can = c.ask-asking.ensures.can;
-      own = c.own_ports-ports.ensures.own;
-      ready = can_demand t rows n active asking c.ask-asking.ensures.asked c.ask-asking.ensures.nodes c.args.marks.now c.requires.ready;
+      firsts = subst (StandFirst asking) (sym c.as_slice-firsts.ensures.value)
+          (stand_first asking c.ask-asking.ensures.can (λ k p kind. c.seen_ports_are_wide.ensures asking k p c.ask-asking.ensures.can kind) c.index.result.now.items
+          (first_nodes t c.requires.tables n c.requires.instance rows active asking c.ask-asking.ensures.asked c.index.result.now c.index.ensures));
+      ready = c.fill_list.ensures.ready;
       cells = subst (λ (cells : List PlainCell). AreStepping cells c.deref.result.now) own (subst (AreStepping (cells_at t n)) (sym c.deref.ensures.value) c.stepping_of-stepping.ensures.value.kept);
       rooms = subst (λ (ks : List (Option SteppingCell)). HaveRooms ks c.args.rooms.now) kept c.requires.rooms;
     }

@@ -6,7 +6,7 @@ use Rattle.cx_eval_cycle.proofs.PassLemmas.{fault_is}
 use Rattle.cx_eval.specs.Looked.{own_cells, own_held, seen_look}
 use Rattle.cx_eval.proofs.FaultLemmas.{empty_faults, empty_gathered, idle_faults, idle_gathered}
 use Rattle.cx_eval.proofs.OwnLemmas.{own_state}
-use Rattle.cx_eval.proofs.SteppingLemmas.{gathered_after, has_room, number_few, others_after, own_of, room_below, rooms_after}
+use Rattle.cx_eval.proofs.SteppingLemmas.{first_below, gathered_after, has_room, number_few, others_after, own_of, room_below, rooms_after, stands_first}
 use Rattle.cx_eval.proofs.faults.fault_of.Goals as goal
 
 pub returns-in_default-clause-value : goal.returns-in_default-clause-value
@@ -37,8 +37,12 @@ overflow_cast-number c =
 pub bounds-rooms-cell : goal.bounds-rooms-cell
 bounds-rooms-cell c = room_below c.args.asking.now c.requires.can c.args.cells.now c.requires.cells c.args.cell c.in-Some.stepping.now c.in-Some.ensures.some c.args.rooms.now c.requires.rooms
 
-pub look_in-requires-clause-cell : goal.look_in-requires-clause-cell
-look_in-requires-clause-cell c = (own_of c.args.asking.now c.requires.can c.args.cells.now c.requires.cells c.args.cell c.in-Some.stepping.now c.in-Some.ensures.some).primitive
+pub bounds-firsts-cell : goal.bounds-firsts-cell
+bounds-firsts-cell c = first_below c.args.asking.now c.requires.can c.args.cells.now c.requires.cells c.args.cell c.in-Some.stepping.now c.in-Some.ensures.some c.args.firsts.now c.requires.firsts
+
+pub look_in-requires-clause-nodes : goal.look_in-requires-clause-nodes
+look_in-requires-clause-nodes c =
+    (stands_first c.args.asking.now c.requires.can c.args.cells.now c.requires.cells c.args.cell c.in-Some.stepping.now c.in-Some.ensures.some c.args.firsts.now c.requires.firsts).nodes
 
 pub look_in-requires-clause-stepping : goal.look_in-requires-clause-stepping
 look_in-requires-clause-stepping c = (own_of c.args.asking.now c.requires.can c.args.cells.now c.requires.cells c.args.cell c.in-Some.stepping.now c.in-Some.ensures.some).stepping_is
@@ -62,13 +66,14 @@ returns-in-Ok c =
     let room = c.look_in.new.room in
     let kind = (own_of a c.requires.can c.args.cells.now c.requires.cells c.args.cell stepping c.in-Some.ensures.some).primitive in
     let holds = ap (λ (held : List (Option CellState)). cell_held held c.args.cell) (sym c.requires.held) ∙ c.in-Some-held_at.ensures.some in
+    let stand = stands_first a c.requires.can c.args.cells.now c.requires.cells c.args.cell stepping c.in-Some.ensures.some c.args.firsts.now c.requires.firsts in
     record {
-      value = fault_is (seen_look a) (own_cells a) c.args.cell stepping.primitive.now (own_held a) state None kind holds (ap stop_in c.in-Ok.ensures.value);
+      value = fault_is (seen_look a) (own_cells a) c.args.cell stepping.primitive.now (own_held a) state None kind holds (ap stop_in (c.in-Ok.ensures.value c.args.cell stand));
       ready = c.look_in.ensures.ready;
       rooms = rooms_after a c.requires.can c.args.cells.now c.requires.cells c.args.cell stepping c.in-Some.ensures.some c.args.rooms.now c.requires.rooms room c.look_in.ensures.room;
       gathered =
           gathered_after a c.requires.can c.args.cells.now c.requires.cells c.args.cell stepping c.in-Some.ensures.some c.args.rooms.now c.requires.rooms room state holds
-          (record { outcome = c.in-Ok.ensures.value; fits = c.look_in.ensures.room; looked_at = c.in-Ok.ensures.looked_at });
+          (record { outcome = c.in-Ok.ensures.value c.args.cell stand; fits = c.look_in.ensures.room; looked_at = c.in-Ok.ensures.looked_at });
       others = others_after a c.requires.can c.args.cells.now c.requires.cells c.args.cell stepping c.in-Some.ensures.some c.args.rooms.now c.requires.rooms room;
     }
 
@@ -80,8 +85,9 @@ returns-in-Err c =
     let room = c.look_in.new.room in
     let kind = (own_of a c.requires.can c.args.cells.now c.requires.cells c.args.cell stepping c.in-Some.ensures.some).primitive in
     let holds = ap (λ (held : List (Option CellState)). cell_held held c.args.cell) (sym c.requires.held) ∙ c.in-Some-held_at.ensures.some in
+    let stand = stands_first a c.requires.can c.args.cells.now c.requires.cells c.args.cell stepping c.in-Some.ensures.some c.args.firsts.now c.requires.firsts in
     record {
-      value = fault_is (seen_look a) (own_cells a) c.args.cell stepping.primitive.now (own_held a) state (Some c.in-Err.stop) kind holds (ap stop_in c.in-Err.ensures.value);
+      value = fault_is (seen_look a) (own_cells a) c.args.cell stepping.primitive.now (own_held a) state (Some c.in-Err.stop) kind holds (ap stop_in (c.in-Err.ensures.value c.args.cell stand));
       ready = c.look_in.ensures.ready;
       rooms = rooms_after a c.requires.can c.args.cells.now c.requires.cells c.args.cell stepping c.in-Some.ensures.some c.args.rooms.now c.requires.rooms room c.look_in.ensures.room;
       gathered = tt;

@@ -21,7 +21,7 @@ returns c =
     let long : length inputs ≡ room.inputs.len = omega (arith, c.look_at.auto.inputs, c.deref_mut.ensures.len) in
     let filled : (with_items room.inputs inputs).items ≡ inputs = with_items_is room.inputs inputs long in
     record {
-      value = ap (told row state result) filled ∙ c.look_at.ensures.value;
+      value = λ cell stand. ap (told row state result) filled ∙ c.look_at.ensures.value cell stand;
       looked_at = subst (λ (xs : List (Option BitVector)). OnOk result (IsLookedAt row state xs)) (sym filled) c.look_at.ensures.looked_at;
       ready = c.look_at.ensures.ready;
       room = subst (FitsPorts row.ports) (sym filled) c.look_at.ensures.fits;

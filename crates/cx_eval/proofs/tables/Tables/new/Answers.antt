@@ -12,9 +12,17 @@ returns-clause-tables c = record {
   accepted = c.design-design.ensures.accepted;
   table = subst (λ d. IsTable (plain_design d) c.in_ok-table.table.rows.items c.in_ok-table.table.children.items) (sym c.design-design.ensures.value) c.in_ok-table.ensures.value;
   numbered = c.in_ok-nodes.ensures.value;
+  firsts = c.in_ok-firsts.ensures.value;
   stepping = c.in_ok-parts.ensures.value;
   nothing = refl;
 }
 
 pub stepping_parts-requires : goal.stepping_parts-requires
 stepping_parts-requires c = record { design = kept_design c.design-design.result.now (subst (λ d. IsFlat (plain_design d)) (sym c.design-design.ensures.value) c.requires.flat) }
+
+pub all_firsts-requires : goal.all_firsts-requires
+all_firsts-requires c = record {
+  design = kept_design c.design-design.result.now (subst (λ d. IsFlat (plain_design d)) (sym c.design-design.ensures.value) c.requires.flat);
+  table = subst (λ d. IsTable (plain_design d) c.in_ok-table.table.rows.items c.in_ok-table.table.children.items) (sym c.design-design.ensures.value) c.in_ok-table.ensures.value;
+  numbered = c.in_ok-nodes.ensures.value;
+}
