@@ -1,13 +1,12 @@
 -- What holds of lists holds of equal ones.
-use Rattle.std.proofs.Common.{◌≡◌, List, Option, sym, subst}
+use Rattle.std.proofs.Common.{◌≡◌, List, sym, subst}
 use Rattle.cx_bits.specs.BitVector.{BitVector}
 use Rattle.cx_vnets.specs.declared.arrays.Words.{Words}
 use Rattle.cx_vnets.specs.declared.codes.Code.{Code}
 use Rattle.cx_vnets.specs.declared.edges.Set.{Set}
 use Rattle.cx_vnets.specs.declared.stores.Store.{Store}
-use Rattle.cx_vnets.specs.declared.stores.Write.{Write}
 use Rattle.cx_vnets.specs.Edges.{SetsFit}
-use Rattle.cx_vnets.specs.Stores.{StoresFit, WritesFit}
+use Rattle.cx_vnets.specs.Stores.{StoresFit}
 
 pub sets-along : (codes codes' : List Code) (values values' : List BitVector) (arrays arrays' : List Words) (sets sets' : List Set) → codes' ≡ codes → values' ≡ values → arrays' ≡ arrays → sets' ≡ sets
     → SetsFit codes values arrays sets → SetsFit codes' values' arrays' sets'
@@ -24,10 +23,3 @@ stores-along codes codes' values values' arrays arrays' stores stores' c v a x h
     (subst (λ (l : List BitVector). StoresFit codes l arrays' stores') (sym v)
     (subst (λ (l : List Words). StoresFit codes values l stores') (sym a)
     (subst (λ (l : List Store). StoresFit codes values arrays l) (sym x) h)))
-
-pub writes-along : (arrays arrays' : List Words) (stores stores' : List Store) (writes writes' : List (Option Write)) → arrays' ≡ arrays → stores' ≡ stores → writes' ≡ writes
-    → WritesFit arrays stores writes → WritesFit arrays' stores' writes'
-writes-along arrays arrays' stores stores' writes writes' a x w h =
-    subst (λ (l : List Words). WritesFit l stores' writes') (sym a)
-    (subst (λ (l : List Store). WritesFit arrays l writes') (sym x)
-    (subst (λ (l : List (Option Write)). WritesFit arrays stores l) (sym w) h))

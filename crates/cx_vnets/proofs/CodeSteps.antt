@@ -7,8 +7,8 @@ use Rattle.std.specs.Map.{lookup}
 use Rattle.std.specs.Cmp.Lexicographic.{same_text}
 use denote.Ref.{Bor}
 use Rattle.cx_vtree.specs.InstanceTree.{same_name}
-use Rattle.cx_vnets.specs.ModuleNumbers.{position, position_from}
-use Rattle.cx_vnets.specs.Maps.{number_by}
+use Rattle.cx_vnets.specs.ModuleNumbers.{position_from}
+use Rattle.cx_vtree.specs.NameNumbers.{position, number_by}
 use Rattle.cx_text.proofs.OptionLaws.{none_of, option_or-none}
 
 abbrev by_bytes : Bor (List ℕ) → Bor (List ℕ) → Bool

@@ -1,6 +1,6 @@
 -- Marks after an edge, and after a sweep.
 use Rattle.std.proofs.Common.{◌≡◌, ℕ, ◌+◌, ⊎_elim, true, List, Option, Some, None, map, length, slice_get, option_map, unwrap_or, refl, ap, sym, ◌∙◌, subst, arith}
-use Rattle.std.proofs.lemmas.Bool.{cases_lt}
+use Rattle.std.proofs.lemmas.Bool.{cases_eq, cases_lt}
 use Rattle.std.proofs.lemmas.Option.{same_Some, slice_get-map, slice_get_within}
 use Rattle.cx_bits.specs.BitVector.{BitVector}
 use Rattle.cx_vtree.specs.declared.operators.Operator.{Operator}
@@ -13,6 +13,7 @@ use Rattle.cx_vnets.specs.declared.stores.Write.{Write}
 use Rattle.cx_vnets.specs.declared.machines.Machine.{Machine}
 use Rattle.cx_vnets.specs.declared.machines.Bench.{Bench}
 use Rattle.cx_vnets.specs.Arrays.{word_of, word_at}
+use Rattle.cx_vnets.specs.Carriers.{AreAlike, origin_at}
 use Rattle.cx_vnets.specs.Gates.{ZerosStand}
 use Rattle.cx_vnets.specs.Readers.{IsListed, IsWatch, IsRanked, Agrees, Sweeping, IsCurrent, SameWords, Stays}
 use Rattle.cx_vnets.specs.Runs.{AreValues, IsReady}
@@ -20,6 +21,7 @@ use Rattle.cx_vnets.specs.Stale.{rank_at, Tells}
 use Rattle.cx_vnets.specs.Stores.{PlainWords, plain_words, after_writes}
 use Rattle.cx_vnets.specs.Watches.{is_sided}
 use Rattle.cx_vnets.specs.Written.{ReadsNoWritten}
+use Rattle.cx_vnets.proofs.CarrierLemmas.{carried_agrees}
 use Rattle.cx_vnets.proofs.FlatStoreSteps.{stores_keep}
 use Rattle.cx_vnets.proofs.RankLemmas.{all_ranked_have, has_place}
 use Rattle.cx_vnets.proofs.StaleLemmas.{tells_more, tells_so}
@@ -36,14 +38,19 @@ current_moved m s t b c current same nonzero tells = record {
       let ranked = current.readers.ranked is in
       let stays = tells.stays f (has_place m.nets m.order.items m.readers.ranks.items b.stale.items ranked current.long f lt) free in
       let values = b.values.items in
-      subst (λ (vs : List BitVector). Agrees m.nets t vs f) (sym same)
-      (sym (rule_alike m.nets s t (slice_get values) (slice_get values) f stays.0
-      (net_hears m.nets (IsListed (edges_of m.readers.of_nets.items) f) (λ g. slice_get values g ≡ slice_get values g) (IsListed (edges_of m.readers.of_arrays.items) f) (SameWords s t)
-      (IsWatch m.readers.watches (length m.nets.drivers.items) f)
+      let origins = m.readers.carriers.origins.items in
+      subst (λ (vs : List BitVector). Agrees m.nets t vs f) (sym same) (⊎_elim
+      (λ own.
+      sym (rule_alike m.nets s t (slice_get values) (slice_get values) f stays.0
+      (net_hears m.nets (λ g. IsListed (edges_of m.readers.of_nets.items) f (origin_at origins g)) (λ g. slice_get values g ≡ slice_get values g) (IsListed (edges_of m.readers.of_arrays.items) f) (SameWords s t)
+      (λ g v sided. IsWatch m.readers.watches (length m.nets.drivers.items) f (origin_at origins g) v sided)
       (λ g v sided. (op : Operator) → is_sided op ≡ Some sided → option_map (λ x. operate op x v) (slice_get values g) ≡ option_map (λ x. operate op x v) (slice_get values g))
-      (λ g i. refl) stays.1 (λ g v sided i op tells_side. refl) f (current.readers.found f lt)))
-      ∙ current.agree is f lt (tells.kept (rank_at m.readers.ranks.items f) free));
-  nonzero = λ is. subst (λ zs. ZerosStand zs c.values.items) (sym nonzero) (subst (λ (vs : List BitVector). ZerosStand b.nonzero.items vs) (sym same) (current.nonzero is));
+      (λ g i. refl) stays.1 (λ g v sided i op tells_side. refl) f (current.readers.found f lt own)))
+      ∙ current.agree is f lt (tells.kept (rank_at m.readers.ranks.items f) free))
+      (λ carried. carried_agrees m.nets m.readers.ranks.items m.readers.carriers (current.readers.carriers is) t values (current.alike is) f lt carried) (cases_eq (origin_at origins f) f));
+  alike = λ is. subst (λ (vs : List BitVector). AreAlike m.readers.carriers.origins.items vs) (sym same) (current.alike is);
+  nonzero = λ is. subst (λ zs. ZerosStand m.readers.carriers.origins.items zs c.values.items) (sym nonzero)
+      (subst (λ (vs : List BitVector). ZerosStand m.readers.carriers.origins.items b.nonzero.items vs) (sym same) (current.nonzero is));
 }
 
 -- a word by the plain words
@@ -73,7 +80,7 @@ unwritten s t write stores rows f words none a listed i =
 
 -- after a sweep all nets have their values
 pub swept_values : (m : Machine) (s : Stored) (b : Bench) (stale : List ℕ) (values : List BitVector) → IsReady m s b → IsCurrent m s b → m.readers.ranked ≡ true
-    → Sweeping m.nets s m.readers.ranks.items stale values (length m.order.items) → AreValues m s values
+    → Sweeping m.nets s m.readers stale values (length m.order.items) → AreValues m s values
 swept_values m s b stale values ready current is swept =
     let ranked : IsRanked m.nets m.order.items m.readers.ranks.items = current.readers.ranked is in
     record {

@@ -1,6 +1,6 @@
 -- What the driver of a net gives it, where all nets have values.
-use Rattle.std.proofs.Common.{◌≡◌, ℕ, ◌+◌, ◌<◌, Bool, List, Some, IsSome, option_and_then, length, get_or, slice_get, ap, sym, ◌∙◌, subst}
-use Rattle.std.proofs.lemmas.Option.{same_Some, slice_get_within}
+use Rattle.std.proofs.Common.{◌≡◌, ℕ, ◌+◌, ◌<◌, Bool, List, Option, Some, None, IsSome, is_some, option_and_then, option_map, length, get_or, slice_get, refl, ap, sym, ◌∙◌, subst}
+use Rattle.std.proofs.lemmas.Option.{same_Some, slice_get-get_or, slice_get_within}
 use Rattle.cx_bits.specs.BitVector.{BitVector}
 use Rattle.cx_vnets.specs.declared.codes.Code.{Code}
 use Rattle.cx_vnets.specs.declared.codes.NetPosition.{NetPosition}
@@ -13,9 +13,10 @@ use Rattle.cx_vnets.specs.Codes.{code_width}
 use Rattle.cx_vnets.specs.Edges.{code_of, width_of}
 use Rattle.cx_vnets.specs.Fits.{Fits, width_at, width_in}
 use Rattle.cx_vnets.specs.Reads.{CodeReads, OptionReads, DriverReads, NetReads}
-use Rattle.cx_vnets.specs.Search.{SameWidths}
+use Rattle.cx_vnets.specs.Search.{SameWidths, no_bits}
 use Rattle.cx_vnets.specs.Values.{code_at, driver_in, rule}
 use Rattle.cx_vnets.specs.Watches.{CodeHears, OptionHears, DriverHears, NetHears}
+use Rattle.cx_vnets.proofs.CodeWidths.{code_has_width}
 use Rattle.cx_vnets.proofs.Waiting.{width_there, some_along}
 use Rattle.cx_vnets.proofs.Widths.{net_there}
 use Rattle.cx_text.proofs.ListLaws.{read_at}
@@ -67,3 +68,27 @@ pub hears_given : (n : Nets) (net array : ℕ → Type 0) (watch : ℕ → BitVe
 hears_given n net array watch f c p code at there h =
     subst (DriverHears n.codes.items net array watch) (sym at)
     (subst (OptionHears (λ k. net (p.nets + k)) (λ a. array (p.arrays + a)) (λ k v sided. watch (p.nets + k) v sided)) (sym there) h)
+
+-- what a driver gives has the width of its net
+module _ (n : Nets) (s : Stored) (fits : Fits n s) (values : List BitVector) (widths : SameWidths values s.nets.items) (f : ℕ) (v : BitVector) where
+  width-values : (p : NetPosition) (c : Code) → width_of values s.arrays.items p c ≡ width_in s p c
+  width-values p c = λ t. code_width (λ k. widths (p.nets + k) t) (λ a. array_width s.arrays.items (p.arrays + a)) c
+
+  given_width : (c : ℕ) (p : NetPosition) → slice_get n.drivers.items f ≡ Some (Given c p) → driver_in n s (slice_get values) f (Some (Given c p)) ≡ Some v
+      → (o : Option ℕ) → width_at s.nets.items f ≡ o → IsSome o → width_at s.nets.items f ≡ Some v.width
+  given_width c p is e None at some = absurd (cc)
+  given_width c p is e (Some w) at some =
+      let r = fits.given f c p is in
+      let value : code_of values s.arrays.items p r.0 ≡ Some v = sym (ap (λ o. option_and_then (code_of values s.arrays.items p) o) r.1) ∙ e in
+      at ∙ ap Some (sym (code_has_width values s.arrays.items p r.0 w v fits.even (width-values p r.0 ∙ r.2 ∙ at) value))
+
+  pub rule_width : f < length n.drivers.items → rule n s (slice_get values) f ≡ Some v → width_at values f ≡ Some v.width
+  rule_width lt e = widths f ∙ go (slice_get n.drivers.items f) refl e
+    where
+      go : (o : Option Driver) → slice_get n.drivers.items f ≡ o → driver_in n s (slice_get values) f o ≡ Some v → width_at s.nets.items f ≡ Some v.width
+      go None is e = absurd (cc)
+      go (Some Held) is e = ap (option_map (λ (b : BitVector). b.width)) e
+      go (Some (Tied g)) is e = sym (fits.tied f g is) ∙ sym (widths g) ∙ ap (option_map (λ (b : BitVector). b.width)) e
+      go (Some (Given c p)) is e =
+          given_width c p is e (width_at s.nets.items f) refl
+          (ap (λ o. is_some (option_map (λ (b : BitVector). b.width) o)) (slice_get-get_or s.nets.items f no_bits (subst (λ k. f < k) fits.long lt)))

@@ -6,7 +6,7 @@ use Rattle.std.proofs.lemmas.List.{length-map}
 use Rattle.std.proofs.lemmas.Option.{same_Some, slice_get_within, slice_get_past}
 use Rattle.cx_bits.specs.BitVector.{BitVector}
 use Rattle.cx_vtree.specs.Plain.{PlainEdge, PlainStore}
-use Rattle.cx_vtree.specs.InstanceTree.{Placed, decls_at}
+use Rattle.cx_vtree.specs.InstanceTree.{Placed, decls_at, arrays_at}
 use Rattle.cx_vtree.specs.Meaning.{Moment}
 use Rattle.cx_vtree.specs.Edges.{edge_at, acting_stores, state_after}
 use Rattle.cx_vnets.specs.declared.arrays.Words.{Words}
@@ -21,7 +21,7 @@ use Rattle.cx_vnets.specs.Search.{SameWidths}
 use Rattle.cx_vnets.specs.Stores.{plain_words, write_of, StoresFit}
 use Rattle.cx_vnets.specs.Widths.{HaveWidths}
 use Rattle.cx_vnets.specs.Machines.{IsAfter}
-use Rattle.cx_vnets.specs.Numbers.{arrays_at, nets_before, arrays_before, look_by}
+use Rattle.cx_vnets.specs.Numbers.{nets_before, arrays_before, look_by}
 use Rattle.cx_vnets.specs.Memory.{WordsStand, StoredStands}
 use Rattle.cx_vnets.specs.EdgesFlat.{SetsStand, StoresStand, AreApart, EdgesAreApart}
 use Rattle.cx_vnets.proofs.Numbering.{number_there}

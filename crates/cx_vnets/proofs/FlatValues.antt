@@ -2,7 +2,7 @@
 use Rattle.std.proofs.Common.{◌≡◌, ℕ, ◌+◌, ◌<◌, List, Option, Some, option_and_then, option_map, unwrap_or, slice_get, length, refl, ap, sym, ◌∙◌, subst, arith}
 use Rattle.cx_bits.specs.BitVector.{BitVector}
 use Rattle.cx_vtree.specs.Plain.{PlainExpr}
-use Rattle.cx_vtree.specs.InstanceTree.{Placed, decls_at, nets_at, Origin, Outside, Tied, Held, Given, origin_of}
+use Rattle.cx_vtree.specs.InstanceTree.{Placed, decls_at, nets_at, Origin, Outside, Tied, Held, Given, origin_of, arrays_at}
 use Rattle.cx_vtree.specs.Meaning as named
 use Rattle.cx_vtree.specs.Meaning.{Moment, Look, word_in, expr_at, from_origin, step, by_step}
 use Rattle.cx_vtree.specs.SimRun.{IsFirstLoop}
@@ -15,8 +15,8 @@ use Rattle.cx_vnets.specs.declared.nets.Driver.TheVariants as driver
 use Rattle.cx_vnets.specs.Arrays.{word_of, word_at}
 use Rattle.cx_vnets.specs.Search.{IsFirstWithout}
 use Rattle.cx_vnets.specs.Values.{code_at, driver_in, rule, HasValue, by_rule}
-use Rattle.cx_vnets.specs.ModuleNumbers.{position}
-use Rattle.cx_vnets.specs.Numbers.{arrays_at, nets_before, arrays_before, net_number, place_of}
+use Rattle.cx_vtree.specs.NameNumbers.{position}
+use Rattle.cx_vnets.specs.Numbers.{nets_before, arrays_before, net_number, place_of}
 use Rattle.cx_vnets.specs.Flat.{CodeStands, DriverStands, NetsStand}
 use Rattle.cx_vnets.specs.Memory.{StoredStands}
 use Rattle.cx_vnets.proofs.Numbering.{position_here, number_parts, number_below, number_order, order_back, number_there, located, located_here, located_tells}

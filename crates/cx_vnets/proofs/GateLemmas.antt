@@ -1,9 +1,8 @@
 -- Nets that are 0 where their gates are.
-use Rattle.std.proofs.Common.{◌≡◌, ◌≢◌, ℕ, zero, ◌+◌, ◌<◌, ◌==◌, ◌⊎◌, inl, inr, ⊎_elim, true, false, List, [], ◌∷◌, ◌++◌, Option, Some, None, IfSome, IsSome, option_and_then, option_map, length, set, slice_get, refl, ap, sym, ◌∙◌, subst, if◌then◌else◌, bit_and, arith}
+use Rattle.std.proofs.Common.{◌≡◌, ◌≢◌, ℕ, ◌+◌, ◌<◌, ◌==◌, ◌⊎◌, inl, inr, ⊎_elim, true, false, List, [], ◌∷◌, ◌++◌, Option, Some, None, IfSome, IsSome, option_and_then, option_map, length, slice_get, refl, ap, sym, ◌∙◌, subst, if◌then◌else◌, bit_and, arith}
 use Rattle.std.specs.Int.Bits.{and_zero_l}
 use Rattle.std.proofs.lemmas.Bool.{cases_Bool, cases_eq, cases_lt}
-use Rattle.std.proofs.lemmas.List.{length-set, get_or-set_same}
-use Rattle.std.proofs.lemmas.Option.{same_Some, slice_get-get_or}
+use Rattle.std.proofs.lemmas.Option.{same_Some}
 use Rattle.cx_bits.specs.BitVector.{BitVector}
 use Rattle.cx_vtree.specs.declared.operators.Operator.TheVariants.{And}
 use Rattle.cx_vtree.specs.Operators.{operate, inverted, part_of, joined}
@@ -15,22 +14,23 @@ use Rattle.cx_vnets.specs.declared.nets.Stored.{Stored}
 use Rattle.cx_vnets.specs.Arrays.{word_at, array_width}
 use Rattle.cx_vnets.specs.Codes.{code_in, code_width}
 use Rattle.cx_vnets.specs.Fits.{Fits, width_at}
-use Rattle.cx_vnets.specs.Gates.{IsGate, HasGate, GatesStand, IsKnownZero, IsShut, IsZero, ZerosStand}
+use Rattle.cx_vnets.specs.Carriers.{AreAlike, AreGiven}
+use Rattle.cx_vnets.specs.Gates.{IsGate, HasGate, GatesStand, IsKnownZero, IsShut, ZerosStand}
 use Rattle.cx_vnets.specs.Search.{SameWidths}
 use Rattle.cx_vnets.specs.Stale.{is_stale}
 use Rattle.cx_vnets.specs.Stale.{is_stale}
 use Rattle.cx_vnets.specs.Values.{code_at, driver_in, rule}
-use Rattle.cx_vnets.proofs.FlatSetSteps.{get_set_other}
 use Rattle.cx_vnets.proofs.Waiting.{width_there}
 use Rattle.cx_vnets.proofs.WatchLemmas.{net_value}
 use Rattle.cx_vnets.proofs.Widths.{and_first, and_second, and_third}
 use Rattle.cx_text.proofs.ListLaws.{either_at}
 
 -- the gate of one more net
-pub gates_more : (n : Nets) (gates : List (Option ℕ)) (x : Option ℕ) (net : ℕ) → GatesStand n gates → length gates ≡ net → ((g : ℕ) → x ≡ Some g → HasGate n net g) → GatesStand n (gates ++ x ∷ [])
-gates_more n gates x net stand long h f gate at = ⊎_elim
+pub gates_more : (n : Nets) (origins gates : List (Option ℕ)) (x : Option ℕ) (net : ℕ) → GatesStand n origins gates → length gates ≡ net → ((g : ℕ) → x ≡ Some g → HasGate n origins net g)
+    → GatesStand n origins (gates ++ x ∷ [])
+gates_more n origins gates x net stand long h f gate at = ⊎_elim
     (λ l. stand f gate l)
-    (λ r. subst (λ k. HasGate n k gate) (sym (r.0 ∙ long)) (h gate r.1)) (either_at gates x (Some gate) f at)
+    (λ r. subst (λ k. HasGate n origins k gate) (sym (r.0 ∙ long)) (h gate r.1)) (either_at gates x (Some gate) f at)
 
 -- the gate that stands in the table, where one does
 pub gate_given : (o : Option (Option ℕ)) (x : Option ℕ) → o ≡ Some x → IfSome x (λ g. o ≡ Some (Some g))
@@ -104,7 +104,7 @@ module _ (nets : ℕ → Option BitVector) (words : ℕ → ℕ → BitVector) (
   gate_value (Choose' p c q a r b) k is e s = absurd is
   gate_value (Cat' p a q b) k is e s = absurd is
 
-module _ (n : Nets) (s : Stored) (fits : Fits n s) (f gate : ℕ) (within : f < length n.drivers.items) (has : HasGate n f gate) where
+module _ (n : Nets) (s : Stored) (fits : Fits n s) (origins : List (Option ℕ)) (f gate : ℕ) (within : f < length n.drivers.items) (has : HasGate n origins f gate) where
   of_code : (values : List BitVector) → rule n s (slice_get values) f ≡ code_at s (slice_get values) has.place has.code
   of_code values = ap (driver_in n s (slice_get values) f) has.driver ∙ ap (option_and_then (code_at s (slice_get values) has.place)) has.stands
 
@@ -118,13 +118,13 @@ module _ (n : Nets) (s : Stored) (fits : Fits n s) (f gate : ℕ) (within : f < 
       (λ a. word_at s.arrays.items (has.place.arrays + a))
       (λ k i. map_was_some (λ (b : BitVector). b.width) (slice_get values (has.place.nets + k)) (subst IsSome (sym (widths (has.place.nets + k))) i)) has.code width
 
-  -- a net gets the same by all values in which its gate is 0 and has the same width
-  pub shut_same : (a b : List BitVector) → SameWidths a s.nets.items → SameWidths b s.nets.items → (v : BitVector) → v.value ≡ 0 → slice_get a gate ≡ Some v → slice_get b gate ≡ Some v
+  -- a net gets the same by all values in which its gate is 0 and has the same width, and nets have the values of their origins
+  pub shut_same : (a b : List BitVector) → AreAlike origins a → AreAlike origins b → SameWidths a s.nets.items → SameWidths b s.nets.items → (v : BitVector) → v.value ≡ 0 → slice_get a gate ≡ Some v → slice_get b gate ≡ Some v
       → rule n s (slice_get a) f ≡ rule n s (slice_get b) f
-  shut_same a b wide broad v zero_gate at there =
+  shut_same a b one other wide broad v zero_gate at there =
       of_code a
-      ∙ gate_value (λ k. slice_get a (has.place.nets + k)) (λ x. word_at s.arrays.items (has.place.arrays + x)) v zero_gate has.code has.local has.is_gate (ap (slice_get a) has.there ∙ at) (code_there a wide)
-      ∙ sym (gate_value (λ k. slice_get b (has.place.nets + k)) (λ x. word_at s.arrays.items (has.place.arrays + x)) v zero_gate has.code has.local has.is_gate (ap (slice_get b) has.there ∙ there)
+      ∙ gate_value (λ k. slice_get a (has.place.nets + k)) (λ x. word_at s.arrays.items (has.place.arrays + x)) v zero_gate has.code has.local has.is_gate (one (has.place.nets + has.local) ∙ ap (slice_get a) has.there ∙ at) (code_there a wide)
+      ∙ sym (gate_value (λ k. slice_get b (has.place.nets + k)) (λ x. word_at s.arrays.items (has.place.arrays + x)) v zero_gate has.code has.local has.is_gate (other (has.place.nets + has.local) ∙ ap (slice_get b) has.there ∙ there)
       (code_there b broad))
       ∙ sym (of_code b)
 
@@ -158,17 +158,13 @@ shut_or_not gates nonzero changed f = by_gate (slice_get gates f) refl
         x.other (sym same ∙ e)))
         (λ ne. by_byte gate at ne) (cases_eq gate changed)
 
--- it is noted of a net whether its value is 0, and the others have theirs
-pub zeros_noted : (nonzero noted : List ℕ) (values after : List BitVector) (net : ℕ) (v : BitVector) → ZerosStand nonzero values → slice_get after net ≡ Some v → ((f : ℕ) → f ≢ net → slice_get after f ≡ slice_get values f)
-    → (IsKnownZero noted net → v.value ≡ 0) → ((f : ℕ) → f ≢ net → IsKnownZero noted f → IsKnownZero nonzero f) → ZerosStand noted after
-zeros_noted nonzero noted values after net v stand has others here kept f known = ⊎_elim
-    (λ (same : f ≡ net). subst (IsZero after) (sym same) (record { value = v; stands = has; zero = here (subst (IsKnownZero noted) same known) }))
-    (λ (other : f ≢ net). let z = stand f (kept f other known) in record { value = z.value; stands = others f other ∙ z.stands; zero = z.zero }) (cases_eq f net)
-
--- also where it gets another value
-pub zeros_set : (nonzero noted : List ℕ) (values : List BitVector) (net : ℕ) (v : BitVector) → ZerosStand nonzero values → net < length values → (IsKnownZero noted net → v.value ≡ 0)
-    → ((f : ℕ) → f ≢ net → IsKnownZero noted f → IsKnownZero nonzero f) → ZerosStand noted (set values net v)
-zeros_set nonzero noted values net v stand within here kept =
-    zeros_noted nonzero noted values (set values net v) net v stand
-    (slice_get-get_or (set values net v) net v (subst (λ k. net < k) (sym (length-set values net v)) within) ∙ ap Some (get_or-set_same values net v v within))
-    (λ f other. get_set_other values net f v (λ e. other (sym e))) here kept
+-- it is noted of a net whether its value is 0, which has been given to it and to those that carry it
+pub zeros_given : (origins : List (Option ℕ)) (nonzero noted : List ℕ) (values after : List BitVector) (net : ℕ) (v : BitVector) → ZerosStand origins nonzero values → AreGiven origins net v values after
+    → net < length values → (IsKnownZero noted net → v.value ≡ 0) → ((f : ℕ) → f ≢ net → IsKnownZero noted f → IsKnownZero nonzero f) → ZerosStand origins noted after
+zeros_given origins nonzero noted values after net v stand given within here kept f own known = ⊎_elim
+    (λ (same : f ≡ net). record {
+      value = v;
+      stands = given.here f (subst (λ k. k < length values) (sym same) within) (own ∙ same);
+      zero = here (subst (IsKnownZero noted) same known);
+    })
+    (λ (other : f ≢ net). let z = stand f own (kept f other known) in record { value = z.value; stands = given.others f (λ e. other (sym own ∙ e)) ∙ z.stands; zero = z.zero }) (cases_eq f net)

@@ -27,6 +27,7 @@ pub mod ReadLemmas
 pub mod RankLemmas
 pub mod StaleLemmas
 pub mod SpanLemmas
+pub mod CarrierLemmas
 pub mod SweepLemmas
 pub mod CurrentLemmas
 pub mod ReaderLemmas

@@ -6,7 +6,7 @@ use Rattle.cx_vtree.specs.Sound.{width_of, is_source, is_array, bad_width, appli
 use Rattle.cx_vnets.specs.declared.codes.Code.{Code}
 use Rattle.cx_vnets.specs.declared.codes.Code.TheVariants.{Net, Literal, Slice, Item', Binary', Not', Choose', Cat'}
 use Rattle.cx_vnets.specs.Codes.{code_width}
-use Rattle.cx_vnets.specs.ModuleNumbers.{position}
+use Rattle.cx_vtree.specs.NameNumbers.{position}
 use Rattle.cx_vnets.specs.ModuleCodes.{IsCode, HasNumbers}
 use Rattle.cx_vnets.specs.CodeLaws.{net_widths, array_widths, net_numbering, array_numbering, HasWidths}
 use Rattle.cx_vnets.proofs.Places.{StandsIn, net_stands, array_stands}

@@ -3,9 +3,9 @@ use Rattle.std.proofs.Common.{◌≡◌, ℕ, zero, suc, ◌+◌, ◌-◌, ◌<�
 use Rattle.std.proofs.lemmas.Bool.{cases_order, cases_lt, lt-ltb, le-ltb, ltb-false}
 use Rattle.std.proofs.lemmas.Option.{slice_get_within, slice_get_past, slice_get-get_or, same_Some}
 use Rattle.std.specs.Option.{option_map_or}
-use Rattle.cx_vtree.specs.InstanceTree.{Placed, same_name}
-use Rattle.cx_vnets.specs.ModuleNumbers.{position, declared_arrays}
-use Rattle.cx_vnets.specs.Numbers.{arrays_at, before, number_in}
+use Rattle.cx_vtree.specs.InstanceTree.{Placed, same_name, declared_arrays, arrays_at}
+use Rattle.cx_vtree.specs.NameNumbers.{position}
+use Rattle.cx_vnets.specs.Numbers.{before, number_in}
 use Rattle.cx_text.proofs.OptionLaws.{map_some}
 use Rattle.cx_vtree.proofs.InstanceTreeLemmas.{same_is, same_self}
 

@@ -3,9 +3,9 @@ use Rattle.std.proofs.Common.{◌≡◌, ℕ, suc, Bool, true, false, List, [], 
 use Rattle.cx_vtree.specs.declared.meanings.Meaning.{Meaning}
 use Rattle.cx_vtree.specs.declared.meanings.Meaning.TheVariants.{Input, Output}
 use Rattle.cx_vtree.specs.Plain.{PlainPort, PlainDecl, WireOf, RegisterOf, ArrayOf}
-use Rattle.cx_vtree.specs.InstanceTree.{same_name, declared_nets}
+use Rattle.cx_vtree.specs.InstanceTree.{same_name, declared_nets, declared_arrays}
 use Rattle.cx_vtree.specs.Sound.{width_of, is_source, is_array, meant_decl, meant_in, port_meaning}
-use Rattle.cx_vnets.specs.ModuleNumbers.{declared_arrays, position}
+use Rattle.cx_vtree.specs.NameNumbers.{position}
 use Rattle.cx_vnets.specs.CodeLaws.{declared_widths, net_widths, array_widths}
 use Rattle.cx_text.proofs.ListLaws.{slice_get-next}
 use Rattle.cx_vtree.proofs.MeaningsLemmas.{port_width}

@@ -93,9 +93,6 @@ ready-keeps m before after b keeps r = record {
   values = λ f. r.values f ∙ sym (keeps.nets f);
 }
 
-pub keeps-none : (m : Machine) (s : Stored) (b : Bench) → IsReady m s b → KeepsWidths s s
-keeps-none m s b r = record { nets = λ f. refl; arrays = λ a. refl; even = r.fits.even }
-
 pub keeps-more : (a b c : Stored) → KeepsWidths a b → KeepsWidths b c → KeepsWidths a c
 keeps-more a b c first then_ = record { nets = λ f. then_.nets f ∙ first.nets f; arrays = λ k. then_.arrays k ∙ first.arrays k; even = then_.even }
 
@@ -108,9 +105,6 @@ inputs-keep m reset before after b w r =
       arrays = λ a. ap (λ l. array_width l a) w.arrays;
       even = subst (λ (l : List Words). IsEven l) (sym w.arrays) r.fits.even;
     }
-
-pub inputs-ready : (m : Machine) (reset : Bool) (before after : Stored) (b : Bench) → WithInputs m reset before after → IsReady m before b → IsReady m after b
-inputs-ready m reset before after b w r = ready-keeps m before after b (inputs-keep m reset before after b w r) r
 
 -- sets and stores fit the values of the nets
 pub ready-sets : (m : Machine) (s : Stored) (b : Bench) → IsReady m s b → SetsFit m.nets.codes.items b.values.items s.arrays.items m.sets.items

@@ -16,7 +16,7 @@ use Rattle.cx_vnets.specs.Fits.{width_at}
 use Rattle.cx_vnets.specs.Edges.{code_of, numbered, after_sets, SetsFit}
 use Rattle.cx_vnets.specs.Search.{SameWidths}
 use Rattle.cx_vnets.specs.Widths.{HaveWidths}
-use Rattle.cx_vnets.specs.ModuleNumbers.{position}
+use Rattle.cx_vtree.specs.NameNumbers.{position}
 use Rattle.cx_vnets.specs.Numbers.{nets_before, place_of, look_by}
 use Rattle.cx_vnets.specs.Flat.{CodeStands}
 use Rattle.cx_vnets.specs.Memory.{StoredStands}

@@ -5,7 +5,7 @@ use Rattle.std.proofs.lemmas.Option.{slice_get-map, slice_get_within}
 use Rattle.cx_bits.specs.BitVector.{BitVector}
 use Rattle.cx_text.specs.Loading.{word_count}
 use Rattle.cx_vtree.specs.Plain.{PlainExternal, PlainSource}
-use Rattle.cx_vtree.specs.InstanceTree.{Placed, decls_at, instances_of}
+use Rattle.cx_vtree.specs.InstanceTree.{Placed, decls_at, instances_of, arrays_at}
 use Rattle.cx_vtree.specs.Meaning.{State, Moment, resetting, running}
 use Rattle.cx_vtree.specs.Edges.{state_after}
 use Rattle.cx_vtree.specs.SimRun as source
@@ -19,7 +19,7 @@ use Rattle.cx_vnets.specs.declared.machines.Machine.{Machine}
 use Rattle.cx_vnets.specs.Machines.{IsAfter}
 use Rattle.cx_vnets.specs.Runs as flat
 use Rattle.cx_vnets.specs.Runs.{AreValues, WithInputs, FlatFrom, loops, ends, spent, goes_on, FlatRun, loops_in_reset, after_reset}
-use Rattle.cx_vnets.specs.Numbers.{arrays_at, arrays_before, look_by}
+use Rattle.cx_vnets.specs.Numbers.{arrays_before, look_by}
 use Rattle.cx_vnets.specs.Memory.{StoredStands}
 use Rattle.cx_vnets.specs.EdgesFlat.{AreApart, EdgesAreApart}
 use Rattle.cx_vnets.specs.RunsFlat.{MachineStands, IsMemory, MemoriesStand, AreWordsOf, AreAllWords, IsNet, OutcomeStands}

@@ -1,5 +1,5 @@
 -- Readers by their gates.
-use Rattle.std.proofs.Common.{◌≡◌, ℕ, ◌+◌, ◌<◌, ◌≤◌, ⊎_elim, List, [], ◌∷◌, ◌++◌, Option, Some, length, slice_get, sym, ap, ◌∙◌, subst, arith}
+use Rattle.std.proofs.Common.{◌≡◌, ℕ, ◌+◌, ◌<◌, ◌≤◌, ⊎_elim, List, [], ◌∷◌, ◌++◌, Option, Some, length, slice_get, sym, ◌∙◌, subst, arith}
 use Rattle.std.proofs.lemmas.Bool.{cases_lt}
 use Rattle.std.proofs.lemmas.List.{length-map}
 use Rattle.cx_text.specs.Members.{In}
@@ -7,26 +7,14 @@ use Rattle.cx_graphs.specs.Graphs.{Edges, edges_of, targets_of}
 use Rattle.cx_vnets.specs.declared.spans.Span.{Span}
 use Rattle.cx_vnets.specs.declared.spans.Spans.{Spans}
 use Rattle.cx_vnets.specs.Gates.{IsShut}
-use Rattle.cx_vnets.specs.Readers.{Grows, IsListed}
 use Rattle.cx_vnets.specs.Spans.{IsGated, IsInTables, IsSpan, NotBehind, SpansStand}
 use Rattle.cx_vnets.specs.Stale.{NoneStale}
-use Rattle.cx_vnets.proofs.ReaderLemmas.{still_listed}
 use Rattle.cx_text.proofs.ListLaws.{either_at}
 
 -- a list without members
 pub in_none : {P : Type 0} (f : ℕ) (xs : List ℕ) → xs ≡ [] → In xs f → P
 in_none f [] e i = absurd i
 in_none f (x ∷ xs) e i = absurd (cc)
-
--- one more net has been listed under its gate, or has none
-pub gated_more : (gates : List (Option ℕ)) (old new : Edges) (k : ℕ) → Grows old new
-    → ((f gate : ℕ) → f < k → slice_get gates f ≡ Some (Some gate) → IsListed old f gate)
-    → ((gate : ℕ) → slice_get gates k ≡ Some (Some gate) → IsListed new k gate)
-    → (f gate : ℕ) → f < k + 1 → slice_get gates f ≡ Some (Some gate) → IsListed new f gate
-gated_more gates old new k grows before here f gate lt has = ⊎_elim
-    (λ l. still_listed old new grows f gate (before f gate l has))
-    (λ l. let same : f ≡ k = omega (arith, lt, l) in
-    subst (λ g. IsListed new g gate) (sym same) (here gate (ap (slice_get gates) (sym same) ∙ has))) (cases_lt f k)
 
 -- the gates up to the next one that may be other than 0 have been looked at, and it
 pub behind_more : (gated : Edges) (nonzero : List ℕ) (low at next f : ℕ) → next < length nonzero → NotBehind gated nonzero low at f → NoneStale nonzero at next

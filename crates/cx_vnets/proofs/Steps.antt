@@ -1,7 +1,7 @@
 -- The steps of the search.
-use Rattle.std.proofs.Common.{◌≡◌, ◌≢◌, ℕ, zero, suc, ◌+◌, ◌-◌, ◌*◌, ◌<◌, ◌≤◌, ◌⊎◌, ⊎_elim, inl, inr, Bool, true, false, cond, List, [], ◌∷◌, Option, Some, IsSome, is_some, option_map, unwrap_or, length, get_or, set, slice_get, refl, sym, ap, ◌∙◌, subst, arith, count_by, get_or-set_same, get_or-set_other, length-set}
+use Rattle.std.proofs.Common.{◌≡◌, ◌≢◌, ℕ, zero, suc, ◌+◌, ◌-◌, ◌*◌, ◌<◌, ◌≤◌, ◌⊎◌, ⊎_elim, inl, inr, Bool, true, false, cond, List, [], ◌∷◌, Option, Some, IsSome, is_some, option_map, length, get_or, set, slice_get, refl, sym, ap, ◌∙◌, subst, arith, count_by, get_or-set_same, get_or-set_other, length-set}
 use Rattle.std.proofs.lemmas.List.Sums.{sum_by-set, count_by-le-length}
-use Rattle.std.proofs.lemmas.Option.{slice_get-get_or, get_or_from_slice_get, slice_get_past, unwrap_or-slice_get}
+use Rattle.std.proofs.lemmas.Option.{slice_get-get_or, get_or_from_slice_get}
 use Rattle.std.proofs.lemmas.Bool.{cases_eq, cases_lt}
 use Rattle.cx_bits.specs.BitVector.{BitVector}
 use Rattle.cx_vnets.specs.declared.marks.NetMark.{NetMark}
@@ -13,7 +13,7 @@ use Rattle.cx_vnets.specs.declared.nets.Stored.{Stored}
 use Rattle.cx_vnets.specs.Values.{rule, HasValue, by_rule, IsRight}
 use Rattle.cx_vnets.specs.Fits.{width_at, Fits}
 use Rattle.cx_vnets.specs.Looks.{marked, seen, look_net}
-use Rattle.cx_vnets.specs.Search.{mark_at, no_bits, value_at, SameWidths, Ready, Visited, AllUnseen, AllHave, AllKnown, IsFirstWithout}
+use Rattle.cx_vnets.specs.Search.{mark_at, no_bits, value_at, SameWidths, Ready, Visited, AllHave, AllKnown, IsFirstWithout}
 use Rattle.cx_vnets.proofs.Widths.{seen_known, net_there}
 use Rattle.cx_vnets.proofs.Agreement.{worth_of, known_by, worth_net}
 use Rattle.cx_vnets.proofs.Waiting.{Blocks, IsPending, pending, net_width, width_there, some_along}
@@ -77,10 +77,6 @@ pub unseen_else : (x : NetMark) → x ≢ Known → x ≢ Open → x ≡ Unseen
 unseen_else Unseen h k = refl
 unseen_else Open h k = absurd (k refl)
 unseen_else Known h k = absurd (h refl)
-
-unseen_all : (marks : List NetMark) → AllUnseen marks → (f : ℕ) → mark_at marks f ≡ Unseen
-unseen_all marks fresh f =
-    ⊎_elim (λ l. fresh f l) (λ l. sym (unwrap_or-slice_get marks f Unseen) ∙ ap (λ o. unwrap_or o Unseen) (slice_get_past marks f l)) (cases_lt f (length marks))
 
 -- nets of which each needs another of them have no value
 no_value_in : (n : Nets) (s : Stored) (P : ℕ → Type 0)
@@ -261,23 +257,9 @@ module _ (n : Nets) (s : Stored) (fits : Fits n s) where
           closed = λ g. at_set marks f g Known Unseen (λ y. y ≢ Open) l (λ e h. cc) (λ ne. r.closed g);
         }
 
-  pub end_going : (root : ℕ) (old marks : List NetMark) (values : List BitVector) (stack : List ℕ) → Going n s root old marks values stack 0 → Visited n s root old marks values true
-  end_going root old marks values stack g =
-      let closed : (m : ℕ) → mark_at marks m ≢ Open = λ m h. let o = g.opened m h in omega (arith, o.1) in
-      (record { long = g.long; widths = g.widths; right = g.right; closed = closed }, known_else (mark_at marks root) g.seen_root (closed root), g.kept)
-
   -- a root that is known already
   pub known_before : (root : ℕ) (marks : List NetMark) (values : List BitVector) → Ready n s marks values → mark_at marks root ≡ Known → Visited n s root marks marks values true
   known_before root marks values r e = (r, e, λ f h. h)
-
-  -- before the first search
-  pub all_ready : (marks : List NetMark) (values : List BitVector) → length marks ≡ length n.drivers.items → SameWidths values s.nets.items → AllUnseen marks → Ready n s marks values
-  all_ready marks values long widths fresh = record {
-    long = long;
-    widths = widths;
-    right = λ f h. let u = unseen_all marks fresh f in cc;
-    closed = λ f h. let u = unseen_all marks fresh f in cc;
-  }
 
   pub all_have : (marks : List NetMark) (values : List BitVector) → Ready n s marks values → ((f : ℕ) → f < length n.drivers.items → mark_at marks f ≡ Known) → AllHave n s values
   all_have marks values r known f lt = r.right f (known f lt)

@@ -1,7 +1,7 @@
 -- The writes of an edge, one after another.
 use Rattle.std.proofs.Common.{◌≡◌, ℕ, zero, suc, ◌+◌, ◌<◌, ◌⊎◌, ⊎_elim, inl, inr, Bool, true, false, ◌==◌, if◌then◌else◌, List, [], ◌∷◌, Option, Some, None, is_some, option_and_then, option_map, get_or, map, drop, drop-cons, add-one, length, slice_get, slice_set, refl, ap, ◌∙◌, sym, subst, arith}
 use Rattle.std.specs.Option.{option_map_or}
-use Rattle.std.proofs.lemmas.Option.{slice_get-get_or, slice_get_read, slice_get-map}
+use Rattle.std.proofs.lemmas.Option.{slice_get_read, slice_get-map}
 use Rattle.cx_bits.specs.BitVector.{BitVector}
 use Rattle.cx_vnets.specs.declared.arrays.Words.{Words}
 use Rattle.cx_vnets.specs.declared.stores.Store.{Store}
@@ -105,10 +105,3 @@ writes-fit values arrays codes stores writes even fits is = λ j x w there e.
     let u = the_some (width_of values arrays x.place f.value.0) f.value.2 in
     let width : w.value.width ≡ u.0 = code_has_width values arrays x.place f.value.0 u.0 w.value even u.1 code in
     sym (f.wide f.value.0 f.value.1) ∙ u.1 ∙ ap Some (sym width)
-
--- what the store of a number writes fits
-pub write-fits : (old arrays : List Words) (stores : List Store) (writes : List (Option Write)) (i : ℕ) (d : Store) (o : Option Write) → i < length stores → length writes ≡ length stores → WritesFit old stores writes
-    → ((a : ℕ) → array_width arrays a ≡ array_width old a) → (w : Write) → get_or writes i o ≡ Some w → array_width arrays (get_or stores i d).array ≡ Some w.value.width
-write-fits old arrays stores writes i d o lt long fits widths w is =
-    let within : i < length writes = omega arith in
-    widths (get_or stores i d).array ∙ fits i (get_or stores i d) w (slice_get-get_or stores i d lt) (slice_get-get_or writes i o within ∙ ap Some is)

@@ -6,7 +6,7 @@ use Rattle.std.proofs.lemmas.List.{length-set}
 use Rattle.std.proofs.lemmas.Option.{same_Some, slice_get-map, slice_get_past}
 use Rattle.cx_bits.specs.BitVector.{BitVector}
 use Rattle.cx_vtree.specs.Plain.{PlainExpr, PlainDecl, PlainStore}
-use Rattle.cx_vtree.specs.InstanceTree.{Placed, same_name, decls_at}
+use Rattle.cx_vtree.specs.InstanceTree.{Placed, same_name, decls_at, arrays_at}
 use Rattle.cx_vtree.specs.Meaning.{Moment, word_in, expr_at}
 use Rattle.cx_vtree.specs.Edges.{edge_at, acting_stores, number_or, store_to, word_by, word_after, array_size}
 use Rattle.cx_vnets.specs.declared.arrays.Words.{Words}
@@ -18,7 +18,7 @@ use Rattle.cx_vnets.specs.Arrays.{IsEven, word_of, array_width}
 use Rattle.cx_vnets.specs.Edges.{code_of, numbered}
 use Rattle.cx_vnets.specs.Stores.{PlainWords, plain_words, guarded, write_of, written, after_writes, StoresFit}
 use Rattle.cx_vnets.specs.Widths.{HaveWidths}
-use Rattle.cx_vnets.specs.Numbers.{arrays_at, arrays_before, look_by}
+use Rattle.cx_vnets.specs.Numbers.{arrays_before, look_by}
 use Rattle.cx_vnets.specs.Memory.{WordsStand, StoredStands}
 use Rattle.cx_vnets.specs.EdgesFlat.{StoreStands, StoresStand, AreApart, EdgesAreApart}
 use Rattle.cx_vnets.proofs.Numbering.{number_at, number_once}

@@ -1,11 +1,11 @@
 -- What soundness of an expression gives its code.
 use Rattle.std.specs.Prelude.{◌≡◌, ℕ, List, [], ◌∷◌, ◌++◌, false, Option, Some, map, slice_get}
 use Rattle.cx_vtree.specs.Plain.{PlainExpr, PlainPort, PlainDecl, WireOf, RegisterOf, ArrayOf}
-use Rattle.cx_vtree.specs.InstanceTree.{declared_nets}
+use Rattle.cx_vtree.specs.InstanceTree.{declared_nets, declared_arrays}
 use Rattle.cx_vtree.specs.Sound.{meant_in, misnames, fitting_width}
 use Rattle.cx_vnets.specs.declared.codes.Code.{Code}
 use Rattle.cx_vnets.specs.Codes.{code_width}
-use Rattle.cx_vnets.specs.ModuleNumbers.{declared_arrays, position}
+use Rattle.cx_vtree.specs.NameNumbers.{position}
 use Rattle.cx_vnets.specs.ModuleCodes.{Numbering, IsCode, HasNumbers}
 
 -- the widths of the wires and registers, in the order of the text

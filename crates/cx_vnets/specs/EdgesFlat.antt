@@ -1,12 +1,12 @@
 -- Which numbered sets and stores stand for those of the edges of a tree of instances.
 use Rattle.std.specs.Prelude.{◌≡◌, ℕ, List, Some, slice_get}
 use Rattle.cx_vtree.specs.Plain.{PlainAssign, PlainStore}
-use Rattle.cx_vtree.specs.InstanceTree.{Placed, nets_at, Held, origin_of}
+use Rattle.cx_vtree.specs.InstanceTree.{Placed, nets_at, Held, origin_of, arrays_at}
 use Rattle.cx_vtree.specs.Edges.{edge_at, acting_sets, acting_stores}
 use Rattle.cx_vnets.specs.declared.codes.Code.{Code}
 use Rattle.cx_vnets.specs.declared.edges.Set.{Set}
 use Rattle.cx_vnets.specs.declared.stores.Store.{Store}
-use Rattle.cx_vnets.specs.Numbers.{arrays_at, net_number, array_number, place_of}
+use Rattle.cx_vnets.specs.Numbers.{net_number, array_number, place_of}
 use Rattle.cx_vnets.specs.Flat.{CodeStands}
 
 -- the set is that of an assignment to a register in the instance

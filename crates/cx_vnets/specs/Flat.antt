@@ -1,14 +1,14 @@
 -- Which numbered nets stand for the nets of a tree of instances.
 use Rattle.std.specs.Prelude.{◌≡◌, ℕ, ◌+◌, List, Some, length, slice_get}
 use Rattle.cx_vtree.specs.Plain.{PlainExpr}
-use Rattle.cx_vtree.specs.InstanceTree.{Placed, nets_at, Origin, Outside, Tied, Held, Given, origin_of}
+use Rattle.cx_vtree.specs.InstanceTree.{Placed, nets_at, Origin, Outside, Tied, Held, Given, origin_of, arrays_at}
 use Rattle.cx_vnets.specs.declared.codes.Code.{Code}
 use Rattle.cx_vnets.specs.declared.nets.Nets.{Nets}
 use Rattle.cx_vnets.specs.declared.nets.Driver.{Driver}
 use Rattle.cx_vnets.specs.declared.nets.Driver.TheVariants as driver
-use Rattle.cx_vnets.specs.ModuleNumbers.{position}
+use Rattle.cx_vtree.specs.NameNumbers.{position}
 use Rattle.cx_vnets.specs.ModuleCodes.{IsCode}
-use Rattle.cx_vnets.specs.Numbers.{arrays_at, nets_before, net_number, place_of}
+use Rattle.cx_vnets.specs.Numbers.{nets_before, net_number, place_of}
 
 -- the code of a number, among `table`, is an expression of the instance
 abbrev pub CodeStands : List Placed → List Code → ℕ → ℕ → PlainExpr → Type 0

@@ -7,6 +7,7 @@ use Rattle.cx_vnets.specs.declared.codes.Code.TheVariants.{Binary'}
 use Rattle.cx_vnets.specs.declared.codes.NetPosition.{NetPosition}
 use Rattle.cx_vnets.specs.declared.nets.Nets.{Nets}
 use Rattle.cx_vnets.specs.declared.nets.Driver.TheVariants.{Given}
+use Rattle.cx_vnets.specs.Carriers.{origin_at}
 use Rattle.cx_vnets.specs.Stale.{is_stale}
 use Rattle.cx_vnets.specs.Watches.{IsNet}
 
@@ -15,8 +16,8 @@ abbrev pub IsGate : Code → ℕ → Type 0
 IsGate (Binary' op p a q b) k = (op ≡ And) × IsNet a k
 IsGate c k = ⊥
 
--- a net has another for its gate
-pub record HasGate (n : Nets) (f gate : ℕ) : Type 0 where
+-- a net has another for its gate, or one that carries the value of that
+pub record HasGate (n : Nets) (origins : List (Option ℕ)) (f gate : ℕ) : Type 0 where
   pub number : ℕ
   pub place : NetPosition
   pub code : Code
@@ -24,11 +25,11 @@ pub record HasGate (n : Nets) (f gate : ℕ) : Type 0 where
   pub driver : slice_get n.drivers.items f ≡ Some (Given number place)
   pub stands : slice_get n.codes.items number ≡ Some code
   pub is_gate : IsGate code local
-  pub there : place.nets + local ≡ gate
+  pub there : origin_at origins (place.nets + local) ≡ gate
 
 -- a net that the table gives a gate has it
-abbrev pub GatesStand : Nets → List (Option ℕ) → Type 0
-GatesStand n gates = (f gate : ℕ) → slice_get gates f ≡ Some (Some gate) → HasGate n f gate
+abbrev pub GatesStand : Nets → List (Option ℕ) → List (Option ℕ) → Type 0
+GatesStand n origins gates = (f gate : ℕ) → slice_get gates f ≡ Some (Some gate) → HasGate n origins f gate
 
 -- the net is 0
 pub record IsZero (values : List BitVector) (net : ℕ) : Type 0 where
@@ -40,9 +41,10 @@ pub record IsZero (values : List BitVector) (net : ℕ) : Type 0 where
 abbrev pub IsKnownZero : List ℕ → ℕ → Type 0
 IsKnownZero nonzero net = (net < length nonzero) × (is_stale nonzero net ≡ false)
 
--- each net that is known to be 0 is
-abbrev pub ZerosStand : List ℕ → List BitVector → Type 0
-ZerosStand nonzero values = (net : ℕ) → IsKnownZero nonzero net → IsZero values net
+-- each net that is known to be 0 is, where it carries no other's value
+abbrev pub ZerosStand : List (Option ℕ) → List ℕ → List BitVector → Type 0
+ZerosStand origins nonzero values =
+    (net : ℕ) → origin_at origins net ≡ net → IsKnownZero nonzero net → IsZero values net
 
 -- the net has a gate, which is another than the one that changed, and that is known to be 0
 pub record IsShut (gates : List (Option ℕ)) (nonzero : List ℕ) (changed f : ℕ) : Type 0 where

@@ -1,4 +1,5 @@
 pub mod Arrays
+pub mod Carriers
 pub mod Codes
 pub mod Operands
 pub mod Values
@@ -19,7 +20,6 @@ pub mod Spans
 pub mod Runs
 pub mod ModuleNumbers
 pub mod ModuleCodes
-pub mod Maps
 pub mod Numberings
 pub mod CodeLaws
 pub mod Numbers

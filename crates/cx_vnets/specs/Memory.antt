@@ -1,13 +1,13 @@
 -- What is stored by numbers, against what a cycle of a tree of instances has stored by names.
 use Rattle.std.specs.Prelude.{◌≡◌, ℕ, ◌+◌, List, Some, length, slice_get}
 use Rattle.cx_vtree.specs.Plain.{PlainDecl}
-use Rattle.cx_vtree.specs.InstanceTree.{Placed, decls_at, nets_at, Outside, Held, origin_of}
+use Rattle.cx_vtree.specs.InstanceTree.{Placed, decls_at, nets_at, Outside, Held, origin_of, arrays_at}
 use Rattle.cx_vtree.specs.Meaning.{Moment, outside_value, word_in}
 use Rattle.cx_vtree.specs.Edges.{array_size}
 use Rattle.cx_vnets.specs.declared.arrays.Words.{Words}
 use Rattle.cx_vnets.specs.declared.nets.Stored.{Stored}
 use Rattle.cx_vnets.specs.Arrays.{word_of}
-use Rattle.cx_vnets.specs.Numbers.{arrays_at, nets_before, arrays_before}
+use Rattle.cx_vnets.specs.Numbers.{nets_before, arrays_before}
 
 -- an array has as many words as its declaration says, and these words
 pub record WordsStand (words : List ℕ → ℕ → ℕ) (decls : List PlainDecl) (name : List ℕ) (x : Words) : Type 0 where

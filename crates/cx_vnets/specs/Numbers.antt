@@ -1,14 +1,10 @@
 -- The numbers of the nets and arrays of all instances: those of an instance follow those of the instances before it.
 use Rattle.std.specs.Prelude.{ℕ, zero, suc, ◌+◌, List, Option, length, option_and_then, option_map, slice_get}
 use Rattle.cx_bits.specs.BitVector.{BitVector}
-use Rattle.cx_vtree.specs.InstanceTree.{Placed, decls_at, nets_at}
+use Rattle.cx_vtree.specs.InstanceTree.{Placed, nets_at, arrays_at}
 use Rattle.cx_vtree.specs.Meaning.{Look}
 use Rattle.cx_vnets.specs.declared.codes.NetPosition.{NetPosition}
-use Rattle.cx_vnets.specs.ModuleNumbers.{position, declared_arrays}
-
--- the arrays of an instance, numbered from 0
-abbrev pub arrays_at : List Placed → ℕ → List (List ℕ)
-arrays_at tree i = declared_arrays (decls_at tree i)
+use Rattle.cx_vtree.specs.NameNumbers.{position}
 
 -- how many names stand in the lists of lower number
 abbrev pub before : (ℕ → List (List ℕ)) → ℕ → ℕ

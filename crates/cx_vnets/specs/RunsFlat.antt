@@ -2,14 +2,14 @@
 use Rattle.std.specs.Prelude.{◌≡◌, ℕ, ◌+◌, List, [], ◌∷◌, Some, map, slice_get, codes}
 use Rattle.cx_text.specs.Loading.{word_count}
 use Rattle.cx_vtree.specs.Plain.{PlainExternal, PlainSource}
-use Rattle.cx_vtree.specs.InstanceTree.{Placed, decls_at, nets_at, Outside, origin_of, instances_of}
+use Rattle.cx_vtree.specs.InstanceTree.{Placed, decls_at, nets_at, Outside, origin_of, instances_of, arrays_at}
 use Rattle.cx_vtree.specs.Edges.{array_size}
 use Rattle.cx_vtree.specs.SimRun as source
 use Rattle.cx_vtree.specs.SimRun.{instance_named, first_array}
 use Rattle.cx_vnets.specs.Stores.{PlainWords}
 use Rattle.cx_vnets.specs.Runs as flat
 use Rattle.cx_vnets.specs.declared.machines.Machine.{Machine}
-use Rattle.cx_vnets.specs.Numbers.{arrays_at, nets_before, net_number, array_number}
+use Rattle.cx_vnets.specs.Numbers.{nets_before, net_number, array_number}
 use Rattle.cx_vnets.specs.Flat.{NetsStand}
 use Rattle.cx_vnets.specs.EdgesFlat.{SetsStand, StoresStand}
 

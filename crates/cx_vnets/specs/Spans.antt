@@ -4,6 +4,7 @@ use Rattle.cx_text.specs.Members.{In}
 use Rattle.cx_graphs.specs.Graphs.{Edges, edges_of, targets_of}
 use Rattle.cx_vnets.specs.declared.spans.Span.{Span}
 use Rattle.cx_vnets.specs.declared.spans.Spans.{Spans}
+use Rattle.cx_vnets.specs.Carriers.{AreListedBy}
 use Rattle.cx_vnets.specs.Gates.{IsKnownZero}
 
 -- a gate is another net than the one that is read, and lies from one net up to another
@@ -22,15 +23,10 @@ pub record IsGated (gates : List (Option ℕ)) (net low high f : ℕ) : Type 0 w
 abbrev pub IsSpan : List (Option ℕ) → List ℕ → ℕ → Span → Type 0
 IsSpan gates row net span = (f : ℕ) → In row f → In span.plain.items f ⊎ IsGated gates net span.low span.high f
 
--- each net that has a gate stands in the row of its gate, where there is one
-abbrev pub GatedStand : List (Option ℕ) → Edges → Type 0
-GatedStand gates gated =
-    (f gate : ℕ) → slice_get gates f ≡ Some (Some gate) → gate < length gated → In (targets_of gated gate) f
-
 pub record SpansStand (gates : List (Option ℕ)) (rows : Edges) (t : Spans) : Type 0 where
   pub spanned : (net : ℕ) (span : Span) → slice_get t.of_nets.items net ≡ Some (Some span)
       → IsSpan gates (targets_of rows net) net span
-  pub gated : GatedStand gates (edges_of t.gated.items)
+  pub gated : AreListedBy gates (edges_of t.gated.items)
 
 -- there are a byte and a row for each net of a span
 pub record IsInTables (t : Spans) (nonzero : List ℕ) (span : Span) : Type 0 where

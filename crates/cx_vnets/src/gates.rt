@@ -3,10 +3,12 @@
 ghost use Rattle.std.specs.Prelude.{◌≡◌, ◌≢◌, ◌+◌, ◌<◌, ◌≤◌, ℕ, true, IfOk, IfSome, Some, length, slice_get};
 ghost use Rattle.cx_text.specs.Members.{In};
 ghost use Rattle.cx_vtree.specs.declared.operators.Operator.TheVariants.{And};
-ghost use Rattle.cx_vnets.specs.Gates.{GatesStand, HasGate, IsGate, IsKnownZero, IsShut, IsZero, ZerosStand};
+ghost use Rattle.cx_vnets.specs.Carriers.{origin_at};
+ghost use Rattle.cx_vnets.specs.Gates.{GatesStand, HasGate, IsGate, IsKnownZero, IsShut, IsZero};
 ghost use Rattle.cx_vnets.specs.Stale.{SameBelow, Tells, rank_at};
 ghost use Rattle.cx_vnets.specs.Watches.{IsNet};
 
+use crate::carriers::origin_number;
 use crate::codes::{Code, NetPosition};
 use crate::nets::{Driver, Nets};
 use crate::stale::mark;
@@ -37,7 +39,7 @@ fn code_gate(code: &Code) -> Option<u32>
 }
 
 /// The number of a net among all.
-fn placed(first: u32, offset: u32) -> Option<u32>
+pub(crate) fn placed(first: u32, offset: u32) -> Option<u32>
     ensures { IfSome result (λ net. first + offset ≡ net) }
 {
     first.checked_add(offset)
@@ -53,27 +55,41 @@ fn placed_gate(code: &Code, place: NetPosition) -> Option<u32>
     }
 }
 
+/// The origin of the net that a code of an instance has as its gate.
+fn origin_gate(code: &Code, place: NetPosition, origins: &[Option<u32>]) -> Option<u32>
+    ensures { IfSome result (λ gate. (k : ℕ) × IsGate code.now k × (origin_at origins.now (place.nets + k) ≡ gate)) }
+{
+    match placed_gate(code, place) {
+        Some(gate) => origin_number(origins, gate),
+        None => None,
+    }
+}
+
 /// The gate of a net.
-fn net_gate(nets: &Nets, net: usize) -> Option<u32>
+fn net_gate(nets: &Nets, origins: &[Option<u32>], net: usize) -> Option<u32>
     requires within { net < length nets.now.drivers.items }
-    ensures { IfSome result (λ g. HasGate nets.now net g) }
+    ensures { IfSome result (λ g. HasGate nets.now origins.now net g) }
 {
     match nets.drivers[net] {
         Driver::Given(code, place) => match nets.codes.get(code as usize) {
-            Some(code) => placed_gate(code, place),
+            Some(code) => origin_gate(code, place, origins),
             None => None,
         },
         _ => None,
     }
 }
 
-/// For each net its gate, where it has one.
-pub(crate) fn gates_of(alloc: Global, nets: &Nets) -> Result<Vec<Option<u32>>, Memory>
-    ensures { IfOk result (λ gates. GatesStand nets.now gates.items) }
+/// For each net its gate, where it has one: of nets that carry another's value that one.
+pub(crate) fn gates_of(
+    alloc: Global,
+    nets: &Nets,
+    origins: &[Option<u32>],
+) -> Result<Vec<Option<u32>>, Memory>
+    ensures { IfOk result (λ gates. GatesStand nets.now origins.now gates.items) }
 {
     let mut gates = Vec::with_capacity(alloc, nets.drivers.len())?;
     for net in 0..nets.drivers.len() {
-        gates.push(net_gate(nets, net))?;
+        gates.push(net_gate(nets, origins, net))?;
     }
     Ok(gates)
 }
@@ -101,7 +117,7 @@ fn byte_of(values: &[Bits], net: usize) -> u8
 /// Notes of each net whether it is 0.
 pub(crate) fn note_zeros(nonzero: &mut [u8], values: &[Bits])
     ensures long { length nonzero.new ≡ length nonzero.old }
-    ensures stand { ZerosStand nonzero.new values.now }
+    ensures stand { (f : ℕ) → IsKnownZero nonzero.new f → IsZero values.now f }
 {
     for net in 0..nonzero.len() {
         nonzero[net] = byte_of(values, net);

@@ -3,6 +3,7 @@
 
 mod arrays;
 mod behind;
+mod carriers;
 mod code_laws;
 mod codes;
 mod edges;
@@ -29,6 +30,7 @@ mod values;
 mod watches;
 
 pub use arrays::Words;
+pub use carriers::Carriers;
 pub use code_laws::{code_widths, names_have_numbers};
 pub use codes::{Code, NetPosition};
 pub use edges::{Set, set_registers};

@@ -2,10 +2,10 @@
 
 ghost use Rattle.std.specs.Prelude.{◌≡◌, ◌+◌, ◌<◌, ◌≤◌, ◌^◌, ◌++◌, List, ℕ, Some, None, IfOk, OnOk, IsSome, length, map, if◌then◌else◌};
 ghost use Rattle.std.specs.Option.{option_or};
-ghost use Rattle.cx_vtree.specs.InstanceTree.{same_name, declared_nets};
+ghost use Rattle.cx_vtree.specs.InstanceTree.{same_name, declared_nets, declared_arrays};
 ghost use Rattle.cx_vtree.specs.PlainParts.{plain_port, plain_decl};
-ghost use Rattle.cx_vnets.specs.ModuleNumbers.{declared_arrays, position, position_from};
-ghost use Rattle.cx_vnets.specs.Maps.{number_by};
+ghost use Rattle.cx_vnets.specs.ModuleNumbers.{position_from};
+ghost use Rattle.cx_vtree.specs.NameNumbers.{position, number_by};
 ghost use Rattle.cx_vnets.specs.Numberings.{nets_by, arrays_by};
 
 use cx_text::{Memory, Name};

@@ -9,7 +9,7 @@ use crate::codes::Code;
 use crate::nets::{Driver, Nets};
 
 /// Whether a net has a rank below another.
-fn is_below(ranks: &[u32], net: usize, rank: u32) -> bool
+pub(crate) fn is_below(ranks: &[u32], net: usize, rank: u32) -> bool
     ensures { result ≡ true → rank_at ranks.now net < rank }
 {
     match ranks.get(net) {

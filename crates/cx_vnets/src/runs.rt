@@ -1,12 +1,14 @@
 //! The run from reset.
 
-ghost use Rattle.std.specs.Prelude.{◌≡◌, ◌<◌, MatchOption, length, not, slice_get, slice_set};
+ghost use Rattle.std.specs.Prelude.{◌≡◌, ◌<◌, true, MatchOption, length, not, slice_get, slice_set};
+ghost use Rattle.cx_vnets.specs.Carriers.{AreAlike};
 ghost use Rattle.cx_vnets.specs.Readers.{IsCurrent, ReadersStand};
 ghost use Rattle.cx_vnets.specs.Search.{IsFirstWithout};
 ghost use Rattle.cx_vnets.specs.Stale.{Tells};
 ghost use Rattle.cx_vnets.specs.Machines.{KeepsWidths};
 ghost use Rattle.cx_vnets.specs.Runs.{AreValues, IsReady, WithInputs, IsLooked, bit, FlatFrom, FlatRun, outcome_of};
 
+use crate::carriers::carry_all;
 use crate::gates::note_zeros;
 use crate::machines::{Bench, Machine};
 use crate::run_edges::{edge, reset_edge};
@@ -88,6 +90,20 @@ fn set_inputs(machine: &Machine, bench: &mut Bench, stored: &mut Stored, reset: 
     put_inputs(machine, bench, stored, reset);
 }
 
+/// Gives nets that carry another's value this one, whatever it is.
+fn carry_values(machine: &Machine, bench: &mut Bench, stored: &Stored)
+    requires ready { IsReady machine.now stored.now bench.old }
+    requires readers { ReadersStand machine.now.nets machine.now.order.items machine.now.readers }
+    ensures ready { IsReady machine.now stored.now bench.new }
+    ensures alike { machine.now.readers.ranked ≡ true
+        → AreAlike machine.now.readers.carriers.origins.items bench.new.values.items }
+    ensures stale { bench.new.stale.items ≡ bench.old.stale.items }
+{
+    if machine.readers.ranked {
+        carry_all(&machine.readers.carriers, &mut bench.values);
+    }
+}
+
 /// Marks all nets, whatever they have for values, and notes which of these are 0.
 fn mark_nets(machine: &Machine, bench: &mut Bench, stored: &Stored)
     requires ready { IsReady machine.now stored.now bench.old }
@@ -96,6 +112,7 @@ fn mark_nets(machine: &Machine, bench: &mut Bench, stored: &Stored)
     ensures ready { IsReady machine.now stored.now bench.new }
     ensures current { IsCurrent machine.now stored.now bench.new }
 {
+    carry_values(machine, bench, stored);
     mark_all(&mut bench.stale);
     note_zeros(&mut bench.nonzero, &bench.values);
 }

@@ -4,11 +4,10 @@ ghost use Rattle.std.specs.Prelude.{◌≡◌, ◌⊎◌, ℕ, true, IfOk, OnOk,
 ghost use Rattle.cx_text.specs.Members.{In};
 ghost use Rattle.cx_graphs.specs.Graphs.{edges_of};
 ghost use Rattle.cx_vnets.specs.declared.spans.Span.{Span};
-ghost use Rattle.cx_vnets.specs.Spans.{GatedStand, IsGated, IsSpan, IsWithin, SpansStand};
+ghost use Rattle.cx_vnets.specs.Spans.{IsGated, IsSpan, IsWithin, SpansStand};
 
 use crate::gates::gate_at;
-use crate::readers::{list, narrow};
-use cx_graphs::bare;
+use crate::readers::listed_by;
 use cx_text::Memory;
 use std::alloc::Global;
 
@@ -149,19 +148,6 @@ fn span_of(
     }))
 }
 
-/// For each net the nets whose gate it is.
-fn gated_of(alloc: Global, gates: &[Option<u32>]) -> Result<Vec<Vec<u32>>, Memory>
-    ensures { IfOk result (λ gated. GatedStand gates.now (edges_of gated.items)) }
-{
-    let mut gated = bare(alloc, gates.len())?;
-    for net in 0..gates.len() {
-        if let Some(gate) = gates[net] {
-            list(&mut gated, gate as usize, narrow(net)?)?;
-        }
-    }
-    Ok(gated)
-}
-
 /// The spans of nets, by the gate of each net, where it has one, and by who reads each.
 pub(crate) fn spans_of(
     alloc: Global,
@@ -174,6 +160,6 @@ pub(crate) fn spans_of(
     for net in 0..rows.len() {
         of_nets.push(span_of(alloc, gates, net, &rows[net])?)?;
     }
-    let gated = gated_of(alloc, gates)?;
+    let gated = listed_by(alloc, gates)?;
     Ok(Spans { of_nets, gated })
 }

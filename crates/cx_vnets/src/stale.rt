@@ -1,6 +1,6 @@
 //! Marks by the ranks of nets: which nets may have another value than they had.
 
-ghost use Rattle.std.specs.Prelude.{◌≡◌, ◌≢◌, ◌<◌, ◌≤◌, false, length, slice_get, slice_set};
+ghost use Rattle.std.specs.Prelude.{◌≡◌, ◌≢◌, ◌<◌, ◌≤◌, true, false, length, slice_get, slice_set};
 ghost use Rattle.cx_text.specs.Members.{In};
 ghost use Rattle.cx_vnets.specs.Stale.{AllStale, IsNear, IsNextStale, SameBelow, Tells, rank_at};
 
@@ -101,7 +101,8 @@ pub(crate) fn put(registers: &mut [Bits], ranks: &[u32], stale: &mut [u8], net: 
 
 /// Whether a value is another than before.
 pub(crate) fn is_other(old: Bits, new: Bits) -> bool
-    ensures { result ≡ false → old ≡ new }
+    ensures same { result ≡ false → old ≡ new }
+    ensures other { result ≡ true → old ≢ new }
 {
     old != new
 }

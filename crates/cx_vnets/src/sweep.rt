@@ -12,6 +12,7 @@ ghost use Rattle.cx_vnets.specs.Stale.{SameBelow, Tells, rank_at};
 ghost use Rattle.cx_vnets.specs.Values.{rule};
 
 use crate::behind::{mark_spanned, span_at};
+use crate::carriers::carry;
 use crate::gates::{mark_open_row, note_zero};
 use crate::nets::{Driver, Nets, Stored};
 use crate::readers::Readers;
@@ -195,16 +196,16 @@ fn refresh(
     requires ranked { readers.now.ranked ≡ true }
     requires readers { (order : List ℕ) × ReadersStand nets.now order readers.now }
     requires fits { Fits nets.now stored.now }
-    requires sweeping { Sweeping nets.now stored.now readers.now.ranks.items stale.old values.old rank }
-    requires nonzero { ZerosStand nonzero.old values.old }
-    ensures sweeping { Sweeping nets.now stored.now readers.now.ranks.items stale.new values.new (rank + 1) }
-    ensures nonzero { ZerosStand nonzero.new values.new }
+    requires sweeping { Sweeping nets.now stored.now readers.now stale.old values.old rank }
+    requires nonzero { ZerosStand readers.now.carriers.origins.items nonzero.old values.old }
+    ensures sweeping { Sweeping nets.now stored.now readers.now stale.new values.new (rank + 1) }
+    ensures nonzero { ZerosStand readers.now.carriers.origins.items nonzero.new values.new }
 {
     let value = drive(nets, stored, values, net);
     stale[rank] = 0;
     let old = values[net];
     if is_other(old, value) {
-        values[net] = value;
+        carry(&readers.carriers, values, net, value);
         note_zero(nonzero, net, value);
         mark_hearers(
             readers,
@@ -232,10 +233,10 @@ pub(crate) fn sweep(
     requires ranked { readers.now.ranked ≡ true }
     requires readers { ReadersStand nets.now order.now readers.now }
     requires fits { Fits nets.now stored.now }
-    requires sweeping { Sweeping nets.now stored.now readers.now.ranks.items stale.old values.old 0 }
-    requires nonzero { ZerosStand nonzero.old values.old }
-    ensures sweeping { Sweeping nets.now stored.now readers.now.ranks.items stale.new values.new (length order.now) }
-    ensures nonzero { ZerosStand nonzero.new values.new }
+    requires sweeping { Sweeping nets.now stored.now readers.now stale.old values.old 0 }
+    requires nonzero { ZerosStand readers.now.carriers.origins.items nonzero.old values.old }
+    ensures sweeping { Sweeping nets.now stored.now readers.now stale.new values.new (length order.now) }
+    ensures nonzero { ZerosStand readers.now.carriers.origins.items nonzero.new values.new }
 {
     let mut rank = 0;
     while let Some(marked) = next_marked(stale, rank) {

@@ -6,7 +6,8 @@ ghost use Rattle.cx_vtree.specs.Operators as operators;
 ghost use Rattle.cx_vnets.specs.Arrays.{IsEven, array_width, word_at};
 ghost use Rattle.cx_vnets.specs.Looks.{look, seen_from, words_from, widths_from, array_widths_from};
 ghost use Rattle.cx_vnets.specs.Edges.{code_of, width_of};
-ghost use Rattle.cx_vnets.specs.Operands.{above, applied, applied_to, choice, chosen_from, joined_to};
+ghost use Rattle.cx_vnets.specs.Operands.{above, applied, choice};
+ghost use Rattle.cx_vtree.specs.Sound.{operator_width, choice_width, sides_width};
 
 use crate::arrays::{Words, word};
 use crate::codes::{Code, NetPosition};
@@ -131,7 +132,7 @@ fn operated(
     right: &Code,
 ) -> Bits
     requires even { IsEven arrays.now }
-    requires fits { IsSome (applied_to op (width_of values.now arrays.now place left.now)
+    requires fits { IsSome (operator_width op (width_of values.now arrays.now place left.now)
         (width_of values.now arrays.now place right.now)) }
     ensures { applied op (code_of values.now arrays.now place left.now)
         (code_of values.now arrays.now place right.now) ≡ Some result }
@@ -164,7 +165,7 @@ fn chosen(
     other: &Code,
 ) -> Bits
     requires even { IsEven arrays.now }
-    requires fits { IsSome (chosen_from (width_of values.now arrays.now place test.now)
+    requires fits { IsSome (choice_width (width_of values.now arrays.now place test.now)
         (width_of values.now arrays.now place one.now) (width_of values.now arrays.now place other.now)) }
     ensures { choice (code_of values.now arrays.now place test.now)
         (code_of values.now arrays.now place one.now) (code_of values.now arrays.now place other.now) ≡
@@ -182,7 +183,7 @@ fn chosen(
 #[inline(always)]
 fn joined(values: &[Bits], arrays: &[Words], place: NetPosition, high: &Code, low: &Code) -> Bits
     requires even { IsEven arrays.now }
-    requires fits { IsSome (joined_to (width_of values.now arrays.now place high.now)
+    requires fits { IsSome (sides_width (width_of values.now arrays.now place high.now)
         (width_of values.now arrays.now place low.now)) }
     ensures { above (code_of values.now arrays.now place high.now)
         (code_of values.now arrays.now place low.now) ≡ Some result }

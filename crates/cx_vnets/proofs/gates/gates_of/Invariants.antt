@@ -4,6 +4,6 @@ use Rattle.cx_vnets.proofs.gates.gates_of.Given as goal
 
 abbrev pub invariant-loop-net : goal.invariant-loop-net
 invariant-loop-net l = record {
-  stand : GatesStand l.nets l.gates.items;
+  stand : GatesStand l.nets l.origins l.gates.items;
   long : length l.gates.items ≡ l.net;
 }

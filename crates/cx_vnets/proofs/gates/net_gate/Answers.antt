@@ -10,7 +10,7 @@ returns-in-Some c =
     let at = read_at n.drivers.items c.args.net c.index.result.now c.requires.within c.index.ensures ∙ ap Some c.in-Given.is in
     let there = subst (λ xs. slice_get xs c.in-Given.code ≡ Some code) c.deref.ensures.value
     (read_at c.deref.result.now c.in-Given.code code c.in-Some.ensures.lookup.3.0 c.in-Some.ensures.lookup.1) in
-    IfSome_then c.placed_gate.result c.placed_gate.ensures (λ g h. record {
+    IfSome_then c.origin_gate.result c.origin_gate.ensures (λ g h. record {
       number = c.in-Given.code;
       place = c.in-Given.place;
       code = code;

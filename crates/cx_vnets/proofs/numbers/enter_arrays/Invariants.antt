@@ -1,8 +1,9 @@
 use Rattle.std.proofs.Common.{◌≡◌, ℕ, ◌≤◌, List, map, drop}
 use Rattle.std.specs.Option.{option_or}
 use Rattle.cx_vtree.specs.PlainParts.{plain_decl}
-use Rattle.cx_vnets.specs.ModuleNumbers.{declared_arrays, position_from}
-use Rattle.cx_vnets.specs.Maps.{number_by}
+use Rattle.cx_vnets.specs.ModuleNumbers.{position_from}
+use Rattle.cx_vtree.specs.InstanceTree.{declared_arrays}
+use Rattle.cx_vtree.specs.NameNumbers.{number_by}
 use Rattle.cx_vnets.proofs.numbers.enter_arrays.Given as goal
 
 abbrev pub invariant-loop-decl : goal.invariant-loop-decl

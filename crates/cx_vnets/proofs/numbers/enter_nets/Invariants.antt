@@ -3,7 +3,7 @@ use Rattle.std.specs.Option.{option_or}
 use Rattle.cx_vtree.specs.InstanceTree.{declared_nets}
 use Rattle.cx_vtree.specs.PlainParts.{plain_decl}
 use Rattle.cx_vnets.specs.ModuleNumbers.{position_from}
-use Rattle.cx_vnets.specs.Maps.{number_by}
+use Rattle.cx_vtree.specs.NameNumbers.{number_by}
 use Rattle.cx_vnets.proofs.numbers.enter_nets.Given as goal
 
 abbrev pub invariant-loop-decl : goal.invariant-loop-decl

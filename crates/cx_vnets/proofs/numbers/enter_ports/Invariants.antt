@@ -2,7 +2,7 @@ use Rattle.std.proofs.Common.{◌≡◌, ℕ, List, map, drop}
 use Rattle.std.specs.Option.{option_or}
 use Rattle.cx_vtree.specs.PlainParts.{plain_port}
 use Rattle.cx_vnets.specs.ModuleNumbers.{position_from}
-use Rattle.cx_vnets.specs.Maps.{number_by}
+use Rattle.cx_vtree.specs.NameNumbers.{number_by}
 use Rattle.cx_vnets.proofs.numbers.enter_ports.Given as goal
 
 abbrev pub invariant-loop-number : goal.invariant-loop-number

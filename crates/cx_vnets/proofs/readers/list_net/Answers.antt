@@ -1,6 +1,7 @@
 use Rattle.std.proofs.Common.{◌≡◌, Some, slice_get, ap, ◌∙◌, subst, arith}
 use Rattle.std.proofs.lemmas.Result.{on_ok_weaker}
 use Rattle.cx_graphs.specs.Graphs.{edges_of}
+use Rattle.cx_vnets.specs.Carriers.{origin_at}
 use Rattle.cx_vnets.specs.Readers.{IsListed, IsWatch, IsHeard, IsFound}
 use Rattle.cx_vnets.proofs.DriveLemmas.{hears_given}
 use Rattle.cx_text.proofs.ListLaws.{read_at}
@@ -15,6 +16,7 @@ returns-in-Some-clause-found c =
     let f = c.args.net in
     let p = c.in-Given.place in
     let code = c.in-Some.code.now in
+    let origins = c.args.origins.now in
     let nets = edges_of c.list_code.new.of_nets.items in
     let arrays = edges_of c.list_code.new.of_arrays.items in
     let watches = c.list_code.new.watches in
@@ -23,6 +25,6 @@ returns-in-Some-clause-found c =
     (read_at c.deref.result.now c.in-Given.code code c.in-Some.ensures.lookup.3.0 c.in-Some.ensures.lookup.1) in
     on_ok_weaker c.list_code.result
     (λ well.
-    subst (λ count. IsFound n nets arrays watches count f) (c.len-count.ensures ∙ n.drivers.ok.0)
-    (hears_given n (IsListed nets f) (IsListed arrays f) (IsWatch watches c.len-count.result f) f c.in-Given.code p code at there
-    (subst (λ g. IsHeard nets arrays watches c.len-count.result p g code) c.in_ok-number.ensures.value well.listed))) c.list_code.ensures
+    subst (λ count. IsFound n origins nets arrays watches count f) (c.len-count.ensures ∙ n.drivers.ok.0)
+    (hears_given n (λ g. IsListed nets f (origin_at origins g)) (IsListed arrays f) (λ g v sided. IsWatch watches c.len-count.result f (origin_at origins g) v sided) f c.in-Given.code p code at there
+    (subst (λ g. IsHeard origins nets arrays watches c.len-count.result p g code) c.in_ok-number.ensures.value well.listed))) c.list_code.ensures

@@ -1,7 +1,7 @@
 use Rattle.std.proofs.Common.{◌≡◌, ◌+◌, ◌-◌, arith}
 use Rattle.cx_vnets.specs.Runs.{outcome_of}
 use Rattle.cx_vnets.proofs.CurrentLemmas.{current_moved}
-use Rattle.cx_vnets.proofs.Ready.{keeps-more, ready-edge, ready-sets, looked-ends, goes-more}
+use Rattle.cx_vnets.proofs.Ready.{keeps-more, ready-edge, ready-sets, ready-stores, looked-ends, goes-more}
 use Rattle.cx_vnets.proofs.runs.run_on.Goals as goal
 
 pub returns-in-Some : goal.returns-in-Some
@@ -13,6 +13,9 @@ returns-in-Some c = record {
 
 pub edge-requires-clause-sets : goal.edge-requires-clause-sets
 edge-requires-clause-sets c = ready-sets c.args.machine.now c.loop-cycle.stored c.look.new.bench c.in_default.ensures.ready
+
+pub edge-requires-clause-stores : goal.edge-requires-clause-stores
+edge-requires-clause-stores c = ready-stores c.args.machine.now c.loop-cycle.stored c.look.new.bench c.in_default.ensures.ready
 
 pub loop-cycle-preserved : goal.loop-cycle-preserved
 loop-cycle-preserved c =

@@ -2,6 +2,7 @@ use Rattle.std.proofs.Common.{◌≡◌, ℕ, List, length, sym, ap, ◌∙◌, 
 use Rattle.std.proofs.lemmas.List.{with_items_is}
 use Rattle.std.specs.Vec.{with_items}
 use Rattle.cx_bits.specs.BitVector.{BitVector}
+use Rattle.cx_vnets.specs.Carriers.{AreAlike}
 use Rattle.cx_vnets.specs.Gates.{ZerosStand}
 use Rattle.cx_vnets.specs.Readers.{Sweeping, UnmarkedAgree}
 use Rattle.cx_vnets.specs.Runs.{AreValues}
@@ -16,7 +17,7 @@ returns-then-machine-clause-value c =
     let s = c.args.stored.now in
     let b = c.args.bench.now in
     let new = c.sweep.new.values in
-    let swept = subst (λ o. Sweeping m.nets s m.readers.ranks.items c.sweep.new.stale new (length o)) c.deref.ensures.value c.sweep.ensures.sweeping in
+    let swept = subst (λ o. Sweeping m.nets s m.readers c.sweep.new.stale new (length o)) c.deref.ensures.value c.sweep.ensures.sweeping in
     let long : b.values.len ≡ length new = b.values.ok.0 ∙ same_length b.values.items s.nets.items c.requires.ready.values ∙ sym (same_length new s.nets.items swept.widths) in
     subst (AreValues m s) (sym (written_back new _ b.values.len long)) (swept_values m s b c.sweep.new.stale new c.requires.ready c.requires.current c.if-machine.true swept)
 
@@ -34,6 +35,7 @@ returns-then-machine-clause-current c =
       long = ap (λ (xs : List ℕ). length xs) stale ∙ swept.long;
       agree = λ is. subst (λ (xs : List ℕ). UnmarkedAgree m.nets s m.readers.ranks.items xs (with_items b.values c.sweep.new.values).items) (sym stale)
           (subst (λ (vs : List BitVector). UnmarkedAgree m.nets s m.readers.ranks.items c.sweep.new.stale vs) (sym values) swept.agree);
-      nonzero = λ is. subst (λ (bytes : List ℕ). ZerosStand bytes (with_items b.values c.sweep.new.values).items) (sym nonzero)
-          (subst (λ (vs : List BitVector). ZerosStand c.sweep.new.nonzero vs) (sym values) c.sweep.ensures.nonzero);
+      alike = λ is. subst (λ (vs : List BitVector). AreAlike m.readers.carriers.origins.items vs) (sym values) swept.alike;
+      nonzero = λ is. subst (λ (bytes : List ℕ). ZerosStand m.readers.carriers.origins.items bytes (with_items b.values c.sweep.new.values).items) (sym nonzero)
+          (subst (λ (vs : List BitVector). ZerosStand m.readers.carriers.origins.items c.sweep.new.nonzero vs) (sym values) c.sweep.ensures.nonzero);
     }

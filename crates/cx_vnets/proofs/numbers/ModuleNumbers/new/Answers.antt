@@ -1,8 +1,7 @@
 use Rattle.std.proofs.Common.{map, sym}
 use Rattle.std.proofs.Math.Path.{fun_ext}
-use Rattle.cx_vtree.specs.InstanceTree.{declared_nets}
+use Rattle.cx_vtree.specs.InstanceTree.{declared_nets, declared_arrays}
 use Rattle.cx_vtree.specs.PlainParts.{plain_port, plain_decl}
-use Rattle.cx_vnets.specs.ModuleNumbers.{declared_arrays}
 use Rattle.cx_vnets.proofs.CodeSteps.{numbered, numbered_after}
 use Rattle.cx_vtree.proofs.ModulesLemmas.{ports-length}
 use Rattle.cx_vnets.proofs.numbers.ModuleNumbers.new.Goals as goal
