@@ -1,5 +1,5 @@
 -- What is appended, step by step.
-use Rattle.std.proofs.Common.{◌≡◌, ℕ, suc, ◌+◌, ◌<◌, List, [], ◌∷◌, ◌++◌, length, get_or, drop, drop-cons, map, refl, ap, sym, ◌∙◌, subst, append_assoc, append-nil, add-one}
+use Rattle.std.proofs.Common.{◌≡◌, ℕ, ◌+◌, ◌<◌, List, [], ◌∷◌, ◌++◌, length, get_or, drop, map, ap, sym, ◌∙◌, subst, append_assoc, append-nil}
 use Rattle.cx_text.proofs.ListLaws.{drop_item}
 use Rattle.cx_velab.specs.Added.{Paired, Adds}
 
@@ -35,15 +35,9 @@ module _ {A B : Type 0} (R : A → B → Type 0) where
   abbrev pub Done : List A → List A → List B → List B → Type 0
   Done old mid rest whole = (done : List B) × Adds R old mid done × (done ++ rest ≡ whole)
 
-  pub done_start : (old : List A) (whole : List B) → Done old old whole whole
-  done_start old whole = ([], adds_none R old, refl)
-
   pub done_more : (old mid new : List A) (ys all rest whole : List B) → Done old mid all whole → Adds R mid new ys → all ≡ ys ++ rest → Done old new rest whole
   done_more old mid new ys all rest whole d a e =
       (d.0 ++ ys, adds_both R old mid new d.0 ys d.1 a, append_assoc d.0 ys rest ∙ ap (λ l. d.0 ++ l) (sym e) ∙ d.2)
-
-  pub done_end : (old new : List A) (rest whole : List B) → rest ≡ [] → Done old new rest whole → Adds R old new whole
-  done_end old new rest whole e d = adds_as R old new d.0 whole (sym (append-nil d.0) ∙ ap (λ l. d.0 ++ l) (sym e) ∙ d.2) d.1
 
 -- the elements from one on, by what they stand for
 pub rest_at : {A B : Type 0} (f : A → B) (xs : List A) (i : ℕ) (x : A) → i < length xs → x ≡ get_or xs i x → map f (drop i xs) ≡ f x ∷ map f (drop (i + 1) xs)

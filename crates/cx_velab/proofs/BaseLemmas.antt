@@ -2,11 +2,10 @@
 use Rattle.std.proofs.Common.{◌≡◌, ℕ, zero, suc, ◌+◌, ◌<◌, ◌≤◌, ◌≢◌, ⊎_elim, List, [], ◌∷◌, ◌++◌, map, length, Some, slice_get, refl, ap, sym, ◌∙◌, add-one, arith}
 use Rattle.std.specs.Option.{option_map_or}
 use Rattle.std.proofs.lemmas.Bool.Decides.{eqb_tells}
-use Rattle.cx_vtree.specs.InstanceTree.{Placed, nets_at, declared_nets}
+use Rattle.cx_vtree.specs.InstanceTree.{Placed, nets_at, declared_nets, declared_arrays, arrays_at}
 use Rattle.cx_vnets.specs.declared.codes.NetPosition.{NetPosition}
-use Rattle.cx_vnets.specs.ModuleNumbers.{declared_arrays}
 use Rattle.cx_velab.specs.Paths.{nets_in}
-use Rattle.cx_vnets.specs.Numbers.{before, arrays_at, nets_before, arrays_before, place_of}
+use Rattle.cx_vnets.specs.Numbers.{before, nets_before, arrays_before, place_of}
 use Rattle.cx_velab.specs.Tables.{all_places}
 
 -- more lists have no fewer names

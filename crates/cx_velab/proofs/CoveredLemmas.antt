@@ -10,7 +10,7 @@ use Rattle.cx_vtree.specs.InstanceTree as kinds
 use Rattle.cx_vtree.specs.InstanceTree.{Placed, same_name, declared_nets, nets_at, NetKind, declared_kind, kind_in, net_of, is_output, output_to, driving_output, assigned, origin_by, origin_of, Origin, Outside, Tied, Held, Given}
 use Rattle.cx_vnets.specs.declared.codes.Code.{Code}
 use Rattle.cx_vnets.specs.declared.nets.Driver.{Driver}
-use Rattle.cx_vnets.specs.ModuleNumbers.{position}
+use Rattle.cx_vtree.specs.NameNumbers.{position}
 use Rattle.cx_velab.specs.Driven.{IsRight, IsTied}
 use Rattle.cx_velab.specs.Covered.{IsTidy, IsDriven, DrivenStand}
 use Rattle.cx_text.proofs.OptionLaws.{bind_some, by_side}

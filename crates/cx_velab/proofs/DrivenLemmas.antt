@@ -10,7 +10,7 @@ use Rattle.cx_vtree.specs.InstanceTree.{Placed, declared_nets, nets_at, Origin, 
 use Rattle.cx_vnets.specs.declared.codes.Code.{Code}
 use Rattle.cx_vnets.specs.declared.nets.Driver.{Driver}
 use Rattle.cx_vnets.specs.declared.nets.Driver.TheVariants as driver
-use Rattle.cx_vnets.specs.ModuleNumbers.{position}
+use Rattle.cx_vtree.specs.NameNumbers.{position}
 use Rattle.cx_vnets.specs.Numbers.{before, nets_before, net_number, place_of}
 use Rattle.cx_vnets.specs.Flat.{DriverStands}
 use Rattle.cx_velab.specs.Ties.{number_or_0, tied_by, tied_ports, given_nets}

@@ -1,7 +1,7 @@
 -- Zeros have the widths of the nets and the arrays.
 use Rattle.std.proofs.Common.{◌≡◌, ℕ, zero, suc, ◌+◌, List, [], ◌∷◌, ◌++◌, map, length, Some, option_map, slice_get, refl, ap, sym, ◌∙◌, length-append, arith}
 use Rattle.std.specs.Prelude.{replicate}
-use Rattle.cx_bits.specs.BitVector.{BitVector}
+use Rattle.cx_bits.specs.BitVector.{BitVector, zero_of}
 use Rattle.cx_vtree.specs.Plain.{PlainDecl, WireOf, RegisterOf, ArrayOf}
 use Rattle.cx_vtree.specs.InstanceTree.{Placed, decls_at, nets_at}
 use Rattle.cx_vnets.specs.declared.arrays.Words.{Words}
@@ -9,7 +9,7 @@ use Rattle.cx_vnets.specs.Fits.{width_at}
 use Rattle.cx_vnets.specs.Stores.{PlainWords, plain_words}
 use Rattle.cx_vnets.specs.CodeLaws.{net_widths, array_widths}
 use Rattle.cx_vnets.specs.Numbers.{nets_before, arrays_before}
-use Rattle.cx_velab.specs.Tables.{zero_of, module_zeros, zero_arrays, all_zeros, all_zero_arrays}
+use Rattle.cx_velab.specs.Tables.{module_zeros, zero_arrays, all_zeros, all_zero_arrays}
 use Rattle.cx_velab.specs.FitsLaws.{ZerosFit}
 use Rattle.cx_velab.proofs.ZeroLemmas.{before_first, length-net_widths, zeros_at, zero_arrays_at, zeros}
 use Rattle.cx_text.proofs.ListLaws.{at_map, length-map}

@@ -1,10 +1,10 @@
 -- Widths of nets by number.
-use Rattle.std.proofs.Common.{◌≡◌, ℕ, zero, suc, ◌+◌, ◌-◌, ◌<◌, ⊎_elim, false, List, [], ◌∷◌, length, Some, option_map, slice_get, refl, ap, sym, ◌∙◌, subst, arith}
+use Rattle.std.proofs.Common.{◌≡◌, ℕ, zero, suc, ◌+◌, ◌-◌, ◌<◌, ⊎_elim, false, List, length, Some, option_map, slice_get, refl, ap, sym, ◌∙◌, subst, arith}
 use Rattle.std.proofs.lemmas.Bool.{cases_lt}
 use Rattle.std.proofs.lemmas.Option.{slice_get_within}
 use Rattle.std.specs.Prelude.{IsSome}
 use Rattle.cx_vtree.specs.Plain.{PlainExpr, PlainAssign, PlainStore}
-use Rattle.cx_vtree.specs.InstanceTree.{Placed, ports_at, decls_at, nets_at, Origin, Outside, Tied, Held, Given}
+use Rattle.cx_vtree.specs.InstanceTree.{Placed, ports_at, decls_at, nets_at, Origin, Outside, Tied, Held, Given, arrays_at}
 use Rattle.cx_vtree.specs.Sound.{misnames, fitting_width}
 use Rattle.cx_vnets.specs.declared.codes.Code.{Code}
 use Rattle.cx_vnets.specs.declared.codes.NetPosition.{NetPosition}
@@ -18,11 +18,11 @@ use Rattle.cx_vnets.specs.Arrays.{array_width}
 use Rattle.cx_vnets.specs.Edges.{width_of}
 use Rattle.cx_vnets.specs.Stores.{HasCode, StoreFits}
 use Rattle.cx_vnets.specs.Fits.{width_at, width_in, Fits}
-use Rattle.cx_vnets.specs.ModuleNumbers.{position}
+use Rattle.cx_vtree.specs.NameNumbers.{position}
 use Rattle.cx_vnets.specs.ModuleCodes.{IsCode}
 use Rattle.cx_vnets.specs.CodeLaws.{CodesHaveWidths}
 use Rattle.cx_vnets.specs.EdgesFlat.{SetStands, StoreStands}
-use Rattle.cx_vnets.specs.Numbers.{before, arrays_at, nets_before, arrays_before, place_of}
+use Rattle.cx_vnets.specs.Numbers.{before, nets_before, arrays_before, place_of}
 use Rattle.cx_vnets.specs.Flat.{CodeStands, DriverStands, NetsStand}
 use Rattle.cx_velab.specs.Zeros.{widths_at}
 use Rattle.cx_velab.specs.FitsLaws.{StoredHasWidths, scope_at, IsSound, IsAsWide, OriginsAreAsWide, NetsFit, SetIsAsWide, AllSetsFit, StoreIsAsWide, AllStoresFit}

@@ -1,17 +1,14 @@
 -- The last module of a name, by its number.
 use Rattle.std.proofs.Common.{◌≡◌, ℕ, ◌+◌, ◌<◌, ◌≤◌, Bool, true, false, cond, min, List, [], ◌∷◌, ◌++◌, map, length, reverse, take, drop, get_or, Option, Some, None, slice_get, option_map, refl, ap, sym, ◌∙◌, subst, arith, append_assoc, length-append, if◌then◌else◌}
-use Rattle.std.specs.BTreeMap as tree
-use Rattle.std.specs.BTreeMap.{BTreeMap}
+use Rattle.std.specs.HashMap as maps
+use Rattle.std.specs.HashMap.{HashMap}
 use Rattle.std.proofs.lemmas.List.{reverse-append, reverse-reverse, length-reverse, take-append-drop, length-take, length-take-le, take_at, take-take, take-map, take_more}
-use Rattle.std.proofs.lemmas.Map.Text.{btree_map_updates_str}
 use Rattle.std.specs.Borrow.{Bor}
-use Rattle.std.specs.Cmp.Lexicographic.{slice_cmp}
-use Rattle.std.specs.Ordering.{nat_cmp}
 use Rattle.cx_vtree.specs.declared.modules.Module.{Module}
 use Rattle.cx_vtree.specs.Plain.{PlainModule}
 use Rattle.cx_vtree.specs.PlainParts.{plain_module, plain_modules}
 use Rattle.cx_vtree.specs.InstanceTree.{same_name}
-use Rattle.cx_velab.specs.Maps.{number_by}
+use Rattle.cx_vtree.specs.NameNumbers.{number_by}
 use Rattle.cx_velab.specs.Trees.{found_from}
 use Rattle.cx_velab.specs.Rows.{HasLast}
 use Rattle.cx_velab.proofs.Listing.{map-pushed}
@@ -101,7 +98,7 @@ unnumbered (Some p) e = absurd (cc)
 pairs : (m n : PlainModule) (b c : List PlainModule) → m ≡ n → b ≡ c → ◌≡◌ {A = Found} (m, b) (n, c)
 pairs m n b c e f = cc
 
-module _ (found : BTreeMap (Bor (List ℕ)) ℕ) (ms : List PlainModule) (kind : List ℕ) (has : HasLast found ms) where
+module _ {S : Type 0} (found : HashMap (Bor (List ℕ)) ℕ S) (ms : List PlainModule) (kind : List ℕ) (has : HasLast found ms) where
   pub absent : (count : ℕ) → None ≡ number_by found kind → None ≡ found_from (reverse (take count ms)) kind
   absent count none = sym (none_within ms kind count (unnumbered (found_from (reverse ms) kind) (none ∙ has kind)))
 
@@ -137,21 +134,23 @@ pub first_parts : (modules : List Module) (count : ℕ) → map plain_module (ta
 first_parts modules count = sym (take-map plain_module count modules)
 
 -- one module more
-pub last_more : (found more : BTreeMap (Bor (List ℕ)) ℕ) (ms : List PlainModule) (m : PlainModule) (key : Bor (List ℕ)) (n : ℕ)
-    → HasLast found ms → tree.Updates (λ x y. slice_cmp nat_cmp x.now y.now) found more key (Some n) → key.now ≡ m.name → n ≡ length ms → HasLast more (ms ++ m ∷ [])
-last_more found more ms m key n has up named is name =
-    btree_map_updates_str key.now found more (Some n) up name ∙ ap (λ k. cond (same_name k name) (Some n) (number_by found name)) named
+pub last_more : {S : Type 0} (found more : HashMap (Bor (List ℕ)) ℕ S) (ms : List PlainModule) (m : PlainModule) (n : ℕ) → HasLast found ms
+    → ((q : Bor (List ℕ)) → maps.get (λ x y. same_name x.now y.now) more q ≡ cond (same_name m.name q.now) (Some n) (maps.get (λ x y. same_name x.now y.now) found q))
+    → n ≡ length ms → HasLast more (ms ++ m ∷ [])
+last_more found more ms m n has up is name =
+    up (record { ref_ptr = (0, 0); now = name })
     ∙ go (same_name m.name name) ∙ ap (λ l. option_map (λ p. length p.1) (found_from l name)) (sym (reverse-append ms (m ∷ [])))
   where
     go : (t : Bool) → cond t (Some n) (number_by found name) ≡ option_map (λ p. length p.1) (if t then Some (m, reverse ms) else found_from (reverse ms) name)
     go true = ap Some (is ∙ sym (length-reverse ms))
     go false = has name
 
-pub last_step : (found more : BTreeMap (Bor (List ℕ)) ℕ) (modules : List Module) (i : ℕ) (x : Module) (key : Bor (List ℕ)) → HasLast found (take i (plain_modules modules))
-    → tree.Updates (λ x y. slice_cmp nat_cmp x.now y.now) found more key (Some i) → key.now ≡ x.name → i < length modules → x ≡ get_or modules i x → HasLast more (take (i + 1) (plain_modules modules))
-last_step found more modules i x key has up named small is =
+pub last_step : {S : Type 0} (found more : HashMap (Bor (List ℕ)) ℕ S) (modules : List Module) (i : ℕ) (x : Module) → HasLast found (take i (plain_modules modules))
+    → ((q : Bor (List ℕ)) → maps.get (λ x y. same_name x.now y.now) more q ≡ cond (same_name x.name q.now) (Some i) (maps.get (λ x y. same_name x.now y.now) found q))
+    → i < length modules → x ≡ get_or modules i x → HasLast more (take (i + 1) (plain_modules modules))
+last_step found more modules i x has up small is =
     let count : length (take i (plain_modules modules)) ≡ i = length-take-le i (plain_modules modules) (omega (arith, small, length-map plain_module modules)) in
     let one : take (i + 1) modules ≡ take i modules ++ x ∷ [] = take_more modules i x small ∙ ap (λ y. take i modules ++ y ∷ []) (sym is) in
     let next : take (i + 1) (plain_modules modules) ≡ take i (plain_modules modules) ++ plain_module x ∷ [] =
     take-map plain_module (i + 1) modules ∙ ap (map plain_module) one ∙ map-pushed plain_module (take i modules) x ∙ ap (λ l. l ++ plain_module x ∷ []) (sym (take-map plain_module i modules)) in
-    subst (HasLast more) (sym next) (last_more found more (take i (plain_modules modules)) (plain_module x) key i has up named (sym count))
+    subst (HasLast more) (sym next) (last_more found more (take i (plain_modules modules)) (plain_module x) i has up (sym count))

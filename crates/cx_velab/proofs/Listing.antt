@@ -1,5 +1,5 @@
 -- The steps of listing the instances.
-use Rattle.std.proofs.Common.{◌≡◌, ℕ, ◌+◌, ◌<◌, List, [], ◌∷◌, ◌++◌, Bool, true, false, Option, Some, None, map, length, reverse, option_map, subst, refl, sym, ap, ◌∙◌, append_assoc, length-append, add-zero, if◌then◌else◌, arith}
+use Rattle.std.proofs.Common.{◌≡◌, ℕ, ◌+◌, ◌<◌, List, [], ◌∷◌, ◌++◌, Bool, true, false, Option, Some, None, map, length, reverse, subst, refl, sym, ap, ◌∙◌, append_assoc, length-append, add-zero, if◌then◌else◌, arith}
 use Rattle.std.proofs.lemmas.List.{reverse-append}
 use Rattle.cx_vtree.specs.Plain.{PlainInstance, PlainModule}
 use Rattle.cx_vtree.specs.InstanceTree.{Placed, same_name, below, tree_from}
@@ -46,10 +46,6 @@ cost-by_found (m ∷ before) i = go (same_name m.name i.kind) (cost-by_found bef
     go true e = refl
     go false e = e
 
--- nothing stands there
-pub trees-empty : (before : List PlainModule) (holder : ℕ) (ps : List PlainPending) (n : ℕ) → trees (record { before = before; instances = []; holder = holder } ∷ ps) n ≡ trees ps n
-trees-empty before holder ps n = ap (trees ps) (add-zero n)
-
 -- an instance without a module
 pub trees-none : (before : List PlainModule) (holder : ℕ) (i : PlainInstance) (rest : List PlainInstance) (ps : List PlainPending) (n : ℕ) → found_from (reverse before) i.kind ≡ None
     → trees (record { before = before; instances = rest; holder = holder } ∷ ps) n ≡ trees (record { before = before; instances = i ∷ rest; holder = holder } ∷ ps) n
@@ -89,13 +85,6 @@ pub work-found : (before bs : List PlainModule) (holder n : ℕ) (i : PlainInsta
 work-found before bs holder n i rest ps m found =
     let e : cost_from (reverse before) i ≡ 2 + costs (cost_from (reverse bs)) m.instances = cost-by_found (reverse before) i ∙ ap cost_found found in
     omega arith
-
--- the search goes back by one module
-pub found-passed : (ms : List PlainModule) (m : PlainModule) (kind : List ℕ) → same_name m.name kind ≡ false → found_from (reverse (ms ++ m ∷ [])) kind ≡ found_from (reverse ms) kind
-found-passed ms m kind differs = ap (λ l. found_from l kind) (reverse-append ms (m ∷ [])) ∙ ap (λ b. if b then Some (m, reverse ms) else found_from (reverse ms) kind) differs
-
-pub found-here : (ms : List PlainModule) (m : PlainModule) (kind : List ℕ) → same_name m.name kind ≡ true → found_from (reverse (ms ++ m ∷ [])) kind ≡ Some (m, reverse ms)
-found-here ms m kind same = ap (λ l. found_from l kind) (reverse-append ms (m ∷ [])) ∙ ap (λ b. if b then Some (m, reverse ms) else found_from (reverse ms) kind) same
 
 -- one step of the listing, over whatever stands for the rows and for what is to be listed
 module _ {A B : Type 0} (f : A → Placed) (g : B → PlainPending) (rows : List A) (pend pend1 : List B) (p1 : B) (before : List PlainModule) (holder : ℕ) (i : PlainInstance) (rest is : List PlainInstance)
@@ -149,7 +138,3 @@ module _ {A B : Type 0} (f : A → Placed) (g : B → PlainPending) (rows : List
 pub pending-by_parts : (b c : List PlainModule) (is js : List PlainInstance) (h k : ℕ) → b ≡ c → is ≡ js → h ≡ k
     → ◌≡◌ {A = PlainPending} (record { before = b; instances = is; holder = h }) (record { before = c; instances = js; holder = k })
 pending-by_parts b c is js h k x y z = cc
-
-pub none-of : {A B : Type 0} (f : A → B) (r : Option A) (o : Option B) → option_map f r ≡ o → ((x : A) → r ≡ Some x → ⊥) → o ≡ None
-none-of f None o e h = sym e
-none-of f (Some x) o e h = absurd (h x refl)

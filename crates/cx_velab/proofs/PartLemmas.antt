@@ -1,19 +1,17 @@
 -- The codes of a module, by their numbers.
-use Rattle.std.proofs.Common.{◌≡◌, ℕ, zero, suc, ◌+◌, ◌≤◌, Bool, true, false, cond, Ordering, List, [], ◌∷◌, ◌++◌, map, length, Some, slice_get, refl, ap, sym, ◌∙◌, subst, arith, length-append}
-use Rattle.std.specs.BTreeMap as tree
-use Rattle.std.specs.BTreeMap.{BTreeMap}
-use Rattle.std.specs.Cmp.Lexicographic.{slice_cmp, same_text}
-use Rattle.std.specs.Ordering.{nat_cmp}
-use Rattle.std.proofs.lemmas.Map.Text.{btree_map_updates_str}
+use Rattle.std.proofs.Common.{◌≡◌, ℕ, zero, suc, ◌+◌, ◌<◌, ◌≤◌, ⊎_elim, Bool, true, false, cond, List, [], ◌∷◌, ◌++◌, map, length, Some, slice_get, refl, ap, sym, ◌∙◌, subst, arith, length-append}
+use Rattle.std.proofs.lemmas.Bool.{cases_lt}
+use Rattle.std.specs.HashMap as maps
+use Rattle.std.specs.HashMap.{HashMap}
+use Rattle.std.specs.Cmp.Lexicographic.{same_text}
 use denote.Ref.{Bor}
-use Rattle.cx_vtree.specs.InstanceTree.{Placed, same_name, declared_nets}
+use Rattle.cx_vtree.specs.InstanceTree.{Placed, same_name, declared_nets, declared_arrays}
 use Rattle.cx_vtree.specs.declared.modules.Decl.{Decl}
 use Rattle.cx_vtree.specs.declared.modules.ModulePort.{ModulePort}
 use Rattle.cx_vtree.specs.PlainParts.{plain_port, plain_decl}
 use Rattle.cx_vtree.specs.Plain.{PlainExpr, PlainModule}
 use Rattle.cx_vnets.specs.declared.codes.Code.{Code}
-use Rattle.cx_velab.specs.Maps.{number_by}
-use Rattle.cx_vnets.specs.ModuleNumbers.{position, declared_arrays}
+use Rattle.cx_vtree.specs.NameNumbers.{position, number_by}
 use Rattle.cx_vnets.specs.ModuleCodes.{Numbering, IsCode}
 use Rattle.cx_velab.specs.Added.{Paired}
 use Rattle.cx_velab.specs.Coded.{AddsCodes}
@@ -82,15 +80,27 @@ has_new list more x codes n m e is p =
     (x, ap (λ l. slice_get l n) e ∙ behind list (x ∷ []) n 0 at, p)
 
 -- a name more is found
-abbrev by_bytes : Bor (List ℕ) → Bor (List ℕ) → Ordering
-by_bytes x y = slice_cmp nat_cmp x.now y.now
+abbrev by_bytes : Bor (List ℕ) → Bor (List ℕ) → Bool
+by_bytes x y = same_name x.now y.now
 
-pub found_more : (instances : List Placed) (found more : BTreeMap (Bor (List ℕ)) ℕ) (list next : List ModulePart) (old new : List Code) (key : Bor (List ℕ)) (n i : ℕ) (p : Placed)
+pub found_more : {S : Type 0} (instances : List Placed) (found more : HashMap (Bor (List ℕ)) ℕ S) (list next : List ModulePart) (old new : List Code) (n i : ℕ) (p : Placed)
     → AreFound instances found list old → ((j : ℕ) (m : PlainModule) → HasPart list old j m → HasPart next new j m)
-    → tree.Updates by_bytes found more key (Some n) → slice_get instances i ≡ Some p → key.now ≡ p.part.name → HasPart next new n p.part → AreFound instances more next new
-found_more instances found more list next old new key n i p had keeps up at named part name j is =
-    go (same_name key.now name) refl (sym (btree_map_updates_str key.now found more (Some n) up name) ∙ is)
+    → ((q : Bor (List ℕ)) → maps.get by_bytes more q ≡ cond (same_name p.part.name q.now) (Some n) (maps.get by_bytes found q)) → slice_get instances i ≡ Some p → HasPart next new n p.part → AreFound instances more next new
+found_more instances found more list next old new n i p had keeps up at part name j is =
+    go (same_name p.part.name name) refl (sym (up (record { ref_ptr = (0, 0); now = name })) ∙ is)
   where
-    go : (t : Bool) → same_name key.now name ≡ t → cond t (Some n) (number_by found name) ≡ Some j → (h : ℕ) × (q : Placed) × (slice_get instances h ≡ Some q) × (q.part.name ≡ name) × HasPart next new j q.part
-    go true e f = let same : n ≡ j = cc in (i, p, at, sym named ∙ same_text key.now name (sym e), subst (λ k. HasPart next new k p.part) same part)
+    go : (t : Bool) → same_name p.part.name name ≡ t → cond t (Some n) (number_by found name) ≡ Some j → (h : ℕ) × (q : Placed) × (slice_get instances h ≡ Some q) × (q.part.name ≡ name) × HasPart next new j q.part
+    go true e f = let same : n ≡ j = cc in (i, p, at, same_text p.part.name name (sym e), subst (λ k. HasPart next new k p.part) same part)
     go false e f = let r = had name j f in (r.0, r.1, r.2, r.3, keeps j r.1.part r.4)
+
+-- one instance more has its part
+pub stand_more : (tree : List Placed) (list next : List ModulePart) (old new : List Code) (of_rows more : List ℕ) (i j : ℕ) → more ≡ of_rows ++ j ∷ [] → length of_rows ≡ i
+    → ((n : ℕ) (m : PlainModule) → HasPart list old n m → HasPart next new n m) → ((p : Placed) → slice_get tree i ≡ Some p → HasPart next new j p.part)
+    → ((k : ℕ) (p : Placed) → k < i → slice_get tree k ≡ Some p → (n : ℕ) × (slice_get of_rows k ≡ Some n) × HasPart list old n p.part)
+    → (k : ℕ) (p : Placed) → k < i + 1 → slice_get tree k ≡ Some p → (n : ℕ) × (slice_get more k ≡ Some n) × HasPart next new n p.part
+stand_more tree list next old new of_rows more i j e long keeps here before k p lt at =
+    ⊎_elim
+    (λ less. let h = before k p less at in (h.0, ap (λ l. slice_get l k) e ∙ front of_rows (j ∷ []) k h.0 h.1, keeps h.0 p.part h.2))
+    (λ reach. let same : k ≡ i = omega (arith, lt, reach) in let last : k ≡ length of_rows + 0 = omega (arith, same, long) in
+    (j, ap (λ l. slice_get l k) e ∙ behind of_rows (j ∷ []) k 0 last, here p (subst (λ n. slice_get tree n ≡ Some p) same at)))
+    (cases_lt k i)

@@ -3,19 +3,18 @@ use Rattle.std.proofs.Common.{◌≡◌, ℕ, zero, suc, ◌+◌, ◌==◌, Bool
 use Rattle.std.specs.Prelude.{replicate, nat_lt, unwrap_or}
 use Rattle.std.specs.Cmp.Lexicographic.{same_text, bytes_decides}
 use Rattle.std.proofs.lemmas.Option.{slice_get-map}
-use Rattle.cx_bits.specs.BitVector.{BitVector}
+use Rattle.cx_bits.specs.BitVector.{BitVector, zero_of}
 use Rattle.cx_vtree.specs.Plain.{PlainPort, PlainDecl, WireOf, RegisterOf, ArrayOf}
 use Rattle.cx_vtree.specs.InstanceTree as kinds
-use Rattle.cx_vtree.specs.InstanceTree.{Placed, same_name, ports_at, decls_at, declared_nets, nets_at, NetKind, declared_kind, kind_in, net_of, driving_output, assigned, origin_by, origin_of, Held}
+use Rattle.cx_vtree.specs.InstanceTree.{Placed, same_name, ports_at, decls_at, declared_nets, nets_at, NetKind, declared_kind, kind_in, net_of, driving_output, assigned, origin_by, origin_of, Held, declared_arrays, arrays_at}
 use Rattle.cx_vtree.specs.Meaning.{word_in}
 use Rattle.cx_vtree.specs.Edges.{array_size}
 use Rattle.cx_vnets.specs.declared.arrays.Words.{Words}
 use Rattle.cx_vnets.specs.Arrays.{word_of}
 use Rattle.cx_vnets.specs.Stores.{PlainWords, plain_words}
-use Rattle.cx_vnets.specs.ModuleNumbers.{declared_arrays}
 use Rattle.cx_vnets.specs.CodeLaws.{declared_widths, net_widths}
-use Rattle.cx_vnets.specs.Numbers.{before, arrays_at, nets_before, arrays_before}
-use Rattle.cx_velab.specs.Tables.{zero_of, module_zeros, zero_arrays, all_zeros, all_zero_arrays}
+use Rattle.cx_vnets.specs.Numbers.{before, nets_before, arrays_before}
+use Rattle.cx_velab.specs.Tables.{module_zeros, zero_arrays, all_zeros, all_zero_arrays}
 use Rattle.cx_velab.specs.Zeros.{widths_at, ZerosHaveWidths}
 use Rattle.cx_vtree.proofs.InstanceTreeLemmas.{input_unheld, output_unheld, assigned_unheld}
 use Rattle.cx_text.proofs.BoolLaws.{either_zero}

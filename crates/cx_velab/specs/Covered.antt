@@ -5,7 +5,7 @@ use Rattle.cx_vtree.specs.InstanceTree.{Placed, nets_at, Origin, Outside, Tied, 
 use Rattle.cx_vnets.specs.declared.codes.Code.{Code}
 use Rattle.cx_vnets.specs.declared.nets.Driver.{Driver}
 use Rattle.cx_vnets.specs.declared.nets.Nets.{Nets}
-use Rattle.cx_vnets.specs.ModuleNumbers.{position}
+use Rattle.cx_vtree.specs.NameNumbers.{position}
 use Rattle.cx_vnets.specs.Flat.{NetsStand}
 use Rattle.cx_velab.specs.Driven.{IsRight, NetsAreApart, IsWhole, IsConnected, IsTied}
 

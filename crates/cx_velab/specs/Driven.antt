@@ -4,7 +4,7 @@ use Rattle.cx_vtree.specs.Plain.{PlainPort, PlainAssign, PlainConn}
 use Rattle.cx_vtree.specs.InstanceTree.{Placed, nets_at, Origin, Tied, Given, origin_of}
 use Rattle.cx_vnets.specs.declared.codes.Code.{Code}
 use Rattle.cx_vnets.specs.declared.nets.Driver.{Driver}
-use Rattle.cx_vnets.specs.ModuleNumbers.{position}
+use Rattle.cx_vtree.specs.NameNumbers.{position}
 use Rattle.cx_vnets.specs.Numbers.{nets_before, place_of}
 use Rattle.cx_vnets.specs.Flat.{CodeStands, DriverStands}
 use Rattle.cx_velab.specs.Ties.{tied_ports, given_nets}

@@ -2,7 +2,7 @@
 use Rattle.std.specs.Prelude.{◌≡◌, ℕ, ◌+◌, List, false, Some, length, map, slice_get}
 use Rattle.cx_vtree.specs.Plain.{PlainExpr, PlainAssign, PlainStore}
 use Rattle.cx_vtree.specs.Edges.{edge_at, acting_sets, acting_stores}
-use Rattle.cx_vtree.specs.InstanceTree.{Placed, decls_at, nets_at, Origin, Outside, Tied, Held, Given, origin_of}
+use Rattle.cx_vtree.specs.InstanceTree.{Placed, decls_at, nets_at, Origin, Outside, Tied, Held, Given, origin_of, arrays_at}
 use Rattle.cx_vtree.specs.Sound.{Scope, misnames, fitting_width}
 use Rattle.cx_vnets.specs.declared.nets.Nets.{Nets}
 use Rattle.cx_vnets.specs.declared.nets.Stored.{Stored}
@@ -13,10 +13,10 @@ use Rattle.cx_vnets.specs.Arrays.{array_width, IsEven}
 use Rattle.cx_vnets.specs.Edges.{SetsFit}
 use Rattle.cx_vnets.specs.Fits.{width_at, Fits}
 use Rattle.cx_vnets.specs.Stores.{plain_words, StoresFit}
-use Rattle.cx_vnets.specs.ModuleNumbers.{position}
+use Rattle.cx_vtree.specs.NameNumbers.{position}
 use Rattle.cx_vnets.specs.CodeLaws.{array_widths}
 use Rattle.cx_vnets.specs.EdgesFlat.{SetsStand, StoresStand}
-use Rattle.cx_vnets.specs.Numbers.{arrays_at, nets_before, arrays_before}
+use Rattle.cx_vnets.specs.Numbers.{nets_before, arrays_before}
 use Rattle.cx_vnets.specs.Flat.{NetsStand}
 use Rattle.cx_velab.specs.Tables.{all_zeros, all_zero_arrays}
 use Rattle.cx_velab.specs.Zeros.{widths_at}

@@ -1,5 +1,4 @@
 pub mod Trees
-pub mod Maps
 pub mod Rows
 pub mod Paths
 pub mod Tables

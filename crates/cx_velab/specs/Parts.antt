@@ -1,13 +1,13 @@
 -- Modules with the numbers of their names and their codes.
 use Rattle.std.specs.Prelude.{◌≡◌, ℕ, ◌+◌, ◌<◌, ◌≤◌, ◌^◌, List, ◌++◌, Some, length, slice_get}
-use Rattle.std.specs.BTreeMap.{BTreeMap}
+use Rattle.std.specs.HashMap.{HashMap}
 use denote.Ref.{Bor}
 use Rattle.cx_vtree.specs.Plain.{PlainExpr, PlainModule}
 use Rattle.cx_vtree.specs.InstanceTree.{Placed}
 use Rattle.cx_vnets.specs.declared.codes.Code.{Code}
 use Rattle.cx_vnets.specs.ModuleCodes.{Numbering, IsCode}
 use Rattle.cx_vnets.specs.CodeLaws.{net_numbering, array_numbering}
-use Rattle.cx_velab.specs.Maps.{number_by}
+use Rattle.cx_vtree.specs.NameNumbers.{number_by}
 use Rattle.cx_vnets.specs.Numberings.{nets_by, arrays_by}
 use Rattle.cx_velab.specs.declared.parts.ModulePart.{ModulePart}
 use Rattle.cx_velab.specs.Coded.{module_exprs, AssignsHaveNumbers, EdgeHasNumbers}
@@ -50,7 +50,7 @@ abbrev pub AllCanCode : List Placed → Type 0
 AllCanCode tree = (i : ℕ) (p : Placed) → slice_get tree i ≡ Some p → CanCode p.part
 
 -- what is found by a name is the part of a module of that name
-abbrev pub AreFound : List Placed → BTreeMap (Bor (List ℕ)) ℕ → List ModulePart → List Code → Type 0
+abbrev pub AreFound : {S : Type 0} → List Placed → HashMap (Bor (List ℕ)) ℕ S → List ModulePart → List Code → Type 0
 AreFound tree found list codes = (name : List ℕ) (j : ℕ) → number_by found name ≡ Some j
     → (i : ℕ) × (p : Placed) × (slice_get tree i ≡ Some p) × (p.part.name ≡ name) × HasPart list codes j p.part
 

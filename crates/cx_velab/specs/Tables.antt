@@ -1,6 +1,6 @@
 -- The tables of a machine, before it runs.
 use Rattle.std.specs.Prelude.{◌≡◌, ◌≤◌, ℕ, zero, suc, List, [], ◌∷◌, ◌++◌, Some, map, slice_get, replicate}
-use Rattle.cx_bits.specs.BitVector.{BitVector}
+use Rattle.cx_bits.specs.BitVector.{BitVector, zero_of}
 use Rattle.cx_vtree.specs.Plain.{PlainPort, PlainDecl, WireOf, RegisterOf, ArrayOf, PlainModule}
 use Rattle.cx_vtree.specs.InstanceTree.{Placed}
 use Rattle.cx_vnets.specs.declared.codes.NetPosition.{NetPosition}
@@ -25,9 +25,6 @@ decl_width (ArrayOf n w k) = w
 pub record HasWidths (m : PlainModule) : Type 0 where
   pub ports : (j : ℕ) (p : PlainPort) → slice_get m.ports j ≡ Some p → IsWidth p.width
   pub decls : (j : ℕ) (d : PlainDecl) → slice_get m.decls j ≡ Some d → IsWidth (decl_width d)
-
-abbrev pub zero_of : ℕ → BitVector
-zero_of w = record { width = w; value = 0 }
 
 -- a zero for each net of a module
 abbrev pub module_zeros : PlainModule → List BitVector

@@ -8,7 +8,8 @@ use Rattle.cx_vnets.specs.CodeLaws.{net_widths}
 use Rattle.cx_vnets.specs.Numbers.{nets_before}
 use Rattle.cx_vnets.specs.EdgesFlat.{AreApart}
 use Rattle.cx_vnets.specs.Memory.{StoredStands}
-use Rattle.cx_velab.specs.Tables.{zero_of, all_zeros, all_zero_arrays}
+use Rattle.cx_velab.specs.Tables.{all_zeros, all_zero_arrays}
+use Rattle.cx_bits.specs.BitVector.{zero_of}
 
 -- the widths of the nets of an instance
 abbrev pub widths_at : List Placed → ℕ → List ℕ

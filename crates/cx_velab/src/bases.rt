@@ -2,7 +2,7 @@
 
 ghost use Rattle.std.specs.Prelude.{◌≡◌, ◌<◌, ◌≤◌, ◌+◌, ◌^◌, IfOk, length, map};
 ghost use Rattle.cx_vtree.specs.PlainParts.{plain_decl, plain_module};
-ghost use Rattle.cx_vnets.specs.ModuleNumbers.{declared_arrays};
+ghost use Rattle.cx_vtree.specs.InstanceTree.{declared_arrays};
 ghost use Rattle.cx_velab.specs.Paths.{nets_in};
 ghost use Rattle.cx_velab.specs.Rows.{placed_of};
 ghost use Rattle.cx_vnets.specs.Numbers.{nets_before, arrays_before};

@@ -8,18 +8,19 @@ ghost use Rattle.cx_velab.specs.Rows.{HasLast, plain_found, plain_last};
 use cx_text::{Memory, Name};
 use cx_vtree::Module;
 use std::alloc::Global;
-use std::collections::BTreeMap;
+use std::collections::HashMap;
 
 /// The number of the last module of each name.
 pub fn last_numbers<'a>(
     alloc: Global,
     modules: &'a [Module],
-) -> Result<BTreeMap<&'a [u8], usize>, Memory>
+) -> Result<HashMap<&'a Name, usize>, Memory>
     ensures { IfOk result (λ found. HasLast found (plain_modules modules.now)) }
 {
-    let mut found = BTreeMap::new(alloc);
+    let mut found = HashMap::new(alloc);
     for i in 0..modules.len() {
-        found.insert(modules[i].name.bytes(), i)?;
+        let module = &modules[i];
+        found.insert(&module.name, i)?;
     }
     Ok(found)
 }
@@ -60,7 +61,7 @@ fn module_at(modules: &[Module], number: usize) -> &Module
 /// The last module of a name among the first `count`, with its number. Only where a module of this name stands behind these,
 /// they are walked.
 pub fn find<'a>(
-    last: &BTreeMap<&'a [u8], usize>,
+    last: &HashMap<&'a Name, usize>,
     modules: &'a [Module],
     count: usize,
     kind: &Name,
@@ -69,7 +70,7 @@ pub fn find<'a>(
     ensures { option_map (plain_found (plain_modules modules.now)) result ≡
         found_from (reverse (take count (plain_modules modules.now))) kind.now }
 {
-    let Some(number) = last.get(kind.bytes()) else {
+    let Some(number) = last.get(&kind) else {
         return None;
     };
     if *number < count {

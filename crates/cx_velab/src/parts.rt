@@ -9,11 +9,11 @@ ghost use Rattle.cx_velab.specs.Parts.{CanCode, PartStands, Extends, HasPart, Mo
 
 use crate::Row;
 use crate::coding::push_module;
-use cx_text::Memory;
+use cx_text::{Memory, Name};
 use cx_vnets::{Code, ModuleNumbers};
 use cx_vtree::Module;
 use std::alloc::Global;
-use std::collections::BTreeMap;
+use std::collections::HashMap;
 
 /// The numbers of a module's names, and the number of its first code.
 #[derive(Drop)]
@@ -58,7 +58,7 @@ pub struct PartTable<'a> {
 /// The number of the part of an instance's module: of one that was made before, or of a new one.
 fn part_number<'a>(
     alloc: Global,
-    found: &mut BTreeMap<&'a [u8], usize>,
+    found: &mut HashMap<&'a Name, usize>,
     list: &mut Vec<ModulePart<'a>>,
     codes: &mut Vec<Code>,
     rows: &[Row<'a>],
@@ -74,14 +74,16 @@ fn part_number<'a>(
         HasPart list.new.items codes.new.items j m) }
     ensures found { OnOk result (AreFound (map placed_of rows.now) found.new list.new.items codes.new.items) }
 {
-    let part = rows[i].module;
-    if let Some(number) = found.get(part.name.bytes()) {
+    let row = &rows[i];
+    let part = row.module;
+    let name = &part.name;
+    if let Some(number) = found.get(&name) {
         return Ok(*number);
     }
     let made = code_part(alloc, codes, part)?;
     let number = list.len();
     list.push(made)?;
-    found.insert(part.name.bytes(), number)?;
+    found.insert(name, number)?;
     Ok(number)
 }
 
@@ -95,7 +97,7 @@ pub fn all_parts<'a>(
     requires can { AllCanCode (map placed_of rows.now) }
     ensures { IfOk result (λ ps. PartsStand (map placed_of rows.now) codes.new.items ps.list.items ps.of_rows.items) }
 {
-    let mut found = BTreeMap::new(alloc);
+    let mut found = HashMap::new(alloc);
     let mut list = Vec::new(alloc);
     let mut of_rows = Vec::new(alloc);
     for i in 0..rows.len() {

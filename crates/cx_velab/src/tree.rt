@@ -7,10 +7,10 @@ ghost use Rattle.cx_velab.specs.Trees.{trees, work};
 ghost use Rattle.cx_velab.specs.Rows.{placed_of, plain_pending, HasLast};
 
 use crate::finding::{find, last_numbers};
-use cx_text::Memory;
+use cx_text::{Memory, Name};
 use cx_vtree::{Instance, Module};
 use std::alloc::Global;
-use std::collections::BTreeMap;
+use std::collections::HashMap;
 
 /// An instance of the tree: its module, how it stands in the module around it, and the number of the instance that holds
 /// it.
@@ -31,7 +31,7 @@ struct Pending<'a> {
 
 /// Lists the first of the instances on top, and leaves those below it and the others to be listed.
 fn step<'a>(
-    last: &BTreeMap<&'a [u8], usize>,
+    last: &HashMap<&'a Name, usize>,
     modules: &'a [Module],
     rows: &mut Vec<Row<'a>>,
     pending: &mut Vec<Pending<'a>>,

@@ -7,7 +7,8 @@ ghost use Rattle.cx_vtree.specs.InstanceTree.{Placed};
 ghost use Rattle.cx_vnets.specs.Stores.{plain_words};
 ghost use Rattle.cx_vnets.specs.CodeLaws.{declared_widths, net_widths};
 ghost use Rattle.cx_velab.specs.Rows.{placed_of};
-ghost use Rattle.cx_velab.specs.Tables.{IsWidth, decl_width, HasWidths, zero_of, module_zeros, zero_arrays, all_zeros, all_zero_arrays};
+ghost use Rattle.cx_velab.specs.Tables.{IsWidth, decl_width, HasWidths, module_zeros, zero_arrays, all_zeros, all_zero_arrays};
+ghost use Rattle.cx_bits.specs.BitVector.{zero_of};
 
 use crate::Row;
 use cx_bits::Bits;

@@ -1,6 +1,6 @@
 use Rattle.std.proofs.Common.{◌≡◌, ◌+◌, ◌≤◌, length, map, drop}
 use Rattle.cx_vtree.specs.PlainParts.{plain_decl}
-use Rattle.cx_vnets.specs.ModuleNumbers.{declared_arrays}
+use Rattle.cx_vtree.specs.InstanceTree.{declared_arrays}
 use Rattle.cx_velab.proofs.bases.array_count.Given as goal
 
 abbrev pub invariant-loop-decl : goal.invariant-loop-decl

@@ -1,6 +1,6 @@
 use Rattle.std.proofs.Common.{◌<◌, ◌^◌, map, length, ap, arith}
 use Rattle.cx_vtree.specs.PlainParts.{plain_decl}
-use Rattle.cx_vnets.specs.ModuleNumbers.{declared_arrays}
+use Rattle.cx_vtree.specs.InstanceTree.{declared_arrays}
 use Rattle.cx_velab.specs.Rows.{placed_of}
 use Rattle.cx_velab.proofs.BaseLemmas.{nets_next, arrays_next, nets_small, arrays_small, placed_next}
 use Rattle.cx_text.proofs.ListLaws.{item_at}

@@ -1,6 +1,6 @@
 use Rattle.std.proofs.Common.{◌≡◌, ◌++◌, map, drop}
 use Rattle.cx_vtree.specs.PlainParts.{plain_port}
-use Rattle.cx_velab.specs.Tables.{zero_of}
+use Rattle.cx_bits.specs.BitVector.{zero_of}
 use Rattle.cx_velab.proofs.zeros.push_ports.Given as goal
 
 abbrev pub invariant-loop-port : goal.invariant-loop-port

@@ -1,6 +1,6 @@
 use Rattle.std.proofs.Common.{◌≡◌}
 use Rattle.std.specs.Prelude.{replicate}
-use Rattle.cx_velab.specs.Tables.{zero_of}
+use Rattle.cx_bits.specs.BitVector.{zero_of}
 use Rattle.cx_velab.proofs.zeros.zero_words.Given as goal
 
 abbrev pub invariant-loop-index : goal.invariant-loop-index
