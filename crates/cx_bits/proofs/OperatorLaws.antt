@@ -1,12 +1,12 @@
 -- Laws of the operators: what they give fits its width, and how signed comparison comes from unsigned.
 use Rattle.std.specs.Prelude.{◌≡◌, ℕ, pos, ◌-ℤ◌, int_lt, nat_lt, if◌then◌else◌, ◌+◌, ◌-◌, ◌*◌, ◌/◌, ◌%◌, ◌^◌, ◌<◌, ◌≤◌, Bool, true, false, ◌==◌, bit_and, bit_xor}
 use Rattle.std.proofs.Common.{arith, sym, ap, ◌∙◌}
-use Rattle.std.proofs.lemmas.Nat.{pow-add, pow_pos, mul-add-lt, and_le_l, or_lt, xor_lt, shr_le, mod_below, xor_block}
+use Rattle.std.proofs.lemmas.Nat.{pow-add, pow_pos, and_le_l, or_lt, xor_lt, shr_le, mod_below, xor_block}
 use Rattle.std.specs.Int.Bits.{xor_zero_r}
 use Rattle.std.proofs.lemmas.Int.{ints}
 use Rattle.std.proofs.Math.Nat.{pow-le-pow_right, mod-le, div-le_self}
 use Rattle.cx_bits.specs.BitVector.{BitVector, Fits}
-use Rattle.cx_bits.specs.Operators.{sum_of, difference_of, product_of, quotient_of, remainder_of, and_of, or_of, xor_of, complement_of, left_shift_of, right_shift_of, bit_of, less_bit_of, signed_less_bit_of, low_bits_of, zero_extension_of, concatenation_of}
+use Rattle.cx_bits.specs.Operators.{sum_of, difference_of, product_of, quotient_of, remainder_of, and_of, or_of, xor_of, complement_of, left_shift_of, right_shift_of, bit_of, less_bit_of, signed_less_bit_of, low_bits_of, zero_extension_of}
 
 -- a number modulo two to the width fits it
 pub Fits-mod : (w n : ℕ) → 1 ≤ w → w ≤ 128 → Fits (record { width = w; value = n % 2 ^ w })
@@ -75,11 +75,6 @@ Fits-zero_extension_of a width fits wider few =
     let two : 0 < 2 = omega arith in
     let grows : 2 ^ a.width ≤ 2 ^ width = pow-le-pow_right two wider in
     record { some_bits = omega arith; few_bits = few; in_range = omega arith }
-
-pub Fits-concatenation_of : (high low : BitVector) → Fits high → Fits low → high.width + low.width ≤ 128 → Fits (concatenation_of high low)
-Fits-concatenation_of high low fits_high fits_low few =
-    let below : high.value * 2 ^ low.width + low.value < 2 ^ high.width * 2 ^ low.width = omega (arith, mul-add-lt high.value (2 ^ low.width) low.value (2 ^ high.width) fits_high.in_range fits_low.in_range) in
-    record { some_bits = omega (arith, fits_high.some_bits); few_bits = few; in_range = rw (pow-add 2 high.width low.width) below }
 
 -- only the top bit is 1
 abbrev pub top_bit_of : BitVector → BitVector

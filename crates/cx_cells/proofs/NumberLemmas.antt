@@ -3,13 +3,11 @@ use Rattle.std.specs.Prelude.{◌≡◌, ℕ, zero, suc, ◌+◌, ◌-◌, ◌*�
 use Rattle.std.specs.List.{list_all}
 use Rattle.std.proofs.Common.{ap, sym, ◌∙◌, subst, arith, drop-cons, add-one}
 use Rattle.std.proofs.Math.Nat.{mul_assoc, le-mul_of_pos_right}
-use Rattle.std.proofs.lemmas.Bool.{ltb-true}
 use Rattle.std.proofs.lemmas.List.{drop_all}
 use Rattle.std.proofs.lemmas.Bool.Decides.{nat_tests}
-use Rattle.cx_bits.specs.BitVector.{BitVector, Fits}
+use Rattle.cx_bits.specs.BitVector.{BitVector}
 use Rattle.cx_text.specs.Loading.{word_count}
 use Rattle.cx_prim.specs.MemoryRows.{are_sizes}
-use Rattle.cx_prim.specs.Widths.{IsWidth}
 use Rattle.cx_stateful.proofs.LocateLemmas.{split_at}
 use Rattle.cx_text.proofs.LoadingLemmas.{word_count_positive}
 
@@ -21,9 +19,6 @@ pub record IsCounting (sizes : List ℕ) (place count : ℕ) : Type 0 where
   pub product : count * word_count (drop place sizes) ≡ word_count sizes
   pub positive : are_positive (drop place sizes) ≡ are_positive sizes
   pub few : count < 2 ^ 32
-
-pub IsCounting-start : (sizes : List ℕ) → IsCounting sizes 0 1
-IsCounting-start sizes = record { product = omega arith; positive = refl; few = omega arith }
 
 pub IsCounting-next : (sizes : List ℕ) (place count : ℕ) → place < length sizes → 1 ≤ slice_index sizes place → count * slice_index sizes place < 2 ^ 32 → IsCounting sizes place count → IsCounting sizes (place + 1) (count * slice_index sizes place)
 IsCounting-next sizes place count there some small far =
@@ -85,11 +80,3 @@ are_sizes-all sizes place count all far =
     let test : nat_lt (word_count sizes) (2 ^ 32) ≡ true = grind (arith, nat_tests) in
     ap (λ (b : Bool). if b && nat_lt (word_count sizes) (2 ^ 32) then Some (word_count sizes) else None) positive
     ∙ ap (λ (b : Bool). if b then Some (word_count sizes) else None) test ∙ ap Some counted
-
--- a value that does not fit a width
-pub unfit : (width value : ℕ) → IsWidth width → (Fits (record { width = width; value = value }) → ⊥) → nat_lt value (2 ^ width) ≡ false
-unfit width value is_width no_fit = by_test (nat_lt value (2 ^ width)) refl
-  where
-    by_test : (b : Bool) → nat_lt value (2 ^ width) ≡ b → nat_lt value (2 ^ width) ≡ false
-    by_test true e = absurd (no_fit (record { some_bits = is_width.some_bits; few_bits = is_width.few_bits; in_range = ltb-true value (2 ^ width) e }))
-    by_test false e = e

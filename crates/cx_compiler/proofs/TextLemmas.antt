@@ -10,7 +10,6 @@ use Rattle.cx_lex.proofs.WholeLemmas.{one_tokens}
 use Rattle.cx_grammar.specs.Parsing.{Parse}
 use Rattle.cx_grammar.proofs.OneTree.{one_tree}
 use Rattle.cx_meaning.specs.Designs.{PlainDesign}
-use Rattle.cx_rules.specs.Accepted.{IsAccepted}
 use Rattle.cx_numbering.specs.DesignOf.{design_of}
 use Rattle.cx_numbering.specs.NameRules.{names_break}
 use Rattle.cx_names.specs.Targets.{HasTargets}
@@ -40,9 +39,6 @@ one_design text a b h k = h.3 ∙ ap (λ t. design_of t) (one_text_tree text h.0
 
 pub text_of_design : (text : List ℕ) (d : PlainDesign) → IsDesignOf text d → IsAcceptedText text
 text_of_design text d h = (h.0, h.1, h.2)
-
-pub accepted_rules : (text : List ℕ) (d : PlainDesign) → IsDesignOf text d → IsAccepted d
-accepted_rules text d h = subst IsAccepted (sym h.3) h.2.accepted
 
 pub accepted_once : (text : List ℕ) (told : Diagnostic) → IsAcceptedText text → TextBreak text told → ⊥
 accepted_once text told h (inl s) = read_no_fault (h.0, h.1) s

@@ -6,7 +6,7 @@ use Rattle.cx_text.specs.declared.places.Place.{Place}
 use Rattle.cx_meaning.specs.declared.ports.PortRef.TheVariants as ports
 use Rattle.cx_meaning.specs.declared.sights.Seen.TheVariants.{Undefined}
 use Rattle.cx_meaning.specs.Designs.{PlainComponent, Enable, PlainStatement, Placed, group_at}
-use Rattle.cx_meaning.specs.Instances.{Instance, Node, Cells, cell_at, Path, State, just, merge, put, under, idle_at, idle_below, idle}
+use Rattle.cx_meaning.specs.Instances.{Instance, Node, Cells, cell_at, Path, State, just, merge, put, under, idle_at, idle_below, idle, input_count}
 use Rattle.cx_meaning.specs.Active.{group, capture}
 use Rattle.cx_meaning.specs.Truths.{truth_of}
 use Rattle.cx_meaning.specs.Sights.{Held, seen}
@@ -32,7 +32,7 @@ use Rattle.cx_lockstep.proofs.TurnLaws.{meets_cycle}
 use Rattle.cx_control.specs.Codings.{Coding, Bank, region_bank, at_fine}
 use Rattle.cx_control.specs.CodingLaws.{IsBank, region_bank_is}
 use Rattle.cx_control.specs.StatementCodingLaws.{IsRegion}
-use Rattle.cx_control.specs.Spots.{Spot, Cell, Number, Input, Holds, Kept, cells_in, held_in, shown, pull, input_count, own_input, spots_of, reads_spot}
+use Rattle.cx_control.specs.Spots.{Spot, Cell, Number, Input, Holds, Kept, cells_in, held_in, shown, pull, own_input, spots_of, reads_spot}
 use Rattle.cx_control.specs.Numbers.{number_idle_at, number_idle_below, spot_idle, world_of, world_below, Rests, RestsBelow}
 use Rattle.cx_control.specs.Leaves.{Coded, code_of, child_at, written, turn_writes, turn_faults, inputs_now, captured_now, hole_now, capture_now, child_writes, call_writes, child_faults, call_machine}
 use Rattle.cx_control.specs.InstanceRules.{InstanceRules, Stands}

@@ -105,15 +105,6 @@ as_child child rest rules does = record {
     here : ControlRules child
     here = subst ControlRules (itself_at child) (rules [])
 
--- and so are those of the control at a cell
-pub child_coded : (cells : Cells) (c : ℕ) → ((path : Path) → ControlRules (child_at cells c path)) → (child : Instance) → cell_at cells c ≡ OfInstance child
-    → IsRegion (Coded.machine (coded_below cells c)) (Coded.coding (coded_below cells c))
-child_coded no_cells c all_rules child at = absurd (nothing_instance child at)
-child_coded (a_primitive row rest) zero all_rules child at = absurd (row_instance row child at)
-child_coded (a_primitive row rest) (suc c) all_rules child at = child_coded rest c all_rules child at
-child_coded (an_instance other rest) zero all_rules child at = control_coded other (subst ControlRules (itself_at other) (all_rules []))
-child_coded (an_instance other rest) (suc c) all_rules child at = child_coded rest c all_rules child at
-
 -- THE LEAVES of an instance, over the control of its children
 module _ (part : PlainComponent) (cells : Cells) (control : ControlRules (Node part cells)) (islands : IslandsDo (Node part cells))
     (below : (c : ℕ) (child : Instance) → cell_at cells c ≡ OfInstance child → ChildLaws cells c (coded_below cells c)) where

@@ -13,8 +13,8 @@ use Rattle.cx_meaning.specs.declared.ports.PortRef.TheVariants as ports
 use Rattle.cx_meaning.specs.declared.kinds.GroupKind.{GroupKind}
 use Rattle.cx_meaning.specs.declared.kinds.GroupKind.TheVariants as kinds
 use Rattle.cx_meaning.specs.Rows.{side_of}
-use Rattle.cx_meaning.specs.Designs.{PlainAssign, PlainKind, OfPrimitive, OfComponent, PlainCell, PlainComponent, PlainDesign, component_at, no_component, group_at, no_group, PlainForm, Empty, Enable, Seq, Par, If, While, Repeat, StaticSeq, StaticPar, StaticIf, StaticRepeat, Timed, PlainStatement, Placed}
-use Rattle.cx_meaning.specs.Instances.{Instance, Node, Cells, OfRow, OfInstance, cell_at, cells_of, part_of, tree_of, Path, State, instance_at}
+use Rattle.cx_meaning.specs.Designs.{PlainAssign, PlainKind, OfPrimitive, OfComponent, PlainCell, PlainComponent, PlainDesign, component_at, no_component, group_at, PlainForm, Empty, Enable, Seq, Par, If, While, Repeat, StaticSeq, StaticPar, StaticIf, StaticRepeat, Timed, PlainStatement, Placed}
+use Rattle.cx_meaning.specs.Instances.{Instance, Node, Cells, OfRow, OfInstance, cell_at, cells_of, part_of, tree_of, Path, State, instance_at, input_count}
 use Rattle.cx_meaning.specs.Active.{Active, Owned, group, entries, source_order, same_port}
 use Rattle.cx_meaning.specs.Sights.{Held, AnInput, AnOutput, ItsDone, PartPort, output_port, part_port}
 use Rattle.cx_meaning.specs.Cycles.{Goes, cycle}
@@ -47,7 +47,6 @@ use Rattle.cx_frames.proofs.RunLemmas.{undriven_group, group_undriven, capture_u
 use Rattle.cx_frames.proofs.ShareLemmas.{none_shared}
 use Rattle.cx_laws.proofs.VisitLemmas.{visits, visited}
 use Rattle.cx_control.proofs.InstanceLemmas.{KeepsPorts, instance_ports}
-use Rattle.cx_control.specs.Spots.{input_count}
 use Rattle.cx_control.specs.InstanceRules.{InstanceRules, Stands}
 use Rattle.cx_control.specs.CallRules.{CallForm, CallRules}
 use Rattle.cx_control.specs.ControlRules.{ControlRules}
@@ -123,9 +122,6 @@ module _ (part : PlainComponent) (cells more : Cells) (keeps : KeepsCalls (Node 
       first (at_once l) = (ports.Cell c q, l)
       first (by_way_of r l deeper) = (r, l)
 
-  abbrev CaptureOf : Type 0
-  CaptureOf = CaptureRules (Node part cells) g c
-
   capture_rules : CaptureRules (Node part cells) g c
   capture_rules = record {
     child = (child i whole keeps g c e).0;
@@ -178,10 +174,6 @@ module _ (part : PlainComponent) (cells more : Cells) (keeps : KeepsCalls (Node 
       input_at n less =
           let inside : n < length (part_of (child i whole keeps g c e).0).inputs = subst (λ k. n < input_count k) (child i whole keeps g c e).1 less in
           ap (λ b. if b then AnInput n else output_port (length (part_of (child i whole keeps g c e).0).outputs) (n - length (part_of (child i whole keeps g c e).0).inputs)) (lt-ltb n (length (part_of (child i whole keeps g c e).0).inputs) inside)
-
--- IN A DESIGN
-is_nothing : (g : ℕ) → group_at no_component g ≡ no_group
-is_nothing g = refl
 
 module _ (d : PlainDesign) (design : IsDesign d) (accepted : IsAccepted d) where
   -- what is asked of a component's statements and cells is kept in the instances of it

@@ -14,7 +14,8 @@ use Rattle.cx_meaning.specs.Designs.{PlainDesign}
 use Rattle.cx_meaning.specs.Instances.{Instance, OfRow, cell_at, cells_of, part_of, tree_of, Path, State, instance_at, start_at}
 use Rattle.cx_meaning.specs.Active.{Active, Owned, source_order, nothing}
 use Rattle.cx_meaning.specs.Sights.{Held, Sees, bit_of, seen, unheld}
-use Rattle.cx_rules.specs.Ports.{is_primitive_enable, enables_cell, width_of}
+use Rattle.cx_rules.specs.Ports.{is_primitive_enable, width_of}
+use Rattle.cx_meaning.specs.Calls.{enables_at}
 use Rattle.cx_rules.specs.WidthRules.{IsBadLiteral}
 use Rattle.cx_rules.specs.Wellformed.{IsDesign, IsThere, port_count}
 use Rattle.cx_rules.specs.Accepted.{IsAccepted}
@@ -38,7 +39,7 @@ module _ (d : PlainDesign) (path : Path) (design : IsDesign d) (accepted : IsAcc
   I = instance_at (tree_of d) path
 
   pub no_bare : (c p : ℕ) (row : Row) → cell_at (cells_of I) c ≡ OfRow row → side_of row p ≡ sides.Enable → (o : Owned) → In (source_order (part_of I)) o → o.owner ≡ None → o.assign.target ≡ ports.Cell c p → ⊥
-  no_bare c p row at side o stands owner target = differ (sym (always o stands owner) ∙ ap (is_primitive_enable I) target ∙ ap (λ x. enables_cell x p) at ∙ ap is_enable_side side)
+  no_bare c p row at side o stands owner target = differ (sym (always o stands owner) ∙ ap (is_primitive_enable I) target ∙ ap (λ x. enables_at x p) at ∙ ap is_enable_side side)
     where
       differ : false ≡ true → ⊥
       differ e = cc

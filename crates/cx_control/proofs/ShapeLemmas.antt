@@ -12,8 +12,8 @@ use Rattle.cx_meaning.specs.Instances.{Instance, Cells, At, Nothing, OfRow, OfIn
 use Rattle.cx_meaning.specs.Active.{Owned, group, same_port, source_order}
 use Rattle.cx_meaning.specs.Sights.{AnInput, AnOutput, ItsDone, part_port}
 use Rattle.cx_meaning.specs.Control.{targets_cell, assigns_drive, group_drives}
-use Rattle.cx_meaning.specs.Calls.{if_instance, called_by, called_in}
-use Rattle.cx_rules.specs.Ports.{enables_cell, is_primitive_enable, is_instance, is_part_port, component_of}
+use Rattle.cx_meaning.specs.Calls.{if_instance, called_by, called_in, enables_at}
+use Rattle.cx_rules.specs.Ports.{is_primitive_enable, is_instance, is_part_port, component_of}
 use Rattle.cx_rules.specs.Items.{is_plain}
 use Rattle.cx_rules.specs.Footprints.{Depends}
 use Rattle.cx_rules.specs.ShapeRules.{is_hole_of, some_target}
@@ -191,11 +191,11 @@ module _ (i whole : Instance) (keeps : KeepsCalls i whole) where
       same_done = ap (λ (x : PlainComponent). ports.Cell c (suc (length x.inputs + length x.outputs))) ((KeepsCalls.beside keeps).parts c child.0 child.1).2
 
       -- each other enabling port is the write_en of a register
-      pub right_enable : (a : PlainAssign) → In assigns a → (r p : ℕ) (row : Row) → a.target ≡ ports.Cell r p → cell_at (cells_of i) r ≡ OfRow row → enables_cell (OfRow row) p ≡ true
+      pub right_enable : (a : PlainAssign) → In assigns a → (r p : ℕ) (row : Row) → a.target ≡ ports.Cell r p → cell_at (cells_of i) r ≡ OfRow row → enables_at (OfRow row) p ≡ true
           → (is_register_enable part a.target && is_right_enable (done_port c child.0) (with_target a.target assigns)) ≡ true
       right_enable a j r p row target at enables =
           true_from_ne_false _ (λ none. no_break a j (wrong_enable
-          (ap (is_primitive_enable whole) target ∙ ap (λ k. enables_cell k p) ((KeepsCalls.beside keeps).rows r row at) ∙ enables)
+          (ap (is_primitive_enable whole) target ∙ ap (λ k. enables_at k p) ((KeepsCalls.beside keeps).rows r row at) ∙ enables)
           (ap (λ d. is_register_enable part a.target && is_right_enable d (with_target a.target assigns)) same_done ∙ none)))
 
       -- its go is 1 while the cell is not done

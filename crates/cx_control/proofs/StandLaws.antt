@@ -8,7 +8,7 @@ use Rattle.cx_meaning.specs.Designs.{PlainComponent, PlainStatement, Placed, Pla
 use Rattle.cx_meaning.specs.Instances.{Instance, part_of, State, merge}
 use Rattle.cx_meaning.specs.Sights.{Held}
 use Rattle.cx_meaning.specs.Control.{groups_of, group_drives, groups_drive, drives}
-use Rattle.cx_rules.specs.Items.{Dynamic, Visited, visit, visit_all, statements_in, test_in, option_list, tests_of}
+use Rattle.cx_rules.specs.Items.{Dynamic, Visited, visit, visit_all, test_in, option_list, tests_of}
 use Rattle.cx_rules.specs.Footprints as footprints
 use Rattle.cx_rules.specs.Footprints.{Reads}
 use Rattle.cx_rules.specs.RaceRule.{IsShared}
@@ -20,9 +20,6 @@ use Rattle.cx_meaning.proofs.SightsLaws.{behind_comb}
 use Rattle.cx_meaning.proofs.ControlLaws.{groups_drive_in, in_parts}
 use Rattle.cx_text.proofs.NumberLaws.{suc_zero, zero_suc, false_true}
 use Rattle.cx_rules.proofs.InvokesLemmas.{drives_more, reads_more}
-
-pub stands_visited : (i : Instance) (s : PlainStatement) → Stands i s → In (statements_in (part_of i)) (as_visited s)
-stands_visited i (Placed form place) stands = stands
 
 visits_all : (ss : PlainStatements) (s : PlainStatement) (v : Visited) → In (list_of ss) s → In (visit Dynamic s) v → In (visit_all Dynamic ss) v
 visits_all no_statements s v i j = absurd i

@@ -6,18 +6,16 @@ use Rattle.cx_prim.specs.RegisterRow.{register_row}
 use Rattle.cx_meaning.specs.declared.ports.PortRef.TheVariants as ports
 use Rattle.cx_meaning.specs.declared.kinds.GroupKind.TheVariants.{Plain}
 use Rattle.cx_meaning.specs.Designs.{PlainAssign, PlainCell, Enable, group_at}
-use Rattle.cx_meaning.specs.Instances.{Instance, OfRow, OfInstance, cell_at, cells_of, part_of, Path, State, idle_at}
+use Rattle.cx_meaning.specs.Instances.{Instance, OfRow, OfInstance, cell_at, cells_of, part_of, Path, State, idle_at, input_count}
 use Rattle.cx_meaning.specs.Active.{Owned, group, capture, source_order}
 use Rattle.cx_meaning.specs.Truths.{truth_of}
 use Rattle.cx_meaning.specs.Sights.{Held, AnInput, AnOutput, ItsDone, part_port, seen}
 use Rattle.cx_meaning.specs.Cycles.{Goes, cycle}
 use Rattle.cx_meaning.specs.Islands.{is_one}
-use Rattle.cx_meaning.specs.Calls.{called, captures}
+use Rattle.cx_meaning.specs.Calls.{called, captures, enables_at}
 use Rattle.cx_meaning.specs.Control.{form_drives}
-use Rattle.cx_rules.specs.Ports.{enables_cell}
 use Rattle.cx_rules.specs.CallShape.{go_port, done_port, is_reg_kind, with_target, is_right_go, is_right_enable, is_register_enable, captured, wanted_dones, is_right_done}
 use Rattle.cx_control.specs.Flows.{Reaches}
-use Rattle.cx_control.specs.Spots.{input_count}
 
 -- THE FORM OF A CALL: which component cell it is, and how its go, enables of registers and the group's done are driven
 pub record CallForm (i : Instance) (g c : ℕ) : Type 0 where
@@ -31,7 +29,7 @@ pub record CallForm (i : Instance) (g c : ℕ) : Type 0 where
       (wanted_dones (done_port c child) (captured (part_of i) (group_at (part_of i) g).assigns))
       (with_target (ports.Done g) (group_at (part_of i) g).assigns) ≡ true
   pub right_enable : (a : PlainAssign) → In (group_at (part_of i) g).assigns a → (r p : ℕ) (row : Row)
-      → a.target ≡ ports.Cell r p → cell_at (cells_of i) r ≡ OfRow row → enables_cell (OfRow row) p ≡ true
+      → a.target ≡ ports.Cell r p → cell_at (cells_of i) r ≡ OfRow row → enables_at (OfRow row) p ≡ true
       → (is_register_enable (part_of i) a.target &&
       is_right_enable (done_port c child) (with_target a.target (group_at (part_of i) g).assigns)) ≡ true
   -- a std_reg has the row of a register

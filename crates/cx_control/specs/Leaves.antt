@@ -4,7 +4,7 @@ use Rattle.cx_meaning.specs.declared.ports.PortRef.TheVariants as ports
 use Rattle.cx_meaning.specs.declared.kinds.GroupKind.{GroupKind}
 use Rattle.cx_meaning.specs.declared.kinds.GroupKind.TheVariants as kinds
 use Rattle.cx_meaning.specs.Designs.{PlainForm, Enable, group_at}
-use Rattle.cx_meaning.specs.Instances.{Instance, cell_at, cells_of, part_of, State, Set, just}
+use Rattle.cx_meaning.specs.Instances.{Instance, cell_at, cells_of, part_of, State, Set, just, input_count}
 use Rattle.cx_meaning.specs.Active.{nothing, entries, group, capture}
 use Rattle.cx_meaning.specs.Truths.{truth_of}
 use Rattle.cx_meaning.specs.Sights.{Held, seen}
@@ -20,7 +20,7 @@ use Rattle.cx_lockstep.specs.Machines.{idle_machine}
 use Rattle.cx_lockstep.specs.Statements.{LeafMachines}
 use Rattle.cx_control.specs.Codings.{Coding, Bank, region_bank, unit_coding}
 use Rattle.cx_control.specs.Sampling.{samples_now}
-use Rattle.cx_control.specs.Spots.{Spot, Cell, Number, Input, Holds, Kept, cells_in, held_in, pull, input_count, own_input, spots_of}
+use Rattle.cx_control.specs.Spots.{Spot, Cell, Number, Input, Holds, Kept, cells_in, held_in, pull, own_input, spots_of}
 
 -- what is kept at a spot after a turn that came to a state
 abbrev pub held_after : State → (x : Spot) → Option (Holds x)

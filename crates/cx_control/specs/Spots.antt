@@ -1,9 +1,9 @@
 -- Where an instance keeps its values: its cells, the numbers in which control stands, and its inputs.
-use Rattle.std.specs.Prelude.{ℕ, nat_lt, Bool, false, [], ◌∷◌, length, if◌then◌else◌}
+use Rattle.std.specs.Prelude.{ℕ, nat_lt, Bool, false, [], ◌∷◌, if◌then◌else◌}
 use Rattle.cx_prim.specs.CellStates.{CellState}
 use Rattle.cx_meaning.specs.declared.sights.Seen.{Seen}
 use Rattle.cx_meaning.specs.declared.sights.Seen.TheVariants.{Undefined}
-use Rattle.cx_meaning.specs.Instances.{Path, State, Set, At, Nothing, OfRow, OfInstance, part_of}
+use Rattle.cx_meaning.specs.Instances.{Path, State, Set}
 use Rattle.cx_meaning.specs.Sights.{Held}
 use Rattle.cx_lockstep.specs.Worlds.{Store}
 
@@ -34,12 +34,6 @@ abbrev pub shown : Held → State → Kept
 shown held s (Cell path) = s path
 shown held s (Number path n) = 0
 shown held s (Input n) = held n
-
--- the inputs of a component cell
-abbrev pub input_count : At → ℕ
-input_count Nothing = 0
-input_count (OfRow row) = 0
-input_count (OfInstance child) = length (part_of child).inputs
 
 -- inputs that are not there are held as nothing
 abbrev pub own_input : ℕ → Held → Held

@@ -2,15 +2,14 @@
 use Rattle.std.proofs.Common.{◌≡◌, ◌+◌, ◌≤◌, ℕ, zero, suc, Bool, true, false, ◌&&◌, not, cond, nat_lt, List, [], ◌∷◌, ◌++◌, length, refl, sym, ap, ◌∙◌, arith}
 use Rattle.std.specs.List.{list_all}
 use Rattle.cx_prim.specs.declared.ports.PortName.{PortName}
-use Rattle.cx_prim.specs.declared.ports.PortName.TheVariants.{Addr0, Addr1, Addr2, Addr3, WriteData, WriteEn, ContentEn, ReadData, Done}
+use Rattle.cx_prim.specs.declared.ports.PortName.TheVariants.{Addr0, Addr1, Addr2, Addr3}
 use Rattle.cx_prim.specs.declared.ports.PortRow.{PortRow}
 use Rattle.cx_prim.specs.declared.ports.Side.{Side}
 use Rattle.cx_prim.specs.declared.ports.Side.TheVariants.{Enable, Plain, Output, Registered}
 use Rattle.cx_prim.specs.Rows.{Row}
-use Rattle.cx_prim.specs.CombinationalRows.{enable_port, plain_port, output_port, registered_port}
 use Rattle.cx_prim.specs.RegisterRow.{register_row}
 use Rattle.cx_prim.specs.MemoryRows.{ports_named, address_ports, memory_row, sequential_memory_row}
-use Rattle.cx_prim.proofs.MemoryLaws.{length-ports_named}
+use Rattle.cx_prim.proofs.MemoryLaws.{length-ports_named, memory_tail, sequential_tail}
 use Rattle.cx_prim.specs.PipeRows.{multiplier_row, divider_row, timer_row}
 use Rattle.cx_prim.specs.Table.{PrimitiveRow, no_row, row_of}
 use Rattle.cx_prim.proofs.TableCases.{OfEachKind, of_row}
@@ -54,9 +53,6 @@ address_names = Addr0 ∷ Addr1 ∷ Addr2 ∷ Addr3 ∷ []
 address_count : (sizes widths : List ℕ) → length widths ≡ length sizes → length sizes ≤ 4 → length (address_ports widths) ≡ length sizes
 address_count sizes widths alike few = length-ports_named address_names widths (omega (arith, alike, few)) ∙ alike
 
-abbrev memory_tail : ℕ → List PortRow
-memory_tail w = plain_port WriteData w ∷ enable_port WriteEn ∷ output_port ReadData w ∷ registered_port Done 1 ∷ []
-
 tail_output : (w k : ℕ) → side_from (memory_tail w) k ≡ Output → k ≡ 2
 tail_output w zero e = absurd (cc)
 tail_output w (suc zero) e = absurd (cc)
@@ -77,9 +73,6 @@ memory_first w sizes widths alike few n m e =
 
 memory_reads : (w : ℕ) (sizes widths : List ℕ) → length widths ≡ length sizes → length sizes ≤ 4 → ReadsFirst (memory_row w sizes widths)
 memory_reads w sizes widths alike few = record { first = memory_first w sizes widths alike few }
-
-abbrev sequential_tail : ℕ → List PortRow
-sequential_tail w = enable_port ContentEn ∷ enable_port WriteEn ∷ plain_port WriteData w ∷ registered_port ReadData w ∷ registered_port Done 1 ∷ []
 
 sequential_reads : (w : ℕ) (sizes widths : List ℕ) → length widths ≡ length sizes → length sizes ≤ 4 → ReadsFirst (sequential_memory_row w sizes widths)
 sequential_reads w sizes widths alike few =

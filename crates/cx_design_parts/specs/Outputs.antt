@@ -5,14 +5,8 @@ use Rattle.cx_prim.specs.declared.ports.PortName.TheVariants.{WriteData}
 use Rattle.cx_prim.specs.declared.ports.PortRow.{PortRow}
 use Rattle.cx_prim.specs.declared.ports.Side.{Side}
 use Rattle.cx_prim.specs.declared.ports.Side.TheVariants.{Enable, Plain, Output, Registered}
-use Rattle.cx_prim.specs.Rows.{Row}
+use Rattle.cx_prim.specs.Rows.{Row, is_plain_side}
 use Rattle.cx_meaning.specs.Rows.{side_of}
-
-abbrev pub is_plain : Side → Bool
-is_plain Enable = false
-is_plain Plain = true
-is_plain Output = false
-is_plain Registered = false
 
 -- a combinational output
 abbrev pub is_combinational : Side → Bool
@@ -27,7 +21,7 @@ is_write_data _ = false
 
 -- a plain input that is not the data of a write
 abbrev pub is_read_port : PortRow → Bool
-is_read_port port = is_plain port.side && not (is_write_data port.name)
+is_read_port port = is_plain_side port.side && not (is_write_data port.name)
 
 -- how many of them stand first
 abbrev pub read_count : List PortRow → ℕ

@@ -1,6 +1,7 @@
 //! What may be driven, and what may be read.
 
 ghost use Rattle.std.specs.Prelude.{◌≡◌, ◌<◌, length};
+ghost use Rattle.cx_meaning.specs.Calls.{enables_at};
 ghost use Rattle.cx_rules.specs.Ports as ports;
 ghost use Rattle.cx_rules.specs.Ports.{component_of};
 ghost use Rattle.cx_meaning.specs.Instances.{cells_of, cell_at};
@@ -80,7 +81,7 @@ fn is_cell_output(design: &Design, number: usize, cell: u32, port: u32) -> bool
 fn enables_cell(design: &Design, number: usize, cell: u32, port: u32) -> bool
     requires within { number < length design.now.components.items }
     ensures value { result ≡
-        ports.enables_cell (cell_at (cells_of (component_of (plain_design design.now) number)) cell) port }
+        enables_at (cell_at (cells_of (component_of (plain_design design.now) number)) cell) port }
 {
     match stands_at(design, number, cell) {
         At::Primitive(primitive) => matches!(side(primitive, port), Side::Enable),

@@ -130,14 +130,3 @@ words_by_name Timer numbers h = flat numbers _ (timer_words numbers)
 pub found_words : (p : PrimitiveRow) (name : PrimitiveName) → HasRow p → IsNamed name (name_text p.name) → memory_words (dimensions_of name) p.numbers ≡ capped (shape_words (row_of p).shape)
 found_words p name has named =
     ap (λ x. memory_words (dimensions_of x) p.numbers) (one_name name p.name named.spelled) ∙ words_by_name p.name p.numbers has
-
--- what no design can name has no words
-pub unnamed_words : (p : PrimitiveRow) → ((name : PrimitiveName) → IsNamed name (name_text p.name) → ⊥) → 0 ≡ capped (shape_words (row_of p).shape)
-unnamed_words p none = by p.name refl
-  where
-    timer : p.name ≡ Timer → 0 ≡ capped (shape_words (row_of p).shape)
-    timer e = sym (ap capped (ap (λ n. shape_words (unwrap_or (row_at n p.numbers) no_row).shape) e ∙ timer_words p.numbers))
-
-    by : (n : PrimitiveName) → p.name ≡ n → 0 ≡ capped (shape_words (row_of p).shape)
-    by Timer e = timer e
-    by _ e = absurd (none p.name (record { spelled = refl; nameable = λ f. let g = sym e ∙ f in cc }))

@@ -65,10 +65,6 @@ pub lack_other : (l m : List ℕ) (ns : List (List ℕ)) → (l ≡ m → ⊥) �
 lack_other l m [] other h = tt
 lack_other l m (n ∷ ns) other h = ((λ e. other (sym e ∙ h.0)), lack_other l m ns other h.1)
 
-lack_both : (l : List ℕ) (ns ms : List (List ℕ)) → LackLetters l ns → LackLetters l ms → LackLetters l (ns ++ ms)
-lack_both l [] ms h k = k
-lack_both l (n ∷ ns) ms h k = (h.0, lack_both l ns ms h.1 k)
-
 pub lacks_name : (l : List ℕ) (ns : List (List ℕ)) (m : List ℕ) → LackLetters l ns → letters_in m ≡ l → has_name ns m ≡ false
 lacks_name l [] m h is = refl
 lacks_name l (n ∷ ns) m h is =

@@ -3,7 +3,7 @@ use Rattle.std.proofs.Common.{◌≡◌, ℕ, suc, ◌+◌, ◌<◌, ◌≤◌, 
 use Rattle.std.specs.Prelude.{IsSome, unwrap_or}
 use Rattle.std.proofs.lemmas.Nat.{pow_pos}
 use Rattle.std.proofs.lemmas.Option.{slice_get-map}
-use Rattle.cx_bits.specs.BitVector.{BitVector}
+use Rattle.cx_bits.specs.BitVector.{BitVector, zero_of}
 use Rattle.cx_prim.specs.CellStates.{CellState, IsState}
 use Rattle.cx_prim.specs.declared.ports.PortRow.{PortRow}
 use Rattle.cx_prim.specs.Rows.{Inputs, Row, input, is_output_side, IsOfWidth, IsLawful}
@@ -17,7 +17,6 @@ use Rattle.cx_vtree.specs.Sound.{is_sound}
 use Rattle.cx_vmods.specs.Modules.{port_of}
 use Rattle.cx_vmods.specs.Built.{kept_at, port_net, Stands, IsAt, zero_at, IsBuilt}
 use Rattle.cx_net.specs.Nets.{PlainNet}
-use Rattle.cx_net.specs.NetMeaning.{zero_wide}
 use Rattle.cx_emit.specs.Names.{cell_port_name, primitive_name}
 use Rattle.cx_emit.specs.Signatures.{primitive_module, kind_ports}
 use Rattle.cx_emit.specs.Sources.{source_of}
@@ -35,7 +34,7 @@ use Rattle.cx_vlaws.proofs.ExpressionWidths.{IsWide}
 abbrev pub Carried : List Placed → Moment → ℕ → List ℕ → ℕ → BitVector → Type 0
 Carried tree now i name w v = HasValue tree now i name v × IsOfWidth w v
 
-pub zero_fits : (w : ℕ) → IsWide w → IsOfWidth w (zero_wide w)
+pub zero_fits : (w : ℕ) → IsWide w → IsOfWidth w (zero_of w)
 zero_fits w wide =
     let more = wide.0 in
     let some : 1 ≤ w = omega arith in
@@ -92,23 +91,23 @@ module _ (net : PlainNet) (sound : is_sound (source_of net) ≡ true) (fit : IsF
         (value_tied the_tree now j (port_of port).name i (cell_port_name c n) x (cell_input_tied net sound fit k i here c cell there n (port_of port) (text_port n port at) h inward) (carried n port x at e).0);
   }
 
-  zero_same : (n : ℕ) (port : PortRow) → slice_get row.ports n ≡ Some port → zero_at row n ≡ zero_wide port.width
+  zero_same : (n : ℕ) (port : PortRow) → slice_get row.ports n ≡ Some port → zero_at row n ≡ zero_of port.width
   zero_same n port at = ap (λ o. record { width = unwrap_or o 1; value = 0 }) (slice_get-map (λ (x : PortRow). x.width) row.ports n ∙ ap (option_map (λ (x : PortRow). x.width)) at)
 
   -- an output of the cell, as soon as what it reads has values
   pub output_carried : (state : CellState) (inputs : Inputs) → IsAt its_module row (stand_for p) the_tree now j state inputs → (n : ℕ) (port : PortRow) → slice_get row.ports n ≡ Some port
       → is_output_side port.side ≡ true → ((q : ℕ) → row.reads n q ≡ true → IsSome (input inputs q))
-      → Carried the_tree now i (cell_port_name c n) port.width (unwrap_or (row.output state inputs n) (zero_wide port.width))
+      → Carried the_tree now i (cell_port_name c n) port.width (unwrap_or (row.output state inputs n) (zero_of port.width))
   output_carried state inputs at_row n port at outward reads =
       let has = is_built.outputs the_tree now j n state inputs at_row (port, at, outward) reads in
       let zero_is = zero_same n port at in
-      let named : HasValue the_tree now j (port_of port).name (unwrap_or (row.output state inputs n) (zero_wide port.width)) =
-      subst (λ name. HasValue the_tree now j name (unwrap_or (row.output state inputs n) (zero_wide port.width))) (net_of_port n port at)
+      let named : HasValue the_tree now j (port_of port).name (unwrap_or (row.output state inputs n) (zero_of port.width)) =
+      subst (λ name. HasValue the_tree now j name (unwrap_or (row.output state inputs n) (zero_of port.width))) (net_of_port n port at)
       (subst (λ z. HasValue the_tree now j (port_net its_module n) (unwrap_or (row.output state inputs n) z)) zero_is has) in (
         value_tied the_tree now i (cell_port_name c n) j (port_of port).name _ (cell_output_ties net sound fit k i here c cell there n (port_of port) (text_port n port at) h outward) named,
         go (row.output state inputs n) refl,
       )
     where
-      go : (o : Option BitVector) → row.output state inputs n ≡ o → IsOfWidth port.width (unwrap_or o (zero_wide port.width))
+      go : (o : Option BitVector) → row.output state inputs n ≡ o → IsOfWidth port.width (unwrap_or o (zero_of port.width))
       go None e = zero_fits port.width (port_is_wide net sound fit k i here c cell there n (port_of port) (text_port n port at))
       go (Some b) e = lawful.widths state inputs n port b at_row.of_row at_row.fits at_row.values at outward e

@@ -57,16 +57,6 @@ module _ (nets : List ℕ → Option BitVector) (words : List ℕ → ℕ → Bi
   chosen-in : (c a b : PlainExpr) (t : BitVector) → expr_in nets words c ≡ Some t → expr_in nets words (Chosen c a b) ≡ (if t.value == 0 then expr_in nets words b else expr_in nets words a)
   chosen-in c a b t e = ap (option_and_then (λ t. if t.value == 0 then expr_in nets words b else expr_in nets words a)) e
 
-  -- in one look
-  pub look_reading : IsReading (λ e v. expr_in nets words e ≡ Some v)
-  look_reading = record {
-    number = λ b. refl;
-    applied = λ op a b x y e f. applied-in op a b x y e f;
-    opposite = λ a x e. ap (option_map inverted) e;
-    one = λ c a b t x e is f. chosen-in c a b t e ∙ chosen_one (t.value == 0) (expr_in nets words a) (expr_in nets words b) x is f;
-    other = λ c a b t x e is f. chosen-in c a b t e ∙ chosen_other (t.value == 0) (expr_in nets words a) (expr_in nets words b) x is f;
-  }
-
 abbrev first_known : Option BitVector → Option BitVector → Option BitVector
 first_known (Some v) other = Some v
 first_known None other = other

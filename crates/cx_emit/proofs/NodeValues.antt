@@ -2,7 +2,7 @@
 use Rattle.std.proofs.Common.{◌≡◌, ℕ, zero, suc, ◌<◌, ◌≤◌, Bool, true, false, List, [], ◌∷◌, length, Option, Some, option_map, option_and_then, slice_get, refl, ap, sym, ◌∙◌, subst, if◌then◌else◌, arith}
 use Rattle.std.specs.Prelude.{unwrap_or, codes}
 use Rattle.std.specs.Option.{option_map_or}
-use Rattle.cx_bits.specs.BitVector.{BitVector}
+use Rattle.cx_bits.specs.BitVector.{BitVector, zero_of}
 use Rattle.cx_bits.proofs.OperatorLaws.{Fits-bit_of}
 use Rattle.cx_prim.specs.CellStates.{CellState}
 use Rattle.cx_prim.specs.declared.ports.PortRow.{PortRow}
@@ -27,7 +27,7 @@ use Rattle.cx_vmods.specs.Modules.{port_of}
 use Rattle.cx_vmods.specs.Built.{IsAt}
 use Rattle.cx_net.specs.Nets.{OfPort, OfWire, PlainNetTarget, ToPort, ToRegister, ToWire, ToDone, PlainNetComponent, PlainNet}
 use Rattle.cx_net.specs.NetTree.{NetInstance, NetCells, no_net_cells, ARow, AChild, net_part, net_component_at, net_cells_for, net_within, net_tree}
-use Rattle.cx_net.specs.NetMeaning.{NetState, below_cell, Node, APort, AWire, AHole, TheDone, NetLook, NetAround, net_part_port, around_child, outside, truth_bit, net_expr, child_port_width, net_at_width, gather_known, zero_wide, decl_width, drivers_to, chain, registers_of, driven_node, row_node, child_node, cell_node, own_step, net_step, NetHas, by_rule}
+use Rattle.cx_net.specs.NetMeaning.{NetState, below_cell, Node, APort, AWire, AHole, TheDone, NetLook, NetAround, net_part_port, around_child, outside, truth_bit, net_expr, child_port_width, net_at_width, gather_known, decl_width, drivers_to, chain, registers_of, driven_node, row_node, child_node, cell_node, own_step, net_step, NetHas, by_rule}
 use Rattle.cx_emit.specs.Names.{input_name, output_name, cell_port_name, wire_name, register_name}
 use Rattle.cx_emit.specs.Exprs.{literal, port_expr}
 use Rattle.cx_emit.specs.Chains.{chain_to}
@@ -125,7 +125,7 @@ module _ (net : PlainNet) (sound : is_sound (source_of net) ≡ true) (fit : IsF
           → origin_of the_tree i name ≡ Some (Given (chain_to t (literal w 0) part.drivers)) → driven_node part cells around s (look []) (λ c. look (c ∷ [])) w t ≡ Some v → Carries i name w v
       driven name t w v wide is_target origin e =
           let fits = drivers_fit net part t w is_target part.drivers (fit.fits.components k here.within).drivers in
-          let r = reads_chain net part no_holes E reads around registers (look []) ports_read registers_read wires_read go_reads (literal w 0) (zero_wide w) w (reads.number (zero_wide w), zero_fits w wide) _ fits v e in
+          let r = reads_chain net part no_holes E reads around registers (look []) ports_read registers_read wires_read go_reads (literal w 0) (zero_of w) w (reads.number (zero_of w), zero_fits w wide) _ fits v e in
           (value_given the_tree now i name _ v origin r.0, r.1)
 
       -- what its drivers give a register
@@ -175,13 +175,13 @@ module _ (net : PlainNet) (sound : is_sound (source_of net) ≡ true) (fit : IsF
           go sides.Enable is_side f = from_drivers (ap is_output_side is_side) f
           go sides.Plain is_side f = from_drivers (ap is_output_side is_side) f
           go sides.Output is_side f =
-              let (inputs, known, value) = map_some (λ inputs. unwrap_or (row.output (s.cell (c ∷ [])) inputs n) (zero_wide (net_at_width (ARow row) n)))
+              let (inputs, known, value) = map_some (λ inputs. unwrap_or (row.output (s.cell (c ∷ [])) inputs n) (zero_of (net_at_width (ARow row) n)))
               (gather_known (λ q. look [] (APort (ports.Cell c q))) (row.reads n) 0 row.ports) v f in
               let g = gathered (λ q. look [] (APort (ports.Cell c q))) (row.reads n) row.ports inputs known in
               let at_row = stands inputs g.0 (λ m q x at_q x_is. looked [] k (APort (ports.Cell c m)) q.width x refl (primitive_width net part c cell p m q there is at_q) (g.1 m x x_is)) in
               let reads_ports = row_of_reads p in
               let out = output_carried net sound fit built now k i c cell p here there is h (s.cell (c ∷ [])) inputs at_row n port at (ap is_output_side is_side) (λ q r. g.2 q (reads_ports n q r) r) in
-              subst (Carries i (cell_port_name c n) port.width) (ap (λ u. unwrap_or (row.output (s.cell (c ∷ [])) inputs n) (zero_wide u)) (sym width_is) ∙ value) out
+              subst (Carries i (cell_port_name c n) port.width) (ap (λ u. unwrap_or (row.output (s.cell (c ∷ [])) inputs n) (zero_of u)) (sym width_is) ∙ value) out
           go sides.Registered is_side f =
               let lawful : IsLawful row = row_of_lawful p in
               let holds = stand.cells [] k c cell p refl there is in
@@ -189,7 +189,7 @@ module _ (net : PlainNet) (sound : is_sound (source_of net) ≡ true) (fit : IsF
               let strict = lawful.strict (s.cell (c ∷ [])) [] n holds.1 (port, at, ap is_output_side is_side) in
               let out = output_carried net sound fit built now k i c cell p here there is h (s.cell (c ∷ [])) (no_inputs row.ports) at_row n port at (ap is_output_side is_side)
               (λ q r. absurd (let wrong = sym (strict.unread q r refl) ∙ f in cc)) in
-              subst (Carries i (cell_port_name c n) port.width) (ap (λ o. unwrap_or o (zero_wide port.width)) (sym (lawful.registered (s.cell (c ∷ [])) [] (no_inputs row.ports) n port at is_side) ∙ f)) out
+              subst (Carries i (cell_port_name c n) port.width) (ap (λ o. unwrap_or o (zero_of port.width)) (sym (lawful.registered (s.cell (c ∷ [])) [] (no_inputs row.ports) n port at is_side) ∙ f)) out
 
       -- a port of a component's cell
       module _ (c : ℕ) (cell : PlainCell) (child : ℕ) (there : slice_get part.cells c ≡ Some cell) (is : cell.kind ≡ OfComponent child) where

@@ -1,7 +1,7 @@
 -- An instance of a net in a cycle in which all has a value, beside its instance in the source.
 use Rattle.std.proofs.Common.{◌≡◌, ℕ, suc, Bool, true, List, [], ◌∷◌, length, Option, Some, None, option_map, slice_get, refl, ap, sym, ◌∙◌, if◌then◌else◌}
 use Rattle.std.specs.Prelude.{IsSome, unwrap_or}
-use Rattle.cx_bits.specs.BitVector.{BitVector}
+use Rattle.cx_bits.specs.BitVector.{BitVector, zero_of}
 use Rattle.cx_prim.specs.Table.{PrimitiveRow, row_of}
 use Rattle.cx_meaning.specs.declared.kinds.PortDecl.{PortDecl}
 use Rattle.cx_meaning.specs.declared.ports.PortRef.TheVariants as ports
@@ -12,7 +12,7 @@ use Rattle.cx_vtree.specs.Sound.{is_sound}
 use Rattle.cx_vmods.specs.Built.{IsAt}
 use Rattle.cx_net.specs.Nets.{PlainNet}
 use Rattle.cx_net.specs.NetTree.{net_component_at, net_tree}
-use Rattle.cx_net.specs.NetMeaning.{NetState, below_cell, Node, APort, NetLook, NetAround, around_child, outside, truth_bit, zero_wide}
+use Rattle.cx_net.specs.NetMeaning.{NetState, below_cell, Node, APort, NetLook, NetAround, around_child, outside, truth_bit}
 use Rattle.cx_net.specs.NetEdges.{inputs_from}
 use Rattle.cx_net.specs.NetRuns.{IsWholeLook}
 use Rattle.cx_emit.specs.Signatures.{primitive_module}
@@ -82,7 +82,7 @@ module _ (net : PlainNet) (sound : is_sound (source_of net) ≡ true) (fit : IsF
       (λ n port v at e.
       let wide = primitive_width net (net_component_at net k) c cell p n port there is at in
       let (u, known) = x.all [] k (APort (ports.Cell c n)) port.width refl wide in
-      let same : u ≡ v = same_some u v (sym (input-from_look look c (row_of p).ports n port at ∙ ap (λ o. Some (unwrap_or o (zero_wide port.width))) known) ∙ e) in
+      let same : u ≡ v = same_some u v (sym (input-from_look look c (row_of p).ports n port at ∙ ap (λ o. Some (unwrap_or o (zero_of port.width))) known) ∙ e) in
       x.looked [] k (APort (ports.Cell c n)) port.width v refl wide (known ∙ ap Some same))
 
   -- that of main

@@ -1,7 +1,7 @@
 -- A net without holes costs what the one with holes costs.
-use Rattle.std.proofs.Common.{◌≡◌, ℕ, List, [], ◌∷◌, map, length, refl, arith}
-use Rattle.cx_net.specs.Nets.{PlainNetExpr, OfPort, OfRegister, OfWire, OfHole, OfGo, Fixed, Inverse, AllOf, AnyOf, Sum, Compares, PlainNetExprs, no_exprs, an_expr, PlainNetDriver, PlainNetComponent}
-use Rattle.cx_holes.specs.Inlining.{inlined_expr, inlined_exprs, inlined_driver, inlined_component}
+use Rattle.std.proofs.Common.{◌≡◌, ℕ, List, [], ◌∷◌, map, refl, arith}
+use Rattle.cx_net.specs.Nets.{PlainNetExpr, OfPort, OfRegister, OfWire, OfHole, OfGo, Fixed, Inverse, AllOf, AnyOf, Sum, Compares, PlainNetExprs, no_exprs, an_expr, PlainNetDriver}
+use Rattle.cx_holes.specs.Inlining.{inlined_expr, inlined_exprs, inlined_driver}
 use Rattle.cx_emitted.proofs.NetBytes.{expr_cost, exprs_cost}
 use Rattle.cx_emitted.proofs.TreeBytes.{bare_costs}
 
@@ -48,7 +48,3 @@ module _ (first : ℕ) where
       let k : expr_cost (inlined_expr first d.source) ≡ expr_cost d.source = expr_same d.source in
       let rest : bare_costs (map (inlined_driver first) ds) ≡ bare_costs ds = drivers_same ds in
       omega (arith, h, k, rest)
-
--- THE COMPONENT
-pub inlined_costs : (c : PlainNetComponent) → bare_costs (inlined_component c).drivers ≡ bare_costs c.drivers
-inlined_costs c = drivers_same (length c.wires) c.drivers

@@ -2,18 +2,15 @@
 use Rattle.std.proofs.Common.{◌≡◌, ℕ, List, [], ◌∷◌, Some, refl, if◌then◌else◌, arith}
 use Rattle.std.specs.Prelude.{All, codes}
 use Rattle.std.proofs.lemmas.List.Elements.{All-nil, All-cons, All-head}
-use Rattle.cx_bits.specs.BitVector.{BitVector}
+use Rattle.cx_bits.specs.BitVector.{of_width}
 use Rattle.cx_vtree.specs.Plain.{Named, Number, RegisterOf, PlainAssign, PlainModule, SetTo, PlainSource}
 use Rattle.cx_vtree.specs.InstanceTree.{same_name}
 use Rattle.cx_vtree.specs.Meaning.{State, Look}
 use Rattle.cx_emitted.specs.Resets.{IsZero, IsSetAmong, HasReset, IsReset}
 use Rattle.cx_emitted.specs.Power.{after_power}
 
-abbrev bits : ℕ → ℕ → BitVector
-bits width value = record { width = width; value = value }
-
 abbrev to_number : List ℕ → ℕ → PlainAssign
-to_number name value = record { name = name; value = Number (bits 4 value) }
+to_number name value = record { name = name; value = Number (of_width 4 value) }
 
 -- a <= b and b <= a at an edge without reset; with reset a is set to this, and b or another one to 0
 abbrev swapping : ℕ → List ℕ → PlainModule
@@ -39,7 +36,7 @@ both = to_number (codes "a") 0 ∷ to_number (codes "b") 0 ∷ []
 known_reset : IsReset (alone (swapping 0 (codes "b")))
 known_reset = All-cons HasReset (swapping 0 (codes "b")) [] (record { zeros = zeros; registers = registers }) (All-nil HasReset) where
   zeros : All IsZero both
-  zeros = All-cons IsZero (to_number (codes "a") 0) (to_number (codes "b") 0 ∷ []) (bits 4 0, refl, refl) (All-cons IsZero (to_number (codes "b") 0) [] (bits 4 0, refl, refl) (All-nil IsZero))
+  zeros = All-cons IsZero (to_number (codes "a") 0) (to_number (codes "b") 0 ∷ []) (of_width 4 0, refl, refl) (All-cons IsZero (to_number (codes "b") 0) [] (of_width 4 0, refl, refl) (All-nil IsZero))
 
   registers : All (IsSetAmong both) (RegisterOf (codes "a") 4 ∷ RegisterOf (codes "b") 4 ∷ [])
   registers =
@@ -60,7 +57,7 @@ known_seven is =
     let z = All-head IsZero (to_number (codes "a") 7) (to_number (codes "b") 0 ∷ []) has.zeros in
     absurd (cc)
 
--- a power-up state: a is 9 and b is 31, which has more bits than b
+-- a power-up state: a is 9 and b is 31, which has more of_width than b
 abbrev power : State
 power = record { register = λ i name. if same_name name (codes "a") then 9 else 31; word = λ i name index. 5 }
 

@@ -70,10 +70,6 @@ abbrev pub pieces_cost : List Piece → ℕ
 pieces_cost [] = 0
 pieces_cost (p ∷ ps) = piece_cost p + pieces_cost ps
 
-pub pieces_cost-append : (ps qs : List Piece) → pieces_cost (ps ++ qs) ≡ pieces_cost ps + pieces_cost qs
-pieces_cost-append [] qs = omega arith
-pieces_cost-append (p ∷ ps) qs = let h : pieces_cost (ps ++ qs) ≡ pieces_cost ps + pieces_cost qs = pieces_cost-append ps qs in omega arith
-
 abbrev interior_bytes : Interior → ℕ
 interior_bytes i = sum_over declared_bytes i.decls + (sum_over assigned_bytes i.assigns + (sum_over reset_bytes i.reset + sum_over step_bytes i.step))
 

@@ -36,14 +36,6 @@ not_listed (y ∷ ys) k c lt a =
     or_false (nat_eq y c) (listed_in ys c) (apart_above y c (omega arith)) ∙ not_listed ys (suc y) c (omega arith) a.1
 
 module _ (after : ℕ → Option CellState → Option CellState) where
-  -- a cell that stays as it is
-  pub stepped_none : (cell : ℕ) (old : List (Option CellState)) → after cell (cell_held old cell) ≡ cell_held old cell → AreStepped (nat_eq cell) after old old
-  stepped_none cell old same c = by (nat_eq cell c) refl
-    where
-      by : (t : Bool) → nat_eq cell c ≡ t → cell_held old c ≡ (if t then after c (cell_held old c) else cell_held old c)
-      by true e = let at : cell ≡ c = from_eq cell c e in sym (ap (λ n. after n (cell_held old n)) (sym at) ∙ same ∙ ap (cell_held old) at)
-      by false e = refl
-
   -- a cell that is set to what it holds after its step
   pub stepped_set : (cell : ℕ) (old : List (Option CellState)) (x : Option CellState) → cell < length old → x ≡ after cell (cell_held old cell) → AreStepped (nat_eq cell) after old (set old cell x)
   stepped_set cell old x within is c = by (nat_eq cell c) refl

@@ -12,7 +12,6 @@ use Rattle.cx_meaning.specs.declared.sights.Seen.TheVariants.{Value}
 use Rattle.cx_eval_drives.specs.Gathers.{AreWide}
 use Rattle.cx_eval_cycle.specs.Ports.{AllStand, AreNumbered, KeepStanding, Stands, is_side, numbers_from}
 use Rattle.cx_text.proofs.BoolLaws.{not_both}
-use Rattle.cx_text.proofs.ListLaws.{nothing_more}
 
 -- SIDES
 pub enable_side : (side : Side) → is_side Enable side ≡ is_enable_side side
@@ -50,11 +49,6 @@ module _ (test : ℕ → Bool) (count : ℕ) where
   so_far_takes old new p lt passes pushed far =
       let rest = numbers_from test (p + 1) (count - (p + 1)) in
       ap (λ xs. xs ++ rest) pushed ∙ append_assoc old (p ∷ []) rest ∙ ap (λ xs. old ++ xs) (sym (one_more p lt ∙ ap (λ b. if b then p ∷ rest else rest) passes)) ∙ far
-
-  pub so_far_end : (numbers : List ℕ) (p : ℕ) → count ≤ p → AreSoFar numbers p → AreNumbered test count numbers
-  so_far_end numbers p past far =
-      let none : count - p ≡ 0 = omega arith in
-      sym (nothing_more numbers) ∙ ap (λ n. numbers ++ numbers_from test p n) (sym none) ∙ far
 
 -- without any, all ports fail
 pub none_pass : (test : ℕ → Bool) (p n : ℕ) → numbers_from test p n ≡ [] → (k : ℕ) → k < n → test (p + k) ≡ false

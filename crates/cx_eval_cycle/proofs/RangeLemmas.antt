@@ -1,9 +1,8 @@
 -- Addresses out of range, by the name and the numbers of a primitive.
-use Rattle.std.proofs.Common.{◌≡◌, ℕ, ◌+◌, ◌*◌, ◌^◌, ◌<◌, ◌≤◌, ◌==◌, nat_lt, nat_le, Bool, true, false, ◌&&◌, List, [], ◌∷◌, length, take, drop, get_or, zero, suc, Option, Some, None, IsSome, refl, sym, ap, ◌∙◌, arith, if◌then◌else◌}
+use Rattle.std.proofs.Common.{◌≡◌, ℕ, ◌+◌, ◌*◌, ◌^◌, ◌<◌, ◌≤◌, ◌==◌, nat_lt, nat_le, Bool, true, false, ◌&&◌, List, [], ◌∷◌, length, take, drop, zero, suc, Option, Some, None, IsSome, refl, sym, ap, ◌∙◌, arith, if◌then◌else◌}
 use Rattle.std.specs.Prelude.{unwrap_or}
 use Rattle.std.specs.List.{list_all}
 use Rattle.std.proofs.lemmas.Bool.{eqb-true}
-use Rattle.std.proofs.Math.Seq.{drop-cons}
 use Rattle.cx_prim.specs.declared.names.PrimitiveName.{PrimitiveName}
 use Rattle.cx_prim.specs.declared.names.PrimitiveName.TheVariants.{Const, Wire, Add, Sub, And, Or, Xor, Not, Lsh, Rsh, Lt, Gt, Equal, Neq, Le, Ge, Slt, Sgt, Seq, Sneq, Sle, Sge, Slice, Pad, Mux, Reg, StdMemD1, StdMemD2, StdMemD3, StdMemD4, CombMemD1, CombMemD2, CombMemD3, CombMemD4, SeqMemD1, SeqMemD2, SeqMemD3, SeqMemD4, MultPipe, DivPipe, Timer}
 use Rattle.cx_prim.specs.PrimitiveNames.{name_text, IsNamed}
@@ -140,24 +139,7 @@ pub found_range : (p : PrimitiveRow) (name : PrimitiveName) (inputs : Inputs) �
 found_range p name inputs has named =
     ap (λ x. out_by (dimensions_of x) (enable_of x) p.numbers inputs) (one_name name p.name named.spelled) ∙ range_by_name p.name p.numbers inputs has
 
--- what no design can name has no addresses
-pub unnamed_range : (p : PrimitiveRow) (inputs : Inputs) → ((name : PrimitiveName) → IsNamed name (name_text p.name) → ⊥) → none ≡ (row_of p).out_of_range inputs
-unnamed_range p inputs unnamed = by p.name refl
-  where
-    timer : p.name ≡ Timer → none ≡ (row_of p).out_of_range inputs
-    timer e = sym (ap (λ n. (unwrap_or (row_at n p.numbers) no_row).out_of_range inputs) e ∙ timer_range p.numbers inputs)
-
-    by : (n : PrimitiveName) → p.name ≡ n → none ≡ (row_of p).out_of_range inputs
-    by Timer e = timer e
-    by _ e = absurd (unnamed p.name (record { spelled = refl; nameable = λ f. let g = sym e ∙ f in cc }))
-
 -- no sizes, no address
 pub none_beyond : (sizes : List ℕ) (on : Bool) (inputs : Inputs) → sizes ≡ [] → (if on then first_beyond sizes 0 inputs else None) ≡ None
 none_beyond sizes true inputs e = ap (λ xs. first_beyond xs 0 inputs) e
 none_beyond sizes false inputs e = refl
-
--- addresses one by one
-pub beyond_next : (sizes : List ℕ) (inputs : Inputs) (port : ℕ) → port < length sizes → first_beyond (drop port sizes) port inputs ≡ (first_beyond (get_or sizes port 0 ∷ drop (port + 1) sizes) port inputs)
-beyond_next sizes inputs port lt =
-    let s : suc port ≡ port + 1 = omega arith in
-    ap (λ xs. first_beyond xs port inputs) (drop-cons sizes port 0 lt ∙ ap (λ n. get_or sizes port 0 ∷ drop n sizes) s)

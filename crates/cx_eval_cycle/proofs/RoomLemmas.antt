@@ -1,12 +1,9 @@
 -- Room for what is found at the ports of cells, and steps with it.
-use Rattle.std.proofs.Common.{◌≡◌, ◌≢◌, ℕ, zero, suc, ◌+◌, ◌<◌, ⊎_elim, List, [], ◌∷◌, ◌++◌, get_or, length, replicate, set, Option, Some, None, refl, sym, ap, ◌∙◌, subst, arith}
+use Rattle.std.proofs.Common.{◌≡◌, ◌≢◌, ℕ, zero, suc, ◌+◌, ◌<◌, ⊎_elim, List, [], ◌∷◌, ◌++◌, get_or, length, set, Option, Some, refl, sym, ap, ◌∙◌, subst, arith}
 use Rattle.std.specs.Prelude.{slice_get}
-use Rattle.std.proofs.lemmas.Bool.{cases_eq, cases_lt}
-use Rattle.std.proofs.lemmas.List.{get_or-replicate, get_or_past, length-append, length-replicate, length-set}
+use Rattle.std.proofs.lemmas.Bool.{cases_eq}
+use Rattle.std.proofs.lemmas.List.{length-append, length-set}
 use Rattle.std.proofs.lemmas.Option.{slice_get-get_or}
-use Rattle.cx_bits.specs.BitVector.{BitVector}
-use Rattle.cx_prim.specs.declared.ports.PortRow.{PortRow}
-use Rattle.cx_prim.specs.Rows.{FitsPorts}
 use Rattle.cx_eval_cycle.specs.declared.rooms.CellRoom.{CellRoom}
 use Rattle.cx_eval_cycle.specs.declared.stepping.SteppingCell.{SteppingCell}
 use Rattle.cx_eval_cycle.specs.Rooms.{HasRoom, HaveRooms, inputs_at, inputs_of, ports_of}
@@ -27,17 +24,6 @@ rooms_more kept n old new x have is has = record {
       (λ f. subst (HasRoom (ports_of (kept_at kept c))) f.1 (subst (λ k. HasRoom (ports_of (kept_at kept k)) x) (sym (f.0 ∙ have.sized)) has))
       (either_at old x room c (ap (λ xs. slice_get xs c) (sym is) ∙ e));
 }
-
--- room in which nothing stands yet
-pub empty_fits : (ports : List PortRow) (n : ℕ) → n ≡ length ports → FitsPorts ports (replicate n None)
-empty_fits ports n e = record { count = length-replicate {A = Option BitVector} n None ∙ e; widths = λ k port b at f. absurd (nothing n k b f) }
-  where
-    nothing : (n k : ℕ) (b : BitVector) → get_or (replicate n None) k None ≡ Some b → ⊥
-    nothing n k b f =
-        ⊎_elim
-        (λ lt. (let g : None ≡ Some b = sym (get_or-replicate n k None None lt) ∙ f in cc))
-        (λ past. (let g : None ≡ Some b = sym (get_or_past (replicate n None) k None (let long = length-replicate {A = Option BitVector} n None in omega (arith, long, past))) ∙ f in cc))
-        (cases_lt k n)
 
 -- what an index tells
 pub room_inputs : (rooms : List CellRoom) (n : ℕ) (room : CellRoom) → n < length rooms → inputs_at rooms n ≡ (get_or rooms n room).inputs.items

@@ -1,5 +1,5 @@
 -- What is kept of cells that can step, and their numbers.
-use Rattle.std.proofs.Common.{◌≡◌, ℕ, zero, suc, ◌+◌, ◌<◌, ◌≤◌, ⊎_elim, List, get_or, [], ◌∷◌, ◌++◌, drop, drop-cons, length, map, Option, Some, None, append_assoc, refl, sym, ap, ◌∙◌, subst, arith}
+use Rattle.std.proofs.Common.{◌≡◌, ℕ, zero, suc, ◌+◌, ◌<◌, ◌≤◌, ⊎_elim, List, get_or, [], ◌∷◌, ◌++◌, drop, drop-cons, length, map, Option, Some, None, refl, sym, ap, ◌∙◌, subst, arith}
 use Rattle.std.specs.Prelude.{nat_eq, slice_get}
 use Rattle.std.proofs.lemmas.Bool.{cases_eq, cases_lt, or_left}
 use Rattle.std.proofs.lemmas.List.{length-append}
@@ -123,13 +123,6 @@ one_more kept n lt =
 pub none_more : (kept : List (Option SteppingCell)) (numbers : List ℕ) (n : ℕ) → n < length kept → kept_at kept n ≡ None → AreSoFar kept numbers n → AreSoFar kept numbers (n + 1)
 none_more kept numbers n lt is far =
     ap (λ xs. numbers ++ xs) (sym (one_more kept n lt ∙ ap (λ x. if_steps x n (numbers_from (drop (n + 1) kept) (n + 1))) is)) ∙ far
-
-pub number_more : (kept : List (Option SteppingCell)) (old new : List ℕ) (n : ℕ) (stepping : SteppingCell) → n < length kept → kept_at kept n ≡ Some stepping → new ≡ old ++ n ∷ [] → AreSoFar kept old n → AreSoFar kept new (n + 1)
-number_more kept old new n stepping lt is pushed far =
-    ap (λ xs. xs ++ numbers_from (drop (n + 1) kept) (n + 1)) pushed
-    ∙ append_assoc old (n ∷ []) (numbers_from (drop (n + 1) kept) (n + 1))
-    ∙ ap (λ xs. old ++ xs) (sym (one_more kept n lt ∙ ap (λ x. if_steps x n (numbers_from (drop (n + 1) kept) (n + 1))) is))
-    ∙ far
 
 drop_all : (kept : List (Option SteppingCell)) (n : ℕ) → length kept ≤ n → drop n kept ≡ []
 drop_all [] zero le = refl

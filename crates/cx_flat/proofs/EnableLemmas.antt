@@ -4,9 +4,8 @@ use Rattle.std.specs.List.{range_with_len}
 use Rattle.std.proofs.lemmas.Bool.{cases_lt, eqb-true}
 use Rattle.std.proofs.lemmas.List.FromFn.{get_or-map-range_with_len, length-map-range_with_len}
 use Rattle.std.proofs.lemmas.Option.{slice_get-get_or, slice_get_past}
-use Rattle.cx_meaning.specs.Designs.{PlainGroup}
-use Rattle.cx_rules.specs.Counts.{is_one_of, group_if}
-use Rattle.cx_flattening.specs.Copies.{count_if, enabled_below, enabled_groups}
+use Rattle.cx_rules.specs.Counts.{is_one_of}
+use Rattle.cx_flattening.specs.Copies.{count_if, enabled_below}
 use Rattle.cx_flat.specs.Enabling.{or_count, below_by}
 
 -- past a bound none is one of a list
@@ -45,7 +44,3 @@ below_is used below bound count g all is counted = ⊎_elim within past (cases_l
         ap (λ o. or_count o count) (slice_get_past below g (let s = size in omega (arith, s, le)))
         ∙ counted ∙ sym (below_past used bound (g - bound) all)
         ∙ ap (enabled_below used) (let e : (g - bound) + bound ≡ g = omega (arith, le) in e)
-
--- ONE GROUP MORE of those that are enabled
-pub enabled_step : (used : List ℕ) (g m : ℕ) (x : PlainGroup) (xs : List PlainGroup) → m ≡ g + 1 → enabled_groups used g (x ∷ xs) ≡ group_if (is_one_of g used) x (enabled_groups used m xs)
-enabled_step used g m x xs e = ap (λ n. group_if (is_one_of g used) x (enabled_groups used n xs)) (let same : suc g ≡ m = omega (arith, e) in same)

@@ -14,9 +14,6 @@ use Rattle.cx_flat.specs.Lasts.{AreLasts}
 use Rattle.cx_flat.proofs.OrderLemmas.{in_take}
 
 module _ (d : PlainDesign) (order : List ℕ) where
-  pub lasts_begin : (lasts : List ℕ) → length lasts ≡ length d.components → AreLasts d order 0 lasts
-  lasts_begin lasts sized = record { sized = sized; last = λ n k j cell less. absurd (omega (arith, less)); end = λ n k j cell less. absurd (omega (arith, less)) }
-
   -- ONE MORE of the order, whose cells are these
   pub lasts_turn : (i k place : ℕ) (before now : List ℕ) (cells : List Cell) → IsChildrenFirst d order → AreLasts d order i before → slice_get order i ≡ Some k → map plain_cell cells ≡ (component_at d k).cells
       → i ≤ place → (is_some (component_at d k).latency ≡ false → length order ≤ place) → length now ≡ length before → ((j : ℕ) → get_or before j 0 ≤ get_or now j 0)

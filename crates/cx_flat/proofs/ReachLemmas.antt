@@ -155,10 +155,6 @@ module _ (d : PlainDesign) (rules : IsDesign d) where
   made_stands k (inl e) = subst StandsIn e main_stands
   made_stands k (inr l) = leads_stand d.main k l main_stands
 
-  -- main is made of components that are there
-  pub made_there : (k : ℕ) → IsMadeOf d k → k < length d.components
-  made_there k made = (made_stands k made).there
-
   pub is_reached_so : (k : ℕ) → IsMadeOf d k → is_static (component_of d k) ≡ false → is_reached d k ≡ true
   is_reached_so k made dynamic =
       let s = made_stands k made in

@@ -33,13 +33,7 @@ use Rattle.cx_flattening.proofs.FlatLengths.{AllThere, captures_in_it}
 use Rattle.cx_flattening.proofs.FlatOrigins.{Origin, of_own, capturing, copied, origin}
 use Rattle.cx_flattening.proofs.FlatDrives.{driving, used_target, own_one, timed_single, invoke_timed, capture_found, cell_found}
 use Rattle.cx_flattening.proofs.DeedsApart.{owned_drives, fed_drives}
-
-abbrev cell_of : PortRef → ℕ
-cell_of (ports.Cell c p) = c
-cell_of (ports.Input n) = 0
-cell_of (ports.Output n) = 0
-cell_of (ports.Done g) = 0
-cell_of (ports.Literal w v) = 0
+use Rattle.cx_meaning.specs.Active.{cell_number}
 
 in_groups : (xs : List PlainGroup) (n : ℕ) → n < length xs → In xs (get_or xs n no_group)
 in_groups [] n less = absurd (omega (arith, less))
@@ -87,7 +81,7 @@ module _ (part : PlainComponent) (cells : Cells) (fair : IsFair (Node part cells
     where
       by : (a : PlainAssign) → In (group_at part g).assigns a → (t : PortRef) → a.target ≡ t → OwnTarget kids part t → (p : ℕ) → own_port kids part t ≡ ports.Cell k p → OwnDriver g k
       by a i (ports.Cell c q) f own p h =
-          record { assign = a; among = i; cell = c; port = q; target = f; less = own.0; none = own.1; is = ap cell_of (sym (own-kept kids part c q own.1) ∙ h) }
+          record { assign = a; among = i; cell = c; port = q; target = f; less = own.0; none = own.1; is = ap cell_number (sym (own-kept kids part c q own.1) ∙ h) }
       by a i (ports.Input n) f own p h = absurd own
       by a i (ports.Output n) f own p h = absurd (cc)
       by a i (ports.Done n) f own p h = absurd (cc)
@@ -118,7 +112,7 @@ module _ (part : PlainComponent) (cells : Cells) (fair : IsFair (Node part cells
       let q = image_in (moved_assign move) (group_at child h).assigns r.0 r.2 in
       let target = used_target (λ a. BlockTarget child a.target) (groups_of child.control) 0 child.groups block.used h there (ap (λ x. is_one x) (zero_plus h) ∙ in_one_of h (groups_of child.control) used) q.0 q.1 in
       let b = in_block kids part child (the_invoke part j).cell (λ n. own_port kids part (source_to (the_invoke part j).cell (the_invoke part j).inputs n)) q.0.target target in
-      (b.cell, b.less, ap cell_of (sym (ap (λ (x : PlainAssign). x.target) q.2 ∙ r.3) ∙ b.is))
+      (b.cell, b.less, ap cell_number (sym (ap (λ (x : PlainAssign). x.target) q.2 ∙ r.3) ∙ b.is))
     where
       is_one : ℕ → Bool
       is_one x = is_one_of x (groups_of child.control)

@@ -17,7 +17,8 @@ use Rattle.cx_meaning.proofs.InstancesLemmas.{row_instance, instance_is}
 use Rattle.cx_meaning.proofs.DesignsLemmas.{same_part}
 use Rattle.cx_rules.specs.Accepted.{IsAccepted}
 use Rattle.cx_rules.specs.Items.{is_plain}
-use Rattle.cx_rules.specs.Ports.{component_of, path_of, enables_cell, is_instance, is_primitive_enable, is_part_port}
+use Rattle.cx_rules.specs.Ports.{component_of, path_of, is_instance, is_primitive_enable, is_part_port}
+use Rattle.cx_meaning.specs.Calls.{enables_at}
 use Rattle.cx_rules.specs.ShapeRules.{is_hole_of, some_target}
 use Rattle.cx_rules.specs.CallShape.{is_port_of, Calls, go_port, done_port, register_done, with_target, is_right_go, is_right_enable, is_register_enable, captured, wanted_dones, is_right_done, assigns_of, IsOutputOrDone, has_right_go, IsFedBack, has_right_enable, has_right_done, CallBreak, another_cell, wrong_go, input_by_output, wrong_enable, wrong_done, IsOutside, IsMisshapen, BreaksCallShape, GroupBreaksCallShape}
 use Rattle.cx_rules.specs.Spots.{AnAssign, AGroup, Spot, OnAssign, OnGroup}
@@ -105,7 +106,7 @@ module _ (part : PlainComponent) (cells : Cells) (flat : Instance) (flattened : 
   part_alike (ports.Literal w v) own = absurd own
 
   enable_alike : (q : PortRef) → OwnTarget kids part q → is_primitive_enable flat (f q) ≡ is_primitive_enable i q
-  enable_alike (ports.Cell c p) own = ap (is_primitive_enable flat) (own-kept kids part c p own.1) ∙ alike (λ x. enables_cell x p) (λ a b. refl) c own.0 own.1
+  enable_alike (ports.Cell c p) own = ap (is_primitive_enable flat) (own-kept kids part c p own.1) ∙ alike (λ x. enables_at x p) (λ a b. refl) c own.0 own.1
   enable_alike (ports.Input n) own = absurd own
   enable_alike (ports.Output n) own = refl
   enable_alike (ports.Done g) own = refl

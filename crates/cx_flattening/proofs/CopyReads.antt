@@ -31,13 +31,7 @@ use Rattle.cx_flattening.proofs.FlatInside.{IsAt, in_child, one_cell, IsInside, 
 use Rattle.cx_flattening.proofs.FlatReads.{LeadsOn, own_leads, kid_leads, leads_on, has_closed, LookedAt, in_it, in_source, looked_at}
 use Rattle.cx_flattening.proofs.FairParts.{HasCells, unbroken}
 use Rattle.cx_flattening.proofs.Ruled.{IsRuled}
-
-abbrev cell_of : PortRef → ℕ
-cell_of (ports.Cell c p) = c
-cell_of (ports.Input n) = 0
-cell_of (ports.Output n) = 0
-cell_of (ports.Done g) = 0
-cell_of (ports.Literal w v) = 0
+use Rattle.cx_meaning.specs.Active.{cell_number}
 
 -- the conditions of a copy
 pub tests_back : (f : PortRef → PortRef) (copy : ℕ → ℕ) (s : PlainStatement) (p : PlacedPort) → In (tests_of (copied_statement f copy s)) p → (q : PlacedPort) × In (tests_of s) q × (moved_port f q ≡ p)
@@ -111,7 +105,7 @@ module _ (part : PlainComponent) (cells : Cells) (fair : IsFair (Node part cells
         by a.0 a.1 a.2 a.3 a.1.target refl (used_block part cells fair controlled c a.0 child a.1 its (used a.0 a.2) a.3) d.1 (ap (λ (z : PlainAssign). z.target) a.4 ∙ d.3)
       where
         by : (h : ℕ) (a : PlainAssign) → In (groups_of s) h → In (group_at child h).assigns a → (t : PortRef) → a.target ≡ t → BlockTarget child t → (p : ℕ) → move t ≡ ports.Cell x p → Driven x
-        by h a k m (ports.Cell f q) target block p is = (f, block, ap cell_of is, groups_drive_in child (groups_of s) h f k (assigns_drive_in (group_at child h).assigns a f q m target))
+        by h a k m (ports.Cell f q) target block p is = (f, block, ap cell_number is, groups_drive_in child (groups_of s) h f k (assigns_drive_in (group_at child h).assigns a f q m target))
         by h a k m (ports.Input n) target block p is = absurd block
         by h a k m (ports.Output n) target block p is = absurd ((inside c child its).drives h n a (used h k) m target)
         by h a k m (ports.Done g) target block p is = absurd block
@@ -152,7 +146,7 @@ module _ (part : PlainComponent) (cells : Cells) (fair : IsFair (Node part cells
       where
         by : d ≡ c → other ≡ child → start_of kids part d ≡ start_of kids part c → (t : PortRef) → a.target ≡ t → BlockTarget other t → There x ⊎ HasLed x
         by same kid first (ports.Cell f m) is block =
-            let at_y : start_of kids part d + f ≡ y = ap cell_of (sym (ap (child_port kids part other d (λ o. ports.Input o)) is) ∙ target) in
+            let at_y : start_of kids part d + f ≡ y = ap cell_number (sym (ap (child_port kids part other d (λ o. ports.Input o)) is) ∙ target) in
             let here = h.2 in
             let one : h.0 ≡ f = omega (arith, at_y, here, first) in
             inl (
@@ -163,7 +157,7 @@ module _ (part : PlainComponent) (cells : Cells) (fair : IsFair (Node part cells
             )
         by same kid first (ports.Input o) is block = absurd block
         by same kid first (ports.Output o) is block =
-            let at_y : start_of kids part d + length other.cells + o ≡ y = ap cell_of (sym (ap (child_port kids part other d (λ z. ports.Input z)) is) ∙ target) in
+            let at_y : start_of kids part d + length other.cells + o ≡ y = ap cell_number (sym (ap (child_port kids part other d (λ z. ports.Input z)) is) ∙ target) in
             let here = h.2 in
             let small = h.1 in
             let size : length other.cells ≡ length child.cells = ap (λ (z : PlainComponent). length z.cells) kid in

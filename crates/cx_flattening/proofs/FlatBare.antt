@@ -7,7 +7,8 @@ use Rattle.cx_meaning.specs.Designs.{PlainAssign, PlainComponent}
 use Rattle.cx_meaning.specs.Instances.{Instance, Node, Cells, no_cells, a_primitive, an_instance, At, Nothing, OfRow, OfInstance, part_of, cells_of, cell_at}
 use Rattle.cx_meaning.specs.Active.{Owned, source_order}
 use Rattle.cx_text.specs.Members.{In}
-use Rattle.cx_rules.specs.Ports.{enables_cell, is_primitive_enable}
+use Rattle.cx_rules.specs.Ports.{is_primitive_enable}
+use Rattle.cx_meaning.specs.Calls.{enables_at}
 use Rattle.std.specs.Prelude.{map}
 use Rattle.cx_rewrites.specs.Moving.{moved_assign}
 use Rattle.cx_flattening.specs.Whole.{is_static}
@@ -27,7 +28,7 @@ use Rattle.cx_flattening.proofs.Ruled.{IsRuled, AllRuled, AllRuledBelow}
 
 -- an enabling port of a primitive cell of a host
 abbrev enables_in : Cells → PortRef → Bool
-enables_in host (ports.Cell c p) = enables_cell (cell_at host c) p
+enables_in host (ports.Cell c p) = enables_at (cell_at host c) p
 enables_in host (ports.Input n) = false
 enables_in host (ports.Output n) = false
 enables_in host (ports.Done g) = false
@@ -51,21 +52,21 @@ module _ (host : Cells) where
     zero_plus : (a : ℕ) → 0 + a ≡ a
     zero_plus a = omega arith
 
-    kept_bare : (c p : ℕ) → c < length part.cells → kid_at kids c ≡ None → is_primitive_enable (Node part cells) (ports.Cell c p) ≡ false → enables_cell (cell_at host (first + kept_at kids c)) p ≡ false
+    kept_bare : (c p : ℕ) → c < length part.cells → kid_at kids c ≡ None → is_primitive_enable (Node part cells) (ports.Cell c p) ≡ false → enables_at (cell_at host (first + kept_at kids c)) p ≡ false
     kept_bare c p less none bare = by (cell_at cells c) refl
       where
-        by : (x : At) → cell_at cells c ≡ x → enables_cell (cell_at host (first + kept_at kids c)) p ≡ false
+        by : (x : At) → cell_at cells c ≡ x → enables_at (cell_at host (first + kept_at kids c)) p ≡ false
         by Nothing at = absurd (fair.0.counts c less at)
         by (OfRow row) at =
-            ap (λ k. enables_cell (cell_at host (first + kept_at kids k)) p) (sym (zero_plus c)) ∙ ap (λ x. enables_cell x p) (embedded_row kids part first host cells 0 c row embedded at)
-            ∙ ap (λ x. enables_cell x p) (sym at) ∙ bare
+            ap (λ k. enables_at (cell_at host (first + kept_at kids k)) p) (sym (zero_plus c)) ∙ ap (λ x. enables_at x p) (embedded_row kids part first host cells 0 c row embedded at)
+            ∙ ap (λ x. enables_at x p) (sym at) ∙ bare
         by (OfInstance child) at = of_child (is_static child) refl
           where
-            of_child : (b : Bool) → is_static child ≡ b → enables_cell (cell_at host (first + kept_at kids c)) p ≡ false
+            of_child : (b : Bool) → is_static child ≡ b → enables_at (cell_at host (first + kept_at kids c)) p ≡ false
             of_child true static = absurd (let not_kept : None ≡ Some (flat_part child) = sym none ∙ kid-static cells c child at static in cc)
             of_child false dynamic =
                 let r = subst (TwinAt kids part first host child) (zero_plus c) (embedded_dynamic kids part first host cells 0 c child embedded at dynamic) in
-                ap (λ x. enables_cell x p) r.1
+                ap (λ x. enables_at x p) r.1
 
     own_bare : (q : PortRef) → OwnTarget kids part q → is_primitive_enable (Node part cells) q ≡ false → enables_in host (placed first (own_port kids part q)) ≡ false
     own_bare (ports.Cell c p) own bare = ap (λ x. enables_in host (placed first x)) (own-kept kids part c p own.1) ∙ kept_bare c p own.0 own.1 bare
@@ -77,13 +78,13 @@ module _ (host : Cells) where
     -- a port of a block
     block_bare : (c : ℕ) (child : Instance) → cell_at cells c ≡ OfInstance child → is_static child ≡ true → (q : PortRef) → BlockTarget (flat_part child) q
         → enables_in host (placed (first + start_of kids part c) q) ≡ false → enables_in host (placed first (child_port kids part (flat_part child) c (λ n. ports.Input n) q)) ≡ false
-    block_bare c child at static (ports.Cell e p) target bare = ap (λ k. enables_cell (cell_at host k) p) (let z : first + (start_of kids part c + e) ≡ first + start_of kids part c + e = omega arith in z) ∙ bare
+    block_bare c child at static (ports.Cell e p) target bare = ap (λ k. enables_at (cell_at host k) p) (let z : first + (start_of kids part c + e) ≡ first + start_of kids part c + e = omega arith in z) ∙ bare
     block_bare c child at static (ports.Input n) target bare = refl
     block_bare c child at static (ports.Output n) target bare =
         let stood = subst (λ k. IsEmbedded child (first + start_of kids part k) host × HasWires (part_of child).outputs (first + wire_at kids part (flat_part child) k 0) host) (zero_plus c)
         (embedded_static kids part first host cells 0 c child embedded at static) in
         let w = wire_there (part_of child).outputs (first + wire_at kids part (flat_part child) c 0) n host stood.1 (subst (λ l. n < length l) (flat-outputs child) target) in
-        ap (λ k. enables_cell (cell_at host k) 0) (let z : first + wire_at kids part (flat_part child) c n ≡ first + wire_at kids part (flat_part child) c 0 + n = omega arith in z) ∙ ap (λ x. enables_cell x 0) w.1
+        ap (λ k. enables_at (cell_at host k) 0) (let z : first + wire_at kids part (flat_part child) c n ≡ first + wire_at kids part (flat_part child) c 0 + n = omega arith in z) ∙ ap (λ x. enables_at x 0) w.1
     block_bare c child at static (ports.Done g) target bare = absurd target
     block_bare c child at static (ports.Literal w v) target bare = absurd target
 

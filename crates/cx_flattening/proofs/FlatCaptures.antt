@@ -6,7 +6,7 @@ use Rattle.std.proofs.lemmas.List.{append-nil}
 use Rattle.cx_meaning.specs.declared.ports.PortRef.{PortRef}
 use Rattle.cx_meaning.specs.declared.ports.PortRef.TheVariants as ports
 use Rattle.cx_meaning.specs.Designs.{PlainAssign, PlainKind, OfPrimitive, OfComponent, PlainCell, PlainComponent, PlainDesign}
-use Rattle.cx_meaning.specs.Active.{same_port}
+use Rattle.cx_meaning.specs.Active.{same_port, cell_number, port_number}
 use Rattle.cx_text.specs.Members.{In}
 use Rattle.cx_rules.specs.ShapeRules.{some_target}
 use Rattle.cx_rules.specs.CallShape.{write_en_of, is_reg_kind, is_register_cell, is_register, one, added, captured_from, captured}
@@ -19,20 +19,6 @@ use Rattle.cx_flattening.specs.Targets.{OwnTarget}
 use Rattle.cx_flattening.proofs.Placing.{kept_less, kept_apart}
 use Rattle.cx_flattening.proofs.PortLemmas.{own-kept, not_same}
 use Rattle.cx_flattening.proofs.CellLayout.{kind_at, kept_stands}
-
-abbrev cell_number : PortRef → ℕ
-cell_number (ports.Cell c p) = c
-cell_number (ports.Input n) = 0
-cell_number (ports.Output n) = 0
-cell_number (ports.Done g) = 0
-cell_number (ports.Literal w v) = 0
-
-abbrev port_number : PortRef → ℕ
-port_number (ports.Cell c p) = p
-port_number (ports.Input n) = 0
-port_number (ports.Output n) = 0
-port_number (ports.Done g) = 0
-port_number (ports.Literal w v) = 0
 
 module _ (kids : Kids) (part : PlainComponent) where
   abbrev f : PortRef → PortRef

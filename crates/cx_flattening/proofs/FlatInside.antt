@@ -43,13 +43,7 @@ use Rattle.cx_flattening.proofs.FairParts.{HasCells, AllHave, AllHaveBelow, name
 use Rattle.cx_flattening.proofs.Ruled.{IsRuled, AllRuled, AllRuledBelow}
 use Rattle.cx_laws.proofs.TreeLemmas.{output_there}
 use Rattle.cx_rules.proofs.ItemsLemmas.{option_in}
-
-abbrev cell_of : PortRef → ℕ
-cell_of (ports.Cell c p) = c
-cell_of (ports.Input n) = 0
-cell_of (ports.Output n) = 0
-cell_of (ports.Done g) = 0
-cell_of (ports.Literal w v) = 0
+use Rattle.cx_meaning.specs.Active.{cell_number}
 
 module _ (kids : Kids) (part : PlainComponent) where
   -- CELL c of the tree stands for flat cell x, or has it in its block
@@ -100,7 +94,7 @@ module _ (part : PlainComponent) (cells : Cells) (fair : IsFair (Node part cells
   own_at (ports.Cell c m) name y p e = by (cell_at cells c) refl
     where
       kept_one : kid_at kids c ≡ None → NamedAt (ports.Cell c m) y
-      kept_one none = record { cell = c; port = m; is = refl; at = is_kept name.0 none (ap cell_of (sym (own-kept kids part c m none) ∙ e)) }
+      kept_one none = record { cell = c; port = m; is = refl; at = is_kept name.0 none (ap cell_number (sym (own-kept kids part c m none) ∙ e)) }
 
       of_child : (child : Instance) → cell_at cells c ≡ OfInstance child → (b : Bool) → is_static child ≡ b → NamedAt (ports.Cell c m) y
       of_child child at false dynamic = kept_one (kid-dynamic cells c child at dynamic)
@@ -109,7 +103,7 @@ module _ (part : PlainComponent) (cells : Cells) (fair : IsFair (Node part cells
           let its : kid_at kids c ≡ Some (flat_part child) = kid-static cells c child at static in
           let number : m - 1 - length (flat_part child).inputs ≡ o.0 = ap (λ l. m - 1 - length l) (flat-inputs child) ∙ output_number (part_of child) m o.0 o.1 in
           let less : o.0 < length (flat_part child).outputs = subst (λ l. o.0 < length l) (sym (flat-outputs child)) (output_there (part_of child) m o.0 o.1) in
-          let there : wire_at kids part (flat_part child) c (m - 1 - length (flat_part child).inputs) ≡ y = ap cell_of (sym (ap (λ k. port_if kids part k c m) its) ∙ e) in
+          let there : wire_at kids part (flat_part child) c (m - 1 - length (flat_part child).inputs) ≡ y = ap cell_number (sym (ap (λ k. port_if kids part k c m) its) ∙ e) in
           let wire : wire_at kids part (flat_part child) c o.0 ≡ y = ap (wire_at kids part (flat_part child) c) (sym number) ∙ there in
           record { cell = c; port = m; is = refl; at = in_child (flat_part child) (length (flat_part child).cells + o.0) its (omega (arith, less)) (omega (arith, wire)) }
 

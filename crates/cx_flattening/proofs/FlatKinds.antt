@@ -20,7 +20,8 @@ use Rattle.cx_meaning.proofs.DesignsLemmas.{same_part}
 use Rattle.cx_rules.specs.Accepted.{IsAccepted}
 use Rattle.cx_rules.specs.Counts.{is_one_of, group_if}
 use Rattle.cx_rules.specs.Items.{is_plain, is_comb, InStatic}
-use Rattle.cx_rules.specs.Ports.{component_of, path_of, enables_cell, is_instance, is_primitive_enable, is_part_port}
+use Rattle.cx_rules.specs.Ports.{component_of, path_of, is_instance, is_primitive_enable, is_part_port}
+use Rattle.cx_meaning.specs.Calls.{enables_at}
 use Rattle.cx_rules.specs.ShapeRules.{is_hole, is_hole_of, some_target, BreaksNoDone, BreaksCombEnable}
 use Rattle.cx_rules.specs.Spots.{AnAssign, AGroup, Spot, OnAssign, OnGroup}
 use Rattle.cx_rules.specs.Wellformed.{IsDesign}
@@ -190,7 +191,7 @@ enables_alike (Node part cells) flat flattened fair (ports.Cell c p) own = ap (E
     host = cells_of flat
 
     of_at : At → Bool
-    of_at x = enables_cell x p || is_instance x || false
+    of_at x = enables_at x p || is_instance x || false
 
     there : (x : At) → cell_at host (0 + kept_at (flat_kids cells) (0 + c)) ≡ x → cell_at host (kept_at (flat_kids cells) c) ≡ x
     there x e = ap (cell_at host) (sym (zero_plus (kept_at (flat_kids cells) c))) ∙ ap (λ k. cell_at host (0 + kept_at (flat_kids cells) k)) (sym (zero_plus c)) ∙ e

@@ -34,13 +34,7 @@ use Rattle.cx_flattening.proofs.FlatInside.{IsAt, is_kept, in_child, one_cell, I
 use Rattle.cx_flattening.proofs.DeedsApart.{invoke_among, at_number, owned_drives, fed_drives, owned_reads}
 use Rattle.cx_flattening.proofs.FairParts.{HasCells, bound_source, input_bound}
 use Rattle.cx_flattening.proofs.Ruled.{IsRuled}
-
-abbrev cell_of : PortRef → ℕ
-cell_of (ports.Cell c p) = c
-cell_of (ports.Input n) = 0
-cell_of (ports.Output n) = 0
-cell_of (ports.Done g) = 0
-cell_of (ports.Literal w v) = 0
+use Rattle.cx_meaning.specs.Active.{cell_number}
 
 module _ (part : PlainComponent) (cells : Cells) (fair : IsFair (Node part cells)) (controlled : IsControlled (Node part cells)) (ruled : IsRuled part (Node part cells)) (has : HasCells part cells)
     (inside : (c : ℕ) (child : PlainComponent) → kid_at (flat_kids cells) c ≡ Some child → IsInside child) where
@@ -65,7 +59,7 @@ module _ (part : PlainComponent) (cells : Cells) (fair : IsFair (Node part cells
     at : At cell x
 
   target_at : (t : PortRef) → OwnTarget kids part t → (x p : ℕ) → own_port kids part t ≡ ports.Cell x p → TargetAt t x
-  target_at (ports.Cell c m) own x p e = record { cell = c; port = m; is = refl; none = own.1; at = is_kept own.0 own.1 (ap cell_of (sym (own-kept kids part c m own.1) ∙ e)) }
+  target_at (ports.Cell c m) own x p e = record { cell = c; port = m; is = refl; none = own.1; at = is_kept own.0 own.1 (ap cell_number (sym (own-kept kids part c m own.1) ∙ e)) }
   target_at (ports.Input n) own x p e = absurd own
   target_at (ports.Output n) own x p e = absurd (cc)
   target_at (ports.Done g) own x p e = absurd (cc)
@@ -107,10 +101,10 @@ module _ (part : PlainComponent) (cells : Cells) (fair : IsFair (Node part cells
           at : At c x
           at =
               let r = in_block kids part child c (λ n. ports.Input n) a.target ((fair.targets.blocks c child its).always a m) in
-              in_child child r.cell its r.less (ap cell_of (sym r.is ∙ aim))
+              in_child child r.cell its r.less (ap cell_number (sym r.is ∙ aim))
 
           by : (r : PortRef) → child_port kids part child c (λ n. ports.Input n) r ≡ ports.Cell y q → AssignNames a r → LeadsOn x p y
-          by (ports.Cell e o) f named = kid_leads c e o child a its m at aim named ((inside c child its).always a (ports.Cell e o) m named) (ap cell_of f)
+          by (ports.Cell e o) f named = kid_leads c e o child a its m at aim named ((inside c child its).always a (ports.Cell e o) m named) (ap cell_number f)
           by (ports.Input o) f named = absurd (cc)
           by (ports.Output o) f named = absurd ((inside c child its).always a (ports.Output o) m named)
           by (ports.Done g) f named = absurd (cc)
@@ -144,7 +138,7 @@ module _ (part : PlainComponent) (cells : Cells) (fair : IsFair (Node part cells
 
   pub looked_at : (j : ℕ) (child : PlainComponent) → j < length part.invokes → kid_at kids (the_invoke part j).cell ≡ Some child → (q : PortRef) → IsLooked child q → (x p : ℕ)
       → invoke_port kids part child (the_invoke part j) q ≡ ports.Cell x p → LookedAt j child q x
-  looked_at j child less its (ports.Cell e m) looked x p is = in_it e m refl looked (ap cell_of is)
+  looked_at j child less its (ports.Cell e m) looked x p is = in_it e m refl looked (ap cell_number is)
   looked_at j child less its (ports.Input n) looked x p is =
       let b = source_bound j n child less its looked in
       let r = own_at part cells fair controlled (source_to (the_invoke part j).cell (the_invoke part j).inputs n) (source_named part cells fair controlled j n child less its looked) x p is in
@@ -167,7 +161,7 @@ module _ (part : PlainComponent) (cells : Cells) (fair : IsFair (Node part cells
             (t.cell, t.at, owned_drives part s g t.cell owned (assigns_drive_in (group_at part g).assigns a t.cell t.port k t.is))
         by b p target (of_child j h child a t less its used k block is) =
             let r = in_block kids part child (the_invoke part j).cell (λ m. own_port kids part (source_to (the_invoke part j).cell (the_invoke part j).inputs m)) a.target block in
-            ((the_invoke part j).cell, in_child child r.cell its r.less (ap cell_of (sym r.is ∙ ap (λ (z : PlainAssign). z.target) is ∙ target)), fed_drives part s (the_invoke part j).cell (j, timed_as part cells fair controlled s j t, less, refl))
+            ((the_invoke part j).cell, in_child child r.cell its r.less (ap cell_number (sym r.is ∙ ap (λ (z : PlainAssign). z.target) is ∙ target)), fed_drives part s (the_invoke part j).cell (j, timed_as part cells fair controlled s j t, less, refl))
 
     abbrev HasRead : ℕ → Type 0
     HasRead x = (c : ℕ) × At c x × ReadsAll part s c

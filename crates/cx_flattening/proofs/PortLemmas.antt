@@ -3,7 +3,7 @@ use Rattle.std.proofs.Common.{◌≡◌, ◌≢◌, ℕ, ◌+◌, ◌<◌, Bool,
 use Rattle.cx_meaning.specs.declared.ports.PortRef.{PortRef}
 use Rattle.cx_meaning.specs.declared.ports.PortRef.TheVariants as ports
 use Rattle.cx_meaning.specs.Designs.{PlainComponent}
-use Rattle.cx_meaning.specs.Active.{same_port}
+use Rattle.cx_meaning.specs.Active.{same_port, cell_number}
 use Rattle.cx_rules.proofs.FoundLemmas.{same_is}
 use Rattle.cx_rewrites.proofs.MovedCalls.{same_both}
 use Rattle.cx_flattening.specs.Flattened.{Kids, kid_at, kept_at, block_size, start_of, wire_at, port_if, own_port, child_port}
@@ -16,13 +16,6 @@ not_same x y apart = choice (same_port x y) refl
     choice : (b : Bool) → same_port x y ≡ b → b ≡ false
     choice true e = absurd (apart (same_is x y e))
     choice false e = refl
-
-abbrev cell_of : PortRef → ℕ
-cell_of (ports.Cell c p) = c
-cell_of (ports.Input n) = 0
-cell_of (ports.Output n) = 0
-cell_of (ports.Done g) = 0
-cell_of (ports.Literal w v) = 0
 
 abbrev number_of : PortRef → ℕ
 number_of (ports.Cell c p) = p
@@ -80,7 +73,7 @@ module _ (kids : Kids) (part : PlainComponent) where
   -- no own port is one of a block
   pub own_apart : (child : PlainComponent) (c : ℕ) (x y : PortRef) → OwnTarget kids part x → InBlock child c y → own_port kids part x ≢ y
   own_apart child c (ports.Cell d q) y h inside e =
-      let same : kept_at kids d ≡ start_of kids part c + inside.cell = ap cell_of (sym (own-kept d q h.1) ∙ e ∙ inside.is) in
+      let same : kept_at kids d ≡ start_of kids part c + inside.cell = ap cell_number (sym (own-kept d q h.1) ∙ e ∙ inside.is) in
       let less = kept_less kids part.cells d h.0 h.1 in
       omega (arith, same, less)
   own_apart child c (ports.Input n) y h inside e = absurd h
@@ -91,7 +84,7 @@ module _ (kids : Kids) (part : PlainComponent) where
   -- no port of a block is one of another
   pub block_apart : (one other : PlainComponent) (c d : ℕ) (x y : PortRef) → c ≢ d → kid_at kids c ≡ Some one → kid_at kids d ≡ Some other → InBlock one c x → InBlock other d y → x ≢ y
   block_apart one other c d x y apart e f here there same =
-      let cells : start_of kids part c + here.cell ≡ start_of kids part d + there.cell = ap cell_of (sym here.is ∙ same ∙ there.is) in
+      let cells : start_of kids part c + here.cell ≡ start_of kids part d + there.cell = ap cell_number (sym here.is ∙ same ∙ there.is) in
       blocks_apart kids c d here.cell there.cell one other apart e f here.less there.less (omega (arith, cells))
 
   -- the ports of a block are kept apart
@@ -101,18 +94,18 @@ module _ (kids : Kids) (part : PlainComponent) where
     where
       back : (x y : PortRef) → BlockTarget child x → BlockTarget child y → child_port kids part child c sources x ≡ child_port kids part child c sources y → x ≡ y
       back (ports.Cell e p) (ports.Cell f q) h k same =
-          let cells : start_of kids part c + e ≡ start_of kids part c + f = ap cell_of same in
+          let cells : start_of kids part c + e ≡ start_of kids part c + f = ap cell_number same in
           let one : e ≡ f = omega (arith, cells) in
           let two : p ≡ q = ap number_of same in
           ap (λ n. ports.Cell n p) one ∙ ap (ports.Cell f) two
       back (ports.Cell e p) (ports.Output n) h k same =
-          let cells : start_of kids part c + e ≡ wire_at kids part child c n = ap cell_of same in
+          let cells : start_of kids part c + e ≡ wire_at kids part child c n = ap cell_number same in
           absurd (omega (arith, cells, h))
       back (ports.Output n) (ports.Cell f q) h k same =
-          let cells : wire_at kids part child c n ≡ start_of kids part c + f = ap cell_of same in
+          let cells : wire_at kids part child c n ≡ start_of kids part c + f = ap cell_number same in
           absurd (omega (arith, cells, k))
       back (ports.Output n) (ports.Output m) h k same =
-          let cells : wire_at kids part child c n ≡ wire_at kids part child c m = ap cell_of same in
+          let cells : wire_at kids part child c n ≡ wire_at kids part child c m = ap cell_number same in
           let one : n ≡ m = omega (arith, cells) in
           ap ports.Output one
       back (ports.Cell e p) (ports.Input n) h k same = absurd k

@@ -13,7 +13,8 @@ use Rattle.cx_meaning.specs.Active.{Active, Owned, source_order}
 use Rattle.cx_meaning.specs.Sights.{Look, Held, seen}
 use Rattle.cx_meaning.specs.Cycles.{Fault, Outcome, Next, Stops, enables, cell_outcome, outcome_of, stepped, state_after, Goes, Faults, ended, cycle_of, every_cell}
 use Rattle.cx_meaning.proofs.CycleLemmas.{goes_to, faults_with, one_stops, outcome_cases, state_after-same}
-use Rattle.cx_rules.specs.Ports.{enables_cell, is_primitive_enable}
+use Rattle.cx_rules.specs.Ports.{is_primitive_enable}
+use Rattle.cx_meaning.specs.Calls.{enables_at}
 use Rattle.cx_rules.proofs.ForeignLemmas.{foreign_zero}
 use Rattle.cx_frames.specs.Rests.{IsUndriven, IsSettledAt, IsKeptAt}
 use Rattle.cx_frames.proofs.QuietLemmas.{cell_outcome-idle}
@@ -49,7 +50,7 @@ module _ (i : Instance) (held : Held) (act : Active) (listed : Set) (s after : S
 module _ (i : Instance) (quiet : HasLawfulRows i) (bare : BareEnablesNothing i) (held : Held) (act : Active) (s : State) (c : ℕ) (undriven : IsUndriven (part_of i) act c) where
   no_bare : (p : ℕ) (row : Row) → cell_at (cells_of i) c ≡ OfRow row → enables row p ≡ true → (o : Owned) → In (source_order (part_of i)) o → o.owner ≡ None → o.assign.target ≡ ports.Cell c p → ⊥
   no_bare p row stands enabling o j none target =
-      let on : is_primitive_enable i o.assign.target ≡ true = ap (is_primitive_enable i) target ∙ ap (λ at. enables_cell at p) stands ∙ enabling in
+      let on : is_primitive_enable i o.assign.target ≡ true = ap (is_primitive_enable i) target ∙ ap (λ at. enables_at at p) stands ∙ enabling in
       both_ways (is_primitive_enable i o.assign.target) (bare o j none) on
 
   -- a cell that nothing active drives makes an idle step

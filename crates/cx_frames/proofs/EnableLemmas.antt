@@ -12,7 +12,8 @@ use Rattle.cx_meaning.specs.Designs.{PlainKind, OfPrimitive, OfComponent, PlainC
 use Rattle.cx_meaning.specs.Instances.{Instance, Cells, OfRow, cell_at, cells_of, part_of, add_cell, cells_for, tree_within, tree_of, Path, instance_at}
 use Rattle.cx_meaning.specs.Active.{Owned, source_order}
 use Rattle.cx_text.specs.Members.{In}
-use Rattle.cx_rules.specs.Ports.{component_of, enables_cell, is_primitive_enable, path_of}
+use Rattle.cx_rules.specs.Ports.{component_of, is_primitive_enable, path_of}
+use Rattle.cx_meaning.specs.Calls.{enables_at}
 use Rattle.cx_rules.specs.Spots.{AnAssign}
 use Rattle.cx_rules.specs.Accepted.{IsAccepted}
 use Rattle.cx_rules.proofs.CircleLemmas.{Reached, a_tree, no_tree, reached}
@@ -45,13 +46,13 @@ pub instance_rows_lawful : (d : PlainDesign) (path : Path) → HasLawfulRows (in
 instance_rows_lawful d path = reached_lawful d (reached d path (length d.components) d.main)
 
 -- a tree of some depth has the enabling ports of its component
-kind_enables : (some other : ℕ → Instance) (kind : PlainKind) (xs ys : Cells) → ((c p : ℕ) → enables_cell (cell_at xs c) p ≡ enables_cell (cell_at ys c) p) → (c p : ℕ) → enables_cell (cell_at (add_cell some kind xs) c) p ≡ enables_cell (cell_at (add_cell other kind ys) c) p
+kind_enables : (some other : ℕ → Instance) (kind : PlainKind) (xs ys : Cells) → ((c p : ℕ) → enables_at (cell_at xs c) p ≡ enables_at (cell_at ys c) p) → (c p : ℕ) → enables_at (cell_at (add_cell some kind xs) c) p ≡ enables_at (cell_at (add_cell other kind ys) c) p
 kind_enables some other (OfPrimitive primitive) xs ys h zero p = refl
 kind_enables some other (OfPrimitive primitive) xs ys h (suc c) p = h c p
 kind_enables some other (OfComponent k) xs ys h zero p = refl
 kind_enables some other (OfComponent k) xs ys h (suc c) p = h c p
 
-cells_enable : (some other : ℕ → Instance) (cells : List PlainCell) (c p : ℕ) → enables_cell (cell_at (cells_for some cells) c) p ≡ enables_cell (cell_at (cells_for other cells) c) p
+cells_enable : (some other : ℕ → Instance) (cells : List PlainCell) (c p : ℕ) → enables_at (cell_at (cells_for some cells) c) p ≡ enables_at (cell_at (cells_for other cells) c) p
 cells_enable some other [] c p = refl
 cells_enable some other (cell ∷ cells) c p = kind_enables some other cell.kind (cells_for some cells) (cells_for other cells) (cells_enable some other cells) c p
 

@@ -13,7 +13,8 @@ use Rattle.cx_meaning.specs.Designs.{PlainAssign, PlainKind, OfPrimitive, OfComp
 use Rattle.cx_meaning.specs.Instances.{Instance, Node, Cells, no_cells, Nothing, OfRow, cell_at, cells_of, part_of, add_cell, cells_for, tree_within, tree_of, Path, instance_at}
 use Rattle.cx_meaning.specs.Active.{Owned, source_order}
 use Rattle.cx_text.specs.Members.{In}
-use Rattle.cx_rules.specs.Ports.{component_of, enables_cell, is_primitive_enable, is_target_only, path_of}
+use Rattle.cx_rules.specs.Ports.{component_of, is_primitive_enable, is_target_only, path_of}
+use Rattle.cx_meaning.specs.Calls.{enables_at}
 use Rattle.cx_rules.specs.Items.{Visited, statements_in, test_in}
 use Rattle.cx_rules.specs.Footprints.{AssignNames}
 use Rattle.cx_rules.specs.Spots.{AnAssign, AStatement}
@@ -68,7 +69,7 @@ module _ (d : PlainDesign) (design : IsDesign d) (accepted : IsAccepted d) (k : 
   no_enable : (o : Owned) (c p : ℕ) (row : Row) → In (source_order (component_at d k)) o → o.owner ≡ None → o.assign.target ≡ ports.Cell c p → cell_at (cells_of (component_of d k)) c ≡ OfRow row → side_of row p ≡ sides.Enable → ⊥
   no_enable o c p row i owner target at side =
       let n = number_in (source_order (component_at d k)) o i in
-      let enables : is_primitive_enable (component_of d k) o.assign.target ≡ true = ap (is_primitive_enable (component_of d k)) target ∙ ap (λ x. enables_cell x p) at ∙ ap is_enable_side side in
+      let enables : is_primitive_enable (component_of d k) o.assign.target ≡ true = ap (is_primitive_enable (component_of d k)) target ∙ ap (λ x. enables_at x p) at ∙ ap is_enable_side side in
       accepted.shapes AlwaysEnable (record { component = k; part = AnAssign n.0 }) o.assign.place (path_of (component_of d k) o.assign.target) refl
       (record { within = within; number = n.0; is = refl; assign = o; stands = n.1; breaks = (owner, enables, (refl, refl)) })
 

@@ -1,10 +1,10 @@
 -- Reading one text after another, a text at a time.
-use Rattle.std.proofs.Common.{◌≡◌, ℕ, zero, suc, ◌≤◌, ◌<◌, true, false, List, [], ◌∷◌, ◌++◌, length, Ok, Err, refl, sym, ap, ◌∙◌, subst, arith, cond, append_assoc, append-nil, ◌+◌}
+use Rattle.std.proofs.Common.{◌≡◌, ℕ, zero, suc, ◌≤◌, ◌<◌, true, false, List, [], ◌∷◌, ◌++◌, length, Ok, Err, refl, ap, ◌∙◌, subst, arith, cond, ◌+◌}
 use Rattle.cx_ast.specs.declared.tokens.Token.{Token}
 use Rattle.cx_grammar.specs.declared.terminals.Terminal.{Terminal}
 use Rattle.cx_grammar.specs.declared.terminals.Terminal.TheVariants.{Comma}
 use Rattle.cx_grammar.specs.Terminals.{terminal_of, is_in, begins}
-use Rattle.cx_grammar.specs.Grammar.{Nest, Grammar, IsComma, starts, nullable}
+use Rattle.cx_grammar.specs.Grammar.{Nest, Grammar, nullable}
 use Rattle.cx_grammar.specs.Calyx.{nest, nested_at}
 use Rattle.cx_grammar.specs.Reading.{Stop, Reads, then_reads, several_in, several_at, commas_in, commas_at, read}
 use Rattle.cx_grammar.proofs.Shorter.{Taken, took, nested_shorter}
@@ -87,65 +87,8 @@ module _ {A : Type 0} (r : List Token → Reads A) (set : List Terminal) (shorte
   several-end [] b = refl
   several-end (t ∷ ts) b = ap (λ s. cond s (then_reads (r (t ∷ ts)) (λ x mid. then_reads (several_in r set (length ts) mid) (λ xs rest. Ok (x ∷ xs, rest)))) (Ok ([], t ∷ ts))) b
 
--- `next`, `stop` and `end` for the texts of a production
 pub shorter_at : {A : Type 0} (levels : ℕ) (g : Grammar A) → nullable g ≡ false → (ts : List Token) (x : A × List Token) → read (nested_at levels) g ts ≡ Ok x → length x.1 < length ts
 shorter_at levels g some ts x e = subst (λ b. Taken b (length x.1) (length ts)) some (took (nested_at levels) (nested_shorter levels) g ts x e)
-
--- what is read, behind what was read before
-abbrev pub behind_front : {A : Type 0} → List A → Reads (List A) → Reads (List A)
-behind_front front reads = then_reads reads (λ xs rest. Ok (front ++ xs, rest))
-
-behind_next : {A : Type 0} (front : List A) (x : A) (reads : Reads (List A)) → behind_front front (then_reads reads (λ xs rest. Ok (x ∷ xs, rest))) ≡ behind_front (front ++ (x ∷ [])) reads
-behind_next front x (Ok y) = ap (λ xs. Ok (xs, y.1)) (sym (append_assoc front (x ∷ []) y.0))
-behind_next front x (Err s) = refl
-
-module _ {A : Type 0} (levels : ℕ) (g : Grammar A) (some : nullable g ≡ false) where
-  pub front-next : (front : List A) (ts : List Token) (x : A) (mid : List Token) → begins (starts g) ts ≡ true → read (nested_at levels) g ts ≡ Ok (x, mid) →
-      behind_front (front ++ (x ∷ [])) (several_at (read (nested_at levels) g) (starts g) mid) ≡ behind_front front (several_at (read (nested_at levels) g) (starts g) ts)
-  front-next front ts x mid b e =
-      sym (ap (behind_front front) (several-next (read (nested_at levels) g) (starts g) (shorter_at levels g some) ts (x, mid) b e)
-      ∙ behind_next front x (several_at (read (nested_at levels) g) (starts g) mid))
-
-  pub front-stop : (front : List A) (ts : List Token) (s : Stop) → begins (starts g) ts ≡ true → read (nested_at levels) g ts ≡ Err s →
-      behind_front front (several_at (read (nested_at levels) g) (starts g) ts) ≡ Err s
-  front-stop front ts s b e = ap (behind_front front) (several-stop (read (nested_at levels) g) (starts g) (shorter_at levels g some) ts s b e)
-
-  pub front-end : (front : List A) (ts : List Token) → begins (starts g) ts ≡ false →
-      behind_front front (several_at (read (nested_at levels) g) (starts g) ts) ≡ Ok (front, ts)
-  front-end front ts b =
-      ap (behind_front front) (several-end (read (nested_at levels) g) (starts g) (shorter_at levels g some) ts b) ∙ ap (λ xs. Ok (xs, ts)) (append-nil front)
-
-  pub commas-pass : (front : List A) (ts after : List Token) (x : A) (mid : List Token) → IsComma ts after → begins (starts g) after ≡ true → read (nested_at levels) g after ≡ Ok (x, mid) →
-      behind_front (front ++ (x ∷ [])) (commas_at (read (nested_at levels) g) (starts g) mid) ≡ behind_front front (commas_at (read (nested_at levels) g) (starts g) ts)
-  commas-pass front ts after x mid k b e =
-      sym (ap (behind_front front)
-      (ap (commas_at (read (nested_at levels) g) (starts g)) k.1
-      ∙ commas-unroll (read (nested_at levels) g) (starts g) (shorter_at levels g some) k.0 after k.2 b
-      ∙ ap (λ r. then_reads r (λ x mid. then_reads (commas_at (read (nested_at levels) g) (starts g) mid) (λ xs rest. Ok (x ∷ xs, rest)))) e)
-      ∙ behind_next front x (commas_at (read (nested_at levels) g) (starts g) mid))
-
-  pub commas-stop : (front : List A) (ts after : List Token) (s : Stop) → IsComma ts after → begins (starts g) after ≡ true → read (nested_at levels) g after ≡ Err s →
-      behind_front front (commas_at (read (nested_at levels) g) (starts g) ts) ≡ Err s
-  commas-stop front ts after s k b e = ap (behind_front front)
-      (ap (commas_at (read (nested_at levels) g) (starts g)) k.1
-      ∙ commas-unroll (read (nested_at levels) g) (starts g) (shorter_at levels g some) k.0 after k.2 b
-      ∙ ap (λ r. then_reads r (λ x mid. then_reads (commas_at (read (nested_at levels) g) (starts g) mid) (λ xs rest. Ok (x ∷ xs, rest)))) e)
-
-  pub commas-over : (front : List A) (ts after : List Token) → IsComma ts after → begins (starts g) after ≡ false →
-      behind_front front (commas_at (read (nested_at levels) g) (starts g) ts) ≡ Ok (front, after)
-  commas-over front ts after k b =
-      ap (behind_front front) (ap (commas_at (read (nested_at levels) g) (starts g)) k.1 ∙ commas-last (read (nested_at levels) g) (starts g) (shorter_at levels g some) k.0 after k.2 b)
-      ∙ ap (λ xs. Ok (xs, after)) (append-nil front)
-
-  pub commas-end : (front : List A) (ts : List Token) → begins (Comma ∷ []) ts ≡ false → behind_front front (commas_at (read (nested_at levels) g) (starts g) ts) ≡ Ok (front, ts)
-  commas-end front ts b =
-      ap (behind_front front) (commas-none (read (nested_at levels) g) (starts g) (shorter_at levels g some) ts b) ∙ ap (λ xs. Ok (xs, ts)) (append-nil front)
-
-  pub commas-shorter : (ts after : List Token) (x : A) (mid : List Token) → IsComma ts after → read (nested_at levels) g after ≡ Ok (x, mid) → length mid < length ts
-  commas-shorter ts after x mid k e =
-      let same : length ts ≡ length (k.0 ∷ after) = ap length k.1 in
-      let less : length mid < length after = shorter_at levels g some after (x, mid) e in
-      omega arith
 
 -- a level less
 pub nested_at-suc : (levels less : ℕ) (n : Nest) (ts : List Token) → levels ≡ less + 1 → nested_at levels n ts ≡ read (nested_at less) (nest n) ts

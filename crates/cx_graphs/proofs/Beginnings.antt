@@ -1,5 +1,5 @@
 -- A tally begins, goes on through lists, and is cleared.
-use Rattle.std.proofs.Common.{◌≡◌, ℕ, zero, suc, ◌+◌, ◌<◌, ◌≤◌, List, [], ◌∷◌, ◌++◌, length, slice_set, replicate, ◌⊎◌, inl, inr, ⊎_elim, refl, sym, ◌∙◌, subst, arith}
+use Rattle.std.proofs.Common.{◌≡◌, ℕ, zero, suc, ◌+◌, ◌<◌, ◌≤◌, List, [], ◌∷◌, ◌++◌, length, slice_set, ◌⊎◌, inl, inr, ⊎_elim, refl, sym, ◌∙◌, subst, arith}
 use Rattle.std.proofs.lemmas.List.{length-set, get_or-set_same, get_or-set_other}
 use Rattle.cx_text.specs.Members.{In}
 use Rattle.cx_graphs.specs.Graphs.{Bounded, Edges, targets_of}
@@ -12,11 +12,6 @@ use Rattle.cx_graphs.proofs.Members.{past_the_end}
 use Rattle.cx_graphs.proofs.Marks.{in_left, in_right, in_either}
 use Rattle.cx_graphs.proofs.OwnerLemmas.{sound_joined}
 use Rattle.cx_text.proofs.NumberLaws.{same_or}
-
-pub all_nobody : (count n : ℕ) → owners_at (replicate count Nobody) n ≡ Nobody
-all_nobody zero n = refl
-all_nobody (suc count) zero = refl
-all_nobody (suc count) (suc n) = all_nobody count n
 
 -- what adding leaves is kept
 pub kept_added : (owners : List Owners) (touched nodes : List ℕ) (more : Owners) (after : List Owners) (now : List ℕ)

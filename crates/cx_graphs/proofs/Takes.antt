@@ -37,9 +37,6 @@ pub one_more_marked : (marks : List Bool) (xs : List ℕ) (k : ℕ) → AllMarke
 one_more_marked marks xs k before here m i =
     ⊎_elim (before m) (λ e. subst (Marked marks) e here) (in_take_next xs k m (subst (λ j. In (take j xs) m) (add-one k) i))
 
-pub to_the_end : (marks : List Bool) (xs : List ℕ) (k : ℕ) → length xs ≤ k → AllMarked marks (take k xs) → AllMarked marks (take (length xs) xs)
-to_the_end marks xs k few h m i = h m (in_take_all xs k m few (in_take xs (length xs) m i))
-
 -- marks
 pub marked_here : (ms : List Bool) (i : ℕ) → i < length ms → Marked (slice_set ms i true) i
 marked_here [] i h = absurd (omega (arith, h))

@@ -1,6 +1,6 @@
 -- What adding owners to nodes leaves.
 use Rattle.std.proofs.Common.{◌≡◌, ◌≢◌, ℕ, ◌<◌, List, [], ◌∷◌, ◌++◌, length, get_or, slice_set, append_assoc, inl, inr, ⊎_elim, refl, sym, ap, ◌∙◌, subst, arith}
-use Rattle.std.proofs.lemmas.List.{append-nil, length-set, length-append, get_or-set_same, get_or-set_other, get_or_read}
+use Rattle.std.proofs.lemmas.List.{length-set, length-append, get_or-set_same, get_or-set_other, get_or_read}
 use Rattle.cx_graphs.specs.declared.owners.Owners.{Owners}
 use Rattle.cx_graphs.specs.declared.owners.Owners.TheVariants.{Nobody}
 use Rattle.cx_graphs.specs.Owners.{Covers, joined, owners_at}
@@ -8,33 +8,6 @@ use Rattle.cx_graphs.specs.Tallies.{Added}
 use Rattle.cx_graphs.proofs.Marks.{in_left, in_right, in_either}
 use Rattle.cx_graphs.proofs.OwnerLemmas.{covers_left, covers_right, joined_again, less_room, some_joined, rooms_less}
 use Rattle.cx_text.proofs.NumberLaws.{same_or}
-
-pub nothing_added : (owners : List Owners) (touched : List ℕ) (more : Owners) → Added owners touched [] more owners touched
-nothing_added owners touched more = record {
-  same_length = refl;
-  still = λ n k h. h;
-  given = λ n k i h. absurd i;
-  fresh = [];
-  longer = sym (append-nil touched);
-  among = λ n i. absurd i;
-  some = λ n i. absurd i;
-  changed = λ n. inl refl;
-  less = omega arith;
-}
-
--- a node that has them already
-pub added_before : (owners : List Owners) (touched : List ℕ) (node : ℕ) (more : Owners) → joined (owners_at owners node) more ≡ owners_at owners node → Added owners touched (node ∷ []) more owners touched
-added_before owners touched node more e = record {
-  same_length = refl;
-  still = λ n k h. h;
-  given = λ n k i h. ⊎_elim (λ s. subst (λ m. Covers (owners_at owners m) k) s (subst (λ o. Covers o k) e (covers_right (owners_at owners node) more k h))) (λ j. absurd j) i;
-  fresh = [];
-  longer = sym (append-nil touched);
-  among = λ n i. absurd i;
-  some = λ n i. absurd i;
-  changed = λ n. inl refl;
-  less = omega arith;
-}
 
 -- a node whose owners become more
 pub added_now : (owners : List Owners) (touched : List ℕ) (node : ℕ) (more : Owners) → node < length owners → (joined (owners_at owners node) more ≡ owners_at owners node → ⊥)
@@ -107,6 +80,3 @@ module _ (owners : List Owners) (touched : List ℕ) (node : ℕ) (more before a
       subst (λ l. Added owners touched (node ∷ []) more (slice_set owners node after) l) (sym e)
       (subst (λ o. Added owners touched (node ∷ []) more (slice_set owners node o) (touched ++ node ∷ [])) (sym is_joined)
       (added_now owners touched node more within (λ same. differ (is_joined ∙ same ∙ sym was))))
-
-  pub add_before : after ≡ before → Added owners touched (node ∷ []) more owners touched
-  add_before same = added_before owners touched node more (sym is_joined ∙ same ∙ was)

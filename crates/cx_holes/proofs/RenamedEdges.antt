@@ -10,7 +10,8 @@ use Rattle.cx_meaning.specs.declared.ports.PortRef.TheVariants as ports
 use Rattle.cx_meaning.specs.Instances.{Path, loaded_at}
 use Rattle.cx_net.specs.Nets.{PlainNetDriver, PlainNetComponent, ToRegister}
 use Rattle.cx_net.specs.NetTree.{NetInstance, NetNode, NetCells, no_net_cells, a_row, a_child, net_part}
-use Rattle.cx_net.specs.NetMeaning.{NetState, below_cell, APort, NetLook, NetAround, around_child, outside, drivers_to, is_true, registers_of, zero_wide}
+use Rattle.cx_net.specs.NetMeaning.{NetState, below_cell, APort, NetLook, NetAround, around_child, outside, drivers_to, is_true, registers_of}
+use Rattle.cx_bits.specs.BitVector.{zero_of}
 use Rattle.cx_net.specs.NetEdges.{inputs_from, row_after, cell_after, cell_below, taken, value_in, guard_in, own_register, register_after, register_below, net_after}
 use Rattle.cx_net.specs.NetRuns.{net_start_at, net_start_below, net_externals, started, net_start, net_words}
 use Rattle.cx_holes.specs.Inlining.{inlined_driver, inlined_component}
@@ -23,7 +24,7 @@ use Rattle.cx_holes.proofs.RenamedNodes.{around_same}
 module _ (look new : NetLook) (same : (p : PortRef) → new [] (APort p) ≡ look [] (APort p)) where
   inputs_same : (c p : ℕ) (rows : List PortRow) → inputs_from new c p rows ≡ inputs_from look c p rows
   inputs_same c p [] = refl
-  inputs_same c p (port ∷ rest) = ap₂ (λ v l. Some (unwrap_or v (zero_wide port.width)) ∷ l) (same (ports.Cell c p)) (inputs_same c (suc p) rest)
+  inputs_same c p (port ∷ rest) = ap₂ (λ v l. Some (unwrap_or v (zero_of port.width)) ∷ l) (same (ports.Cell c p)) (inputs_same c (suc p) rest)
 
   row_same : (with_reset : Bool) (c : ℕ) (row : Row) (d : CellState) → row_after with_reset new c row d ≡ row_after with_reset look c row d
   row_same true c row d = refl

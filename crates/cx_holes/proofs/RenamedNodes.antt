@@ -2,7 +2,7 @@
 use Rattle.std.proofs.Common.{◌≡◌, ℕ, zero, suc, ◌+◌, ◌<◌, if◌then◌else◌, List, [], ◌∷◌, ◌++◌, length, replicate, Option, Some, None, option_map, option_and_then, unwrap_or, slice_get, refl, sym, ap, ap₂, ◌∙◌, arith}
 use Rattle.std.proofs.Math.Path.{fun_ext}
 use Rattle.std.proofs.lemmas.Bool.{lt-ltb}
-use Rattle.cx_bits.specs.BitVector.{BitVector}
+use Rattle.cx_bits.specs.BitVector.{BitVector, zero_of}
 use Rattle.cx_prim.specs.Rows.{Row}
 use Rattle.cx_prim.specs.declared.ports.Side.{Side}
 use Rattle.cx_prim.specs.declared.ports.Side.TheVariants as sides
@@ -13,7 +13,7 @@ use Rattle.cx_meaning.specs.Sights.{PartPort, Go, AnInput, AnOutput, ItsDone}
 use Rattle.cx_meaning.specs.Instances.{Path}
 use Rattle.cx_net.specs.Nets.{PlainNetTarget, ToPort, ToWire, ToHole, ToDone, PlainNetComponent}
 use Rattle.cx_net.specs.NetTree.{NetInstance, NetNode, NetCells, no_net_cells, a_row, a_child, NetAt, NoCell, ARow, AChild, net_part, net_cell_at}
-use Rattle.cx_net.specs.NetMeaning.{chain, NetState, below_cell, Node, APort, AWire, AHole, TheDone, NetLook, NetAround, net_part_port, decl_width, net_at_width, gather_known, zero_wide, drivers_to, registers_of, driven_node, row_node, child_node, cell_node, own_step, around_child, net_step, child_step}
+use Rattle.cx_net.specs.NetMeaning.{chain, NetState, below_cell, Node, APort, AWire, AHole, TheDone, NetLook, NetAround, net_part_port, decl_width, net_at_width, gather_known, drivers_to, registers_of, driven_node, row_node, child_node, cell_node, own_step, around_child, net_step, child_step}
 use Rattle.cx_holes.specs.Inlining.{inlined_target, inlined_component}
 use Rattle.cx_holes.specs.Names.{TargetNames, ComponentNames}
 use Rattle.cx_holes.specs.Renamed.{inlined_tree, inlined_cells, TreeNames, CellsName, renamed, IsInside, Alike, renamed_at, renamed_below, InsideAt, InsideBelow, AlikeAt, AlikeBelow}
@@ -60,14 +60,14 @@ module _ (part : PlainNetComponent) (cells : NetCells) (around : NetAround) (s :
   driven_same : (w : ℕ) (t : PlainNetTarget) → TargetNames (length part.wires) part.holes t
       → driven_node (inlined_component part) (inlined_cells cells) around s new other w (inlined_target (length part.wires) t) ≡ driven_node part cells around s look below w t
   driven_same w t h =
-      ap (λ ds. chain around (registers_of part cells around s look below) new (zero_wide w) ds) (drivers_same (length part.wires) part.holes t part.drivers h names)
-      ∙ chain_same part around (registers_of part cells around s look below) look new alike (zero_wide w) (drivers_to t part.drivers) (drivers_name (length part.wires) part.holes t part.drivers names)
+      ap (λ ds. chain around (registers_of part cells around s look below) new (zero_of w) ds) (drivers_same (length part.wires) part.holes t part.drivers h names)
+      ∙ chain_same part around (registers_of part cells around s look below) look new alike (zero_of w) (drivers_to t part.drivers) (drivers_name (length part.wires) part.holes t part.drivers names)
 
   row_same : (row : Row) (c p : ℕ) (side : Side) → row_node (inlined_component part) (inlined_cells cells) around s new other row c p side ≡ row_node part cells around s look below row c p side
   row_same row c p sides.Enable = driven_same (net_at_width (ARow row) p) (ToPort (ports.Cell c p)) tt
   row_same row c p sides.Plain = driven_same (net_at_width (ARow row) p) (ToPort (ports.Cell c p)) tt
   row_same row c p sides.Output =
-      ap (λ seen. option_map (λ inputs. unwrap_or (row.output (s.cell (c ∷ [])) inputs p) (zero_wide (net_at_width (ARow row) p))) (gather_known seen (row.reads p) 0 row.ports))
+      ap (λ seen. option_map (λ inputs. unwrap_or (row.output (s.cell (c ∷ [])) inputs p) (zero_of (net_at_width (ARow row) p))) (gather_known seen (row.reads p) 0 row.ports))
       (fun_ext (λ q. alike.ports (ports.Cell c q)))
   row_same row c p sides.Registered = refl
 

@@ -39,11 +39,6 @@ two_more zero le = refl
 two_more (suc zero) le = refl
 two_more (suc (suc b)) le = absurd (omega arith)
 
-pub two_end : (budget : ℕ) → 1 < budget → two_turns budget ≡ result.End 2
-two_end zero lt = absurd (omega arith)
-two_end (suc zero) lt = absurd (omega arith)
-two_end (suc (suc b)) lt = refl
-
 two_within : (budget : ℕ) → IsWithin budget (two_turns budget)
 two_within zero = tt
 two_within (suc zero) = tt

@@ -1,5 +1,5 @@
 -- Parts of statements: what they drive, that they stand in the control, and what is left of a seq, a loop or a repeat.
-use Rattle.std.proofs.Common.{◌≡◌, ℕ, zero, suc, ◌+◌, ◌-◌, ◌≤◌, ◌<◌, true, false, ◌||◌, ◌≢◌, List, [], ◌∷◌, ◌++◌, length, get_or, drop, Ok, Err, Option, Some, None, inr, refl, sym, ap, ◌∙◌, subst, arith}
+use Rattle.std.proofs.Common.{◌≡◌, ℕ, zero, suc, ◌+◌, ◌-◌, ◌≤◌, ◌<◌, true, false, ◌||◌, ◌≢◌, List, [], ◌∷◌, ◌++◌, length, get_or, drop, Ok, Err, Option, Some, None, refl, sym, ap, ◌∙◌, subst, arith}
 use Rattle.std.proofs.Math.Seq.{drop-cons}
 use Rattle.cx_meaning.specs.declared.ports.PlacedPort.{PlacedPort}
 use Rattle.cx_meaning.specs.Designs.{PlainDesign, PlainComponent, PlainForm, Empty, Timed, Seq, If, While, Repeat, PlainStatement}
@@ -12,7 +12,6 @@ use Rattle.cx_design.specs.declared.statements.Statement.{Statement}
 use Rattle.cx_design.specs.PlainForms.{plain_statement, plain_statements}
 use Rattle.cx_state.specs.States.{PlainInstance, IsStateOf}
 use Rattle.cx_turns.specs.Groups.{Driving}
-use Rattle.cx_turns.specs.Machines.{StandsIn, FormStands}
 use Rattle.cx_turns.specs.Tests.{Tested}
 use Rattle.cx_interp.specs.declared.answers.Answer.TheVariants.{End, Fault, More}
 use Rattle.cx_interp.specs.declared.answers.Answer.{Answer}
@@ -128,9 +127,6 @@ module _ (d : PlainDesign) (n : ℕ) (port : PlacedPort) (comb : Option ℕ) (bo
 
   body_undriven : (i : Instance) (c : ℕ) → while_drives i c ≡ false → statement_drives body i c ≡ false
   body_undriven i c e = comb_undriven (part_of i) comb (groups_of body) c e
-
-  pub body_stands : FormStands d n (While port comb body) → StandsIn d n body
-  body_stands (place, stands) path v number h = stands path v number (inr h)
 
   module _ (initial now : List PlainInstance) (budget spent : ℕ) where
     abbrev pub WhileLeft : Type 0

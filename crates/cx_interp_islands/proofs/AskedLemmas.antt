@@ -105,9 +105,6 @@ module _ (part : PlainComponent) (now : PortRef → Bool) (m : ℕ) where
 
 -- so the ports that are asked are those that begin
 module _ (part : PlainComponent) (now : PortRef → Bool) where
-  abbrev begun_form : Samples → PlainForm → ℕ → ℕ → List PortRef
-  begun_form kept = form_by part kept no_port port_at
-
   abbrev begun_while : Samples → PlainStatement → ℕ → ℕ → List PortRef
   begun_while kept = while_by part kept no_port port_at
 

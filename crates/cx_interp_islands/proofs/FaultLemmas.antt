@@ -8,10 +8,6 @@ use Rattle.cx_meaning.specs.Cycles.{Fault}
 use Rattle.cx_meaning.specs.Islands.{fault_of, first_unclear}
 use Rattle.cx_interp_islands.specs.Asked.{earlier_fault}
 
-pub earlier_fault_none : (fault : Option Fault) → earlier_fault fault None ≡ fault
-earlier_fault_none None = refl
-earlier_fault_none (Some fault) = refl
-
 pub earlier_fault_assoc : (a b c : Option Fault) → earlier_fault (earlier_fault a b) c ≡ earlier_fault a (earlier_fault b c)
 earlier_fault_assoc None b c = refl
 earlier_fault_assoc (Some a) b c = refl

@@ -14,14 +14,6 @@ use Rattle.cx_laws.proofs.PositionLemmas.{both_same}
 use Rattle.cx_laws.proofs.SamplesLemmas.{begin_other, now_is}
 use Rattle.cx_text.proofs.NumberLaws.{same_choice}
 
--- a choice by a test that is known on either side
-choose_lt : {A : Type 0} (j n : ℕ) (x y z : A) → (j < n → x ≡ z) → (n ≤ j → y ≡ z) → (if nat_lt j n then x else y) ≡ z
-choose_lt j n x y z f g =
-    ⊎_elim
-    (λ l. ap (λ b. if b then x else y) (lt-ltb j n l) ∙ f l)
-    (λ l. ap (λ b. if b then x else y) (le-ltb j n l) ∙ g l)
-    (cases_lt j n)
-
 -- where the samples are kept, what runs by them is what runs
 module _ {A : Type 0} (part : PlainComponent) (h : History) (t : ℕ) (kept : Samples) (of_group : ℕ → ℕ → List A) (of_port : PortRef → ℕ → List A) where
   while_is : (s : PlainStatement) (n j : ℕ) → (j < length_of part s → statement_by part kept of_group of_port s n j ≡ statement_at part h t of_group of_port s j)

@@ -15,9 +15,6 @@ is_digit-not_name b h = grind (arith, nat_tests)
 pub is_name_start-name_byte : (b : ℕ) → is_name_start b ≡ true → is_name_byte b ≡ true
 is_name_start-name_byte b h = grind (arith, nat_tests)
 
-pub is_digit-digit_value : (b : ℕ) → is_digit b ≡ true → is_digit_in 10 b ≡ true
-is_digit-digit_value b h = grind (arith, nat_tests)
-
 pub digit_value-is_digit : (b : ℕ) → is_digit_in 10 b ≡ true → is_digit b ≡ true
 digit_value-is_digit b h = grind (arith, nat_tests)
 

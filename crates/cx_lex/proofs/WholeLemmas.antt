@@ -141,9 +141,6 @@ pub record LexedSoFar (text : List ℕ) (read : ℕ) (rest : List ℕ) (done : L
   pub tokens : (more : List Token) → HasTokens (place_at text read) rest more → Lex text (done ++ more)
   pub fault : (kind : LexKind) (place : Place) → HasFault (place_at text read) rest kind place → FirstFault text kind place
 
-pub LexedSoFar-start : (text : List ℕ) → LexedSoFar text 0 text []
-LexedSoFar-start text = record { within = omega arith; behind = refl; tokens = λ more h. h; fault = λ kind place h. h }
-
 module _ (text : List ℕ) (read : ℕ) (rest : List ℕ) (done : List Token) (so_far : LexedSoFar text read rest done) (bytes behind : List ℕ) (whole : rest ≡ bytes ++ behind) where
   text_parts : text ≡ take read text ++ (bytes ++ behind)
   text_parts = sym (take-append-drop read text) ∙ ap (λ t. take read text ++ t) (so_far.behind ∙ whole)
@@ -216,9 +213,6 @@ LexedSoFar-end text read rest done so_far e = subst (Lex text) (append-nil done)
 pub record Lexing (text : List ℕ) (cursor : Reading) (rest : List ℕ) (done : List Token) : Type 0 where
   pub same : cursor.text ≡ text
   pub so_far : LexedSoFar text cursor.read rest done
-
-pub Lexing-start : (text : List ℕ) → Lexing text (record { text = text; read = 0 }) text []
-Lexing-start text = record { same = refl; so_far = LexedSoFar-start text }
 
 pub Lexing-fault : (text : List ℕ) (cursor : Reading) (rest : List ℕ) (done : List Token) (b : ℕ) (after : List ℕ) (kind : LexKind) (place : Place)
     → Lexing text cursor rest done → rest ≡ b ∷ after → Err kind ≡ item_at b after → place ≡ place_at cursor.text cursor.read → FirstFault text kind place

@@ -118,9 +118,6 @@ module _ (d : PlainDesign) (order : List ℕ) (is : IsOrder (component_edges d) 
       let r = is.earlier i k j at (edge_to d k j cell stands e) in
       table.known r.0 j m (let lt : r.0 < i = r.1 in omega arith) r.2 (let lt : r.0 < i = r.1 in omega arith)
 
-  pub table_begin : (rows : List Row) → length rows ≡ length d.components → IsTable d order 0 rows
-  table_begin rows sized = record { sized = sized; known = λ i k m less. absurd (omega arith) }
-
   pub table_there : (i k : ℕ) → slice_get order i ≡ Some k → k < length d.components
   table_there i k at = subst (λ n. k < n) (edge_count d) (is.within k (to_graph order k (in_at order i k at)))
 

@@ -88,6 +88,21 @@ abbrev pub if_acting : Option ℕ → PlainAssign → List Acting → List Actin
 if_acting None a rest = rest
 if_acting (Some o) a rest = record { offset = o; assign = a } ∷ rest
 
+-- the cell of a port of a cell, and the number of the port there
+abbrev pub cell_number : PortRef → ℕ
+cell_number (ports.Cell c p) = c
+cell_number (ports.Input n) = 0
+cell_number (ports.Output n) = 0
+cell_number (ports.Done g) = 0
+cell_number (ports.Literal w v) = 0
+
+abbrev pub port_number : PortRef → ℕ
+port_number (ports.Cell c p) = p
+port_number (ports.Input n) = 0
+port_number (ports.Output n) = 0
+port_number (ports.Done g) = 0
+port_number (ports.Literal w v) = 0
+
 -- two references to one port
 abbrev pub same_port : PortRef → PortRef → Bool
 same_port (ports.Cell c p) (ports.Cell d q) = nat_eq c d && nat_eq p q

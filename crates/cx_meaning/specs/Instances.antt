@@ -28,6 +28,12 @@ pub data At : Type 0 where
   OfRow : (row : Row) → At
   OfInstance : (child : Instance) → At
 
+-- how many inputs a component cell has
+abbrev pub input_count : At → ℕ
+input_count Nothing = 0
+input_count (OfRow row) = 0
+input_count (OfInstance child) = length (part_of child).inputs
+
 abbrev pub cell_at : Cells → ℕ → At
 cell_at no_cells c = Nothing
 cell_at (a_primitive row rest) zero = OfRow row

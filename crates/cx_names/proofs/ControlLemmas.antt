@@ -7,7 +7,7 @@ use Rattle.cx_meaning.specs.declared.ports.PlacedPort.{PlacedPort}
 use Rattle.cx_meaning.proofs.DesignsLemmas.{joined, joined_more}
 use Rattle.cx_ast.specs.PlainStatements as written
 use Rattle.cx_ast.specs.PlainTree.{PlainTree, PlainComponent}
-use Rattle.cx_meaning.specs.Designs.{PlainGroup, PlainInvoke, PlainStatement, Placed, If, StaticIf, PlainStatements, no_statements, a_statement, statements_of}
+use Rattle.cx_meaning.specs.Designs.{PlainGroup, PlainStatement, Placed, If, StaticIf, PlainStatements, no_statements, a_statement, statements_of}
 use Rattle.cx_numbering.specs.DesignOf.{Invoke, Next, first, invoke_group, capture_group, capture_count, is_static_invoke, after, after_static, past, plain_invoke_of, captures_for, groups_for, static_for, invoke_groups, static_invokes, invokes_all, all_of, of_block, seq_form, go_port, cell_port}
 use Rattle.cx_numbering.specs.Names.{group_names}
 use Rattle.cx_names.specs.Added.{Made, next_of, with_invoke, added, invokes_at, statement_of}
@@ -62,21 +62,6 @@ module _ (tree : PlainTree) (part : PlainComponent) where
   -- before any invoke
   pub first_next : (made : Made) → length made.groups ≡ length (group_names part) → made.invokes ≡ [] → next_of made ≡ first tree part
   first_next made g v = let invokes : length made.invokes ≡ 0 = ap length v in λ i. record { group = g i; invoke = invokes i }
-
-  -- an invoke that is added
-  pub with_static : (made : Made) (k : Invoke) → is_static_invoke tree part k ≡ true → (gs : List PlainGroup) (vs : List PlainInvoke)
-      → gs ≡ made.groups ++ captures_for tree part k k.outputs → vs ≡ made.invokes ++ plain_invoke_of tree part (next_of made) k ∷ [] → record { groups = gs; invokes = vs } ≡ with_invoke tree part made k
-  with_static made k e gs vs g v =
-      let groups : gs ≡ made.groups ++ groups_for tree part (is_static_invoke tree part k) (next_of made) k = g ∙ ap (λ b. made.groups ++ groups_for tree part b (next_of made) k) (sym e) in
-      let invokes : vs ≡ made.invokes ++ static_for tree part (is_static_invoke tree part k) (next_of made) k = v ∙ ap (λ b. made.invokes ++ static_for tree part b (next_of made) k) (sym e) in
-      λ i. record { groups = groups i; invokes = invokes i }
-
-  pub with_call : (made : Made) (k : Invoke) → is_static_invoke tree part k ≡ false → (gs : List PlainGroup) (vs : List PlainInvoke)
-      → gs ≡ made.groups ++ invoke_group tree part (length made.groups) k ∷ [] → vs ≡ made.invokes → record { groups = gs; invokes = vs } ≡ with_invoke tree part made k
-  with_call made k e gs vs g v =
-      let groups : gs ≡ made.groups ++ groups_for tree part (is_static_invoke tree part k) (next_of made) k = g ∙ ap (λ b. made.groups ++ groups_for tree part b (next_of made) k) (sym e) in
-      let invokes : vs ≡ made.invokes ++ static_for tree part (is_static_invoke tree part k) (next_of made) k = v ∙ sym (append-nil made.invokes) ∙ ap (λ b. made.invokes ++ static_for tree part b (next_of made) k) (sym e) in
-      λ i. record { groups = groups i; invokes = invokes i }
 
   all_then : (n : Next) (s : written.PlainStatement) (rest : written.PlainStatements) → all_of tree part n (written.StatementThen s rest) ≡ a_statement (statement_of tree part n s) (all_of tree part (past tree part n (invokes_at s)) rest)
   all_then n (written.Placed attributes form place) rest = refl

@@ -19,7 +19,7 @@ use Rattle.cx_ast.specs.PlainTree as ast
 use Rattle.cx_ast.specs.PlainTree.{PlainTree}
 use Rattle.cx_meaning.specs.declared.ports.PortRef.TheVariants as ports
 use Rattle.cx_meaning.specs.Designs.{PlainAssign, PlainInvoke, PlainCell, PlainKind, OfPrimitive, OfComponent, PlainComponent, PlainDesign, component_at}
-use Rattle.cx_meaning.specs.Instances.{Instance, At, Nothing, OfRow, OfInstance, cell_at, cells_of, part_of, add_cell, cells_for, tree_within}
+use Rattle.cx_meaning.specs.Instances.{Instance, At, OfRow, OfInstance, cell_at, cells_of, part_of, add_cell, cells_for, tree_within, input_count}
 use Rattle.cx_meaning.specs.Sights.{PartPort, AnInput, output_port, part_port}
 use Rattle.cx_meaning.proofs.DesignsLemmas.{same_part}
 use Rattle.cx_rules.specs.Ports.{component_of as instance_of, is_instance}
@@ -52,11 +52,6 @@ kind_told f g d n rows parts cells c cell h = ap f (at_number (tree_within d n) 
 abbrev kind_latency : PlainDesign → PlainKind → Option ℕ
 kind_latency d (OfPrimitive p) = None
 kind_latency d (OfComponent j) = (component_at d j).latency
-
-abbrev inputs_at : At → ℕ
-inputs_at Nothing = 0
-inputs_at (OfRow row) = 0
-inputs_at (OfInstance child) = length (part_of child).inputs
 
 abbrev kind_inputs : PlainDesign → PlainKind → ℕ
 kind_inputs d (OfPrimitive p) = 0
@@ -173,8 +168,8 @@ module _ (tree : PlainTree) (k : ℕ) (part : ast.PlainComponent) (at : slice_ge
 
         many : length (part_of child).inputs ≡ kind_inputs (design_of tree) (kind_or tree part (cell_of tree own.found))
         many =
-            ap inputs_at (sym stands)
-            ∙ told inputs_at (kind_inputs (design_of tree)) (λ p. refl) (λ n j. ap (λ (q : PlainComponent). length q.inputs) (same_part (design_of tree) n j)) v.cell own.found own.is
+            ap input_count (sym stands)
+            ∙ told input_count (kind_inputs (design_of tree)) (λ p. refl) (λ n j. ap (λ (q : PlainComponent). length q.inputs) (same_part (design_of tree) n j)) v.cell own.found own.is
 
         only : (is_among b.name (output_names tree part (cell_of tree own.found)) ≡ false) × (is_go_name tree part (cell_go (cell_of tree own.found)) b.name ≡ false)
         only = input_only tree part v.cell (cell_of tree own.found) b (own.inputs b i)

@@ -93,9 +93,6 @@ module _ (tree : PlainTree) (k : ℕ) (part : ast.PlainComponent) (at : slice_ge
   abbrev here : Instance
   here = instance_of (design_of tree) k
 
-  abbrev ThereIn : PortRef → Type 0
-  ThereIn p = IsThere (instance_of (design_of tree) k) p
-
   pub cell_port_there : (cell port : List ℕ) → is_among port (found_cell_ports tree (cell_among cell part.cells)) ≡ true → IsThere (instance_of (design_of tree) k) (cell_port tree part cell port)
   cell_port_there cell port h = by (cell_among cell part.cells) refl h
     where

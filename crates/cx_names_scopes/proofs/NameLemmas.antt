@@ -59,10 +59,6 @@ number_from-step (Some n) b k rest = refl
 number_from-step None true k rest = refl
 number_from-step None false k rest = refl
 
-pub or_else-None : (o : Option ℕ) → or_else o None ≡ o
-or_else-None None = refl
-or_else-None (Some n) = refl
-
 -- the four names of every component
 pub own_name_is : (name : List ℕ) → is_own_name name ≡ (((same_name (codes "go") name || same_name (codes "clk") name) || same_name (codes "reset") name) || same_name (codes "done") name)
 own_name_is name = by (same_name (codes "go") name) (same_name (codes "clk") name) (same_name (codes "reset") name) (same_name (codes "done") name)

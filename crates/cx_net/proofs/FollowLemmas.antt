@@ -1,7 +1,7 @@
 -- LAWS of layers: what follows something that realises a design realises it too; and each source has one outcome.
 use Rattle.std.proofs.Common.{◌≡◌, ℕ, List, Option, Some, None, refl, sym, ap, ◌∙◌, subst}
 use Rattle.std.specs.Prelude.{◌≢◌}
-use Rattle.cx_text.specs.Loading.{PlainRow, PlainMemory, FitsRows, words_loaded}
+use Rattle.cx_text.specs.Loading.{PlainMemory, FitsRows, words_loaded}
 use Rattle.cx_meaning.specs.Answers.{More}
 use Rattle.cx_meaning.specs.Designs.{PlainDesign}
 use Rattle.cx_meaning.specs.Running.{run_main}
@@ -41,10 +41,6 @@ follows_realises d first second unique below follow = record {
       below.ends_only memories budget cycle left fits (subst (first (words_loaded memories) budget) (sym same) (ran h));
   never_stuck = λ memories budget fits. has_outcome first second (words_loaded memories) budget (λ o r. follow memories budget o fits r) (below.never_stuck memories budget fits);
 }
-
--- so do two of them in a row
-pub follows_both : (rows : List PlainRow) (first second third : List (List ℕ) → ℕ → Outcome → Type 0) → Follows rows first second → Follows rows second third → Follows rows first third
-follows_both rows first second third f g memories last o fits r = g memories last o fits (f memories last o fits r)
 
 pub source_comes_to_one : (source : PlainSource) → ComesToOne (SimRun source)
 source_comes_to_one source words last a b r q = one_outcome r q

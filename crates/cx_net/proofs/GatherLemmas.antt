@@ -1,11 +1,11 @@
 -- What is gathered at the ports of a cell.
 use Rattle.std.proofs.Common.{◌≡◌, ℕ, zero, suc, ◌+◌, ◌<◌, Bool, true, false, List, [], ◌∷◌, length, Option, Some, None, option_and_then, option_map, slice_get, refl, ap, sym, ◌∙◌, subst, if◌then◌else◌, arith}
 use Rattle.std.specs.Prelude.{IsSome, unwrap_or}
-use Rattle.cx_bits.specs.BitVector.{BitVector}
+use Rattle.cx_bits.specs.BitVector.{BitVector, zero_of}
 use Rattle.cx_prim.specs.declared.ports.PortRow.{PortRow}
 use Rattle.cx_prim.specs.Rows.{Inputs, input}
 use Rattle.cx_meaning.specs.declared.ports.PortRef.TheVariants as ports
-use Rattle.cx_net.specs.NetMeaning.{APort, NetLook, gather_known, zero_wide}
+use Rattle.cx_net.specs.NetMeaning.{APort, NetLook, gather_known}
 use Rattle.cx_net.specs.NetEdges.{inputs_from}
 
 -- a list with an entry for each port, each as it is known, and all that are wanted
@@ -88,18 +88,18 @@ length-inputs_from look c first [] = refl
 length-inputs_from look c first (row ∷ rows) = ap suc (length-inputs_from look c (suc first) rows)
 
 input-inputs_from : (look : NetLook) (c first : ℕ) (rows : List PortRow) (n : ℕ) (row : PortRow) → slice_get rows n ≡ Some row
-    → input (inputs_from look c first rows) n ≡ Some (unwrap_or (look [] (APort (ports.Cell c (first + n)))) (zero_wide row.width))
+    → input (inputs_from look c first rows) n ≡ Some (unwrap_or (look [] (APort (ports.Cell c (first + n)))) (zero_of row.width))
 input-inputs_from look c first [] n row e = absurd (cc)
 input-inputs_from look c first (x ∷ rows) zero row e =
     let same : x ≡ row = cc in
     let place : first ≡ first + 0 = omega arith in
-    ap (λ (q : ℕ). Some (unwrap_or (look [] (APort (ports.Cell c q))) (zero_wide x.width))) place ∙ ap (λ (y : PortRow). Some (unwrap_or (look [] (APort (ports.Cell c (first + 0)))) (zero_wide y.width))) same
+    ap (λ (q : ℕ). Some (unwrap_or (look [] (APort (ports.Cell c q))) (zero_of x.width))) place ∙ ap (λ (y : PortRow). Some (unwrap_or (look [] (APort (ports.Cell c (first + 0)))) (zero_of y.width))) same
 input-inputs_from look c first (x ∷ rows) (suc n) row e =
     let place : suc first + n ≡ first + suc n = omega arith in
-    input-inputs_from look c (suc first) rows n row e ∙ ap (λ (q : ℕ). Some (unwrap_or (look [] (APort (ports.Cell c q))) (zero_wide row.width))) place
+    input-inputs_from look c (suc first) rows n row e ∙ ap (λ (q : ℕ). Some (unwrap_or (look [] (APort (ports.Cell c q))) (zero_of row.width))) place
 
 pub input-from_look : (look : NetLook) (c : ℕ) (rows : List PortRow) (n : ℕ) (row : PortRow) → slice_get rows n ≡ Some row
-    → input (inputs_from look c 0 rows) n ≡ Some (unwrap_or (look [] (APort (ports.Cell c n))) (zero_wide row.width))
+    → input (inputs_from look c 0 rows) n ≡ Some (unwrap_or (look [] (APort (ports.Cell c n))) (zero_of row.width))
 input-from_look look c rows n row e =
     let place : 0 + n ≡ n = omega arith in
-    input-inputs_from look c 0 rows n row e ∙ ap (λ (q : ℕ). Some (unwrap_or (look [] (APort (ports.Cell c q))) (zero_wide row.width))) place
+    input-inputs_from look c 0 rows n row e ∙ ap (λ (q : ℕ). Some (unwrap_or (look [] (APort (ports.Cell c q))) (zero_of row.width))) place

@@ -2,7 +2,7 @@
 use Rattle.std.proofs.Common.{◌≡◌, ℕ, zero, suc, ◌<◌, Bool, true, false, List, [], ◌∷◌, ◌++◌, length, Option, Some, None, IsSome, option_map, slice_get, refl, sym, ap, ◌∙◌, subst, if◌then◌else◌, arith}
 use Rattle.std.specs.Prelude.{◌^◌, unwrap_or}
 use Rattle.std.specs.Option.{option_map_or}
-use Rattle.cx_bits.specs.BitVector.{BitVector}
+use Rattle.cx_bits.specs.BitVector.{BitVector, zero_of}
 use Rattle.cx_prim.specs.declared.ports.PortRow.{PortRow}
 use Rattle.cx_prim.specs.CellStates.{CellState, IsState}
 use Rattle.cx_prim.specs.Rows.{Inputs, Row, input, IsOfWidth, IsLawful}
@@ -13,7 +13,7 @@ use Rattle.cx_meaning.specs.Designs.{OfPrimitive, OfComponent, PlainCell}
 use Rattle.cx_meaning.specs.Instances.{Path}
 use Rattle.cx_net.specs.Nets.{ToRegister, PlainNetDriver, PlainNetComponent, PlainNet}
 use Rattle.cx_net.specs.NetTree.{NetCells, net_component_at, net_cells_for, net_within, net_tree}
-use Rattle.cx_net.specs.NetMeaning.{NetState, below_cell, APort, NetLook, NetAround, is_true, drivers_to, zero_wide, around_child, outside}
+use Rattle.cx_net.specs.NetMeaning.{NetState, below_cell, APort, NetLook, NetAround, is_true, drivers_to, around_child, outside}
 use Rattle.cx_net.specs.NetEdges.{inputs_from, row_after, cell_after, taken, value_in, guard_in, own_register, register_after, net_after}
 use Rattle.cx_net.specs.NetRuns.{IsWholeLook}
 use Rattle.cx_net.specs.NetFits.{IsFit}
@@ -75,16 +75,16 @@ module _ (net : PlainNet) (fit : IsFit net) (wide : IsWide net) (rows_wide : Row
         let fits = inputs_fit net fit wide rows_wide k x.here around s look x.holds x.outward x.looked cells c cell p there is (inputs_from look c 0 row.ports) (length-inputs_from look c 0 row.ports) (λ n port b at e. each n port b at e) in
         lawful.states.next (s.cell (c ∷ [])) (inputs_from look c 0 row.ports) (x.holds.cells [] k c cell p refl there is) fits.0 fits.1
       where
-        some_port : (port : PortRow) (n : ℕ) → slice_get (row_of p).ports n ≡ Some port → (o : Option BitVector) → look [] (APort (ports.Cell c n)) ≡ o → IsOfWidth port.width (unwrap_or o (zero_wide port.width))
+        some_port : (port : PortRow) (n : ℕ) → slice_get (row_of p).ports n ≡ Some port → (o : Option BitVector) → look [] (APort (ports.Cell c n)) ≡ o → IsOfWidth port.width (unwrap_or o (zero_of port.width))
         some_port port n at None e = zero_fits port.width (rows_wide p n port at)
         some_port port n at (Some b) e = x.looked [] k (APort (ports.Cell c n)) port.width b refl (primitive_width net part c cell p n port there is at) e
 
         each : (n : ℕ) (port : PortRow) (b : BitVector) → slice_get (row_of p).ports n ≡ Some port → input (inputs_from look c 0 (row_of p).ports) n ≡ Some b → IsOfWidth port.width b
         each n port b at e =
-            let same : unwrap_or (look [] (APort (ports.Cell c n))) (zero_wide port.width) ≡ b = is_same (sym (input-from_look look c (row_of p).ports n port at) ∙ e) in
+            let same : unwrap_or (look [] (APort (ports.Cell c n))) (zero_of port.width) ≡ b = is_same (sym (input-from_look look c (row_of p).ports n port at) ∙ e) in
             subst (IsOfWidth port.width) same (some_port port n at (look [] (APort (ports.Cell c n))) refl)
           where
-            is_same : Some (unwrap_or (look [] (APort (ports.Cell c n))) (zero_wide port.width)) ≡ Some b → unwrap_or (look [] (APort (ports.Cell c n))) (zero_wide port.width) ≡ b
+            is_same : Some (unwrap_or (look [] (APort (ports.Cell c n))) (zero_of port.width)) ≡ Some b → unwrap_or (look [] (APort (ports.Cell c n))) (zero_of port.width) ≡ b
             is_same f = cc
 
   registers_hold : (path : Path) (levels k : ℕ) → k < levels → (around : NetAround) (s : NetState) (look : NetLook) → Known k around s look

@@ -3,7 +3,7 @@ use Rattle.std.proofs.Common.{◌≡◌, ℕ, zero, suc, ◌<◌, Bool, true, fa
 use Rattle.std.specs.Prelude.{◌^◌, unwrap_or}
 use Rattle.std.proofs.lemmas.Bool.{lt-ltb}
 use Rattle.std.proofs.lemmas.Nat.{pow_pos}
-use Rattle.cx_bits.specs.BitVector.{BitVector}
+use Rattle.cx_bits.specs.BitVector.{BitVector, zero_of}
 use Rattle.cx_bits.specs.Operators.{and_of, or_of, sum_of, complement_of}
 use Rattle.cx_bits.proofs.OperatorLaws.{Fits-sum_of, Fits-and_of, Fits-or_of, Fits-complement_of}
 use Rattle.cx_prim.specs.declared.ports.PortRow.{PortRow}
@@ -23,7 +23,7 @@ use Rattle.cx_meaning.specs.Sights.{PartPort, Go, AnInput, AnOutput, ItsDone}
 use Rattle.cx_meaning.specs.Truths.{compares}
 use Rattle.cx_net.specs.Nets.{PlainNetExpr, OfPort, OfRegister, OfWire, OfHole, OfGo, Fixed, Inverse, AllOf, AnyOf, Sum, Compares, PlainNetExprs, no_exprs, an_expr, PlainNetTarget, ToPort, ToRegister, ToWire, ToHole, ToDone, PlainNetDriver, PlainNetComponent, PlainNet}
 use Rattle.cx_net.specs.NetTree.{NetInstance, NetCells, ARow, AChild, net_part, net_component_at, net_cells_for, net_within, net_tree}
-use Rattle.cx_net.specs.NetMeaning.{NetState, below_cell, Node, APort, AWire, AHole, TheDone, NetLook, NetAround, net_part_port, truth_bit, both_known, is_true, net_expr, all_expr, any_expr, chain, drivers_to, decl_width, child_port_width, net_at_width, gather_known, zero_wide, registers_of, driven_node, row_node, child_node, cell_node, own_step, around_child, net_step, outside, NetHas, by_rule}
+use Rattle.cx_net.specs.NetMeaning.{NetState, below_cell, Node, APort, AWire, AHole, TheDone, NetLook, NetAround, net_part_port, truth_bit, both_known, is_true, net_expr, all_expr, any_expr, chain, drivers_to, decl_width, child_port_width, net_at_width, gather_known, registers_of, driven_node, row_node, child_node, cell_node, own_step, around_child, net_step, outside, NetHas, by_rule}
 use Rattle.cx_net.specs.NetFits.{signature_widths, kind_width, port_width, HasPortWidth, HasWidth, AreBits, target_width, IsFitKind, IsFit}
 use Rattle.cx_net.specs.NetPaths.{LeadsTo, width_of_node}
 use Rattle.cx_net.specs.NetHolds.{Holds, IsWide, RowsAreWide}
@@ -42,7 +42,7 @@ both_some f a b v e =
     let (y, is_y, h) = map_some (f x) b v g in
     (x, y, is, is_y, h)
 
-pub zero_fits : (w : ℕ) → IsWidth w → IsOfWidth w (zero_wide w)
+pub zero_fits : (w : ℕ) → IsWidth w → IsOfWidth w (zero_of w)
 zero_fits w wide = record { same_width = refl; fits = record { some_bits = wide.some_bits; few_bits = wide.few_bits; in_range = pow_pos w } }
 
 one_wide : IsWidth 1
@@ -157,7 +157,7 @@ module _ (net : PlainNet) (fit : IsFit net) (wide : IsWide net) (rows_wide : Row
           go false f rest = rest f
 
       driven_wide : (t : PlainNetTarget) (w : ℕ) (v : BitVector) → IsWidth w → target_width net part t ≡ Some w → driven_node part cells around s (look []) (λ c. look (c ∷ [])) w t ≡ Some v → IsOfWidth w v
-      driven_wide t w v ok is_target e = chain_wide (zero_wide w) w (drivers_to t part.drivers) v (zero_fits w ok) (drivers_fit net part t w is_target part.drivers (fit.components k here).drivers) e
+      driven_wide t w v ok is_target e = chain_wide (zero_of w) w (drivers_to t part.drivers) v (zero_fits w ok) (drivers_fit net part t w is_target part.drivers (fit.components k here).drivers) e
 
       -- what an edge gives a register
       pub register_next : (n w : ℕ) (v : BitVector) → slice_get part.registers n ≡ Some w
@@ -209,7 +209,7 @@ module _ (net : PlainNet) (fit : IsFit net) (wide : IsWide net) (rows_wide : Row
               (subst (λ u. driven_node part cells around s (look []) (λ c. look (c ∷ [])) u (ToPort (ports.Cell c n)) ≡ Some v) width_is f)
 
           some_output : (inputs : Inputs) → ((b : BitVector) → row.output (s.cell (c ∷ [])) inputs n ≡ Some b → IsOfWidth port.width b) → (o : Option BitVector) → row.output (s.cell (c ∷ [])) inputs n ≡ o
-              → IsOfWidth port.width (unwrap_or o (zero_wide port.width))
+              → IsOfWidth port.width (unwrap_or o (zero_of port.width))
           some_output inputs f None h = zero_fits port.width (rows_wide p n port at)
           some_output inputs f (Some b) h = f b h
 
@@ -217,10 +217,10 @@ module _ (net : PlainNet) (fit : IsFit net) (wide : IsWide net) (rows_wide : Row
           go sides.Enable is_side f = from_drivers f
           go sides.Plain is_side f = from_drivers f
           go sides.Output is_side f =
-              let (inputs, known, value) = map_some (λ inputs. unwrap_or (row.output (s.cell (c ∷ [])) inputs n) (zero_wide (net_at_width (ARow row) n)))
+              let (inputs, known, value) = map_some (λ inputs. unwrap_or (row.output (s.cell (c ∷ [])) inputs n) (zero_of (net_at_width (ARow row) n)))
               (gather_known (λ q. look [] (APort (ports.Cell c q))) (row.reads n) 0 row.ports) v f in
               let g = gathered (λ q. look [] (APort (ports.Cell c q))) (row.reads n) row.ports inputs known in
-              subst (IsOfWidth port.width) (ap (λ u. unwrap_or (row.output (s.cell (c ∷ [])) inputs n) (zero_wide u)) (sym width_is) ∙ value)
+              subst (IsOfWidth port.width) (ap (λ u. unwrap_or (row.output (s.cell (c ∷ [])) inputs n) (zero_of u)) (sym width_is) ∙ value)
               (some_output inputs (λ b h. output_wide inputs g.0 (λ m q x at_q x_is. looked [] k (APort (ports.Cell c m)) q.width x refl (primitive_width net part c cell p m q there is at_q) (g.1 m x x_is)) n port at (ap is_output_side is_side) b h) (row.output (s.cell (c ∷ [])) inputs n) refl)
           go sides.Registered is_side f =
               output_wide (no_inputs row.ports) (length-no_inputs row.ports) (λ m q x at_q x_is. absurd (let wrong = sym (input-no_inputs row.ports m) ∙ x_is in cc)) n port at (ap is_output_side is_side) v

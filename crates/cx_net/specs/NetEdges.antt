@@ -1,7 +1,7 @@
 -- The edge of a net, when all that it looks at has a value.
 use Rattle.std.specs.Prelude.{ℕ, zero, suc, Bool, true, false, List, [], ◌∷◌, Option, Some, unwrap_or, if◌then◌else◌}
 use Rattle.std.specs.Option.{option_map_or}
-use Rattle.cx_bits.specs.BitVector.{BitVector}
+use Rattle.cx_bits.specs.BitVector.{BitVector, zero_of}
 use Rattle.cx_prim.specs.CellStates.{CellState}
 use Rattle.cx_prim.specs.declared.ports.PortRow.{PortRow}
 use Rattle.cx_prim.specs.Rows.{Inputs, Row, reset}
@@ -9,11 +9,11 @@ use Rattle.cx_meaning.specs.declared.ports.PortRef.TheVariants as ports
 use Rattle.cx_meaning.specs.Instances.{Path}
 use Rattle.cx_net.specs.Nets.{PlainNetComponent, PlainNetDriver, ToRegister}
 use Rattle.cx_net.specs.NetTree.{NetInstance, NetNode, NetCells, no_net_cells, a_row, a_child}
-use Rattle.cx_net.specs.NetMeaning.{NetState, below_cell, APort, NetLook, NetAround, around_child, outside, drivers_to, is_true, net_expr, registers_of, zero_wide}
+use Rattle.cx_net.specs.NetMeaning.{NetState, below_cell, APort, NetLook, NetAround, around_child, outside, drivers_to, is_true, net_expr, registers_of}
 
 -- a cell makes the step of its row; with reset it goes to its start, but a memory keeps its words
 abbrev pub port_or_zero : NetLook → ℕ → ℕ → PortRow → Option BitVector
-port_or_zero look c p port = Some (unwrap_or (look [] (APort (ports.Cell c p))) (zero_wide port.width))
+port_or_zero look c p port = Some (unwrap_or (look [] (APort (ports.Cell c p))) (zero_of port.width))
 
 abbrev pub inputs_from : NetLook → ℕ → ℕ → List PortRow → Inputs
 inputs_from look c p [] = []

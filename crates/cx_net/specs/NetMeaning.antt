@@ -1,6 +1,6 @@
 -- One cycle of a net: each port, wire and hole has at most one value, which follows by rules from those of others.
 use Rattle.std.specs.Prelude.{◌≡◌, ℕ, zero, suc, ◌+◌, ◌==◌, not, nat_lt, Bool, true, false, List, [], ◌∷◌, length, Option, Some, None, option_map, option_and_then, unwrap_or, slice_get, if◌then◌else◌}
-use Rattle.cx_bits.specs.BitVector.{BitVector}
+use Rattle.cx_bits.specs.BitVector.{BitVector, zero_of}
 use Rattle.cx_bits.specs.Operators.{sum_of, and_of, or_of, complement_of}
 use Rattle.cx_prim.specs.declared.ports.PortRow.{PortRow}
 use Rattle.cx_prim.specs.declared.ports.Side.{Side}
@@ -123,9 +123,6 @@ gather_known look wanted p (port ∷ rest) =
     (λ b. option_map (λ more. Some b ∷ more) (gather_known look wanted (suc p) rest)) (look p)
     else option_map (λ more. None ∷ more) (gather_known look wanted (suc p) rest)
 
-abbrev pub zero_wide : ℕ → BitVector
-zero_wide w = record { width = w; value = 0 }
-
 -- ONE RULE, of a node of an instance; of the cells below only outputs and dones are looked at
 module _ (part : PlainNetComponent) (cells : NetCells) (around : NetAround) (s : NetState)
     (look : Node → Option BitVector) (below : ℕ → Node → Option BitVector) where
@@ -133,13 +130,13 @@ module _ (part : PlainNetComponent) (cells : NetCells) (around : NetAround) (s :
   registers_of n = option_map (λ w. record { width = w; value = s.register [] n }) (slice_get part.registers n)
 
   abbrev pub driven_node : ℕ → PlainNetTarget → Option BitVector
-  driven_node w t = chain around registers_of look (zero_wide w) (drivers_to t part.drivers)
+  driven_node w t = chain around registers_of look (zero_of w) (drivers_to t part.drivers)
 
   abbrev pub row_node : Row → ℕ → ℕ → Side → Option BitVector
   row_node row c p sides.Enable = driven_node (net_at_width (ARow row) p) (ToPort (ports.Cell c p))
   row_node row c p sides.Plain = driven_node (net_at_width (ARow row) p) (ToPort (ports.Cell c p))
   row_node row c p sides.Output =
-      option_map (λ inputs. unwrap_or (row.output (s.cell (c ∷ [])) inputs p) (zero_wide (net_at_width (ARow row) p)))
+      option_map (λ inputs. unwrap_or (row.output (s.cell (c ∷ [])) inputs p) (zero_of (net_at_width (ARow row) p)))
       (gather_known (λ q. look (APort (ports.Cell c q))) (row.reads p) 0 row.ports)
   row_node row c p sides.Registered = row.output (s.cell (c ∷ [])) [] p
 

@@ -193,9 +193,6 @@ module _ (part : PlainComponent) (cells : Cells) (all : AllSound (Node part cell
   abbrev L : Leaves State Fault
   L = leaves (Node part cells) (control_below cells) held
 
-  own_sound : IsSound (Node part cells)
-  own_sound = all []
-
   pub statement_settles : (a : PlainStatement) (s : State) (n : ℕ) → IsSettled (Node part cells) s → budgets.Leaves (IsSettled (Node part cells)) (run L a s n)
   statement_settles a s n settled = settles_statement (Node part cells) law.rows held a s n settled
 

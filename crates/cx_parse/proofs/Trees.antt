@@ -21,9 +21,6 @@ then_ok_of : Result PlainTree Stop → Reads PlainTree
 then_ok_of (Ok x) = Ok (x, [])
 then_ok_of (Err s) = Err s
 
-same_ok : {A E : Type 0} (x y : A) → (let r : Result A E = Ok x in r ≡ Ok y) → x ≡ y
-same_ok x y e = cc
-
 no_rest : (r : Reads PlainTree) (t : PlainTree) → then_whole r ≡ Ok t → r ≡ Ok (t, [])
 unfolding then_ok_of
 no_rest (Ok (x, [])) t e = ap (λ r. then_ok_of r) e

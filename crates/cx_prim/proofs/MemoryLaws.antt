@@ -175,7 +175,7 @@ word_at_below w count sizes inputs words ok =
 
 -- combinational memories
 
-abbrev memory_tail : ℕ → List PortRow
+abbrev pub memory_tail : ℕ → List PortRow
 memory_tail w = plain_port WriteData w ∷ enable_port WriteEn ∷ output_port ReadData w ∷ registered_port Done 1 ∷ []
 
 pub address_count : (w : ℕ) (sizes address_widths : List ℕ) → IsLayout w sizes address_widths → length (address_ports address_widths) ≡ length sizes
@@ -390,7 +390,7 @@ memory_lawful w sizes address_widths layout = record {
 
 -- sequential memories
 
-abbrev sequential_tail : ℕ → List PortRow
+abbrev pub sequential_tail : ℕ → List PortRow
 sequential_tail w = enable_port ContentEn ∷ enable_port WriteEn ∷ plain_port WriteData w ∷ registered_port ReadData w ∷ registered_port Done 1 ∷ []
 
 -- the ports of a sequential memory after its addresses

@@ -21,7 +21,7 @@ passes_at test (y ∷ ys) zero x all at =
     let same : y ≡ x = cc in ap test (sym same) ∙ and_left (test y) (list_all test ys) all
 passes_at test (y ∷ ys) (suc n) x all at = passes_at test ys n x (and_right (test y) (list_all test ys) all) at
 
-abbrev is_unregistered_side : Side → Bool
+abbrev pub is_unregistered_side : Side → Bool
 is_unregistered_side Registered = false
 is_unregistered_side _ = true
 

@@ -75,6 +75,10 @@ abbrev pub is_enable_side : Side → Bool
 is_enable_side Enable = true
 is_enable_side _ = false
 
+abbrev pub is_plain_side : Side → Bool
+is_plain_side Plain = true
+is_plain_side _ = false
+
 -- port n is there, on a side that passes the test
 abbrev pub HasSide : Row → ℕ → (Side → Bool) → Type 0
 HasSide r n test = (port : PortRow) × (slice_get r.ports n ≡ Some port) × (test port.side ≡ true)

@@ -89,14 +89,6 @@ module _ {A : Type 0} {n : ℕ} {g : Grammar A} {P : A → Type 0} {add : Pieces
   pub mapped_added : {B : Type 0} (f : A → B) → Adds n g P add → (R : B → Type 0) → ((x : A) → P x → R (f x)) → Adds n (calyx.mapped f g) R add
   mapped_added f a R r = adds_pair a (adds_nothing tt Any tt) R (λ x y p q. r x p)
 
-  pub adds_so : Adds n g P add → (R : A → Type 0) → ((x : A) → P x → R x) → Adds n g R add
-  adds_so a R r = record {
-    kinds = a.kinds;
-    added = a.added;
-    writable = a.writable;
-    begun = λ ts after e. let b = a.begun ts after e in record { value = b.value; rest = b.rest; spelled = b.spelled; is = r b.value b.is; left = b.left };
-  }
-
 module _ {A : Type 0} {n : ℕ} {g : Grammar A} {P : A → Type 0} {add : Pieces → Pieces} where
   pub within_added : (gap : Gap) (from : Sign) (opening : Terminal) → is_in (sign_terminal from) (opening ∷ []) ≡ true → Adds n g P add → (last : Gap) (to : Sign) (closing : Terminal) → is_in (sign_terminal to) (closing ∷ []) ≡ true
       → Adds n (calyx.within opening g closing) P (λ before. put_sign last to (add (put_sign gap from before)))

@@ -58,9 +58,6 @@ module _ (d : PlainDesign) where
   pub no_place : entry_count d ≡ 0 → memory_place d ≡ None
   no_place e = none (nat_eq (entry_count d) 0) (no_entry e) None (Some (length (externals_of (component_at d d.main))))
 
-  pub a_place : entry_count d ≢ 0 → (count : ℕ) → count ≡ length (externals_of (component_at d d.main)) → memory_place d ≡ Some count
-  a_place other count is = some (nat_eq (entry_count d) 0) (an_entry other) None (Some (length (externals_of (component_at d d.main)))) ∙ ap (λ n. Some n) (sym is)
-
   -- main stays main
   main-same : (b : Bool) → (if b then d else with_counts d).main ≡ d.main
   main-same true = refl

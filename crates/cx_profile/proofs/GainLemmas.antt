@@ -148,15 +148,6 @@ module _ (d : PlainDesign) (order : List ℕ) (first : IsChildrenFirst d order) 
 
 -- THE OUTPUTS that a component gains
 module _ (d : PlainDesign) where
-  pub gained_some : (counts : List ℕ) (k : ℕ) → AreShown d counts → is_reached d k ≡ true → k ≢ d.main → gained d k ≡ get_or counts k 0
-  gained_some counts k shown reached other =
-      ap (λ b. if b && not (nat_eq k d.main) then length (shown_in (component_of d k)) else 0) reached
-      ∙ ap (λ b. if not b then length (shown_in (component_of d k)) else 0) (no (nat_eq k d.main) refl) ∙ sym (shown.shown k reached)
-    where
-      no : (b : Bool) → nat_eq k d.main ≡ b → nat_eq k d.main ≡ false
-      no true e = absurd (other (eqb-true k d.main e))
-      no false e = e
-
   pub gained_none : (k : ℕ) → (is_reached d k ≡ false) ⊎ (k ≡ d.main) → gained d k ≡ 0
   gained_none k (inl e) = ap (λ b. if b && not (nat_eq k d.main) then length (shown_in (component_of d k)) else 0) e
   gained_none k (inr e) = ap (λ b. if is_reached d k && not b then length (shown_in (component_of d k)) else 0) (eq-eqb k d.main e) ∙ by (is_reached d k)

@@ -2,12 +2,10 @@
 use Rattle.std.proofs.Common.{◌≡◌, ℕ, zero, suc, ◌+◌, ◌<◌, ◌≤◌, Bool, true, false, not, List, [], ◌∷◌, ◌++◌, length, map, cond, refl, ap, ◌∙◌, arith, append-nil}
 use Rattle.std.specs.Prelude.{filter, is_some, take}
 use Rattle.std.specs.List.{range_with_len}
-use Rattle.std.proofs.Math.Path.{fun_ext}
 use Rattle.std.proofs.lemmas.List.FromFn.{filter_of_map_range_with_len_more}
-use Rattle.cx_numbering.specs.Names.{is_among}
 use Rattle.cx_names_scopes.specs.declared.numbers.Numbers.{Numbers}
-use Rattle.cx_names_scopes.specs.Numbered.{number_in, AreNumbersOf}
-use Rattle.cx_profiling.specs.FreeNames.{profile_name, free_names}
+use Rattle.cx_names_scopes.specs.Numbered.{number_in}
+use Rattle.cx_profiling.specs.FreeNames.{profile_name}
 use Rattle.cx_profile.specs.Naming.{first_free}
 
 -- one more behind a front of a list
@@ -48,10 +46,3 @@ module _ (taken : Numbers) (k : ℕ) where
   -- there are as many as are asked for
   pub free_stays : (n : ℕ) → k ≤ length (first_free taken k n) → first_free taken k (n + 1) ≡ first_free taken k n
   free_stays n le = ap (take k) (more n) ∙ take_full k (passed n) (cond (is_free (profile_name n)) (profile_name n ∷ []) []) le
-
--- FREE NAMES, by the numbers of those that are taken
-pub free-are : (taken : Numbers) (names : List (List ℕ)) (k : ℕ) → AreNumbersOf names taken → first_free taken k (k + length names) ≡ free_names names k
-free-are taken names k are = ap (λ (p : List ℕ → Bool). take k (filter p (map profile_name (range_with_len 0 (k + length names))))) (fun_ext same)
-  where
-    same : (name : List ℕ) → not (is_some (number_in taken name)) ≡ not (is_among name names)
-    same name = ap (λ o. not (is_some o)) (are name)

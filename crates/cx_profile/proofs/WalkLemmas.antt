@@ -2,8 +2,8 @@
 use Rattle.std.proofs.Common.{◌≡◌, ℕ, suc, ◌+◌, Bool, true, false, List, [], ◌∷◌, ◌++◌, append_assoc, refl, sym, ap, ◌∙◌, subst, arith, append-nil}
 use Rattle.std.specs.Prelude.{if◌then◌else◌}
 use Rattle.cx_prim.specs.Rows.{Row}
-use Rattle.cx_meaning.specs.Designs.{PlainKind, OfPrimitive, OfComponent, PlainCell, PlainGroup, PlainComponent, PlainDesign, component_at}
-use Rattle.cx_meaning.specs.Instances.{Instance, Node, Cells, no_cells, a_primitive, an_instance, add_cell, cells_for, tree_within}
+use Rattle.cx_meaning.specs.Designs.{PlainCell, PlainGroup, PlainComponent, PlainDesign, component_at}
+use Rattle.cx_meaning.specs.Instances.{Instance, Node, no_cells, a_primitive, an_instance, cells_for, tree_within}
 use Rattle.cx_rules.specs.Sizes.{instances_below, instances_in}
 use Rattle.cx_profile.specs.declared.entries.Walk.{Walk}
 use Rattle.cx_profile.specs.Counted.{counts_group}
@@ -50,19 +50,6 @@ past_child child cell names below walk past is h = record {
   instance = let e : past.instance ≡ walk.instance + instances_below child = h.instance in omega arith;
 }
 
--- ONE CELL, AND THE OTHERS behind it
-rows-split : (trees : ℕ → Instance) (kind : PlainKind) (cell : PlainCell) (rest : List PlainCell) (others : Cells) (n : ℕ) (names : List ℕ)
-    → rows_below (add_cell trees kind others) (cell ∷ rest) n names ≡ rows_below (add_cell trees kind no_cells) (cell ∷ []) n names ++ rows_below others rest (n + instances_in (add_cell trees kind no_cells)) names
-rows-split trees (OfPrimitive p) cell rest others n names = let e : n ≡ n + 0 = omega arith in ap (λ m. rows_below others rest m names) e
-rows-split trees (OfComponent j) cell rest others n names =
-    let e : n + instances_below (trees j) ≡ n + (instances_below (trees j) + 0) = omega arith in
-    ap (λ m. rows_in (trees j) n (names_below names cell.name) ++ rows_below others rest m names) e
-    ∙ ap (λ l. l ++ rows_below others rest (n + (instances_below (trees j) + 0)) names) (sym (append-nil (rows_in (trees j) n (names_below names cell.name))))
-
-instances-split : (trees : ℕ → Instance) (kind : PlainKind) (others : Cells) → instances_in (add_cell trees kind others) ≡ instances_in (add_cell trees kind no_cells) + instances_in others
-instances-split trees (OfPrimitive p) others = omega arith
-instances-split trees (OfComponent j) others = omega arith
-
 -- what is behind so far, and what is left, are all
 pub record IsOnWay (trees : ℕ → Instance) (names : List ℕ) (left cells : List PlainCell) (walk past : Walk) : Type 0 where
   pub groups : past.groups.items ++ rows_below (cells_for trees left) left past.instance names ≡ walk.groups.items ++ rows_below (cells_for trees cells) cells walk.instance names
@@ -70,21 +57,6 @@ pub record IsOnWay (trees : ℕ → Instance) (names : List ℕ) (left cells : L
 
 pub way_begins : (trees : ℕ → Instance) (names : List ℕ) (cells : List PlainCell) (walk : Walk) → IsOnWay trees names cells cells walk walk
 way_begins trees names cells walk = record { groups = refl; instance = refl }
-
-pub way_goes : (trees : ℕ → Instance) (names : List ℕ) (cell : PlainCell) (left cells : List PlainCell) (walk past next : Walk) → IsOnWay trees names (cell ∷ left) cells walk past
-    → IsPastCells (add_cell trees cell.kind no_cells) (cell ∷ []) names past next → IsOnWay trees names left cells walk next
-way_goes trees names cell left cells walk past next way step = record {
-  groups =
-      ap (λ l. l ++ rows_below (cells_for trees left) left next.instance names) step.groups
-      ∙ ap (λ i. (past.groups.items ++ rows_below (add_cell trees cell.kind no_cells) (cell ∷ []) past.instance names) ++ rows_below (cells_for trees left) left i names) step.instance
-      ∙ append_assoc past.groups.items (rows_below (add_cell trees cell.kind no_cells) (cell ∷ []) past.instance names) (rows_below (cells_for trees left) left (past.instance + instances_in (add_cell trees cell.kind no_cells)) names)
-      ∙ ap (λ l. past.groups.items ++ l) (sym (rows-split trees cell.kind cell left (cells_for trees left) past.instance names)) ∙ way.groups;
-  instance =
-      let a : next.instance ≡ past.instance + instances_in (add_cell trees cell.kind no_cells) = step.instance in
-      let b : instances_in (add_cell trees cell.kind (cells_for trees left)) ≡ instances_in (add_cell trees cell.kind no_cells) + instances_in (cells_for trees left) = instances-split trees cell.kind (cells_for trees left) in
-      let e : past.instance + instances_in (add_cell trees cell.kind (cells_for trees left)) ≡ walk.instance + instances_in (cells_for trees cells) = way.instance in
-      omega arith;
-}
 
 pub way_ends : (trees : ℕ → Instance) (names : List ℕ) (left cells : List PlainCell) (walk past : Walk) → left ≡ [] → IsOnWay trees names left cells walk past → IsPastCells (cells_for trees cells) cells names walk past
 way_ends trees names left cells walk past none way = record {

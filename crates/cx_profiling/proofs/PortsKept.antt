@@ -19,7 +19,8 @@ use Rattle.cx_meaning.proofs.DesignsLemmas.{same_part}
 use Rattle.cx_meaning.proofs.InstancesLemmas.{instance_is, instance_row, row_instance, row_is}
 use Rattle.cx_meaning.proofs.SightsLaws.{input_at}
 use Rattle.cx_rules.specs.Footprints.{AssignNames, Rests, literal_rests, input_rests, registered_rests, output_rests, done_rests, combinational_rests}
-use Rattle.cx_rules.specs.Ports.{component_of, enables_cell, is_primitive_enable, is_instance, is_part_port}
+use Rattle.cx_rules.specs.Ports.{component_of, is_primitive_enable, is_instance, is_part_port}
+use Rattle.cx_meaning.specs.Calls.{enables_at}
 use Rattle.cx_rules.specs.ShapeRules.{is_hole, is_hole_of}
 use Rattle.cx_rules.specs.Wellformed.{IsDesign}
 use Rattle.cx_rewrites.proofs.ReflectLemmas.{names_back}
@@ -115,8 +116,8 @@ module _ (d : PlainDesign) (design : IsDesign d) (m k : ℕ) (within : k < lengt
   enable_kept (ports.Cell c p) here = by (pair_at d design m k within c here.0)
     where
       by : CellPair d design m k within c → is_primitive_enable j (mv (ports.Cell c p)) ≡ is_primitive_enable i (ports.Cell c p)
-      by (row_pair row first second moved) = ap (is_primitive_enable j) (moved p) ∙ ap (λ x. enables_cell x p) second ∙ ap (λ x. enables_cell x p) (sym first)
-      by (child_pair cell e stands is below first second moved) = ap (is_primitive_enable j) (moved p) ∙ ap (λ x. enables_cell x (grown_number d (first_gained (component_at d e)) (gained d e) p)) second ∙ ap (λ x. enables_cell x p) (sym first)
+      by (row_pair row first second moved) = ap (is_primitive_enable j) (moved p) ∙ ap (λ x. enables_at x p) second ∙ ap (λ x. enables_at x p) (sym first)
+      by (child_pair cell e stands is below first second moved) = ap (is_primitive_enable j) (moved p) ∙ ap (λ x. enables_at x (grown_number d (first_gained (component_at d e)) (gained d e) p)) second ∙ ap (λ x. enables_at x p) (sym first)
   enable_kept (ports.Input n) here = refl
   enable_kept (ports.Output n) here = refl
   enable_kept (ports.Done g) here = refl

@@ -1,5 +1,5 @@
 -- The cycles of a primitive by its name and its numbers, and whether it is a pipe.
-use Rattle.std.proofs.Common.{◌≡◌, ℕ, ◌*◌, ◌^◌, ◌==◌, nat_lt, nat_le, Bool, true, false, ◌&&◌, List, [], ◌∷◌, length, take, drop, Option, Some, None, unwrap_or, IsSome, refl, sym, ap, ◌∙◌, if◌then◌else◌}
+use Rattle.std.proofs.Common.{◌≡◌, ℕ, ◌*◌, ◌^◌, ◌==◌, nat_lt, nat_le, Bool, true, false, ◌&&◌, List, [], ◌∷◌, length, take, drop, Option, Some, None, unwrap_or, IsSome, refl, ap, ◌∙◌, if◌then◌else◌}
 use Rattle.std.specs.List.{list_all}
 use Rattle.cx_prim.specs.declared.names.PrimitiveName.{PrimitiveName}
 use Rattle.cx_prim.specs.declared.names.PrimitiveName.TheVariants.{Const, Wire, Add, Sub, And, Or, Xor, Not, Lsh, Rsh, Lt, Gt, Equal, Neq, Le, Ge, Slt, Sgt, Seq, Sneq, Sle, Sge, Slice, Pad, Mux, Reg, StdMemD1, StdMemD2, StdMemD3, StdMemD4, CombMemD1, CombMemD2, CombMemD3, CombMemD4, SeqMemD1, SeqMemD2, SeqMemD3, SeqMemD4, MultPipe, DivPipe, Timer}
@@ -137,20 +137,3 @@ found_cycles p name has named = ap (λ w. w.cycles) (found_work p name has named
 
 pub found_pipe : (p : PrimitiveRow) (name : PrimitiveName) → HasRow p → IsNamed name (name_text p.name) → is_pipe_name name ≡ is_pipe (row_of p).shape
 found_pipe p name has named = ap (λ w. w.pipe) (found_work p name has named)
-
--- what no design can name takes no cycles
-unnamed_work : (p : PrimitiveRow) → ((name : PrimitiveName) → IsNamed name (name_text p.name) → ⊥) → work_named Timer [] ≡ work_of (row_of p).shape
-unnamed_work p none = by p.name refl
-  where
-    timer : p.name ≡ Timer → work_named Timer [] ≡ work_of (row_of p).shape
-    timer e = of_timer p.numbers ∙ sym (ap (λ n. row_work (row_at n p.numbers)) e)
-
-    by : (n : PrimitiveName) → p.name ≡ n → work_named Timer [] ≡ work_of (row_of p).shape
-    by Timer e = timer e
-    by _ e = absurd (none p.name (record { spelled = refl; nameable = λ f. let g = sym e ∙ f in cc }))
-
-pub unnamed_cycles : (p : PrimitiveRow) → ((name : PrimitiveName) → IsNamed name (name_text p.name) → ⊥) → None ≡ cycles_of (row_of p).shape
-unnamed_cycles p none = ap (λ w. w.cycles) (unnamed_work p none)
-
-pub unnamed_pipe : (p : PrimitiveRow) → ((name : PrimitiveName) → IsNamed name (name_text p.name) → ⊥) → false ≡ is_pipe (row_of p).shape
-unnamed_pipe p none = ap (λ w. w.pipe) (unnamed_work p none)

@@ -28,7 +28,8 @@ use Rattle.cx_meaning.proofs.PortsLemmas.{same_self}
 use Rattle.cx_rules.specs.Circles.{IsAcyclic}
 use Rattle.cx_rules.specs.Footprints.{AssignNames, Mentions, Leads}
 use Rattle.cx_rules.specs.Items.{sources_of, ranges_of}
-use Rattle.cx_rules.specs.Ports.{is_primitive_enable, enables_cell, is_cell_output, is_target_only}
+use Rattle.cx_rules.specs.Ports.{is_primitive_enable, is_cell_output, is_target_only}
+use Rattle.cx_meaning.specs.Calls.{enables_at}
 use Rattle.cx_rules.specs.ShapeRules.{is_hole, owner_length}
 use Rattle.cx_rules.specs.CallShape.{one}
 use Rattle.cx_rules.specs.Wellformed.{port_count, IsThere}
@@ -79,7 +80,7 @@ side_sink sides.Plain e = no_true e
 side_sink sides.Output e = no_true e
 side_sink sides.Registered e = no_true e
 
-cell_sink : (i : Instance) (c n : ℕ) (at : At) → cell_at (cells_of i) c ≡ at → enables_cell at n ≡ true → is_target_only i (ports.Cell c n) ≡ true
+cell_sink : (i : Instance) (c n : ℕ) (at : At) → cell_at (cells_of i) c ≡ at → enables_at at n ≡ true → is_target_only i (ports.Cell c n) ≡ true
 cell_sink i c n Nothing is e = no_true e
 cell_sink i c n (OfRow row) is e = ap (λ a. not (is_cell_output a n)) is ∙ side_sink (side_of row n) e
 cell_sink i c n (OfInstance child) is e = no_true e
@@ -255,7 +256,7 @@ module _ (i j : Instance) (t : Twins MadeBeside i j) (held : Held) (g o : ℕ) (
     side_is = is_enable_side-Enable (side_of row q) enabling
 
     enable_whole : is_primitive_enable whole the_port ≡ true
-    enable_whole = ap (λ a. enables_cell a q) (row_whole c row at) ∙ enabling
+    enable_whole = ap (λ a. enables_at a q) (row_whole c row at) ∙ enabling
 
     enable_target : (p : PortRef) → p ≡ the_port → is_primitive_enable whole p ≡ true
     enable_target p e = ap (is_primitive_enable whole) e ∙ enable_whole
@@ -411,7 +412,7 @@ module _ (i j : Instance) (t : Twins MadeBeside i j) (held : Held) (g o : ℕ) (
   plain_inside : (c n : ℕ) (row : Row) → cell_at (cells_of i) c ≡ OfRow row → IsPlainPort row n → IsInside whole (ports.Cell c n)
   plain_inside c n row at plain = record {
     no_hole = refl;
-    no_enable = ap (λ a. enables_cell a n) (row_whole c row at) ∙ ap is_enable_side plain.0;
+    no_enable = ap (λ a. enables_at a n) (row_whole c row at) ∙ ap is_enable_side plain.0;
     no_done = ap (λ a. is_done_at a n) (row_whole c row at) ∙ plain.1;
     there = subst (λ a. n < port_count a) (sym (row_whole c row at)) (plain_there row.ports n plain.0);
   }

@@ -6,7 +6,8 @@ use Rattle.cx_meaning.specs.declared.ports.PortRef.{PortRef}
 use Rattle.cx_meaning.specs.declared.ports.PortRef.TheVariants as ports
 use Rattle.cx_meaning.specs.Instances.{Instance, At, OfInstance, part_of, cells_of, cell_at}
 use Rattle.cx_meaning.specs.Sights.{PartPort, Go, AnInput, AnOutput, ItsDone, later_port, part_port}
-use Rattle.cx_rules.specs.Ports.{declared_width, part_width, cell_width, width_of, written_width, is_part_output, is_cell_output, is_source_only, is_target_only, enables_cell, is_primitive_enable, is_instance, is_part_port}
+use Rattle.cx_rules.specs.Ports.{declared_width, part_width, cell_width, width_of, written_width, is_part_output, is_cell_output, is_source_only, is_target_only, is_primitive_enable, is_instance, is_part_port}
+use Rattle.cx_meaning.specs.Calls.{enables_at}
 use Rattle.cx_rules.specs.InvokeShape.{latency_at, is_static_port}
 use Rattle.cx_promotion.proofs.SeenAlike.{SameCell}
 use Rattle.cx_promotion.proofs.Twins.{Twins, beside_each, twin_cells, TwinAt, none_there, a_row_there, a_child_there, twins_at}
@@ -45,7 +46,7 @@ cell_output_same at twin p none_there = refl
 cell_output_same at twin p a_row_there = refl
 cell_output_same at twin p (a_child_there {child = child} {twin = other} t) = ap is_part_output (sym (port_same child other (signature child other t) p))
 
-enables_cell_same : (at twin : At) (p : ℕ) → Kind at twin → enables_cell twin p ≡ enables_cell at p
+enables_cell_same : (at twin : At) (p : ℕ) → Kind at twin → enables_at twin p ≡ enables_at at p
 enables_cell_same at twin p none_there = refl
 enables_cell_same at twin p a_row_there = refl
 enables_cell_same at twin p (a_child_there t) = refl

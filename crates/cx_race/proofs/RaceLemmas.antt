@@ -192,16 +192,6 @@ component_looked d k n best last long a = record {
 pub next_component : (d : PlainDesign) (k : ℕ) (best mid last : Option Broken) → Looked d (IsBeforeOf k) best mid → Looked d (IsOf k) mid last → Looked d (IsBeforeOf (k + 1)) best last
 next_component d k best mid last a b = looked_more d (IsBeforeOf k) (IsOf k) (IsBeforeOf (k + 1)) best mid last (λ spot h. below_or_same spot.component k h) a b
 
--- a wider front is looked at
-pub looked_front : (d : PlainDesign) (j k : ℕ) (best last : Option Broken) → k ≤ j → Looked d (IsBeforeOf j) best last → Looked d (IsBeforeOf k) best last
-looked_front d j k best last few a = record {
-  found = a.found;
-  first = a.first;
-  is_race = a.is_race;
-  breaks = a.breaks;
-  all = λ spot place name at o. a.all spot place name (omega (arith, few, at)) o;
-}
-
 -- THE WHOLE DESIGN
 module _ (d : PlainDesign) (first : Option Broken) (l : Looked d (IsBeforeOf (length d.components)) None first) where
   abbrev Found : Rule → Spot → Place → Type 0

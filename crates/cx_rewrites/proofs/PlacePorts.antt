@@ -11,7 +11,8 @@ use Rattle.cx_meaning.specs.declared.ports.PortRef.TheVariants as ports
 use Rattle.cx_meaning.specs.Designs.{PlainGuard, Always, Atom, Negation, All, Any, Compared, Within, PlainGuards, no_guards, a_guard, PlainAssign, PlainComponent}
 use Rattle.cx_meaning.specs.Instances.{Instance, At, OfRow, part_of, cells_of, cell_at}
 use Rattle.cx_meaning.specs.Sights.{GuardNames, AnyNames, PartPort, Go, AnInput, AnOutput, ItsDone, part_port}
-use Rattle.cx_rules.specs.Ports.{declared_width, part_width, cell_width, width_of, written_width, is_part_output, is_cell_output, is_source_only, is_target_only, enables_cell, is_primitive_enable, is_instance, is_part_port}
+use Rattle.cx_rules.specs.Ports.{declared_width, part_width, cell_width, width_of, written_width, is_part_output, is_cell_output, is_source_only, is_target_only, is_primitive_enable, is_instance, is_part_port}
+use Rattle.cx_meaning.specs.Calls.{enables_at}
 use Rattle.cx_rules.specs.Items.{atoms_of, atoms_in, comparisons_of, comparisons_in, operands_of, operands_in, ranges_of, ranges_in, guard_nodes, nodes_in, sources_of}
 use Rattle.cx_rules.specs.Footprints.{AssignNames}
 use Rattle.cx_rules.specs.InvokeShape.{latency_at, is_static_port}
@@ -36,9 +37,9 @@ is_cell_output-same at to p none_there = refl
 is_cell_output-same at to p (a_row_there e) = ap (λ (r : Row). is_output_side (side_of r p)) e
 is_cell_output-same at to p (a_child_there {child = child} {twin = twin} t) = ap is_part_output (part_port-same (part_of child) (part_of twin) (same_parts child twin t) p)
 
-enables_cell-same : (at to : At) (p : ℕ) → SameAt at to → enables_cell at p ≡ enables_cell to p
+enables_cell-same : (at to : At) (p : ℕ) → SameAt at to → enables_at at p ≡ enables_at to p
 enables_cell-same at to p none_there = refl
-enables_cell-same at to p (a_row_there e) = ap (λ r. enables_cell (OfRow r) p) e
+enables_cell-same at to p (a_row_there e) = ap (λ r. enables_at (OfRow r) p) e
 enables_cell-same at to p (a_child_there t) = refl
 
 is_instance-same : (at to : At) → SameAt at to → is_instance at ≡ is_instance to

@@ -21,8 +21,9 @@ use cx_promote::laws::{promoted_is_accepted, promoted_trees_run_quicker};
 
 /// The lines of what is shared in the tree of a text, and behind them the shared tree as it is printed, are read as the shared tree, at
 /// other places. Where the tree is accepted, what is written is accepted; it has the same external memories; and its design, with its
-/// static components, ends in the same turn with the same words, has a fault of the same kind in the same turn, or needs more turns,
-/// where that of the tree does, if nothing in that looks at the done of a static component's cell, as in the design of every text.
+/// static components, ends in the same turn with the same words, has the fault in the same turn, of the same kind and
+/// at the same port of the cell that is kept for the fault's cell, or needs more turns, where that of the tree does, if
+/// nothing in that looks at the done of a static component's cell, as in the design of every text.
 pub fn shared_texts_run_alike()
     ensures read { (tree : PlainTree) (written : List ℕ) → IsTreeOfText tree → IsSharedText tree written →
         IsReadAs (shared_tree tree) written }

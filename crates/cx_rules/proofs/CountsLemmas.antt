@@ -14,7 +14,6 @@ use Rattle.cx_rules.specs.Flat.{IsFlatPart, IsFlat}
 use Rattle.cx_rules.specs.Invokes.{invoke_in, form_lasts}
 use Rattle.cx_rules.specs.Counts.{Inners, inner_for, cells_in, always_in, groups_for, copies_for, statement_count_of, statements_for, statements_counted, form_counted, counted, counted_in, occurrence_count_of, captures_in, has_invoke, is_any_island, island_counted, occurrences_counted, inner, if_static, inners_of, size_with, counted_cells, counted_groups, counted_size, occurrences_at, unless_static, weight_within, counted_weight, instances_within, counted_instances, depth_within, counted_depth}
 use Rattle.cx_rules.proofs.InvokesLemmas.{no_invoke_at, form_lasts-flat}
-use Rattle.cx_rules.proofs.CircleLemmas.{Reached, a_tree, no_tree}
 
 -- no cell of a list is of a static component
 abbrev AreNone : Inners → Type 0
@@ -207,8 +206,3 @@ module _ (d : PlainDesign) (flat : IsFlat d) where
 
   pub lasts_within : (n k : ℕ) (form : PlainForm) → form_lasts (part_of (tree_within d n k)) form ≡ form_length (part_of (tree_within d n k)) form
   lasts_within n k form = form_lasts-flat (part_of (tree_within d n k)) (no_invokes_within n k) form
-
-  -- an instance of the tree has a component that is not static
-  pub flat_reached : {i : Instance} → Reached d i → IsFlatPart (part_of i)
-  flat_reached (a_tree n k) = subst IsFlatPart (sym (same_part d n k)) (flat_part d flat k)
-  flat_reached no_tree = record { dynamic = refl; no_invoke = refl }

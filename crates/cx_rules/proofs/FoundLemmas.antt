@@ -124,9 +124,6 @@ numbered_in c (suc n) p h = ⊎_elim (λ e. inl (ap (ports.Cell c) (sym e))) (λ
     split (suc p) zero h = absurd (omega arith)
     split (suc p) (suc n) h = ⊎_elim (λ e. inl (ap suc e)) (λ lt. inr (omega arith)) (split p n (omega arith))
 
-registered_output : sides.Registered ≡ sides.Output → ⊥
-registered_output e = cc
-
 cells_in : (cells : Cells) (k c p : ℕ) (row : Row) → cell_at cells c ≡ OfRow row → p < length row.ports → In (ports_of_cells cells k) (ports.Cell (k + c) p)
 cells_in no_cells k c p row e h = absurd (nothing_row row e)
 cells_in (a_primitive r rest) k zero p row e h =

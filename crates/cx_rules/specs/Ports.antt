@@ -2,7 +2,7 @@
 use Rattle.std.specs.Prelude.{ℕ, zero, suc, ◌^◌, nat_lt, nat_le, Bool, true, false, ◌&&◌, not, List, [], ◌∷◌, ◌++◌, Option, Some, None, codes, decimal, length, slice_get, option_map, if◌then◌else◌}
 use Rattle.cx_prim.specs.declared.ports.PortRow.{PortRow}
 use Rattle.cx_prim.specs.PortNames.{text_of}
-use Rattle.cx_prim.specs.Rows.{is_enable_side, is_output_side}
+use Rattle.cx_prim.specs.Rows.{is_output_side}
 use Rattle.cx_meaning.specs.declared.ports.PortRef.{PortRef}
 use Rattle.cx_meaning.specs.declared.ports.PortRef.TheVariants as ports
 use Rattle.cx_meaning.specs.declared.kinds.PortDecl.{PortDecl}
@@ -10,6 +10,7 @@ use Rattle.cx_meaning.specs.Rows.{side_of}
 use Rattle.cx_meaning.specs.Designs.{PlainComponent, PlainDesign, PlainCell, group_at}
 use Rattle.cx_meaning.specs.Instances.{Instance, At, Nothing, OfRow, OfInstance, cell_at, cells_of, part_of, tree_within}
 use Rattle.cx_meaning.specs.Sights.{PartPort, Go, AnInput, AnOutput, ItsDone, part_port}
+use Rattle.cx_meaning.specs.Calls.{enables_at}
 
 -- component k of a design with what is below it; no tree has more levels than there are components
 abbrev pub component_of : PlainDesign → ℕ → Instance
@@ -82,14 +83,9 @@ is_target_only i (ports.Output n) = true
 is_target_only i (ports.Done g) = false
 is_target_only i (ports.Literal w v) = false
 
-abbrev pub enables_cell : At → ℕ → Bool
-enables_cell Nothing p = false
-enables_cell (OfRow row) p = is_enable_side (side_of row p)
-enables_cell (OfInstance child) p = false
-
 -- an enabling port of a primitive cell
 abbrev pub is_primitive_enable : Instance → PortRef → Bool
-is_primitive_enable i (ports.Cell c p) = enables_cell (cell_at (cells_of i) c) p
+is_primitive_enable i (ports.Cell c p) = enables_at (cell_at (cells_of i) c) p
 is_primitive_enable i (ports.Input n) = false
 is_primitive_enable i (ports.Output n) = false
 is_primitive_enable i (ports.Done g) = false

@@ -1,7 +1,7 @@
 -- For each input of a cell whether an assignment binds it, as marks are set.
 use Rattle.std.proofs.Common.{◌≡◌, ◌≢◌, ℕ, zero, suc, ◌<◌, Bool, true, false, ◌||◌, not, ◌↔◌, nat_eq, List, [], ◌∷◌, ◌++◌, Option, Some, length, replicate, slice_get, set, refl, sym, ap, ◌∙◌, subst, arith, true≢false}
 use Rattle.std.specs.List.{list_any}
-use Rattle.std.proofs.lemmas.List.{length-replicate, length-set}
+use Rattle.std.proofs.lemmas.List.{length-set}
 use Rattle.cx_text.proofs.MemberLaws.{in_at, number_in}
 use Rattle.cx_meaning.specs.declared.ports.PortRef.{PortRef}
 use Rattle.cx_meaning.specs.Designs.{PlainAssign}
@@ -31,10 +31,6 @@ some_more test (x ∷ inputs) a = ap (λ b. test x.target || b) (some_more test 
     grouped false b c = refl
 
 module _ (c : ℕ) where
-  -- none is bound by no assignment
-  pub bound_none : (count : ℕ) → AreBound c [] count (replicate count false)
-  bound_none count = record { many = length-replicate count false; tell = λ n h. replicated count n h }
-
   -- one more assignment, which binds this input, or none
   module _ (inputs : List PlainAssign) (a : PlainAssign) (port : PortRef) (is : a.target ≡ port) (count : ℕ) (marks : List Bool) (bound : AreBound c inputs count marks)
       (found : Option ℕ) (finds : (n : ℕ) → (same_port (input_port c n) port ≡ true) ↔ (found ≡ Some n)) where

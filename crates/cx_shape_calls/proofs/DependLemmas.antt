@@ -15,7 +15,7 @@ use Rattle.cx_meaning.specs.declared.ports.PortRef.{PortRef}
 use Rattle.cx_meaning.specs.declared.ports.PortRef.TheVariants as ports
 use Rattle.cx_meaning.specs.Designs.{PlainAssign, PlainComponent, PlainDesign, component_at, group_at}
 use Rattle.cx_meaning.specs.Instances.{Instance, At, Nothing, OfRow, OfInstance, part_of, cells_of, cell_at}
-use Rattle.cx_meaning.specs.Active.{Active, group, nothing}
+use Rattle.cx_meaning.specs.Active.{Active, group, nothing, cell_number, port_number}
 use Rattle.cx_meaning.specs.Sights.{PartPort, Go, AnInput, AnOutput, ItsDone, part_port, output_port}
 use Rattle.cx_rules.specs.Ports.{component_of, is_part_output}
 use Rattle.cx_rules.specs.Footprints.{AssignNames, Leads, Depends, at_once, by_way_of}
@@ -32,7 +32,6 @@ use Rattle.cx_design_leads.proofs.WayLemmas.{way_depends, node_way, group_sound,
 use Rattle.cx_design_leads.proofs.ThereLemmas.{leads_there}
 use Rattle.cx_callees.specs.Callees.{PlainCallee, callee_at, callee_of}
 use Rattle.cx_shape_calls.specs.Forms.{count_of}
-use Rattle.cx_shape_calls.specs.Decisions.{cell_number, port_number}
 use Rattle.cx_shape_calls.specs.Inputs.{IsDependent, AreDependent, AreDependentPorts, IsInputOf, is_an_input, is_input}
 use Rattle.cx_callees.proofs.TargetLemmas.{target_of}
 use Rattle.cx_meaning.proofs.PortsLemmas.{same_self}

@@ -7,7 +7,7 @@ use Rattle.cx_text.specs.Members.{In}
 use Rattle.cx_graphs.specs.Graphs.{Edges, IsReached, at_start, by_edge}
 use Rattle.cx_meaning.specs.declared.ports.PortRef.TheVariants as ports
 use Rattle.cx_meaning.specs.Designs.{PlainAssign, PlainInvoke, PlainComponent, PlainDesign, Always, component_at}
-use Rattle.cx_meaning.specs.Instances.{Instance, At, Nothing, OfRow, OfInstance, part_of, cells_of, cell_at}
+use Rattle.cx_meaning.specs.Instances.{Instance, At, Nothing, OfRow, OfInstance, part_of, cells_of, cell_at, input_count}
 use Rattle.cx_meaning.specs.Sights.{GuardNames}
 use Rattle.cx_rules.specs.Ports.{component_of}
 use Rattle.cx_rules.specs.Items.{sources_of}
@@ -21,7 +21,7 @@ use Rattle.cx_race.specs.Cells.{named_in, named_in_all}
 use Rattle.cx_race.specs.Links.{AreLinks}
 use Rattle.cx_race.proofs.CellLemmas.{cell_is, has_cell, in_named, is_named}
 use Rattle.cx_race.proofs.ArmLemmas.{as_node, from_node}
-use Rattle.cx_shape_calls.specs.StaticInvokes.{is_bound, some_unbound, input_count, is_restless, FeedsBack, IsWrong, IsMarkOf, AreMarksOf}
+use Rattle.cx_shape_calls.specs.StaticInvokes.{is_bound, some_unbound, is_restless, FeedsBack, IsWrong, IsMarkOf, AreMarksOf}
 use Rattle.cx_rules.specs.Invokes.{invoke_at}
 use Rattle.cx_text.proofs.ListLaws.{front, get_end, item_at}
 use Rattle.cx_text.proofs.NumberLaws.{from_eq}
@@ -140,10 +140,6 @@ pub got_invoke : (part : PlainComponent) (component : Component) (list : List St
     → n < length list → x ≡ get_or list n x → invoke_at part n ≡ Some (plain_invoke x)
 got_invoke part component list n x is same within at =
     ap (λ (p : PlainComponent). slice_get p.invokes n) (sym is) ∙ ap (λ l. slice_get (map plain_invoke l) n) (sym same) ∙ item_at plain_invoke list n x within at
-
--- MARKS, of one more static invoke
-pub marks_none : (at : Instance) → AreMarksOf at 0 []
-marks_none at = record { many = refl; tell = λ k w h e. absurd (omega (arith, h)) }
 
 pub marks_more : (at : Instance) (n : ℕ) (list : List Bool) (b : Bool) (w : PlainInvoke) → invoke_at (part_of at) n ≡ Some w → AreMarksOf at n list → IsMarkOf at w b
     → AreMarksOf at (n + 1) (list ++ b ∷ [])

@@ -5,16 +5,17 @@ use Rattle.cx_meaning.specs.declared.ports.PortRef.{PortRef}
 use Rattle.cx_meaning.specs.declared.ports.PortRef.TheVariants as ports
 use Rattle.cx_meaning.specs.Designs.{PlainAssign, PlainComponent, group_at}
 use Rattle.cx_meaning.specs.Instances.{Instance, At, Nothing, OfRow, OfInstance, part_of, cells_of, cell_at}
-use Rattle.cx_meaning.specs.Active.{same_port}
+use Rattle.cx_meaning.specs.Active.{same_port, port_number, cell_number}
 use Rattle.cx_meaning.specs.Sights.{PartPort, Go, AnInput, AnOutput, ItsDone, part_port, later_port}
-use Rattle.cx_rules.specs.Ports.{is_primitive_enable, enables_cell}
+use Rattle.cx_rules.specs.Ports.{is_primitive_enable}
+use Rattle.cx_meaning.specs.Calls.{enables_at}
 use Rattle.cx_rules.specs.ShapeRules.{is_hole_of}
 use Rattle.cx_rules.specs.CallShape.{Calls, go_port, done_port, captured, with_target, wanted_dones, is_register_enable, is_right_go, is_right_enable, is_right_done, CallBreak, another_cell, wrong_go, input_by_output, wrong_enable, wrong_done}
 use Rattle.cx_rules.specs.InvokeShape.{is_static_port}
 use Rattle.cx_callees.specs.Callees.{PlainCallee, done_of, callee_at, callee_of, called_of}
 use Rattle.cx_shape_calls.specs.Forms.{is_wrong_done}
 use Rattle.cx_shape_calls.specs.Inputs.{AreDependent, IsDependent}
-use Rattle.cx_shape_calls.specs.Decisions.{port_number, cell_number, calls_other, wrong_port, wrong_bare, wrong_enable_of, wrong_for, is_wrong}
+use Rattle.cx_shape_calls.specs.Decisions.{calls_other, wrong_port, wrong_bare, wrong_enable_of, wrong_for, is_wrong}
 use Rattle.cx_shape_calls.proofs.BoolLemmas.{not_same, other_than, grouped, any_in, any_has, in_filter, lone}
 use Rattle.cx_callees.proofs.TargetLemmas.{callee, Target, target_of, is_dynamic}
 use Rattle.cx_callees.proofs.CalledLemmas.{callee_is, driven_by, called_sound, called_all, part_callee, part_port_is}
@@ -45,7 +46,7 @@ enable_cell i (ports.Literal w v) h = absurd (true≢false (sym h))
 enable_callee : (i : Instance) (t : PortRef) → is_primitive_enable i t ≡ true → callee_of i t ≡ None
 enable_callee i (ports.Cell c p) h = choice (cell_at (cells_of i) c) h
   where
-    choice : (at : At) → enables_cell at p ≡ true → callee_at c at ≡ None
+    choice : (at : At) → enables_at at p ≡ true → callee_at c at ≡ None
     choice Nothing h = refl
     choice (OfRow row) h = refl
     choice (OfInstance child) h = absurd (true≢false (sym h))

@@ -7,7 +7,7 @@ use Rattle.cx_meaning.specs.declared.ports.PortRef.{PortRef}
 use Rattle.cx_meaning.specs.declared.ports.PortRef.TheVariants as ports
 use Rattle.cx_meaning.specs.Designs.{PlainAssign, PlainGroup, PlainComponent, PlainDesign, component_at, group_at}
 use Rattle.cx_meaning.specs.Instances.{Instance, part_of}
-use Rattle.cx_meaning.specs.Active.{Owned, source_order}
+use Rattle.cx_meaning.specs.Active.{Owned, source_order, port_number, cell_number}
 use Rattle.cx_meaning.specs.Sights.{PartPort, Go, AnInput, AnOutput, ItsDone, part_port}
 use Rattle.cx_rules.specs.Ports.{component_of, is_part_port, is_primitive_enable, path_of}
 use Rattle.cx_rules.specs.ShapeRules.{is_hole_of}
@@ -20,20 +20,6 @@ use Rattle.cx_callees.specs.Callees.{PlainCallee, plain_callee, done_of, callee_
 use Rattle.cx_shape_calls.specs.Forms.{times, is_calling, IsFormOf}
 use Rattle.cx_shape_calls.specs.Inputs.{AreDependent}
 use Rattle.cx_shape_calls.specs.declared.groups.GroupShape.{GroupShape}
-
-abbrev pub port_number : PortRef → ℕ
-port_number (ports.Cell c p) = p
-port_number (ports.Input n) = 0
-port_number (ports.Output n) = 0
-port_number (ports.Done g) = 0
-port_number (ports.Literal w v) = 0
-
-abbrev pub cell_number : PortRef → ℕ
-cell_number (ports.Cell c p) = c
-cell_number (ports.Input n) = 0
-cell_number (ports.Output n) = 0
-cell_number (ports.Done g) = 0
-cell_number (ports.Literal w v) = 0
 
 abbrev pub calls_other : List PlainCallee → ℕ → Bool
 calls_other called c = list_any (λ k. not (nat_eq k.cell c)) called

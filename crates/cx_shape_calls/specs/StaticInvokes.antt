@@ -4,7 +4,7 @@ use Rattle.std.specs.List.{list_any}
 use Rattle.cx_text.specs.declared.places.Place.{Place}
 use Rattle.cx_meaning.specs.declared.ports.PortRef.TheVariants as ports
 use Rattle.cx_meaning.specs.Designs.{PlainAssign, PlainInvoke, PlainComponent, PlainDesign, component_at}
-use Rattle.cx_meaning.specs.Instances.{Instance, At, Nothing, OfRow, OfInstance, part_of, cells_of, cell_at}
+use Rattle.cx_meaning.specs.Instances.{Instance, part_of, cells_of, cell_at, input_count}
 use Rattle.cx_meaning.specs.Active.{same_port}
 use Rattle.cx_text.specs.Members.{In}
 use Rattle.cx_rules.specs.Ports.{cell_name}
@@ -25,12 +25,6 @@ is_bound c inputs n = some_target (same_port (input_port c n)) inputs
 abbrev pub some_unbound : ℕ → List PlainAssign → ℕ → Bool
 some_unbound c inputs zero = false
 some_unbound c inputs (suc n) = not (is_bound c inputs n) || some_unbound c inputs n
-
--- the inputs of a component cell
-abbrev pub input_count : At → ℕ
-input_count Nothing = 0
-input_count (OfRow row) = 0
-input_count (OfInstance child) = length (part_of child).inputs
 
 -- for each of so many inputs of cell c whether it is bound
 pub record AreBound (c : ℕ) (inputs : List PlainAssign) (count : ℕ) (marks : List Bool) : Type 0 where

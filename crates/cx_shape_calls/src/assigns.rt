@@ -3,6 +3,7 @@
 ghost use Rattle.std.specs.Prelude.{◌≡◌, ◌<◌, ◌&&◌, ◌∷◌, [], is_some, length, map, not};
 ghost use Rattle.std.specs.List.{list_any};
 ghost use Rattle.std.specs.Option.{option_map};
+ghost use Rattle.cx_meaning.specs.Active as active;
 ghost use Rattle.cx_rules.specs.Ports.{component_of};
 ghost use Rattle.cx_rules.specs.ShapeRules as rules;
 ghost use Rattle.cx_rules.specs.CallShape as call;
@@ -132,7 +133,7 @@ fn calls_other(called: &[Callee<'_>], cell: u32) -> bool
 /// Whether an assignment of a port of a called cell breaks a condition: of its go, or of an input.
 fn is_wrong_port(shape: &GroupShape<'_>, callee: Callee<'_>, assign: &Assign) -> bool
     ensures value { let k = plain_callee callee.entry in
-        let p = decisions.port_number assign.now.target in
+        let p = active.port_number assign.now.target in
         result ≡ decisions.wrong_port (forms.times shape.now.form.driven) (forms.times shape.now.dependent)
         (plain_assign assign.now) k p (part_port k.part p) }
 {
@@ -148,7 +149,7 @@ fn is_wrong_port(shape: &GroupShape<'_>, callee: Callee<'_>, assign: &Assign) ->
 
 /// The number of a port in its cell.
 fn port_number(port: PortRef) -> u32
-    ensures value { result ≡ decisions.port_number port }
+    ensures value { result ≡ active.port_number port }
 {
     match port {
         PortRef::Cell(_, port) => port,
@@ -158,7 +159,7 @@ fn port_number(port: PortRef) -> u32
 
 /// The number of a port's cell.
 fn cell_number(port: PortRef) -> u32
-    ensures value { result ≡ decisions.cell_number port }
+    ensures value { result ≡ active.cell_number port }
 {
     match port {
         PortRef::Cell(cell, _) => cell,

@@ -4,6 +4,7 @@ ghost use Rattle.std.specs.Prelude.{◌≡◌, ◌<◌, ◌↔◌, ◌∷◌, �
 ghost use Rattle.std.specs.List.{list_any};
 ghost use Rattle.cx_graphs.specs.Graphs.{Bounded, IsGraph, IsReached, edges_of};
 ghost use Rattle.cx_graphs.specs.Tallies.{IsClear};
+ghost use Rattle.cx_meaning.specs.Instances as instances;
 ghost use Rattle.cx_meaning.specs.Designs.{PlainAssign, component_at};
 ghost use Rattle.cx_meaning.specs.Active.{same_port};
 ghost use Rattle.cx_meaning.specs.Instances.{cell_at, cells_of};
@@ -103,7 +104,7 @@ fn is_wrong_invoke(
 fn input_count(design: &Design, number: usize, cell: u32) -> usize
     requires within { number < length design.now.components.items }
     ensures value { result ≡
-        invokes.input_count (cell_at (cells_of (component_of (plain_design design.now) number)) cell) }
+        instances.input_count (cell_at (cells_of (component_of (plain_design design.now) number)) cell) }
 {
     match stands_at(design, number, cell) {
         At::Part(part) => part.inputs.len(),

@@ -6,7 +6,7 @@ use Rattle.cx_text.specs.Members.{In}
 use Rattle.cx_prim.specs.declared.ports.PortRow.{PortRow}
 use Rattle.cx_prim.specs.declared.ports.Side.{Side}
 use Rattle.cx_prim.specs.declared.ports.Side.TheVariants as sides
-use Rattle.cx_prim.specs.Rows.{Row}
+use Rattle.cx_prim.specs.Rows.{Row, is_plain_side}
 use Rattle.cx_meaning.specs.declared.ports.PortRef.{PortRef}
 use Rattle.cx_meaning.specs.declared.ports.PortRef.TheVariants as ports
 use Rattle.cx_meaning.specs.Rows.{side_of, side_from}
@@ -17,14 +17,14 @@ use Rattle.cx_meaning.specs.Sights.{AnOutput, ItsDone, part_port}
 use Rattle.cx_rules.specs.Items.{sources_of}
 use Rattle.cx_rules.specs.Footprints.{AssignNames, Rests, literal_rests, input_rests, registered_rests, output_rests, done_rests, combinational_rests, SideLeads, PartLeads, CellLeads, Leads, Depends, at_once, by_way_of}
 use Rattle.cx_rules.specs.ShapeRules.{LeadsToInput}
-use Rattle.cx_design_parts.specs.Outputs.{is_plain, is_write_data, is_read_port, read_count}
+use Rattle.cx_design_parts.specs.Outputs.{is_write_data, is_read_port, read_count}
 use Rattle.cx_design_parts.proofs.ReadLemmas.{AllRead}
 use Rattle.cx_shape_state.proofs.Names.{Drives, drives, mentions}
 use Rattle.cx_shape_state.proofs.RestLemmas.{RestsBy, by_literal, by_input, by_registered, by_output, by_done, by_combinational}
 use Rattle.cx_rules.proofs.FoundLemmas.{source_in, source_named}
 
 -- what is read is a plain input
-plain_side : (side : Side) (b : Bool) → is_plain side && b ≡ true → side ≡ sides.Plain
+plain_side : (side : Side) (b : Bool) → is_plain_side side && b ≡ true → side ≡ sides.Plain
 plain_side sides.Enable b e = absurd (true≢false (sym e))
 plain_side sides.Plain b e = refl
 plain_side sides.Output b e = absurd (true≢false (sym e))

@@ -1,7 +1,6 @@
 -- Marks that are bits of words.
 use Rattle.std.proofs.Common.{◌≡◌, ◌≢◌, ℕ, zero, suc, ◌+◌, ◌*◌, ◌/◌, ◌%◌, ◌^◌, ◌<◌, ◌≤◌, max, min, Bool, true, false, ◌||◌, ◌&&◌, nat_eq, List, get_or, set, length, replicate, bit_or, bit_and, w64, refl, sym, ap, ◌∙◌, arith, tests, ⊎_elim}
 use Rattle.std.specs.Int.{bit_at}
-use Rattle.std.specs.Int.Bits.{or_zero_r}
 use Rattle.std.proofs.lemmas.Bool.{cases_eq, cases_lt}
 use Rattle.std.proofs.lemmas.List.{get_or-set_same, get_or-set_other, length-set, get_or_past, ext_get_or, get_or-replicate, length-replicate}
 use Rattle.std.proofs.lemmas.Nat.Bits.{bit_at-zero, bit_at-lt, bit_at_or, bit_at_and, bit_at_set_same, bit_at_set_other, shr_and_one}
@@ -140,33 +139,6 @@ pub record JoinedTo (n : ℕ) (old others new : List ℕ) : Type 0 where
 
 pub joined_none : (old others : List ℕ) → JoinedTo 0 old others old
 joined_none old others = record { count = refl; first = λ k lt. absurd (omega arith); rest = λ k le. refl }
-
-pub joined_next : (n : ℕ) (old others mid : List ℕ) (word other : ℕ) → n < length old → word ≡ get_or mid n 0 → other ≡ get_or others n 0 → JoinedTo n old others mid
-    → JoinedTo (n + 1) old others (set mid n (bit_or word other))
-joined_next n old others mid word other inside at there j = record {
-  count = length-set mid n new ∙ j.count;
-  first = λ k lt. ⊎_elim (λ e. rw e here) (λ h. away k h ∙ j.first k (omega (arith, h))) (cases_eq k n);
-  rest = λ k le. away k (λ e. absurd (omega (arith, e))) ∙ j.rest k (omega arith);
-}
-  where
-    new : ℕ
-    new = bit_or word other
-
-    here : get_or (set mid n new) n 0 ≡ bit_or (get_or old n 0) (get_or others n 0)
-    here =
-        get_or-set_same mid n new 0 (let wide = j.count in omega (arith, wide, inside))
-        ∙ ap (λ x. bit_or x other) (at ∙ j.rest n (omega arith)) ∙ ap (bit_or (get_or old n 0)) there
-
-    away : (k : ℕ) → (k ≡ n → ⊥) → get_or (set mid n new) k 0 ≡ get_or mid k 0
-    away k h = get_or-set_other mid n k new 0 h
-
-pub joined_all : (n : ℕ) (old others new : List ℕ) → length others ≤ n → JoinedTo n old others new → (k : ℕ) → get_or new k 0 ≡ bit_or (get_or old k 0) (get_or others k 0)
-joined_all n old others new end j k = ⊎_elim (λ lt. j.first k lt) (λ le. past le) (cases_lt k n)
-  where
-    past : n ≤ k → get_or new k 0 ≡ bit_or (get_or old k 0) (get_or others k 0)
-    past le =
-        let none : get_or others k 0 ≡ 0 = get_or_past others k 0 (omega arith) in
-        j.rest k le ∙ sym (or_zero_r (get_or old k 0)) ∙ ap (bit_or (get_or old k 0)) (sym none)
 
 -- the bits that two words have
 both : (a b : ℕ) → a < 2 → b < 2 → nat_eq (min a b) 1 ≡ (nat_eq a 1 && nat_eq b 1)

@@ -132,14 +132,6 @@ put_there cell x old inside = record {
     other : (c : ℕ) → (c ≡ x → ⊥) → get_or (set old x cell) c 0 ≡ (if is_in c (x ∷ []) then cell else get_or old c 0)
     other c h = get_or-set_other old x c cell 0 h ∙ ap (λ v. if v then cell else get_or old c 0) (sym (is_one c ∙ just_other x c (λ e. h (sym e))))
 
-pub put_past : (cell x : ℕ) (old : List ℕ) → length old ≤ x → Put cell (x ∷ []) old old
-put_past cell x old outside = record {
-  count = refl;
-  cells = λ c below.
-      let apart : x ≡ c → ⊥ = λ e. absurd (omega (arith, e)) in
-      ap (λ v. if v then cell else get_or old c 0) (sym (or_false (nat_eq x c) ∙ sym (just_is x c) ∙ just_other x c apart));
-}
-
 pub put_next : (cell : ℕ) (given : List ℕ) (i : ℕ) (old mid new : List ℕ) → i < length given → Put cell (take i given) old mid → Put cell (get_or given i 0 ∷ []) mid new
     → Put cell (take (i + 1) given) old new
 put_next cell given i old mid new lt p q = record {

@@ -7,7 +7,7 @@ use Rattle.cx_prim.specs.declared.names.PrimitiveName.{PrimitiveName}
 use Rattle.cx_prim.specs.declared.names.PrimitiveName.TheVariants.{Const, Wire, Add, Sub, And, Or, Xor, Not, Lsh, Rsh, Lt, Gt, Equal, Neq, Le, Ge, Slt, Sgt, Seq, Sneq, Sle, Sge, Slice, Pad, Mux, Reg, StdMemD1, StdMemD2, StdMemD3, StdMemD4, CombMemD1, CombMemD2, CombMemD3, CombMemD4, SeqMemD1, SeqMemD2, SeqMemD3, SeqMemD4, MultPipe, DivPipe, Timer}
 use Rattle.cx_prim.specs.declared.ports.PortName.TheVariants.{WriteData, WriteEn, ContentEn, ReadData, Done}
 use Rattle.cx_prim.specs.declared.ports.PortRow.{PortRow}
-use Rattle.cx_prim.specs.Rows.{Row, is_enable_side}
+use Rattle.cx_prim.specs.Rows.{Row, is_enable_side, is_plain_side}
 use Rattle.cx_bits.specs.Operators.{low_bits_of, zero_extension_of}
 use Rattle.cx_prim.specs.Widths.{is_width}
 use Rattle.cx_prim.specs.PipeRows.{timer_row}
@@ -17,7 +17,7 @@ use Rattle.cx_prim.specs.Table.{PrimitiveRow, row_at, row_of, no_row, at_width, 
 use Rattle.std.specs.Cmp.Lexicographic.{pointwise}
 use Rattle.cx_numbering.specs.Names.{same_name}
 use Rattle.cx_sharing.specs.Giving.{same_numbers}
-use Rattle.cx_sharing.specs.Uses.{is_stateless, is_plain_side, is_combinational}
+use Rattle.cx_sharing.specs.Uses.{is_stateless, is_combinational}
 use Rattle.cx_meaning.specs.Designs.{OfPrimitive}
 
 abbrev Alike : Row → Type 0

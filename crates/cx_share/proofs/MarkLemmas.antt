@@ -53,9 +53,6 @@ filled count marks set p =
     let below : c < count = omega (arith, wide) in
     p.marks c (omega (arith, below, length-replicate count false)) ∙ ap (λ v. v || set c) (none_marked count c) ∙ sym (by_at count set c below))
 
-pub filled_count : (count : ℕ) (marks : List Bool) (set : Set) → Adds (replicate count false) marks set → length marks ≡ count
-filled_count count marks set p = p.count ∙ length-replicate count false
-
 pub filled_at : (count : ℕ) (marks : List Bool) (set : Set) → Adds (replicate count false) marks set → (c : ℕ) → c < count → get_or marks c false ≡ set c
 filled_at count marks set p c lt = ap (λ m. get_or m c false) (filled count marks set p) ∙ by_at count set c lt
 

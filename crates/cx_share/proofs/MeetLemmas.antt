@@ -6,10 +6,10 @@ use Rattle.cx_meaning.specs.Instances.{Set}
 use Rattle.cx_rules.specs.Items.{Visited, statements_in}
 use Rattle.cx_sharing.specs.Meeting.{has_both, arms_meet, form_meets}
 use Rattle.cx_sharing.specs.Uses.{assigns_use, uses}
-use Rattle.cx_share.specs.Marks.{AreMarks, Adds, marks_by}
+use Rattle.cx_share.specs.Marks.{AreMarks, marks_by}
 use Rattle.cx_share.specs.Tables.{row_at, IsTable, Joins, pairs_of, marked_pairs, in_order, IsMeeting}
 use Rattle.cx_share.specs.Using.{arm_marks, group_marks}
-use Rattle.cx_share.proofs.MarkLemmas.{adds_then, by_at, filled, marks_added}
+use Rattle.cx_share.proofs.MarkLemmas.{by_at, marks_added}
 use Rattle.cx_share.proofs.TableLemmas.{joins_then, joins_same, joined_table, blank_table, blank_marks}
 
 -- a cell in one of several sets, by their marks
@@ -32,16 +32,6 @@ pub groups_joined : (part : PlainComponent) (a b : List (List Bool)) → IsTable
 groups_joined part a b t j =
     joins_same (length part.cells) a b (pairs_of (λ s. marked_pairs s s) (group_marks part)) (pairs_of (λ g. has_both (assigns_use g.assigns)) part.groups) t
     (both_marks (length part.cells) (λ g. assigns_use g.assigns) part.groups) j
-
--- the two of a condition
-pub test_joined : (count : ℕ) (s t : Set) (mid marks : List Bool) (a b : List (List Bool)) → IsTable count a → Adds (replicate count false) mid s → Adds mid marks t
-    → Joins a b (marked_pairs marks marks) → Joins a b (has_both (λ c. s c || t c))
-test_joined count s t mid marks a b table p q j =
-    let both : Set = λ c. s c || t c in
-    let whole : marks ≡ marks_by count both = filled count marks both (adds_then (replicate count false) mid marks s t p q) in
-    joins_same count a b (marked_pairs marks marks) (has_both both) table
-    (λ x y h k. ap (λ m. get_or m x false && get_or m y false) whole ∙ ap (λ v. v && get_or (marks_by count both) y false) (by_at count both x h) ∙ ap (λ v. both x && v) (by_at count both y k))
-    j
 
 -- arms, in order and the other way round
 arms_in_order : (part : PlainComponent) (arms : List PlainStatement) (x y : ℕ) → x < length part.cells → y < length part.cells

@@ -1,5 +1,5 @@
 -- Sets of cells that each of 64 kept ones refuses.
-use Rattle.std.proofs.Common.{◌≡◌, ◌∙◌, ℕ, zero, suc, ◌+◌, ◌*◌, ◌<◌, ◌≤◌, Bool, true, false, List, [], ◌∷◌, ◌++◌, get_or, set, length, map, refl, sym, ap, subst, arith, ⊎_elim}
+use Rattle.std.proofs.Common.{◌≡◌, ◌∙◌, ℕ, zero, suc, ◌+◌, ◌*◌, ◌<◌, ◌≤◌, Bool, true, false, List, [], ◌∷◌, ◌++◌, get_or, set, length, map, refl, sym, ap, arith, ⊎_elim}
 use Rattle.std.proofs.lemmas.Bool.{cases_eq, cases_lt}
 use Rattle.std.proofs.lemmas.List.{get_or_past, get_or-map, get_or-set_same, get_or-set_other, length-map, length-set, length-append, map-set, map-append}
 use Rattle.cx_meaning.specs.Designs.{PlainComponent}
@@ -35,10 +35,6 @@ within_adds old new set p c e = p.marks c (there_by old c e) ∙ or_left (get_or
 pub near_got : (kept : List Kept) (k : ℕ) (one : Kept) → k < length kept → (get_or kept k one).near ≡ near_of kept k
 near_got kept k one lt = sym (get_or-map (λ (x : Kept). x.near) kept k one [] lt)
 
--- no set yet
-pub refused_none : AreRefused [] []
-refused_none = record { few = omega arith; each = λ b k less. absurd (omega arith) }
-
 -- more is near a kept one
 pub refused_set : (kept : List Kept) (refused : List (List Bool)) (i : ℕ) (before new : Kept) → i < length kept → before ≡ get_or kept i before
     → IsWithin before.near new.near → AreRefused kept refused → AreRefused (set kept i new) refused
@@ -71,21 +67,6 @@ refused_push kept refused one r = record {
       let inside : k < length (nears kept) = rw (length-map kept (λ (x : Kept). x.near)) (omega (arith, few, less, to)) in
       ap (λ list. get_or (get_or list k []) c false) (map-append (λ (x : Kept). x.near) kept (one ∷ []))
       ∙ ap (λ m. get_or m c false) (before_at (nears kept) one.near k [] inside) ∙ r.each b k less from to c e;
-}
-
--- a set for 64 more
-pub refused_more : (kept : List Kept) (refused : List (List Bool)) (near : List Bool) → length refused * 64 + 64 ≤ length kept
-    → ((k : ℕ) → length refused * 64 ≤ k → k < length refused * 64 + 64 → IsWithin near (near_of kept k)) → AreRefused kept refused → AreRefused kept (refused ++ near ∷ [])
-refused_more kept refused near room all r = record {
-  few = let long = length-append refused (near ∷ []) in omega (arith, long, room);
-  each = λ b k less from to c e. ⊎_elim
-      (λ h. r.each b k h from to c (ap (λ m. get_or m c false) (sym (before_at refused near b [] h)) ∙ e))
-      (λ h.
-      let long = length-append refused (near ∷ []) in
-      let same : b ≡ length refused = omega (arith, long, less, h) in
-      all k (subst (λ n. n * 64 ≤ k) same from) (subst (λ n. k < n * 64 + 64) same to) c
-      (ap (λ m. get_or m c false) (sym (last_at refused near [])) ∙ ap (λ n. get_or (get_or (refused ++ near ∷ []) n []) c false) (sym same) ∙ e))
-      (cases_lt b (length refused));
 }
 
 -- a kept one that refuses a cell does not take it

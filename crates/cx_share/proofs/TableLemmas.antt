@@ -1,5 +1,5 @@
 -- Marks of pairs that are added, one set of pairs after another.
-use Rattle.std.proofs.Common.{◌≡◌, ℕ, zero, suc, ◌+◌, ◌<◌, ◌≤◌, Bool, true, false, ◌||◌, ◌&&◌, not, nat_lt, List, [], ◌∷◌, get_or, set, take, length, map, replicate, refl, sym, ap, ◌∙◌, arith, ⊎_elim, add-one}
+use Rattle.std.proofs.Common.{◌≡◌, ℕ, zero, suc, ◌+◌, ◌<◌, ◌≤◌, Bool, true, false, ◌||◌, ◌&&◌, nat_lt, List, [], ◌∷◌, get_or, set, take, length, map, replicate, refl, sym, ap, ◌∙◌, arith, ⊎_elim, add-one}
 use Rattle.std.specs.List.{list_any}
 use Rattle.std.proofs.lemmas.Bool.{cases_eq, cases_lt, lt-ltb, le-ltb, true≢false}
 use Rattle.std.proofs.lemmas.List.{get_or-set_same, get_or-set_other, get_or_past, length-set, get_or-replicate, length-replicate}
@@ -10,7 +10,6 @@ use Rattle.cx_share.specs.Marks.{AreMarks, Adds, any_of}
 use Rattle.cx_share.specs.Tables.{row_at, IsTable, Joins, pairs_of, between, marked_pairs, in_order}
 use Rattle.cx_share.proofs.MarkLemmas.{adds_none, adds_then, adds_same, adds_step, any_of-map}
 use Rattle.cx_text.proofs.BoolLaws.{or_false}
-use Rattle.std.proofs.Math.Bool.{or_comm}
 use Rattle.cx_meaning.proofs.InstancesLemmas.{just_other, just_same}
 
 pub joins_none : (rows : List (List Bool)) → Joins rows rows (λ x y. false)
@@ -108,14 +107,6 @@ joins_eq a b p q h f = record { count = f.count; rows = λ x lt. adds_same (row_
 pub joins_map : {A B : Type 0} (f : B → ℕ → Set) (g : A → B) (xs : List A) (a b : List (List Bool)) → Joins a b (pairs_of (λ x. f (g x)) xs) → Joins a b (pairs_of f (map g xs))
 joins_map f g xs a b j = joins_eq a b (pairs_of (λ x. f (g x)) xs) (pairs_of f (map g xs)) (λ x y. any_of-map (λ v. f v x) g xs y) j
 
--- RANGES of first cells
-between_none : (n : ℕ) (p : ℕ → Set) (x y : ℕ) → false ≡ between n n p x y
-between_none n p x y = by (nat_lt x n) (p x y)
-  where
-    by : (b v : Bool) → false ≡ (not b && (b && v))
-    by true v = refl
-    by false v = refl
-
 between_next : (from n : ℕ) (p : ℕ → Set) (x y : ℕ) → from ≤ n → (between from n p x y || (just n x && p x y)) ≡ between from (suc n) p x y
 between_next from n p x y le = ⊎_elim (λ lt. before lt) (λ past. inside past) (cases_lt x from)
   where
@@ -148,63 +139,10 @@ between_next from n p x y le = ⊎_elim (λ lt. before lt) (λ past. inside past
         (cases_eq n x))
         (cases_lt x n)
 
-between_then : (a b c : ℕ) (p : ℕ → Set) (x y : ℕ) → a ≤ b → b ≤ c → (between a b p x y || between b c p x y) ≡ between a c p x y
-between_then a b c p x y ab bc = ⊎_elim (λ lt. before lt) (λ past. inside past) (cases_lt x a)
-  where
-    before : x < a → (between a b p x y || between b c p x y) ≡ between a c p x y
-    before lt =
-        let first : nat_lt x a ≡ true = lt-ltb x a lt in
-        let second : nat_lt x b ≡ true = lt-ltb x b (omega arith) in
-        rw (first, second) refl
-
-    inside : a ≤ x → (between a b p x y || between b c p x y) ≡ between a c p x y
-    inside past =
-        let first : nat_lt x a ≡ false = le-ltb x a past in
-        ⊎_elim
-        (λ lt.
-        let second : nat_lt x b ≡ true = lt-ltb x b lt in
-        let third : nat_lt x c ≡ true = lt-ltb x c (omega arith) in
-        rw (first, second, third) (or_false (p x y)))
-        (λ beyond. let second : nat_lt x b ≡ false = le-ltb x b beyond in rw (first, second) refl)
-        (cases_lt x b)
-
-between_all : (n : ℕ) (p : ℕ → Set) (x y : ℕ) → x < n → between 0 n p x y ≡ p x y
-between_all n p x y lt =
-    let first : nat_lt x 0 ≡ false = le-ltb x 0 (omega arith) in
-    let second : nat_lt x n ≡ true = lt-ltb x n lt in
-    rw (first, second) refl
-
-pub joins_begin : (rows : List (List Bool)) (n : ℕ) (p : ℕ → Set) → Joins rows rows (between n n p)
-joins_begin rows n p = joins_eq rows rows (λ x y. false) (between n n p) (between_none n p) (joins_none rows)
-
 pub joins_next : (rows mid new : List (List Bool)) (from n : ℕ) (p : ℕ → Set) → from ≤ n → Joins rows mid (between from n p) → Joins mid new (λ x y. just n x && p x y) → Joins rows new (between from (n + 1) p)
 joins_next rows mid new from n p le f g =
     rw (add-one n)
     (joins_eq rows new (λ x y. between from n p x y || (just n x && p x y)) (between from (suc n) p) (λ x y. between_next from n p x y le) (joins_then rows mid new (between from n p) (λ x y. just n x && p x y) f g))
-
-pub joins_range : (rows mid new : List (List Bool)) (a b c : ℕ) (p : ℕ → Set) → a ≤ b → b ≤ c → Joins rows mid (between a b p) → Joins mid new (between b c p) → Joins rows new (between a c p)
-joins_range rows mid new a b c p ab bc f g =
-    joins_eq rows new (λ x y. between a b p x y || between b c p x y) (between a c p) (λ x y. between_then a b c p x y ab bc) (joins_then rows mid new (between a b p) (between b c p) f g)
-
--- a range without pairs
-pub joins_bare : (rows new : List (List Bool)) (a b c : ℕ) (p : ℕ → Set) → a ≤ b → b ≤ c → ((x y : ℕ) → b ≤ x → x < c → p x y ≡ false) → Joins rows new (between a b p) → Joins rows new (between a c p)
-joins_bare rows new a b c p ab bc none f =
-    joins_range rows new new a b c p ab bc f (joins_eq new new (λ x y. false) (between b c p) (λ x y. bare x y) (joins_none new))
-  where
-    bare : (x y : ℕ) → false ≡ between b c p x y
-    bare x y =
-        ⊎_elim
-        (λ lt. let first : nat_lt x b ≡ true = lt-ltb x b lt in rw first refl)
-        (λ past.
-        let first : nat_lt x b ≡ false = le-ltb x b past in
-        ⊎_elim
-        (λ lt. let second : nat_lt x c ≡ true = lt-ltb x c lt in rw (first, second) (sym (none x y past lt)))
-        (λ beyond. let second : nat_lt x c ≡ false = le-ltb x c beyond in rw (first, second) refl)
-        (cases_lt x c))
-        (cases_lt x b)
-
-pub joins_whole : (count n : ℕ) (rows new : List (List Bool)) (p : ℕ → Set) → IsTable count rows → count ≤ n → Joins rows new (between 0 n p) → Joins rows new p
-joins_whole count n rows new p t le f = joins_same count rows new (between 0 n p) p t (λ x y h k. between_all n p x y (omega arith)) f
 
 -- a row of those with which a cell stands
 pub joins_one : (rows : List (List Bool)) (one : ℕ) (row ones others : List Bool) → one < length rows → get_or ones one false ≡ true → Adds (row_at rows one) row (λ y. get_or others y false)
@@ -275,23 +213,6 @@ order_more sets i set earlier count a b c lt at t wide m f g =
     ∙ ap (λ s. in_order (take i sets) y x || (get_or s x false && list_any (λ s. get_or s y false) (take i sets))) at
     ∙ order_next sets i set x y lt)
     (joins_then a b c (λ x y. in_order (take i sets) y x) (marked_pairs set earlier) f g))
-
--- one more set, and those after it
-pub order_before : (set : List Bool) (rest : List (List Bool)) (later : List Bool) (count : ℕ) (a b c : List (List Bool)) → IsTable count a → length later ≡ count
-    → AreMarks later (any_of (λ s n. get_or s n false) rest) → Joins a b (in_order rest) → Joins b c (marked_pairs set later) → Joins a c (in_order (set ∷ rest))
-order_before set rest later count a b c t wide m f g =
-    joins_same count a c (λ x y. in_order rest x y || marked_pairs set later x y) (in_order (set ∷ rest)) t
-    (λ x y h k.
-    let below : y < length later = omega (arith, wide) in
-    ap (λ v. in_order rest x y || (get_or set x false && v)) (m y below) ∙ or_comm (in_order rest x y) (get_or set x false && list_any (λ s. get_or s y false) rest))
-    (joins_then a b c (in_order rest) (marked_pairs set later) f g)
-
--- the marks of one more set
-pub later_more : (set later new : List Bool) (rest : List (List Bool)) → AreMarks later (any_of (λ s n. get_or s n false) rest) → Adds later new (λ c. get_or set c false)
-    → AreMarks new (any_of (λ s n. get_or s n false) (set ∷ rest))
-later_more set later new rest m p c lt =
-    let below : c < length later = omega (arith, p.count) in
-    p.marks c below ∙ ap (λ v. v || get_or set c false) (m c below) ∙ or_comm (any_of (λ s n. get_or s n false) rest c) (get_or set c false)
 
 pub earlier_more : (sets : List (List Bool)) (i : ℕ) (set earlier new : List Bool) → i < length sets → set ≡ get_or sets i set → AreMarks earlier (any_of (λ s n. get_or s n false) (take i sets))
     → Adds earlier new (λ c. get_or set c false) → AreMarks new (any_of (λ s n. get_or s n false) (take (i + 1) sets))

@@ -1,7 +1,7 @@
 -- Which cells parts use, as marks.
 use Rattle.std.proofs.Common.{◌≡◌, ℕ, zero, suc, ◌<◌, ◌≤◌, Bool, false, ◌||◌, List, [], ◌∷◌, get_or, take, length, map, flat_map, replicate, refl, sym, ap, subst, ◌∙◌, arith}
 use Rattle.std.specs.List.{list_any}
-use Rattle.std.proofs.lemmas.List.{get_or_past, get_or-map, length-map}
+use Rattle.std.proofs.lemmas.List.{get_or-map, length-map}
 use Rattle.std.proofs.lemmas.List.Folds.{list_any-append}
 use Rattle.cx_text.proofs.ListLaws.{take_all}
 use Rattle.cx_meaning.specs.declared.ports.PortRef.{PortRef}
@@ -20,7 +20,7 @@ use Rattle.cx_sharing.specs.Uses.{assigns_use, group_uses, uses}
 use Rattle.cx_share.specs.Marks.{Adds, any_of, marks_by}
 use Rattle.cx_share.specs.Tables.{AreWide}
 use Rattle.cx_share.specs.Using.{arm_marks, group_marks}
-use Rattle.cx_share.proofs.MarkLemmas.{adds_none, adds_same, adds_then, by_at, by_long, by_same, filled}
+use Rattle.cx_share.proofs.MarkLemmas.{adds_same, adds_then, by_at, by_long, by_same, filled}
 use Rattle.cx_text.proofs.BoolLaws.{or_false}
 
 -- the cells of ports
@@ -47,9 +47,6 @@ wide_by count f [] k lt = absurd (omega arith)
 wide_by count f (x ∷ xs) zero lt = by_long count (f x)
 wide_by count f (x ∷ xs) (suc k) lt = wide_by count f xs k (let h : suc k < suc (length (map (λ y. marks_by count (f y)) xs)) = lt in omega arith)
 
-pub wide_groups : (part : PlainComponent) → AreWide (length part.cells) (group_marks part)
-wide_groups part = wide_by (length part.cells) (λ g. assigns_use g.assigns) part.groups
-
 pub wide_arms : (part : PlainComponent) (arms : List PlainStatement) → AreWide (length part.cells) (arm_marks part arms)
 wide_arms part arms = wide_by (length part.cells) (uses part) arms
 
@@ -69,12 +66,6 @@ group_added part g marks old new lt at wide p =
 
 pub group_long : (part : PlainComponent) (g : ℕ) (marks : List Bool) → g < length (group_marks part) → marks ≡ get_or (group_marks part) g marks → length marks ≡ length part.cells
 group_long part g marks lt at = ap length (group_there part g marks lt at) ∙ by_long (length part.cells) (group_uses part g)
-
--- a number that names no group
-pub group_past : (part : PlainComponent) (g : ℕ) (old : List Bool) → length (group_marks part) ≤ g → Adds old old (group_uses part g)
-group_past part g old past =
-    let none : get_or part.groups g no_group ≡ no_group = get_or_past part.groups g no_group (let same = length-map part.groups (λ k. marks_by (length part.cells) (assigns_use k.assigns)) in omega (arith, same, past)) in
-    adds_same old old (λ c. false) (group_uses part g) (λ c lt. sym (ap (λ k. assigns_use k.assigns c) none)) (adds_none old)
 
 -- what a statement uses
 pub statement_used : (part : PlainComponent) (s : PlainStatement) (groups tested : List ℕ) (count : ℕ) (mid marks : List Bool)

@@ -2,6 +2,7 @@
 
 ghost use Rattle.std.specs.Prelude.{◌≡◌, ◌&&◌, not};
 ghost use Rattle.std.specs.List.{list_any};
+ghost use Rattle.cx_prim.specs.Rows as rows;
 ghost use Rattle.cx_prim.specs.PrimitiveNames.{name_text};
 ghost use Rattle.cx_prim.specs.Table.{row_of};
 ghost use Rattle.cx_numbering.specs.Names.{same_name};
@@ -51,7 +52,7 @@ fn is_enable(port: PortRow) -> bool
 
 /// Whether a primitive has an input that enables nothing.
 fn has_plain(primitive: &Primitive) -> bool
-    ensures value { result ≡ list_any (λ port. uses.is_plain_side port.side) (row_of primitive.now).ports }
+    ensures value { result ≡ list_any (λ port. rows.is_plain_side port.side) (row_of primitive.now).ports }
 {
     for port in 0..primitive.port_count() {
         if is_plain(primitive.port(port)) {
@@ -62,7 +63,7 @@ fn has_plain(primitive: &Primitive) -> bool
 }
 
 fn is_plain(port: PortRow) -> bool
-    ensures value { result ≡ uses.is_plain_side port.side }
+    ensures value { result ≡ rows.is_plain_side port.side }
 {
     matches!(port.side, Side::Plain)
 }

@@ -19,7 +19,8 @@ use Rattle.cx_meaning.specs.Designs.{PlainAssign, PlainGroup, PlainKind, OfPrimi
 use Rattle.cx_meaning.specs.Instances.{Instance, At, OfInstance, part_of, cells_of, cell_at}
 use Rattle.cx_meaning.specs.Active.{Owned, group, same_port}
 use Rattle.cx_meaning.specs.Sights.{part_port}
-use Rattle.cx_rules.specs.Ports.{enables_cell, is_primitive_enable, is_part_port}
+use Rattle.cx_rules.specs.Ports.{is_primitive_enable, is_part_port}
+use Rattle.cx_meaning.specs.Calls.{enables_at}
 use Rattle.cx_rules.specs.Items.{is_plain}
 use Rattle.cx_rules.specs.Footprints.{Depends}
 use Rattle.cx_rules.specs.ShapeRules.{is_hole_of, some_target}
@@ -179,7 +180,7 @@ module _ (part : PlainComponent) where
     captured_other r i = captured_registers 0 part.cells (λ c lt. let none : 0 + c ≡ c = omega arith in ap (kind_in part.cells) none) r i
 
 -- what has an enabling port is no candidate
-enable_other : (part : PlainComponent) (c p : ℕ) {at to : At} → AtShared part c at to → enables_cell at p ≡ true → is_candidate part c ≡ false
+enable_other : (part : PlainComponent) (c p : ℕ) {at to : At} → AtShared part c at to → enables_at at p ≡ true → is_candidate part c ≡ false
 enable_other part c p no_cell e = absurd (cc)
 enable_other part c p (a_row q kind) e = by (is_candidate part c) refl
   where

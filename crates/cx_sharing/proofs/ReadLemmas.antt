@@ -5,7 +5,7 @@ use Rattle.std.specs.List.{list_all, list_any}
 use Rattle.cx_prim.specs.declared.names.PrimitiveName.{PrimitiveName}
 use Rattle.cx_prim.specs.declared.names.PrimitiveName.TheVariants as primitives
 use Rattle.cx_prim.specs.Widths.{is_width}
-use Rattle.cx_prim.specs.Rows.{Row, is_output_side}
+use Rattle.cx_prim.specs.Rows.{Row, is_output_side, is_plain_side}
 use Rattle.cx_prim.specs.MemoryRows.{are_sizes, is_address_width, memory_row, sequential_memory_row}
 use Rattle.cx_bits.specs.BitVector.{BitVector}
 use Rattle.cx_prim.specs.Operators.{apply_unary, apply_binary, binary_out_width}
@@ -17,7 +17,7 @@ use Rattle.cx_prim.proofs.TableCases.{OfEachKind, of_row}
 use Rattle.cx_meaning.specs.Rows.{side_of}
 use Rattle.cx_meaning.specs.Designs.{OfPrimitive}
 use Rattle.cx_numbering.specs.Names.{go_name}
-use Rattle.cx_sharing.specs.Uses.{is_stateless, is_plain_side, is_combinational}
+use Rattle.cx_sharing.specs.Uses.{is_stateless, is_combinational}
 
 -- WHAT CAN BE STARTED is not combinational
 abbrev combines : Row → Bool

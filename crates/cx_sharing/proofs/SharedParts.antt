@@ -16,7 +16,8 @@ use Rattle.cx_meaning.specs.Islands.{kind_length, group_length}
 use Rattle.cx_meaning.proofs.CycleLemmas.{count_for}
 use Rattle.cx_meaning.proofs.DesignsLemmas.{same_part}
 use Rattle.cx_meaning.proofs.InstancesLemmas.{at_kind}
-use Rattle.cx_rules.specs.Ports.{component_of, declared_width, part_width, cell_width, width_of, written_width, is_part_output, is_cell_output, is_source_only, is_target_only, enables_cell, is_primitive_enable, is_instance, is_part_port}
+use Rattle.cx_rules.specs.Ports.{component_of, declared_width, part_width, cell_width, width_of, written_width, is_part_output, is_cell_output, is_source_only, is_target_only, is_primitive_enable, is_instance, is_part_port}
+use Rattle.cx_meaning.specs.Calls.{enables_at}
 use Rattle.cx_rules.specs.Items.{statements_in, Dynamic}
 use Rattle.cx_rewrites.specs.Moving.{moved_assign, moved_group, moved_owned}
 use Rattle.cx_rewrites.specs.Renaming.{renamed, AtLike, same_row, like_child, both_nothing}
@@ -147,7 +148,7 @@ module _ {part : PlainComponent} {c : ℕ} where
   output_at (a_row q kind) p = refl
   output_at (a_part k child twin kind e) p = ap (λ (x : PlainComponent). is_part_output (part_port x p)) e
 
-  enable_at : {at to : At} → AtShared part c at to → (p : ℕ) → enables_cell to p ≡ enables_cell at p
+  enable_at : {at to : At} → AtShared part c at to → (p : ℕ) → enables_at to p ≡ enables_at at p
   enable_at no_cell p = refl
   enable_at (a_row q kind) p = refl
   enable_at (a_part k child twin kind e) p = refl

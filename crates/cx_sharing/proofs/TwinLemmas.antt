@@ -4,7 +4,7 @@ use Rattle.std.specs.Prelude.{get_or, not, ◌&&◌}
 use Rattle.std.specs.List.{list_any}
 use Rattle.std.proofs.lemmas.Bool.{cases_lt, eqb-true, eq-eqb, both_ways}
 use Rattle.cx_prim.specs.declared.ports.PortRow.{PortRow}
-use Rattle.cx_prim.specs.Rows.{Row}
+use Rattle.cx_prim.specs.Rows.{Row, is_plain_side}
 use Rattle.cx_prim.specs.Table.{PrimitiveRow, row_of}
 use Rattle.cx_meaning.specs.declared.ports.PortRef.TheVariants as ports
 use Rattle.cx_meaning.specs.declared.sights.Seen.{Seen}
@@ -18,7 +18,7 @@ use Rattle.cx_meaning.proofs.InstancesLemmas.{row_is, instance_is, row_instance,
 use Rattle.cx_rules.specs.Circles.{AreAcyclic, AcyclicBelow}
 use Rattle.cx_rewrites.specs.Tallies.{none}
 use Rattle.cx_rewrites.specs.Standing.{holds, renumbered, IsRenumbered}
-use Rattle.cx_sharing.specs.Uses.{assigns_use, is_stateless, is_plain_side, is_combinational, kind_in, is_candidate}
+use Rattle.cx_sharing.specs.Uses.{assigns_use, is_stateless, is_combinational, kind_in, is_candidate}
 use Rattle.cx_sharing.specs.Giving.{keeper, stays, staying, new_cell}
 use Rattle.cx_sharing.specs.SharedDesign.{remaining, shared_part, shared_design}
 use Rattle.cx_sharing.specs.Following.{has_state, SharedStands}

@@ -1,8 +1,6 @@
 -- Which cells a part of a component uses, and which cells may be shared at all. A part uses a cell where it names a port of it.
 use Rattle.std.specs.Prelude.{ℕ, zero, suc, Bool, true, false, ◌||◌, ◌&&◌, not, List, [], ◌∷◌, Option, None, Some}
 use Rattle.std.specs.List.{list_any}
-use Rattle.cx_prim.specs.declared.ports.Side.{Side}
-use Rattle.cx_prim.specs.declared.ports.Side.TheVariants.{Enable, Plain, Output, Registered}
 use Rattle.cx_prim.specs.CellStates.{StateShape, NoState, RegisterOf, MemoryOf, SequentialMemoryOf, MultiplierOf, DividerOf, TimerOf}
 use Rattle.cx_prim.specs.Table.{row_of}
 use Rattle.cx_meaning.specs.declared.ports.PlacedPort.{PlacedPort}
@@ -10,6 +8,7 @@ use Rattle.cx_meaning.specs.Designs.{PlainAssign, PlainKind, OfPrimitive, OfComp
 use Rattle.cx_meaning.specs.Instances.{Set}
 use Rattle.cx_meaning.specs.Control.{targets_cell, assigns_drive, groups_of}
 use Rattle.cx_rules.specs.Items.{sources_of, tests_of}
+use Rattle.cx_prim.specs.Rows.{is_plain_side}
 
 -- an assignment names the port that it drives, its source and the operands of its guard
 abbrev pub assign_uses : PlainAssign → Set
@@ -42,12 +41,6 @@ is_stateless (SequentialMemoryOf width count) = false
 is_stateless (MultiplierOf width latency) = false
 is_stateless (DividerOf width latency) = false
 is_stateless (TimerOf length) = false
-
-abbrev pub is_plain_side : Side → Bool
-is_plain_side Enable = false
-is_plain_side Plain = true
-is_plain_side Output = false
-is_plain_side Registered = false
 
 abbrev pub is_combinational : PlainKind → Bool
 is_combinational (OfPrimitive primitive) =

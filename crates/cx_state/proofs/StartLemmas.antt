@@ -3,13 +3,13 @@ use Rattle.std.proofs.Common.{◌≡◌, ℕ, zero, suc, ◌+◌, ◌<◌, ◌�
 use Rattle.std.proofs.lemmas.Bool.{cases_lt}
 use Rattle.std.proofs.Math.Seq.{drop-cons}
 use Rattle.std.proofs.Math.ListN.{drop_of_length-le}
-use Rattle.std.proofs.lemmas.List.{length-map, get_or-map, take_more, take_all}
+use Rattle.std.proofs.lemmas.List.{length-map, get_or-map, take_more}
 use Rattle.std.proofs.lemmas.Option.{slice_get-get_or}
 use Rattle.cx_text.specs.declared.loading.LoadedMemory.{LoadedMemory}
 use Rattle.cx_prim.specs.CellStates.{CellState}
 use Rattle.cx_meaning.specs.declared.sights.Seen.{Seen}
 use Rattle.cx_meaning.specs.Designs.{PlainCell, PlainComponent, PlainDesign, component_at}
-use Rattle.cx_meaning.specs.Instances.{Path, part_of, paths_of, instance_at, tree_of}
+use Rattle.cx_meaning.specs.Instances.{Path, part_of, instance_at, tree_of}
 use Rattle.cx_design.specs.declared.cells.Cell.{Cell}
 use Rattle.cx_design.specs.declared.components.Component.{Component}
 use Rattle.cx_design.specs.PlainForms.{plain_cell, plain_component, plain_parts}
@@ -18,9 +18,9 @@ use Rattle.cx_state.specs.declared.tables.InstanceRow.{InstanceRow}
 use Rattle.cx_state.specs.Tables.{IsNumber, no_row, row_at, IsTable}
 use Rattle.cx_state.specs.declared.states.InstanceState.{InstanceState}
 use Rattle.cx_state.specs.States.{PlainInstance, plain_instance, instance_state, HoldsKind, HoldCells, words_in, with_held, no_instance}
-use Rattle.cx_state.specs.Starts.{words_for, words_past, kind_started, started, KindTakes, TakeWords, words_of_main, IsStarted, AreStarted}
+use Rattle.cx_state.specs.Starts.{words_for, words_past, kind_started, started, TakeWords, words_of_main, IsStarted, AreStarted}
 use Rattle.cx_state.proofs.Takes.{take_none}
-use Rattle.cx_text.proofs.ListLaws.{snoc_length, nothing_more}
+use Rattle.cx_text.proofs.ListLaws.{snoc_length}
 use Rattle.cx_meaning.proofs.DesignsLemmas.{same_part}
 use Rattle.cx_meaning.proofs.InstancesLemmas.{here as instance_self, main_first}
 
@@ -74,12 +74,6 @@ so_far_begin cells ws held e takes = subst (AreSoFar cells ws 0 0) (sym e) (reco
 split_at : (cells : List Cell) (i : ℕ) (cell : Cell) → i < length cells → cell ≡ get_or cells i cell → drop i cells ≡ cell ∷ drop (suc i) cells
 split_at cells i cell lt e = drop-cons cells i cell lt ∙ ap (λ c. c ∷ drop (suc i) cells) (sym e)
 
-pub takes_now : (cells : List Cell) (ws : List (List ℕ)) (i next : ℕ) (held : List (Option CellState)) (cell : Cell) → AreSoFar cells ws i next held → i < length cells → cell ≡ get_or cells i cell
-    → KindTakes (plain_cell cell).kind (words_for cell.external (drop next ws))
-takes_now cells ws i next held cell far lt e =
-    let takes : TakeWords (map plain_cell (cell ∷ drop (suc i) cells)) (drop next ws) = subst (λ cs. TakeWords (map plain_cell cs) (drop next ws)) (split_at cells i cell lt e) far.takes in
-    takes.0
-
 pub so_far_next : (cells : List Cell) (ws : List (List ℕ)) (i next after : ℕ) (held more : List (Option CellState)) (cell : Cell) (h : Option CellState) → AreSoFar cells ws i next held → i < length cells
     → cell ≡ get_or cells i cell → h ≡ kind_started (plain_cell cell).kind (words_for cell.external (drop next ws)) → HoldsKind (plain_cell cell).kind h → more ≡ held ++ h ∷ []
     → drop after ws ≡ words_past cell.external (drop next ws) → AreSoFar cells ws (i + 1) after more
@@ -105,19 +99,9 @@ so_far_next cells ws i next after held more cell h far lt e value fits is past =
     taken : take (suc i) cells ≡ take i cells ++ cell ∷ []
     taken = (let s : suc i ≡ i + 1 = omega arith in ap (λ n. take n cells) s) ∙ take_more cells i cell lt ∙ ap (λ c. take i cells ++ c ∷ []) (sym e)
 
-pub so_far_value : (cells : List Cell) (ws : List (List ℕ)) (i next : ℕ) (held : List (Option CellState)) → AreSoFar cells ws i next held → length cells ≤ i → held ≡ started (map plain_cell cells) ws
-so_far_value cells ws i next held far le =
-    sym (nothing_more held) ∙ ap (λ cs. held ++ started (map plain_cell cs) (drop next ws)) (sym (drop_of_length-le cells le)) ∙ far.value
-
-pub so_far_fits : (cells : List Cell) (ws : List (List ℕ)) (i next : ℕ) (held : List (Option CellState)) → AreSoFar cells ws i next held → length cells ≤ i → HoldCells (map plain_cell cells) held
-so_far_fits cells ws i next held far le = subst (λ cs. HoldCells (map plain_cell cs) held) (take_all i cells le) far.fits
-
 -- INSTANCES
 pub part_is : (d : PlainDesign) (rows : List InstanceRow) (children : List ℕ) (n : ℕ) (path : Path) → IsTable d rows children → IsNumber d n path → part_of (instance_at (tree_of d) path) ≡ component_at d (row_at rows n).component
 part_is d rows children n path table at = ap part_of (table.component n path at) ∙ same_part d (length d.components) (row_at rows n).component
-
-number_path : (d : PlainDesign) (rows : List InstanceRow) (children : List ℕ) (n : ℕ) → IsTable d rows children → n < length rows → IsNumber d n (get_or (paths_of (tree_of d)) n [])
-number_path d rows children n table lt = slice_get-get_or (paths_of (tree_of d)) n [] (let c = table.count in omega (arith, c))
 
 -- the component of instance n takes the words for it
 pub component_takes : (d : PlainDesign) (rows : List InstanceRow) (children : List ℕ) (ws : List (List ℕ)) (n : ℕ) → IsTable d rows children → TakeWords (component_at d d.main).cells ws
@@ -140,9 +124,6 @@ get_last (y ∷ ys) x = get_last ys x
 instances_snoc : (xs : List InstanceState) (x : InstanceState) → map plain_instance (xs ++ x ∷ []) ≡ map plain_instance xs ++ plain_instance x ∷ []
 instances_snoc [] x = refl
 instances_snoc (y ∷ ys) x = ap (λ zs. plain_instance y ∷ zs) (instances_snoc ys x)
-
-pub started_begin : (d : PlainDesign) (ws : List (List ℕ)) (xs : List InstanceState) → xs ≡ [] → AreStarted d ws 0 (map plain_instance xs)
-started_begin d ws xs e = subst (λ ys. AreStarted d ws 0 (map plain_instance ys)) (sym e) (record { count = refl; each = λ m path lt at. absurd (omega arith) })
 
 pub started_next : (d : PlainDesign) (rows : List InstanceRow) (children : List ℕ) (ws vs : List (List ℕ)) (n : ℕ) (xs more : List InstanceState) (x : InstanceState) (part : PlainComponent) → IsTable d rows children
     → AreStarted d ws n (map plain_instance xs) → part ≡ component_at d (row_at rows n).component → vs ≡ words_of_main n ws → IsStarted part vs (plain_instance x) → more ≡ xs ++ x ∷ []
@@ -172,10 +153,6 @@ started_next d rows children ws vs n xs more x part table so_far part_same words
         let own : part ≡ part_of (instance_at (tree_of d) path) = part_same ∙ ap (λ k. component_at d (row_at rows k).component) (sym same) ∙ sym (part_is d rows children m path table at) in
         subst (IsStarted (part_of (instance_at (tree_of d) path)) (words_of_main m ws)) (sym here)
         (subst (λ p. IsStarted p (words_of_main m ws) (plain_instance x)) own (subst (λ v. IsStarted part v (plain_instance x)) (words ∙ ap (λ k. words_of_main k ws) (sym same)) one))
-
-pub started_end : (d : PlainDesign) (rows : List InstanceRow) (children : List ℕ) (ws : List (List ℕ)) (n : ℕ) (xs : List PlainInstance) → IsTable d rows children → AreStarted d ws n xs → length rows ≤ n → n ≤ length rows
-    → AreStarted d ws (length (paths_of (tree_of d))) xs
-started_end d rows children ws n xs table all le ge = subst (λ k. AreStarted d ws k xs) (let c = table.count in (let s : n ≡ length (paths_of (tree_of d)) = omega (arith, c) in s)) all
 
 pub component_own : (components : List Component) (main : ℕ) (rows seen : List InstanceRow) (children : List ℕ) (n : ℕ) (x : InstanceRow) (shown : List Component) (part : Component) → IsTable (plain_parts components main) rows children → seen ≡ rows
     → n < length seen → shown ≡ components → part ≡ get_or shown (get_or seen n x).component part → plain_component part ≡ component_at (plain_parts components main) (row_at rows n).component

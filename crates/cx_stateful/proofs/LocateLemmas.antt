@@ -18,9 +18,6 @@ pub record IsLocating (sizes : List ℕ) (inputs : Inputs) (port number : ℕ) :
   pub word : number * word_count (drop port sizes) + word_number (drop port sizes) port inputs ≡ word_number sizes 0 inputs
   pub within : (number + 1) * word_count (drop port sizes) ≤ word_count sizes
 
-pub IsLocating-start : (sizes : List ℕ) (inputs : Inputs) → IsLocating sizes inputs 0 0
-IsLocating-start sizes inputs = record { beyond = refl; word = omega arith; within = omega arith }
-
 -- one dimension of the rest
 one_more_word : (number size address count rest : ℕ) → number * (size * count) + (address * count + rest) ≡ (number * size + address) * count + rest
 one_more_word number size address count rest =
@@ -62,16 +59,6 @@ IsLocating-next sizes inputs port number there below far =
     (sym (ap (λ (rest : List ℕ). number * word_count rest + word_number rest port inputs) split) ∙ far.word)
     (subst (λ (rest : List ℕ). (number + 1) * word_count rest ≤ word_count sizes) split far.within) in
     record { beyond = next.0; word = next.1; within = next.2 }
-
--- the first address out of range
-pub IsLocating-beyond : (sizes : List ℕ) (inputs : Inputs) (port number : ℕ) → port < length sizes → slice_index sizes port ≤ value_at inputs port → IsLocating sizes inputs port number
-    → first_beyond sizes 0 inputs ≡ Some port
-IsLocating-beyond sizes inputs port number there beyond far =
-    let split = split_at sizes port there in
-    sym far.beyond ∙ ap (λ (rest : List ℕ). first_beyond rest port inputs) split ∙ ap (λ (b : Bool). if b then first_beyond (drop (port + 1) sizes) (port + 1) inputs else Some port) test
-  where
-    test : nat_lt (value_at inputs port) (slice_index sizes port) ≡ false
-    test = grind (arith, nat_tests)
 
 pub list_all-drop : (test : ℕ → Bool) (xs : List ℕ) (n : ℕ) → list_all test xs ≡ true → list_all test (drop n xs) ≡ true
 list_all-drop test [] zero all = refl

@@ -4,8 +4,6 @@ use Rattle.std.specs.Prelude.{slice_get}
 use Rattle.std.proofs.lemmas.Option.{slice_get-map, slice_get_read}
 use Rattle.std.proofs.Math.Seq.{take-append_seam}
 use Rattle.std.specs.List.{list_all, range_with_len}
-use Rattle.std.proofs.lemmas.Bool.{cases_eq}
-use Rattle.std.proofs.lemmas.List.{get_or-set_same, get_or-set_other}
 use Rattle.std.proofs.lemmas.List.FromFn.{map-range_with_len_more}
 
 pub there_below : {A : Type 0} (xs : List A) (n : ℕ) (x : A) → slice_get xs n ≡ Some x → n < length xs
@@ -88,14 +86,6 @@ kept false test b xs e h = refl
 pub spliced : (t : Bool) (b : ℕ) (xs ys whole : List ℕ) → xs ++ ys ≡ whole → (if t then b ∷ xs else []) ++ (if t then ys else b ∷ whole) ≡ b ∷ whole
 spliced true b xs ys whole e = ap (λ w. b ∷ w) e
 spliced false b xs ys whole e = refl
-
-pub marked_next : (test : ℕ → Bool) (wanted : List Bool) (port : ℕ) (b : Bool) → port < length wanted → b ≡ test port → ((p : ℕ) → p < port → get_or wanted p false ≡ test p)
-    → (p : ℕ) → p < port + 1 → get_or (set wanted port b) p false ≡ test p
-marked_next test wanted port b within is before p lt =
-    ⊎_elim
-    (λ e. ap (λ n. get_or (set wanted port b) n false) e ∙ get_or-set_same wanted port b false within ∙ is ∙ ap test (sym e))
-    (λ differ. get_or-set_other wanted port p b false differ ∙ before p (omega arith))
-    (cases_eq p port)
 
 pub length-map : {A B : Type 0} (f : A → B) (xs : List A) → length (map f xs) ≡ length xs
 length-map f [] = refl

@@ -1,8 +1,8 @@
 -- The cells that groups drive, as they are marked.
 use Rattle.std.proofs.Common.{◌≡◌, ℕ, suc, ◌+◌, ◌≤◌, ◌<◌, Bool, true, false, ◌||◌, List, [], ◌∷◌, length, get_or, drop, Option, Some, None, inl, inr, refl, sym, ap, ◌∙◌, subst, arith}
 use Rattle.std.proofs.Math.Seq.{drop-cons}
-use Rattle.std.proofs.lemmas.List.{get_or_past, length-map}
-use Rattle.cx_meaning.specs.Designs.{PlainAssign, PlainComponent, PlainDesign, PlainForm, PlainStatement, Placed, component_at, group_at, no_group}
+use Rattle.std.proofs.lemmas.List.{length-map}
+use Rattle.cx_meaning.specs.Designs.{PlainAssign, PlainComponent, PlainDesign, PlainForm, PlainStatement, Placed, component_at, group_at}
 use Rattle.cx_meaning.specs.Instances.{Instance, Path, part_of, instance_at, paths_of, tree_of}
 use Rattle.cx_text.specs.Members.{In}
 use Rattle.cx_meaning.specs.Control.{form_drives, assigns_drive, group_drives, groups_drive, groups_in, groups_in_all, groups_of, targets_cell, with_comb}
@@ -47,10 +47,6 @@ module _ (part : PlainComponent) (parts : List Statement) (k c : ℕ) (x : State
       ∙ or_two gx gr before
       ∙ ap (λ b. b || before) (sym (ap (λ (xs : List Statement). groups_drive part (groups_in_all (plain_statements xs)) c) parted ∙ groups_joined part (groups_of (plain_statement x)) (groups_in_all (plain_statements (drop (k + 1) parts))) c))
       ∙ so
-
--- a group that is not there drives nothing
-pub no_group_drives : (part : PlainComponent) (g c : ℕ) → length part.groups ≤ g → groups_drive part (g ∷ []) c ≡ false
-no_group_drives part g c past = ap (λ x. assigns_drive x c || false) (ap (λ x. x.assigns) (get_or_past part.groups g no_group past))
 
 -- a statement's groups are those of its form
 pub form_groups : (s : Statement) → groups_in (plain_form s.form) ≡ groups_of (plain_statement s)

@@ -90,10 +90,6 @@ module _ (d : PlainDesign) (table : List InstanceRow) (children : List ℕ) (is_
         fits = still_fits (within lt) (λ path number. ap part_of (is_table.component n path number) ∙ same_part d (length d.components) k ∙ sym is_part) holds;
       }
 
--- THE SAME of the rows of a state
-same_kept : (rows : List PlainInstance) (n : ℕ) (x y : PlainInstance) → x ≡ y → set rows n x ≡ set rows n y
-same_kept rows n x y e = ap (set rows n) e
-
 pub part_is : (components : List Component) (main : ℕ) (rows : List InstanceRow) (n : ℕ) (row : InstanceRow) (part : Component) → n < length rows → row ≡ get_or rows n row → (row_at rows n).component < length (plain_parts components main).components
     → part ≡ get_or components row.component part → plain_component part ≡ component_at (plain_parts components main) (row_at rows n).component
 part_is components main rows n row part lt is there at =

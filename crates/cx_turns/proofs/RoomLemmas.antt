@@ -14,7 +14,6 @@ use Rattle.cx_text.specs.Members.{In}
 use Rattle.cx_rules.specs.Accepted.{IsAccepted}
 use Rattle.cx_rules.specs.Wellformed.{IsDesign}
 use Rattle.cx_rules.specs.Items.{Visited, statements_in}
-use Rattle.cx_design_sizes.specs.Capped.{capped}
 use Rattle.cx_state.specs.Tables.{IsNumber, IsTable, row_at}
 use Rattle.cx_state.specs.declared.tables.InstanceRow.{InstanceRow}
 use Rattle.cx_turns.specs.declared.rooms.Room.{Room}
@@ -60,10 +59,6 @@ pub fits_next : (list : List Visited) (k a b c d : ℕ) (x : Visited) → slice_
 fits_next list k a b c d x at le lf fits here =
     let next : suc k ≡ k + 1 = omega arith in
     subst (λ m. ListFits (take m list) c d) next (λ v h. in_one_more (λ w. FormFits w.form c d) list k x at (list_wider (take k list) a b c d le lf fits) here v h)
-
--- a count that is told stops at 2^64 - 1, which no vector reaches
-pub told_count : (n m : ℕ) → capped n ≤ m → m < 2 ^ 64 - 1 → n ≤ m
-told_count n m le lt = grind arith
 
 -- room for one more component
 pub parts_next : (parts : List PlainComponent) (e : PlainComponent) (k a b c d : ℕ) (x : PlainComponent) → x ≡ get_or parts k e → a ≤ c → b ≤ d → ((j : ℕ) → j < k → PartFits (get_or parts j e) a b) → PartFits x c d

@@ -10,12 +10,13 @@ use Rattle.cx_meaning.specs.Sights.{Held, seen}
 use Rattle.cx_state.specs.Tables.{IsNumber}
 use Rattle.cx_state.specs.States.{PlainInstance, inputs_held, IsStateOf, StandsFor, under_path}
 use Rattle.cx_state.specs.ReadStates.{state_in}
-use Rattle.cx_turns.specs.Sights.{path_of, look_in}
+use Rattle.cx_turns.specs.Sights.{look_in}
+use Rattle.cx_eval_network.specs.Networks.{path_at}
 use Rattle.std.proofs.lemmas.Option.{slice_get-get_or}
 
 -- the path of an instance is the one with its number
-path_is : (d : PlainDesign) (n : ℕ) (path : Path) → n < length (paths_of (tree_of d)) → IsNumber d n path → path_of d n ≡ path
-path_is d n path lt number = let e : Some (path_of d n) ≡ Some path = sym (slice_get-get_or (paths_of (tree_of d)) n [] lt) ∙ number in cc
+path_is : (d : PlainDesign) (n : ℕ) (path : Path) → n < length (paths_of (tree_of d)) → IsNumber d n path → path_at d n ≡ path
+path_is d n path lt number = let e : Some (path_at d n) ≡ Some path = sym (slice_get-get_or (paths_of (tree_of d)) n [] lt) ∙ number in cc
 
 -- the look of the state that is read off the rows is that of each state that they stand for
 pub look_seen : (d : PlainDesign) (rows : List PlainInstance) (n : ℕ) → n < length (paths_of (tree_of d)) → IsStateOf d rows → StandsFor (tree_of d) rows (state_in (tree_of d) rows)

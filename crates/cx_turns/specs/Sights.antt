@@ -1,8 +1,8 @@
 -- What static ifs see, and what may be asked.
-use Rattle.std.specs.Prelude.{◌≡◌, ℕ, ◌<◌, List, [], Option, Some, None, get_or, length}
+use Rattle.std.specs.Prelude.{◌≡◌, ℕ, ◌<◌, List, [], Option, Some, None, length}
 use Rattle.cx_meaning.specs.declared.ports.PortRef.{PortRef}
 use Rattle.cx_meaning.specs.Designs.{PlainDesign}
-use Rattle.cx_meaning.specs.Instances.{Path, State, instance_at, paths_of, tree_of}
+use Rattle.cx_meaning.specs.Instances.{State, instance_at, paths_of, tree_of}
 use Rattle.cx_meaning.specs.Active.{nothing}
 use Rattle.cx_meaning.specs.Cycles.{Fault, fault_at}
 use Rattle.cx_meaning.specs.Sights.{Look, seen}
@@ -12,21 +12,18 @@ use Rattle.cx_state.specs.ReadStates.{state_in}
 use Rattle.cx_eval.specs.Evaluated.{IsPort}
 use Rattle.cx_turns.specs.declared.sights.Sight.{Sight}
 use Rattle.cx_turns.specs.declared.sights.Unclear.{Unclear}
+use Rattle.cx_eval_network.specs.Networks.{path_at}
 
 -- the fault of a port that is no value, from its instance on
 abbrev pub unclear_fault : Option Unclear → Option Fault
 unclear_fault None = None
 unclear_fault (Some u) = Some (fault_at u.kind u.port)
 
--- the path of instance n
-abbrev pub path_of : PlainDesign → ℕ → Path
-path_of d n = get_or (paths_of (tree_of d)) n []
-
 -- what the ports of instance n are seen as under the continuous assignments alone, in the state that is read off its rows
 abbrev pub look_in : PlainDesign → List PlainInstance → ℕ → Look
 look_in d rows n =
-    seen (instance_at (tree_of d) (path_of d n)) (inputs_held rows n) nothing
-    (under_path (path_of d n) (state_in (tree_of d) rows))
+    seen (instance_at (tree_of d) (path_at d n)) (inputs_held rows n) nothing
+    (under_path (path_at d n) (state_in (tree_of d) rows))
 
 abbrev pub sight_look : Sight → Look
 sight_look sight = look_in (plain_design sight.evaluator) (plain_state sight.state) sight.instance

@@ -3,9 +3,9 @@ use Rattle.std.proofs.Common.{◌≡◌, ℕ, zero, suc, List, [], ◌∷◌, �
 use Rattle.std.proofs.lemmas.Bool.{or_parts, or_left, or_right, or_from, both_ways, false_from_ne_true}
 use Rattle.std.proofs.lemmas.Option.{slice_get-map}
 use Rattle.cx_vtree.specs.Plain.{PlainDecl, WireOf, RegisterOf, ArrayOf}
-use Rattle.cx_vtree.specs.InstanceTree.{same_name, declared_nets}
+use Rattle.cx_vtree.specs.InstanceTree.{same_name, declared_nets, declared_arrays}
 use Rattle.cx_vtree.specs.Sound.{has_name, decl_name}
-use Rattle.cx_vlaws.specs.Names.{AreApart, declared_arrays}
+use Rattle.cx_vlaws.specs.Names.{AreApart}
 use Rattle.cx_text.proofs.BoolLaws.{or_second}
 use Rattle.cx_vtree.proofs.InstanceTreeLemmas.{is_same, same_is, same_self}
 

@@ -3,9 +3,9 @@ use Rattle.std.proofs.Common.{◌≡◌, ℕ, List, [], ◌∷◌, ◌++◌, Boo
 use Rattle.std.specs.Option.{option_map_or}
 use Rattle.std.proofs.lemmas.Bool.{or_right, both_ways, false_from_ne_true}
 use Rattle.cx_vtree.specs.Plain.{PlainPort, PlainDecl, WireOf, RegisterOf, ArrayOf, PlainModule, PlainSource}
-use Rattle.cx_vtree.specs.InstanceTree.{same_name, Placed, ports_at, decls_at, declared_nets, instances_of}
+use Rattle.cx_vtree.specs.InstanceTree.{same_name, Placed, ports_at, decls_at, declared_nets, instances_of, declared_arrays}
 use Rattle.cx_vtree.specs.Sound.{Counts, has_name, decl_name, drivers_in, is_sound}
-use Rattle.cx_vlaws.specs.Names.{AreApart, declared_arrays}
+use Rattle.cx_vlaws.specs.Names.{AreApart}
 use Rattle.cx_vlaws.proofs.Fresh.{has_at, has-append, Fresh, fresh_not, fresh_head, fresh_both, fresh_apart, fresh-nets, fresh-arrays, declared-net}
 use Rattle.cx_vlaws.proofs.Scopes.{port_names}
 use Rattle.cx_vlaws.proofs.Modules.{Keeps}

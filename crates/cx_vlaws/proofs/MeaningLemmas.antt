@@ -5,9 +5,8 @@ use Rattle.std.proofs.lemmas.Bool.{or_parts, or_left, or_right, eqb-false, ltb-f
 use Rattle.cx_vtree.specs.declared.meanings.Meaning.{Meaning}
 use Rattle.cx_vtree.specs.declared.meanings.Meaning.TheVariants as meant
 use Rattle.cx_vtree.specs.Plain.{PlainPort, PlainDecl, WireOf, RegisterOf, ArrayOf, PlainSource}
-use Rattle.cx_vtree.specs.InstanceTree.{same_name, Placed, ports_at, decls_at, nets_at, instances_of, NetKind}
+use Rattle.cx_vtree.specs.InstanceTree.{same_name, Placed, ports_at, decls_at, nets_at, instances_of, NetKind, declared_arrays, arrays_at}
 use Rattle.cx_vtree.specs.Sound.{has_name, decl_name, decl_meaning, port_meaning, width_of, is_driven, is_array, drivers_in, bad_width, is_sound}
-use Rattle.cx_vlaws.specs.Names.{declared_arrays, arrays_at}
 use Rattle.cx_vlaws.specs.Widths.{scope_at}
 use Rattle.cx_vlaws.specs.Origins.{IsNet, width_at}
 use Rattle.cx_vlaws.proofs.Fresh.{has_at, at_has}

@@ -8,12 +8,12 @@ use Rattle.std.proofs.lemmas.Option.{slice_get-map}
 use Rattle.std.proofs.lemmas.List.{reverse-reverse}
 use Rattle.cx_text.specs.Loading.{word_count}
 use Rattle.cx_vtree.specs.Plain.{PlainDecl, WireOf, RegisterOf, ArrayOf, PlainInstance, PlainModule, PlainExternal, PlainSource}
-use Rattle.cx_vtree.specs.InstanceTree.{same_name, Placed, decls_at, tree_from, main_instance, instances_of}
+use Rattle.cx_vtree.specs.InstanceTree.{same_name, Placed, decls_at, tree_from, main_instance, instances_of, declared_arrays}
 use Rattle.cx_vtree.specs.Layout.{is_word, is_name, external_fits, module_fits, is_laid_out}
 use Rattle.cx_vtree.specs.Edges.{array_size}
 use Rattle.cx_vtree.specs.SimRun.{instance_named, first_array}
 use Rattle.cx_vtree.specs.Sound.{Faults, no_faults, has_name, module_named, last_named, instance_kind, memory_module, width_of, arrays_in, memory_arrays, not_this_memory, not_this_width, external_faults, externals_faults, break_of, is_sound}
-use Rattle.cx_vlaws.specs.Names.{AreApart, declared_arrays}
+use Rattle.cx_vlaws.specs.Names.{AreApart}
 use Rattle.cx_vlaws.specs.Memories.{IsMemory}
 use Rattle.cx_vlaws.proofs.Cleans.{Clean}
 use Rattle.cx_vlaws.proofs.Fresh.{Fresh, fresh_apart}

@@ -6,10 +6,9 @@ use Rattle.std.specs.Option.{option_map_or}
 use Rattle.std.proofs.lemmas.Bool.{and_parts, ltb-true}
 use Rattle.std.proofs.lemmas.List.{reverse-reverse}
 use Rattle.cx_vtree.specs.Plain.{PlainPort, PlainDecl, WireOf, RegisterOf, ArrayOf, PlainModule, PlainSource}
-use Rattle.cx_vtree.specs.InstanceTree.{Placed, decls_at, nets_at, declared_nets, instances_of}
+use Rattle.cx_vtree.specs.InstanceTree.{Placed, decls_at, nets_at, declared_nets, instances_of, declared_arrays, arrays_at}
 use Rattle.cx_vtree.specs.Layout.{is_name, port_fits, decl_fits, assign_fits, instance_fits, edge_fits, module_fits, external_fits, is_laid_out}
 use Rattle.cx_vtree.specs.Sound.{module_named, break_of, is_sound}
-use Rattle.cx_vlaws.specs.Names.{declared_arrays, arrays_at}
 use Rattle.cx_vlaws.specs.Counts.{declared_words, nets_count, arrays_count, words_count}
 use Rattle.cx_vlaws.proofs.Modules.{sound_keeps, named-reversed}
 use Rattle.cx_vlaws.proofs.Forest.{by_first, stands}

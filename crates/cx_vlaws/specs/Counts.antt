@@ -1,8 +1,7 @@
 -- How many nets, arrays and words a list of instances has.
 use Rattle.std.specs.Prelude.{ℕ, ◌+◌, List, [], ◌∷◌, length}
 use Rattle.cx_vtree.specs.Plain.{PlainDecl, WireOf, RegisterOf, ArrayOf}
-use Rattle.cx_vtree.specs.InstanceTree.{Placed, declared_nets}
-use Rattle.cx_vlaws.specs.Names.{declared_arrays}
+use Rattle.cx_vtree.specs.InstanceTree.{Placed, declared_nets, declared_arrays}
 
 -- the words of all arrays
 abbrev pub declared_words : List PlainDecl → ℕ

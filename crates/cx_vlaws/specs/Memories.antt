@@ -2,11 +2,10 @@
 use Rattle.std.specs.Prelude.{◌≡◌, ℕ, ◌≤◌, List, [], ◌∷◌, Some, slice_get}
 use Rattle.cx_text.specs.Loading.{word_count}
 use Rattle.cx_vtree.specs.Plain.{PlainExternal}
-use Rattle.cx_vtree.specs.InstanceTree.{Placed, decls_at}
+use Rattle.cx_vtree.specs.InstanceTree.{Placed, decls_at, arrays_at}
 use Rattle.cx_vtree.specs.Edges.{array_size}
 use Rattle.cx_vtree.specs.SimRun.{instance_named, first_array}
 use Rattle.cx_vtree.specs.Sound.{arrays_in}
-use Rattle.cx_vlaws.specs.Names.{arrays_at}
 use Rattle.cx_vlaws.specs.Origins.{width_at}
 
 -- an external memory is the only array of an instance of `main`, with as many words as its sizes say

@@ -2,9 +2,8 @@
 
 ghost use Rattle.std.specs.Prelude.{◌≡◌, ◌≤◌, ◌<◌, ◌+◌, ℕ, suc, List, Some, length, slice_get, true};
 ghost use Rattle.cx_vtree.specs.Plain.{ArrayOf, PlainSource};
-ghost use Rattle.cx_vtree.specs.InstanceTree.{Placed, decls_at, nets_at, instances_of};
+ghost use Rattle.cx_vtree.specs.InstanceTree.{Placed, decls_at, nets_at, instances_of, arrays_at};
 ghost use Rattle.cx_vtree.specs.Sound.{is_sound};
-ghost use Rattle.cx_vlaws.specs.Names.{arrays_at};
 ghost use Rattle.cx_vlaws.specs.Counts.{declared_words, nets_count, arrays_count, words_count};
 
 /// The tree has at most 4,194,304 nets, 131,072 instances and 4,194,304 words of arrays, and no more arrays than words.

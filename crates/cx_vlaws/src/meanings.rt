@@ -2,9 +2,8 @@
 
 ghost use Rattle.std.specs.Prelude.{◌≡◌, ◌<◌, ◌≤◌, ℕ, List, Some, slice_get, true};
 ghost use Rattle.cx_vtree.specs.Plain.{PlainExpr, PlainPort, PlainDecl, PlainSource};
-ghost use Rattle.cx_vtree.specs.InstanceTree.{Placed, ports_at, decls_at, instances_of};
+ghost use Rattle.cx_vtree.specs.InstanceTree.{Placed, ports_at, decls_at, instances_of, arrays_at};
 ghost use Rattle.cx_vtree.specs.Sound.{decl_name, decl_meaning, port_meaning, width_of, is_source, is_driven, is_array, is_sound};
-ghost use Rattle.cx_vlaws.specs.Names.{arrays_at};
 ghost use Rattle.cx_vlaws.specs.Widths.{scope_at, IsExpression};
 ghost use Rattle.cx_vlaws.specs.Origins.{IsNet, width_at};
 

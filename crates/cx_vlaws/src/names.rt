@@ -2,9 +2,9 @@
 
 ghost use Rattle.std.specs.Prelude.{◌≡◌, ℕ, List, Some, slice_get, true};
 ghost use Rattle.cx_vtree.specs.Plain.{PlainSource};
-ghost use Rattle.cx_vtree.specs.InstanceTree.{Placed, instances_of, nets_at};
+ghost use Rattle.cx_vtree.specs.InstanceTree.{Placed, instances_of, nets_at, arrays_at};
 ghost use Rattle.cx_vtree.specs.Sound.{is_sound};
-ghost use Rattle.cx_vlaws.specs.Names.{AreApart, names_at, arrays_at};
+ghost use Rattle.cx_vlaws.specs.Names.{AreApart, names_at};
 
 /// The names that the ports and the declarations of an instance give are pairwise different: so are those of its nets, and
 /// those of its arrays, and no net is an array.

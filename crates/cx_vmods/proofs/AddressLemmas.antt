@@ -5,7 +5,7 @@ use Rattle.std.proofs.Math.Nat.{mod-eq_of_lt, add-mod-mod, mod-add-mod, mul-le-m
 use Rattle.std.proofs.lemmas.Nat.{pow_pos, mul-mod_first, mul-mod_second}
 use Rattle.std.proofs.lemmas.Bool.{leb-true}
 use Rattle.std.proofs.lemmas.Bool.Decides.{nat_tests}
-use Rattle.cx_bits.specs.BitVector.{BitVector}
+use Rattle.cx_bits.specs.BitVector.{BitVector, of_width}
 use Rattle.cx_bits.specs.Operators.{bit_of, and_of}
 use Rattle.cx_text.specs.Loading.{word_count}
 use Rattle.cx_prim.specs.Rows.{Inputs, value_at}
@@ -17,7 +17,6 @@ use Rattle.cx_vtree.specs.Meaning.{expr_in}
 use Rattle.cx_vmods.specs.Spelling.{spelled, net, part}
 use Rattle.cx_vmods.specs.Parts.{literal}
 use Rattle.cx_vmods.specs.Addresses.{address, below, in_range, fitted, index}
-use Rattle.cx_vmods.specs.Inside.{of_width}
 use Rattle.cx_vmods.specs.BitCounts.{bits_from, bits_for}
 
 -- the addresses from n on stand at their nets

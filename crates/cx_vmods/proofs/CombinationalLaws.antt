@@ -6,7 +6,7 @@ use Rattle.std.proofs.Math.Pow.{pow-lt}
 use Rattle.std.proofs.lemmas.Int.{ints}
 use Rattle.std.proofs.lemmas.Nat.{pow_pos}
 use Rattle.std.proofs.lemmas.Bool.Decides.{nat_tests}
-use Rattle.cx_bits.specs.BitVector.{BitVector, Fits}
+use Rattle.cx_bits.specs.BitVector.{BitVector, Fits, of_width}
 use Rattle.cx_bits.specs.Operators.{xor_of, complement_of, left_shift_of, right_shift_of, bit_of, signed_of, signed_less_bit_of, low_bits_of, zero_extension_of}
 use Rattle.cx_bits.proofs.OperatorLaws.{signed_less_bit_of-xor}
 use Rattle.cx_bits.proofs.Powers.{shift-mod_past, div-pow_past}
@@ -22,7 +22,6 @@ use Rattle.cx_vmods.specs.Combinational.{giving, constant, wire, complement, sli
 use Rattle.cx_vmods.specs.Modules.{ports_of, module_with}
 use Rattle.cx_vmods.specs.Stands.{StandsFor}
 use Rattle.cx_vmods.specs.Built.{IsBuilt}
-use Rattle.cx_vmods.specs.Inside.{of_width}
 use Rattle.cx_vmods.proofs.BitLemmas.{number_below}
 use Rattle.cx_vmods.proofs.StatelessLaws.{Computes2, constant_built, unary_built, binary_built}
 use Rattle.cx_text.proofs.NumberLaws.{turned}

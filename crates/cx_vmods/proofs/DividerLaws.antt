@@ -5,7 +5,7 @@ use Rattle.std.proofs.Math.Nat.{mod-eq_of_lt}
 use Rattle.std.proofs.lemmas.Nat.{pow_pos}
 use Rattle.std.proofs.lemmas.Bool.{eqb-true}
 use Rattle.std.proofs.lemmas.Bool.Decides.{nat_tests}
-use Rattle.cx_bits.specs.BitVector.{BitVector}
+use Rattle.cx_bits.specs.BitVector.{BitVector, of_width}
 use Rattle.cx_bits.specs.Operators.{bit_of}
 use Rattle.cx_prim.specs.Widths.{IsWidth}
 use Rattle.cx_prim.specs.CellStates.{PipeRun, Divider}
@@ -22,7 +22,7 @@ use Rattle.cx_vmods.specs.BitCounts.{bits_for}
 use Rattle.cx_vmods.specs.Clocked as clocked
 use Rattle.cx_vmods.specs.Stands.{StandsFor}
 use Rattle.cx_vmods.specs.Built.{kept_at, port_net, zero_at, Stands, IsAt, AreGiven, HoldsWords, GivesOutputs, GivesNets, Steps, Resets, IsBuilt}
-use Rattle.cx_vmods.specs.Inside.{of_width, known, set_in}
+use Rattle.cx_vmods.specs.Inside.{known, set_in}
 use Rattle.cx_vmods.proofs.InsideLemmas.{none_known, also_known, all_have}
 use Rattle.cx_vmods.proofs.EdgeLemmas.{set_has, register_cleared}
 use Rattle.cx_vmods.proofs.InputLemmas.{HasInput, HasBit, input_has, bit_has, is_on-bit, value_at-input}

@@ -13,7 +13,8 @@ use Rattle.cx_vmods.specs.BitCounts.{bits_for}
 use Rattle.cx_vmods.specs.Clocked as clocked
 use Rattle.cx_vmods.specs.Modules.{ports_of, module_with}
 use Rattle.cx_vmods.specs.Built.{kept_at, Stands}
-use Rattle.cx_vmods.specs.Inside.{Known, of_width, known, AreKnown, value_in}
+use Rattle.cx_vmods.specs.Inside.{Known, known, AreKnown, value_in}
+use Rattle.cx_bits.specs.BitVector.{of_width}
 use Rattle.cx_vmods.proofs.InsideLemmas.{none_known, also_known, has_by}
 use Rattle.cx_vmods.proofs.InputLemmas.{register_has}
 use Rattle.cx_vmods.proofs.DividingLemmas.{longer_at, takes_number, takes_at, rest_after, digits_after, takes_bit}

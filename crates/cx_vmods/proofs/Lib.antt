@@ -19,4 +19,3 @@ pub mod DividingLemmas
 pub mod DividerNets
 pub mod DividerLaws
 pub mod TableLaws
-pub mod ArrayLemmas

@@ -2,17 +2,17 @@
 use Rattle.std.specs.Prelude.{◌≡◌, ℕ, ◌+◌, ◌%◌, ◌^◌, ◌<◌, ◌≤◌, ◌==◌, ◌&&◌, Bool, true, false, List, [], ◌∷◌, ◌++◌, Some, None, IsSome, is_none, nat_lt, slice_get, slice_index, length, map, unwrap_or, if◌then◌else◌, codes, refl}
 use Rattle.std.proofs.Common.{ap, sym, ◌∙◌, subst, arith, eq-eqb}
 use Rattle.std.proofs.lemmas.Bool.Decides.{nat_tests}
-use Rattle.cx_bits.specs.BitVector.{BitVector}
+use Rattle.cx_bits.specs.BitVector.{BitVector, of_width}
 use Rattle.cx_bits.specs.Operators.{bit_of}
 use Rattle.cx_text.specs.Loading.{word_count}
-use Rattle.cx_prim.specs.declared.ports.PortName.TheVariants.{Addr0, Addr1, Addr2, Addr3, WriteData, WriteEn, ReadData, Done}
+use Rattle.cx_prim.specs.declared.ports.PortName.TheVariants.{Addr0, Addr1, Addr2, Addr3, WriteData, WriteEn}
 use Rattle.cx_prim.specs.declared.ports.PortRow.{PortRow}
-use Rattle.cx_prim.specs.CombinationalRows.{plain_port, enable_port, output_port, registered_port}
+use Rattle.cx_prim.specs.CombinationalRows.{plain_port, enable_port}
 use Rattle.cx_prim.specs.PortNames.{text_of}
 use Rattle.cx_prim.specs.CellStates.{Memory}
 use Rattle.cx_prim.specs.Rows.{Inputs, input, value_at, HasSide, is_output_side}
 use Rattle.cx_prim.specs.MemoryRows.{IsLayout, first_beyond, word_number, have_addresses, word_at, written, memory_row, memory_read}
-use Rattle.cx_prim.proofs.MemoryLaws.{length-ports_named, plain_before, AreWords-written, memory_port, memory_outputs, MemoryOutput, is_read, is_done, have_addresses_all}
+use Rattle.cx_prim.proofs.MemoryLaws.{length-ports_named, plain_before, AreWords-written, memory_port, memory_outputs, MemoryOutput, is_read, is_done, have_addresses_all, memory_tail}
 use Rattle.cx_vtree.specs.declared.operators.Operator.TheVariants.{And}
 use Rattle.cx_vtree.specs.Plain.{Applied, PlainModule}
 use Rattle.cx_vtree.specs.InstanceTree.{Placed, Driven, Stored, kind_in, nets_at, declared_nets}
@@ -27,7 +27,7 @@ use Rattle.cx_vmods.specs.Memories as memories
 use Rattle.cx_vmods.specs.Modules.{ports_of, module_with}
 use Rattle.cx_vmods.specs.Stands.{HasWords, StandsFor}
 use Rattle.cx_vmods.specs.Built.{kept_at, port_net, zero_at, Stands, IsAt, AreGiven, HoldsWords, GivesOutputs, GivesNets, Steps, Resets, IsBuilt}
-use Rattle.cx_vmods.specs.Inside.{Known, of_width, known, found, AreKnown}
+use Rattle.cx_vmods.specs.Inside.{Known, known, found, AreKnown}
 use Rattle.cx_vmods.proofs.InsideLemmas.{none_known, also_known, has_by, all_have, driven_value, stored_value}
 use Rattle.cx_vmods.proofs.EdgeLemmas.{set_has, register_cleared, word_stays, after_store, word_stored}
 use Rattle.cx_vmods.proofs.InputLemmas.{HasInput, HasBit, input_has, bit_has, register_has, is_on-bit, value_at-input, port_net-row, zero_at-row}
@@ -36,10 +36,6 @@ use Rattle.cx_vmods.proofs.MemoryLemmas.{zero_words, sizes_within, addresses, ad
 
 abbrev memory_at : List ℕ → ℕ → List ℕ → List ℕ → PlainModule
 memory_at name w sizes widths = module_with name (ports_of (memory_row w sizes widths)) (made_of (memories.combinational w sizes widths))
-
--- the ports behind the addresses
-abbrev tail : ℕ → List PortRow
-tail w = plain_port WriteData w ∷ enable_port WriteEn ∷ output_port ReadData w ∷ registered_port Done 1 ∷ []
 
 -- what the nets behind the ports are
 record Kinds (m : PlainModule) : Type 0 where
@@ -178,7 +174,7 @@ module _ (name : List ℕ) (w : ℕ) (sizes widths : List ℕ) (layout : IsLayou
   addresses_given : AreGiven (memory_row w sizes widths) inputs → (k : ℕ) → k < length widths → IsSome (input inputs k)
   addresses_given given k below =
       let alike = layout.alike in
-      let plain = plain_before (Addr0 ∷ Addr1 ∷ Addr2 ∷ Addr3 ∷ []) widths (tail w) k (let count = length-ports_named (Addr0 ∷ Addr1 ∷ Addr2 ∷ Addr3 ∷ []) widths few in omega arith) in
+      let plain = plain_before (Addr0 ∷ Addr1 ∷ Addr2 ∷ Addr3 ∷ []) widths (memory_tail w) k (let count = length-ports_named (Addr0 ∷ Addr1 ∷ Addr2 ∷ Addr3 ∷ []) widths few in omega arith) in
       given k plain.port plain.there (ap is_output_side plain.plain)
 
   module _ (given : AreGiven (memory_row w sizes widths) inputs) where

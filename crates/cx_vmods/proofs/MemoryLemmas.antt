@@ -7,7 +7,7 @@ use Rattle.std.proofs.lemmas.Nat.{pow_pos}
 use Rattle.std.proofs.lemmas.Bool.{eqb-true, ltb-true}
 use Rattle.std.proofs.lemmas.List.{get_or-set_other, get_or-replicate, length-replicate}
 use Rattle.std.proofs.lemmas.Grind.{get_or-set_at}
-use Rattle.cx_bits.specs.BitVector.{BitVector}
+use Rattle.cx_bits.specs.BitVector.{BitVector, of_width}
 use Rattle.cx_bits.specs.Operators.{bit_of}
 use Rattle.cx_text.specs.Loading.{word_count}
 use Rattle.cx_prim.specs.declared.ports.PortName.{PortName}
@@ -28,7 +28,7 @@ use Rattle.cx_vmods.specs.Memories.{read}
 use Rattle.cx_vmods.specs.Modules.{ports_of}
 use Rattle.cx_vmods.specs.Stands.{Kept, HasWords}
 use Rattle.cx_vmods.specs.Built.{port_net, IsAt}
-use Rattle.cx_vmods.specs.Inside.{Known, of_width, known, found, AreKnown}
+use Rattle.cx_vmods.specs.Inside.{Known, known, found, AreKnown}
 use Rattle.cx_vmods.proofs.InsideLemmas.{also_known}
 use Rattle.cx_vmods.proofs.InputLemmas.{input_has, value_at-input, port_net-row}
 use Rattle.cx_vmods.proofs.EdgeLemmas.{after_store}

@@ -2,17 +2,17 @@
 use Rattle.std.specs.Prelude.{◌≡◌, ℕ, ◌+◌, ◌%◌, ◌^◌, ◌<◌, ◌≤◌, ◌==◌, ◌&&◌, Bool, true, false, List, [], ◌∷◌, ◌++◌, Some, IsSome, is_none, nat_lt, slice_get, slice_index, length, map, if◌then◌else◌, codes, refl}
 use Rattle.std.proofs.Common.{ap, sym, ◌∙◌, subst, arith, eq-eqb}
 use Rattle.std.proofs.lemmas.Bool.Decides.{nat_tests}
-use Rattle.cx_bits.specs.BitVector.{BitVector}
+use Rattle.cx_bits.specs.BitVector.{BitVector, of_width}
 use Rattle.cx_bits.specs.Operators.{bit_of, and_of}
 use Rattle.cx_text.specs.Loading.{word_count}
-use Rattle.cx_prim.specs.declared.ports.PortName.TheVariants.{Addr0, Addr1, Addr2, Addr3, WriteData, WriteEn, ContentEn, ReadData, Done}
+use Rattle.cx_prim.specs.declared.ports.PortName.TheVariants.{Addr0, Addr1, Addr2, Addr3, WriteData, WriteEn, ContentEn}
 use Rattle.cx_prim.specs.declared.ports.PortRow.{PortRow}
-use Rattle.cx_prim.specs.CombinationalRows.{plain_port, enable_port, registered_port}
+use Rattle.cx_prim.specs.CombinationalRows.{plain_port, enable_port}
 use Rattle.cx_prim.specs.PortNames.{text_of}
 use Rattle.cx_prim.specs.CellStates.{CellState, SequentialMemory}
 use Rattle.cx_prim.specs.Rows.{Inputs, input, value_at, is_on, HasSide, is_output_side}
 use Rattle.cx_prim.specs.MemoryRows.{IsLayout, first_beyond, word_number, word_at, written, sequential_memory_row}
-use Rattle.cx_prim.proofs.MemoryLaws.{length-ports_named, plain_before, AreWords-written, sequential_port, sequential_outputs, SequentialOutput, is_data, is_end}
+use Rattle.cx_prim.proofs.MemoryLaws.{length-ports_named, plain_before, AreWords-written, sequential_port, sequential_outputs, SequentialOutput, is_data, is_end, sequential_tail}
 use Rattle.cx_vtree.specs.declared.operators.Operator.TheVariants.{And}
 use Rattle.cx_vtree.specs.Plain.{Applied, PlainModule}
 use Rattle.cx_vtree.specs.InstanceTree.{Placed, Driven, Stored, kind_in, nets_at, declared_nets}
@@ -27,7 +27,7 @@ use Rattle.cx_vmods.specs.Memories as memories
 use Rattle.cx_vmods.specs.Modules.{ports_of, module_with}
 use Rattle.cx_vmods.specs.Stands.{HasWords, StandsFor}
 use Rattle.cx_vmods.specs.Built.{kept_at, port_net, Stands, IsAt, AreGiven, HoldsWords, GivesOutputs, GivesNets, Steps, Resets, IsBuilt}
-use Rattle.cx_vmods.specs.Inside.{Known, of_width, known, found, AreKnown, set_in}
+use Rattle.cx_vmods.specs.Inside.{Known, known, found, AreKnown, set_in}
 use Rattle.cx_vmods.proofs.InsideLemmas.{none_known, also_known, has_by, all_have, driven_value, stored_value}
 use Rattle.cx_vmods.proofs.EdgeLemmas.{set_has, register_cleared, word_stays, after_store, word_stored}
 use Rattle.cx_vmods.proofs.InputLemmas.{HasInput, HasBit, input_has, bit_has, register_has, is_on-bit, value_at-input, port_net-row}
@@ -36,10 +36,6 @@ use Rattle.cx_vmods.proofs.MemoryLemmas.{zero_words, sizes_within, addresses, ad
 
 abbrev sequential_at : List ℕ → ℕ → List ℕ → List ℕ → PlainModule
 sequential_at name w sizes widths = module_with name (ports_of (sequential_memory_row w sizes widths)) (made_of (memories.sequential w sizes widths))
-
--- the ports behind the addresses
-abbrev tail : ℕ → List PortRow
-tail w = enable_port ContentEn ∷ enable_port WriteEn ∷ plain_port WriteData w ∷ registered_port ReadData w ∷ registered_port Done 1 ∷ []
 
 -- what the nets behind the ports are
 record Kinds (m : PlainModule) (w : ℕ) : Type 0 where
@@ -170,7 +166,7 @@ module _ (name : List ℕ) (w : ℕ) (sizes widths : List ℕ) (layout : IsLayou
   addresses_given : AreGiven (sequential_memory_row w sizes widths) inputs → (k : ℕ) → k < length widths → IsSome (input inputs k)
   addresses_given given k below =
       let alike = layout.alike in
-      let plain = plain_before (Addr0 ∷ Addr1 ∷ Addr2 ∷ Addr3 ∷ []) widths (tail w) k (let count = length-ports_named (Addr0 ∷ Addr1 ∷ Addr2 ∷ Addr3 ∷ []) widths few in omega arith) in
+      let plain = plain_before (Addr0 ∷ Addr1 ∷ Addr2 ∷ Addr3 ∷ []) widths (sequential_tail w) k (let count = length-ports_named (Addr0 ∷ Addr1 ∷ Addr2 ∷ Addr3 ∷ []) widths few in omega arith) in
       given k plain.port plain.there (ap is_output_side plain.plain)
 
   module _ (given : AreGiven (sequential_memory_row w sizes widths) inputs) where

@@ -1,7 +1,7 @@
 -- A module of inputs and one assigned output does what its row says, where the expression does.
 use Rattle.std.specs.Prelude.{◌≡◌, ℕ, zero, suc, ◌^◌, ◌<◌, Bool, true, false, List, [], ◌∷◌, Option, Some, unwrap_or, option_map, option_and_then, codes, refl}
 use Rattle.std.proofs.Common.{sym, subst, arith}
-use Rattle.cx_bits.specs.BitVector.{BitVector}
+use Rattle.cx_bits.specs.BitVector.{BitVector, of_width}
 use Rattle.cx_bits.specs.Operators.{bit_of}
 use Rattle.cx_prim.specs.declared.ports.PortRow.{PortRow}
 use Rattle.cx_prim.specs.CellStates.{Stateless}
@@ -16,7 +16,7 @@ use Rattle.cx_vmods.specs.Combinational.{giving, mux}
 use Rattle.cx_vmods.specs.Modules.{ports_of, module_with}
 use Rattle.cx_vmods.specs.Stands.{StandsFor}
 use Rattle.cx_vmods.specs.Built.{zero_at, HoldsWords, GivesOutputs, GivesNets, Steps, Resets, IsBuilt}
-use Rattle.cx_vmods.specs.Inside.{Known, of_width, known, found}
+use Rattle.cx_vmods.specs.Inside.{Known, known, found}
 use Rattle.cx_vmods.proofs.InsideLemmas.{none_known, also_known, has_by, all_have}
 use Rattle.cx_vmods.proofs.InputLemmas.{input_has, bit_has}
 

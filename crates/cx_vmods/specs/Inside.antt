@@ -1,6 +1,6 @@
 -- One instance of a module that stands alone: what gives a net its value from those that are known, and what an edge gives a register.
 use Rattle.std.specs.Prelude.{◌≡◌, ℕ, List, [], ◌∷◌, Option, Some, None, option_and_then, if◌then◌else◌}
-use Rattle.cx_bits.specs.BitVector.{BitVector}
+use Rattle.cx_bits.specs.BitVector.{BitVector, of_width}
 use Rattle.cx_vtree.specs.Plain.{PlainExpr, PlainModule}
 use Rattle.cx_vtree.specs.InstanceTree.{Placed, same_name, NetKind, Input, Driven, Stored, kind_in, assigned}
 use Rattle.cx_vtree.specs.Meaning.{Moment, HasValue, word_in, expr_in}
@@ -11,9 +11,6 @@ use Rattle.cx_vmods.specs.Stands.{Kept}
 pub record Known : Type 0 where
   pub name : List ℕ
   pub bits : BitVector
-
-abbrev pub of_width : ℕ → ℕ → BitVector
-of_width width value = record { width = width; value = value }
 
 abbrev pub known : List ℕ → ℕ → ℕ → Known
 known name width value = record { name = name; bits = of_width width value }

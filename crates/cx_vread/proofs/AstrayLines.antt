@@ -225,10 +225,6 @@ astray_here text b here number s none unended =
         subst IsText (ap (λ t. t ++ more.behind) front ∙ sym (regroup (lines_of s.lines) d.own more.behind)) more.whole in
         not_here b here d.own d.more more.behind s.clear none d.text_is d.plain (s.follows_by (d.own ++ (codes "\n" ++ more.behind)) whole)
 
--- the lines are a text
-pub text_here : (text : List ℕ) (here : Place) (number : ℕ) → SoFar text Modules here number → here.rest ≡ [] → IsText text
-text_here text here number s none = subst IsText (sym (s.text_is ∙ ap (λ t. lines_of s.lines ++ t) none)) (s.whole_by [] (record { modules = []; fit = refl; text_is = refl }))
-
 -- no line is empty
 pub none_at_end : (b : Between) (here : Place) → here.rest ≡ [] → line_at b here ≡ None
 none_at_end b here none = ap (λ t. line_at b (record { rest = t; fits = here.fits })) none ∙ go b

@@ -2,7 +2,7 @@
 use Rattle.std.proofs.Common.{◌≡◌, ℕ, not, Bool, true, false, ◌&&◌, List, [], ◌∷◌, ◌++◌, map, length, Option, Some, None, refl, ◌∙◌, ap, sym, subst, if◌then◌else◌}
 use Rattle.std.specs.Prelude.{codes, option_map}
 use Rattle.std.specs.List.{list_all}
-use Rattle.std.proofs.lemmas.Bool.{and_from, and_parts}
+use Rattle.std.proofs.lemmas.Bool.{and_from}
 use Rattle.cx_vtree.specs.Layout.{is_name, expr_fits, assign_fits, item_fits, edge_fits}
 use Rattle.cx_vtree.specs.Lines.{expr_text, SetLine, line_text, lines_text}
 use Rattle.cx_vtree.specs.Plain.{PlainExpr, PlainAssign, PlainStore, PlainItem, SetTo, StoreTo, PlainEdge}
@@ -31,15 +31,6 @@ item_text_of i = line_text (item_line i) ++ codes "\n"
 
 abbrev store_of : PlainExpr → List ℕ → PlainExpr → PlainExpr → PlainStore
 store_of g n i v = record { guard = g; array = n; index = i; value = v }
-
--- what all of a list passes
-pub both_pass : {X : Type 0} (f g : X → Bool) (xs : List X) → list_all (λ x. f x && g x) xs ≡ true → (list_all f xs ≡ true) × (list_all g xs ≡ true)
-both_pass f g [] h = (refl, refl)
-both_pass f g (x ∷ xs) h =
-    let parts = and_parts (f x && g x) (list_all (λ x. f x && g x) xs) h in
-    let own = and_parts (f x) (g x) parts.0 in
-    let rest = both_pass f g xs parts.1 in
-    (and_from (f x) (list_all f xs) own.0 rest.0, and_from (g x) (list_all g xs) own.1 rest.1)
 
 module _ (scope : Scope) where
   set_found : FindsBy (kept_assign scope) set_text_of assign_fits (set_at scope)

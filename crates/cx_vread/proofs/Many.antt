@@ -8,11 +8,6 @@ use Rattle.cx_vread_exprs.specs.Places.{Place, Reads, then_reads, many, with_fro
 use Rattle.cx_text.proofs.NumberLaws.{some_left}
 
 module _ {X : Type 0} where
-  -- nothing stands before
-  pub with_front-nil : (reads : Reads (List X)) → with_front [] reads ≡ reads
-  with_front-nil None = refl
-  with_front-nil (Some x) = refl
-
   behind_one : (front : List X) (x : X) (reads : Reads (List X))
       → with_front front (then_reads reads (λ xs r. Some (x ∷ xs, r))) ≡ with_front (front ++ x ∷ []) reads
   behind_one front x None = refl

@@ -1,6 +1,6 @@
 -- What reading a whole text tells of the source that it spells.
 use Rattle.std.proofs.Common.{◌≡◌, ℕ, inl, inr, Bool, true, false, List, [], Option, Some, None, option_map, Result, Ok, Err, refl, ap, sym, subst, ◌∙◌}
-use Rattle.std.specs.Prelude.{IsTrue, IfOk, IfErr, is_none}
+use Rattle.std.specs.Prelude.{IfOk, IfErr, is_none}
 use Rattle.std.proofs.lemmas.Bool.{and_parts}
 use Rattle.cx_vtree.specs.declared.sources.Source.{Source}
 use Rattle.cx_vtree.specs.Layout.{is_laid_out}
@@ -112,13 +112,6 @@ stands_for text read end gives =
       breaks = breaks;
       same = λ none. sym f.kept_is ∙ held_kept f.source (sound_held f.source (sound_by f.source f.laid (sym (sym breaks ∙ none))));
     }
-
--- what stands for a source without a break is sound, and spells the text
-pub stands_sound : (text : List ℕ) (read : PlainSource) → StandsFor text read → None ≡ option_map told_break (break_of read) → IsTrue (is_sound read)
-stands_sound text read h none = subst (λ t. IsTrue (is_sound t)) (sym (h.same (sym none))) (sound_by h.source h.laid (none ∙ h.breaks))
-
-pub stands_spelled : (text : List ℕ) (read : PlainSource) → StandsFor text read → None ≡ option_map told_break (break_of read) → text ≡ text_of read
-stands_spelled text read h none = h.spelled ∙ ap text_of (sym (h.same (sym none)))
 
 -- what a refusal tells
 tells_break : (text : List ℕ) (read : PlainSource) (b : told.Break) → StandsFor text read → option_map told_break (break_of read) ≡ Some b → Tells text (refusal b)

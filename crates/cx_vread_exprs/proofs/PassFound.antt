@@ -29,13 +29,6 @@ pub then_some : {X Y : Type 0} (r : Reads X) (z : Y) (f : X → Place → Option
 then_some None z f e = absurd (cc)
 then_some (Some x) z f e = (x.0, x.1, refl, e)
 
-pub at_some : {Y : Type 0} (want : List ℕ) (p : Place) (z : Y) (f : Place → Option Y) → then_at (after want p) f ≡ Some z → (q : Place) × Stands want p q × (f q ≡ Some z)
-at_some {Y} want p z f e = go (after want p) refl e
-  where
-    go : (o : Option Place) → after want p ≡ o → then_at o f ≡ Some z → (q : Place) × Stands want p q × (f q ≡ Some z)
-    go None is e = absurd (cc)
-    go (Some q) is e = (q, after_found want p q is, e)
-
 -- of two readings, one behind the other
 within_at : {X Y : Type 0} (want : List ℕ) (p : Place) (z : Y) (g : Place → Reads X) (f : X → Place → Option Y) → then_reads (then_at (after want p) g) f ≡ Some z
     → (q : Place) × Stands want p q × (then_reads (g q) f ≡ Some z)

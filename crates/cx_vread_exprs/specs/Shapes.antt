@@ -2,7 +2,7 @@
 use Rattle.std.specs.Prelude.{ℕ, ◌||◌, not, List, Option, Some, option_and_then}
 use Rattle.cx_vtree.specs.declared.operators.Operator.{Operator}
 use Rattle.cx_vtree.specs.Plain.{PlainExpr}
-use Rattle.cx_vtree.specs.Sound.{Scope, is_array, width_of, misnames, fitting_width, applied_width, chosen_width, joined_width}
+use Rattle.cx_vtree.specs.Sound.{Scope, is_array, width_of, misnames, fitting_width, operator_width, choice_width, sides_width}
 use Rattle.cx_vread_exprs.specs.declared.shapes.Shape.{Shape}
 
 -- whether it breaks a rule on names, and its width where the widths in it fit
@@ -21,16 +21,9 @@ abbrev pub indexed : Shape → Shape → Shape
 indexed array index =
     record { misnamed = array.misnamed || index.misnamed; width = width_behind index.width array.width }
 
-abbrev pub operator_width : Operator → Option ℕ → Option ℕ → Option ℕ
-operator_width op left right = option_and_then (λ v. option_and_then (applied_width op v) right) left
-
 abbrev pub applied : Operator → Shape → Shape → Shape
 applied op left right =
     record { misnamed = left.misnamed || right.misnamed; width = operator_width op left.width right.width }
-
-abbrev pub choice_width : Option ℕ → Option ℕ → Option ℕ → Option ℕ
-choice_width test one other =
-    option_and_then (λ t. option_and_then (λ v. option_and_then (chosen_width t v) other) one) test
 
 abbrev pub chosen : Shape → Shape → Shape → Shape
 chosen test one other =
@@ -38,9 +31,6 @@ chosen test one other =
       misnamed = test.misnamed || one.misnamed || other.misnamed;
       width = choice_width test.width one.width other.width;
     }
-
-abbrev pub sides_width : Option ℕ → Option ℕ → Option ℕ
-sides_width high low = option_and_then (λ v. option_and_then (joined_width v) low) high
 
 abbrev pub joined : Shape → Shape → Shape
 joined high low = record { misnamed = high.misnamed || low.misnamed; width = sides_width high.width low.width }

@@ -1,6 +1,7 @@
 //! What the rules on names and widths look at of an expression.
 
 ghost use Rattle.std.specs.Prelude.{◌≡◌, Some};
+ghost use Rattle.cx_vtree.specs.Sound as sound;
 ghost use Rattle.cx_vtree.specs.PlainParts.{plain_expr};
 ghost use Rattle.cx_vscope.specs.ScopeValues.{scope_by};
 ghost use Rattle.cx_vread_exprs.specs.Shapes as shapes;
@@ -61,7 +62,7 @@ pub fn indexed(array: Shape, index: Shape) -> Shape
 }
 
 fn operator_width(op: Operator, left: Option<u8>, right: Option<u8>) -> Option<u8>
-    ensures { result ≡ shapes.operator_width op left right }
+    ensures { result ≡ sound.operator_width op left right }
 {
     let v = left?;
     let w = right?;
@@ -79,7 +80,7 @@ pub fn applied(op: Operator, left: Shape, right: Shape) -> Shape
 }
 
 fn choice_width(test: Option<u8>, one: Option<u8>, other: Option<u8>) -> Option<u8>
-    ensures { result ≡ shapes.choice_width test one other }
+    ensures { result ≡ sound.choice_width test one other }
 {
     let t = test?;
     let v = one?;
@@ -98,7 +99,7 @@ pub fn chosen(test: Shape, one: Shape, other: Shape) -> Shape
 }
 
 fn sides_width(high: Option<u8>, low: Option<u8>) -> Option<u8>
-    ensures { result ≡ shapes.sides_width high low }
+    ensures { result ≡ sound.sides_width high low }
 {
     let v = high?;
     let w = low?;

@@ -6,7 +6,7 @@ use Rattle.cx_vnets.specs.declared.nets.Stored.{Stored}
 use Rattle.cx_vnets.specs.Fits.{width_at, Fits}
 use Rattle.cx_vnets.specs.Search.{SameWidths}
 use Rattle.cx_vnets.specs.Stores.{plain_words}
-use Rattle.cx_vnets.specs.ModuleNumbers.{position}
+use Rattle.cx_vtree.specs.NameNumbers.{position}
 use Rattle.cx_vnets.specs.CodeLaws.{net_widths}
 use Rattle.cx_vnets.specs.declared.machines.Machine.{Machine}
 use Rattle.cx_vnets.specs.declared.machines.Bench.{Bench}

@@ -3,13 +3,11 @@ use Rattle.std.proofs.Common.{◌≡◌, ℕ, zero, suc, ◌+◌, ◌<◌, ◌�
 use Rattle.std.proofs.lemmas.List.{length-map}
 use Rattle.std.specs.Option.{option_map_or}
 use Rattle.cx_vtree.specs.Plain.{PlainExpr, PlainPort, PlainDecl, WireOf, RegisterOf, ArrayOf, PlainAssign, PlainStore, PlainItem, SetTo, StoreTo, PlainEdge}
-use Rattle.cx_vtree.specs.InstanceTree.{Placed, ports_at, decls_at, declared_nets, nets_at, Given, origin_of}
+use Rattle.cx_vtree.specs.InstanceTree.{Placed, ports_at, decls_at, declared_nets, nets_at, Given, origin_of, declared_arrays, arrays_at}
 use Rattle.cx_vtree.specs.Edges.{sets_in, stores_in, edge_at, acting_sets, acting_stores}
 use Rattle.cx_vtree.specs.Sound.{Scope, meant_in, misnames, width_of, decl_meaning}
-use Rattle.cx_vnets.specs.ModuleNumbers.{declared_arrays}
 use Rattle.cx_vnets.specs.ModuleCodes.{HasNumbers}
 use Rattle.cx_vnets.specs.CodeLaws.{NamesHaveNumbers, net_numbering, array_numbering}
-use Rattle.cx_vnets.specs.Numbers.{arrays_at}
 use Rattle.cx_vlaws.specs.Widths.{scope_at, IsExpression}
 use Rattle.cx_vlaws.specs.Origins.{width_at, IsThere}
 use Rattle.cx_vlaws.specs.Edges.{IsSet, IsStore}

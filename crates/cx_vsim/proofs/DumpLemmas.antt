@@ -10,7 +10,7 @@ use Rattle.cx_vtree.specs.PlainParts.{row_of, rows_of}
 use Rattle.cx_vtree.specs.InstanceTree.{instances_of}
 use Rattle.cx_vnets.specs.Stores.{PlainWords}
 use Rattle.cx_vsim.specs.Externals.{array_of}
-use Rattle.cx_vsim.specs.Answers.{IsDone, final_words}
+use Rattle.cx_vsim.specs.Answers.{IsDone}
 use Rattle.cx_vsim.specs.Stands.{words_at, words_by, outcome_by, RanStands}
 use Rattle.cx_vsim.specs.Arrays.{Gives, CanGive, AllGivenFit}
 use Rattle.cx_vsim.specs.declared.answers.SimAnswer.{SimAnswer}
@@ -24,11 +24,6 @@ pub done_is : (r : SimAnswer) (words : List (List ℕ)) → IsDone (outcome_by r
 done_is (Done t) words done = (t, refl)
 done_is (Loop i k) words done = absurd (let e = done.2 in cc)
 done_is More words done = absurd (let e = done.2 in cc)
-
-pub final_is : (r : SimAnswer) (words : List (List ℕ)) → IsDone (outcome_by r words) → final_words (outcome_by r words) ≡ words
-final_is (Done t) words done = refl
-final_is (Loop i k) words done = absurd (let e = done.2 in cc)
-final_is More words done = absurd (let e = done.2 in cc)
 
 -- a memory with other words, where there are words for each
 with_words_at : (ms : List PlainMemory) (words : List (List ℕ)) (k : ℕ) (x : PlainMemory) → length words ≡ length ms → slice_get (with_words ms words) k ≡ Some x

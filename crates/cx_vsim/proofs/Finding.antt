@@ -1,5 +1,5 @@
 -- Instances that are found by names and by numbers.
-use Rattle.std.proofs.Common.{◌≡◌, ℕ, zero, suc, ◌+◌, ◌<◌, ◌≤◌, inl, inr, ⊎_elim, List, [], ◌∷◌, ◌++◌, length, Some, slice_get, refl, ap, sym, ◌∙◌, subst, arith}
+use Rattle.std.proofs.Common.{◌≡◌, ℕ, zero, suc, ◌+◌, ◌<◌, ◌≤◌, ⊎_elim, List, [], ◌∷◌, ◌++◌, length, Some, slice_get, refl, ap, sym, ◌∙◌, subst, arith}
 use Rattle.std.proofs.lemmas.Bool.{cases_lt}
 use Rattle.std.proofs.lemmas.Option.{slice_get_within, same_Some}
 use Rattle.cx_vtree.specs.InstanceTree.{Placed, nets_at}
@@ -28,12 +28,6 @@ place_at tree (suc n) j lt = ⊎_elim
     subst (λ k. slice_get (all_places tree (suc n)) k ≡ Some (place_of tree k)) same
     (subst (λ k. slice_get (all_places tree (suc n)) k ≡ Some (place_of tree n)) (places_length tree n) (last_at (all_places tree n) (place_of tree n))))
     (cases_lt j n)
-
-pub begun_first : (ps : List NetPosition) (net : ℕ) → IsLastBegun ps net 0 0
-begun_first ps net = record { so_far = λ j p lt at le. absurd (omega arith); here = inl refl }
-
-pub begun_here : (ps : List NetPosition) (net i found : ℕ) (p : NetPosition) → slice_get ps i ≡ Some p → p.nets ≤ net → IsLastBegun ps net i found → IsLastBegun ps net (i + 1) i
-begun_here ps net i found p at le b = record { so_far = λ j q lt is begun. omega arith; here = inr (p, at, le) }
 
 pub begun_later : (ps : List NetPosition) (net i found : ℕ) (p : NetPosition) → slice_get ps i ≡ Some p → net < p.nets → IsLastBegun ps net i found → IsLastBegun ps net (i + 1) found
 begun_later ps net i found p at gt b = record {

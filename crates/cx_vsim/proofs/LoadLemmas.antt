@@ -8,7 +8,7 @@ use Rattle.cx_bits.specs.BitVector.{BitVector}
 use Rattle.cx_text.specs.Loading.{PlainRow, PlainMemory, FitsShape, FitsRows, word_count, words_loaded}
 use Rattle.cx_vtree.specs.Plain.{PlainDecl, PlainExternal, PlainSource}
 use Rattle.cx_vtree.specs.PlainParts.{row_of, rows_of}
-use Rattle.cx_vtree.specs.InstanceTree.{decls_at, instances_of}
+use Rattle.cx_vtree.specs.InstanceTree.{decls_at, instances_of, arrays_at}
 use Rattle.cx_vtree.specs.Meaning.{word_in}
 use Rattle.cx_vtree.specs.SimRun.{is_memory, loaded_word}
 use Rattle.cx_vnets.specs.declared.arrays.Words.{Words}
@@ -17,7 +17,7 @@ use Rattle.cx_vnets.specs.Fits.{width_at}
 use Rattle.cx_vnets.specs.Stores.{PlainWords, plain_words}
 use Rattle.cx_vnets.specs.Machines.{KeepsWidths}
 use Rattle.cx_vsim.specs.WordNumbers.{words_of_width}
-use Rattle.cx_vnets.specs.Numbers.{arrays_at, nets_before, arrays_before}
+use Rattle.cx_vnets.specs.Numbers.{nets_before, arrays_before}
 use Rattle.cx_vnets.specs.Memory.{WordsStand, StoredStands}
 use Rattle.cx_vnets.proofs.WordLemmas.{word_in_same, word_in_width, word_in_value}
 use Rattle.cx_vnets.proofs.EdgeLemmas.{even_stored, same_array_widths}

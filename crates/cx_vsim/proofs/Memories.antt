@@ -5,7 +5,7 @@ use Rattle.std.proofs.lemmas.Option.{same_Some}
 use Rattle.std.specs.Option.{option_map_or}
 use Rattle.cx_text.specs.Loading.{word_count}
 use Rattle.cx_vtree.specs.Plain.{PlainDecl, WireOf, RegisterOf, ArrayOf, PlainExternal, PlainSource}
-use Rattle.cx_vtree.specs.InstanceTree.{Placed, same_name, decls_at, instances_of}
+use Rattle.cx_vtree.specs.InstanceTree.{Placed, same_name, decls_at, instances_of, arrays_at}
 use Rattle.cx_vtree.specs.Meaning.{Moment, word_in}
 use Rattle.cx_vtree.specs.Edges.{array_size}
 use Rattle.cx_vtree.specs.SimRun.{instance_named, first_array, is_memory}
@@ -13,7 +13,7 @@ use Rattle.cx_vtree.specs.Sound.{arrays_in}
 use Rattle.cx_vlaws.specs.Memories.{IsMemory}
 use Rattle.cx_vnets.specs.declared.arrays.Words.{Words}
 use Rattle.cx_vnets.specs.declared.nets.Stored.{Stored}
-use Rattle.cx_vnets.specs.Numbers.{arrays_at, arrays_before, array_number}
+use Rattle.cx_vnets.specs.Numbers.{arrays_before, array_number}
 use Rattle.cx_vnets.specs.EdgesFlat.{AreApart}
 use Rattle.cx_vnets.specs.Memory.{StoredStands}
 use Rattle.cx_vnets.proofs.Numbering.{number_at, number_once}

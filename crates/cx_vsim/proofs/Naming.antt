@@ -1,26 +1,23 @@
 -- The first instance of `main` of a name, and its array.
 use Rattle.std.proofs.Common.{◌≡◌, ◌≢◌, ℕ, zero, suc, ◌+◌, ◌<◌, ◌≤◌, ◌==◌, ◌&&◌, ⊎_elim, Bool, true, false, cond, List, [], ◌∷◌, map, drop, get_or, length, Option, Some, None, option_map, option_and_then, slice_get, refl, ap, sym, ◌∙◌, if◌then◌else◌, arith}
 use Rattle.std.proofs.lemmas.Bool.{cases_lt}
-use Rattle.std.proofs.lemmas.Bool.Decides.{eqb_tells}
 use Rattle.std.proofs.lemmas.Option.{slice_get_past, same_Some, get_or_from_slice_get}
-use Rattle.std.proofs.lemmas.List.{at_drop_all}
 use Rattle.std.specs.Cmp.Lexicographic.{bytes_decides}
 use Rattle.std.specs.HashMap as maps
 use Rattle.std.specs.HashMap.{HashMap}
-use Rattle.std.specs.Map.{lookup}
 use Rattle.std.specs.Option.{option_map_or}
 use denote.Ref.{Bor}
 use Rattle.cx_vtree.specs.Plain.{PlainExternal}
-use Rattle.cx_vtree.specs.InstanceTree.{Placed, same_name, decls_at}
+use Rattle.cx_vtree.specs.InstanceTree.{Placed, same_name, decls_at, declared_arrays, arrays_at}
 use Rattle.cx_vtree.specs.SimRun.{instance_named, first_array}
 use Rattle.cx_velab.specs.declared.tree.Row.{Row}
 use Rattle.cx_velab.specs.Rows.{placed_of}
 use Rattle.cx_vnets.specs.declared.codes.NetPosition.{NetPosition}
-use Rattle.cx_vnets.specs.ModuleNumbers.{position, declared_arrays}
-use Rattle.cx_vnets.specs.Numbers.{arrays_at, arrays_before, array_number, place_of}
+use Rattle.cx_vtree.specs.NameNumbers.{position, number_by}
+use Rattle.cx_vnets.specs.Numbers.{arrays_before, array_number, place_of}
 use Rattle.cx_velab.specs.Tables.{all_places}
 use Rattle.cx_vsim.specs.Externals.{array_of, HasArray}
-use Rattle.cx_vsim.specs.Mains.{HasMainFrom, number_by}
+use Rattle.cx_vsim.specs.Mains.{HasMainFrom}
 use Rattle.cx_vsim.proofs.Finding.{place_at}
 use Rattle.cx_velab.proofs.TablesLemmas.{places_length}
 
@@ -47,16 +44,6 @@ module _ (rows : List Row) (i : ℕ) (row : Row) (name : List ℕ) (at : slice_g
       ∙ ap (λ k. if k == 0 && same_name row.instance.now.name name then Some i else instance_named (map placed_of (drop (suc i) rows)) (i + 1) name) h
       ∙ ap (λ b. if b then Some i else instance_named (map placed_of (drop (suc i) rows)) (i + 1) name) s ∙ next
 
-  not_held : row.holder ≢ 0 → instance_named (map placed_of (drop i rows)) i name ≡ instance_named (map placed_of (drop (i + 1) rows)) (i + 1) name
-  not_held h = unfolded
-      ∙ ap (λ b. if b && same_name row.instance.now.name name then Some i else instance_named (map placed_of (drop (suc i) rows)) (i + 1) name)
-      (⊎_elim {C = (row.holder == 0) ≡ false} (λ s. absurd (h s.1)) (λ d. d.0) (eqb_tells row.holder 0)) ∙ next
-
--- no instance is numbered past the last
-pub main_none : {S : Type 0} (m : HashMap (Bor (List ℕ)) ℕ S) (rows : List Row) (i : ℕ) → m.entries ≡ [] → length rows ≤ i → HasMainFrom m i (map placed_of (drop i rows))
-main_none m rows i empty past q =
-    ap (lookup (λ (k : Bor (List ℕ)). same_name q k.now)) empty ∙ sym (at_drop_all (λ l. instance_named (map placed_of l) i q) rows i past)
-
 -- an instance of `main` goes before those of its name behind it
 pub main_entered : {S : Type 0} (m n : HashMap (Bor (List ℕ)) ℕ S) (rows : List Row) (i : ℕ) (row : Row) → slice_get rows i ≡ Some row → row.holder ≡ 0
     → ((q : Bor (List ℕ)) → maps.get (λ x y. same_name x.now y.now) n q ≡ cond (same_name row.instance.now.name q.now) (Some i) (maps.get (λ x y. same_name x.now y.now) m q))
@@ -66,11 +53,6 @@ main_entered m n rows i row at held up had q = up (record { ref_ptr = (0, 0); no
     go : (t : Bool) → same_name row.instance.now.name q ≡ t → cond t (Some i) (number_by m q) ≡ instance_named (map placed_of (drop i rows)) i q
     go true e = sym (found_here rows i row q at held e)
     go false e = had q ∙ sym (not_named rows i row q at held e)
-
--- an instance of another one stands for nothing
-pub main_passed : {S : Type 0} (m : HashMap (Bor (List ℕ)) ℕ S) (rows : List Row) (i : ℕ) (row : Row) → slice_get rows i ≡ Some row → row.holder ≢ 0
-    → HasMainFrom m (i + 1) (map placed_of (drop (i + 1) rows)) → HasMainFrom m i (map placed_of (drop i rows))
-main_passed m rows i row at other had q = had q ∙ sym (not_held rows i row q at other)
 
 array_within : (tree : List Placed) (i : ℕ) (n : List ℕ) → arrays_at tree i ≡ n ∷ [] → i < length tree
 array_within tree i n at = ⊎_elim (λ lt. lt) (λ le. absurd (past (slice_get tree i) (slice_get_past tree i le) at)) (cases_lt i (length tree))

@@ -6,15 +6,15 @@ use Rattle.std.proofs.lemmas.Bool.{cases_lt}
 use Rattle.std.proofs.lemmas.Bool.Decides.{eqb_tells}
 use Rattle.std.proofs.lemmas.Option.{slice_get_within, slice_get_past}
 use Rattle.cx_vtree.specs.Plain.{PlainExpr, PlainAssign, PlainStore, PlainItem, SetTo, StoreTo}
-use Rattle.cx_vtree.specs.InstanceTree.{Placed, declared_nets, nets_at, Origin, Outside, Tied, Held, Given, origin_of}
+use Rattle.cx_vtree.specs.InstanceTree.{Placed, declared_nets, nets_at, Origin, Outside, Tied, Held, Given, origin_of, declared_arrays, arrays_at}
 use Rattle.cx_vtree.specs.Edges.{sets_in, stores_in, edge_at, acting_sets, acting_stores}
 use Rattle.cx_vnets.specs.declared.codes.Code.{Code}
 use Rattle.cx_vnets.specs.declared.nets.Driver.{Driver}
 use Rattle.cx_vnets.specs.declared.nets.Driver.TheVariants as driver
 use Rattle.cx_vnets.specs.declared.edges.Set.{Set}
 use Rattle.cx_vnets.specs.declared.stores.Store.{Store}
-use Rattle.cx_vnets.specs.ModuleNumbers.{declared_arrays, position}
-use Rattle.cx_vnets.specs.Numbers.{before, arrays_at, nets_before, arrays_before, place_of}
+use Rattle.cx_vtree.specs.NameNumbers.{position}
+use Rattle.cx_vnets.specs.Numbers.{before, nets_before, arrays_before, place_of}
 use Rattle.cx_vnets.specs.Flat.{CodeStands, DriverStands}
 use Rattle.cx_vnets.specs.EdgesFlat.{SetStands, StoreStands, SetsStand, StoresStand}
 use Rattle.cx_velab.specs.Added.{Paired, Adds}
@@ -48,9 +48,6 @@ module _ {A B : Type 0} (R : B → A → Type 0) where
   paired_right (x ∷ xs) [] j y h e = absurd h
 
 module _ {A B : Type 0} (acting : ℕ → List A) (Stands : ℕ → A → B → Type 0) where
-  pub stand_none : StandBelow acting Stands 0 []
-  stand_none = record { each = λ i j a lt at. absurd (omega arith); only = λ h x at. absurd (cc) }
-
   pub stand_more : (n : ℕ) (old new : List B) → StandBelow acting Stands n old → Adds (λ x a. Stands n a x) old new (acting n) → StandBelow acting Stands (n + 1) new
   stand_more n old new had added = record {
     each = λ i j a lt at. ⊎_elim

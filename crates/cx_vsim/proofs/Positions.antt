@@ -6,11 +6,8 @@ use Rattle.std.proofs.lemmas.Bool.Decides.{eqb_tells}
 use Rattle.std.proofs.lemmas.Option.{slice_get-map}
 use Rattle.cx_vtree.specs.Plain.{PlainPort, PlainDecl, WireOf, RegisterOf, ArrayOf}
 use Rattle.cx_vtree.specs.InstanceTree.{Placed, same_name, ports_at, decls_at, declared_nets, nets_at, NetKind, Driven, Input, Stored, declared_kind, kind_in, origin_by, origin_of, Origin}
-use Rattle.cx_vnets.specs.ModuleNumbers as codes
-use Rattle.cx_vnets.specs.ModuleNumbers.{position}
-use Rattle.cx_vnets.specs.Numbers as flat
+use Rattle.cx_vtree.specs.NameNumbers.{position}
 use Rattle.cx_vnets.specs.Numbers.{before}
-use Rattle.cx_vlaws.specs.Names as facts
 use Rattle.cx_text.proofs.OptionLaws.{bind_some}
 use Rattle.cx_text.proofs.ListLaws.{front}
 
@@ -81,16 +78,6 @@ pub port_net : (tree : List Placed) (i h : ℕ) (p : Placed) (port : PlainPort) 
 port_net tree i h p port at there =
     let named : slice_get (map (λ q. q.name) p.part.ports) h ≡ Some port.name = slice_get-map (λ q. q.name) p.part.ports h ∙ ap (option_map (λ q. q.name)) there in
     ap (λ l. slice_get l h) (nets_there tree i p at) ∙ front (map (λ q. q.name) p.part.ports) (declared_nets p.part.decls) h port.name named
-
--- the arrays of a module are the same by both of their definitions
-pub arrays_same : (ds : List PlainDecl) → facts.declared_arrays ds ≡ codes.declared_arrays ds
-arrays_same [] = refl
-arrays_same (WireOf n w ∷ ds) = arrays_same ds
-arrays_same (RegisterOf n w ∷ ds) = arrays_same ds
-arrays_same (ArrayOf n w k ∷ ds) = ap (λ l. n ∷ l) (arrays_same ds)
-
-pub arrays_at_same : (tree : List Placed) (i : ℕ) → facts.arrays_at tree i ≡ flat.arrays_at tree i
-arrays_at_same tree i = arrays_same (decls_at tree i)
 
 -- a list has no more than all of them have
 pub share : (lists : ℕ → List (List ℕ)) (n i : ℕ) → i < n → length (lists i) ≤ before lists n

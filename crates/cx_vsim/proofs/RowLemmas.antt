@@ -5,14 +5,14 @@ use Rattle.std.specs.Option.{option_map_or}
 use Rattle.std.proofs.lemmas.List.{length-map}
 use Rattle.std.proofs.lemmas.Option.{slice_get-map, slice_get_read, slice_get_within}
 use Rattle.cx_vtree.specs.Plain.{PlainPort, PlainAssign, PlainConn}
-use Rattle.cx_vtree.specs.InstanceTree.{Placed, declared_nets, nets_at, Given}
+use Rattle.cx_vtree.specs.InstanceTree.{Placed, declared_nets, nets_at, Given, declared_arrays, arrays_at}
 use Rattle.cx_vnets.specs.declared.codes.Code.{Code}
 use Rattle.cx_vnets.specs.declared.codes.NetPosition.{NetPosition}
 use Rattle.cx_vnets.specs.declared.nets.Driver.{Driver}
-use Rattle.cx_vnets.specs.ModuleNumbers.{declared_arrays, position}
+use Rattle.cx_vtree.specs.NameNumbers.{position}
 use Rattle.cx_vnets.specs.ModuleCodes.{Numbering, IsCode}
 use Rattle.cx_vnets.specs.Numberings.{nets_by}
-use Rattle.cx_vnets.specs.Numbers.{arrays_at, nets_before, place_of}
+use Rattle.cx_vnets.specs.Numbers.{nets_before, place_of}
 use Rattle.cx_velab.specs.Tables.{all_places}
 use Rattle.cx_velab.specs.Coded.{values_of, edge_exprs, module_exprs}
 use Rattle.cx_velab.specs.declared.parts.ModulePart.{ModulePart}

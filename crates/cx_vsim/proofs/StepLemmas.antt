@@ -4,15 +4,15 @@ use Rattle.std.specs.Prelude.{IsSome}
 use Rattle.std.specs.Option.{option_map_or}
 use Rattle.std.proofs.lemmas.List.{length-map}
 use Rattle.cx_vtree.specs.Plain.{PlainAssign, PlainStore, PlainItem, SetTo, StoreTo, PlainEdge}
-use Rattle.cx_vtree.specs.InstanceTree.{Placed, nets_at, Held}
+use Rattle.cx_vtree.specs.InstanceTree.{Placed, nets_at, Held, arrays_at}
 use Rattle.cx_vtree.specs.Edges.{edge_at, acting_sets, acting_stores}
 use Rattle.cx_vnets.specs.declared.codes.Code.{Code}
 use Rattle.cx_vnets.specs.declared.codes.NetPosition.{NetPosition}
 use Rattle.cx_vnets.specs.declared.edges.Set.{Set}
 use Rattle.cx_vnets.specs.declared.stores.Store.{Store}
-use Rattle.cx_vnets.specs.ModuleNumbers.{position}
+use Rattle.cx_vtree.specs.NameNumbers.{position}
 use Rattle.cx_vnets.specs.ModuleCodes.{Numbering}
-use Rattle.cx_vnets.specs.Numbers.{arrays_at, nets_before, arrays_before, place_of}
+use Rattle.cx_vnets.specs.Numbers.{nets_before, arrays_before, place_of}
 use Rattle.cx_vnets.specs.EdgesFlat.{SetStands, StoreStands}
 use Rattle.cx_velab.specs.Added.{Paired}
 use Rattle.cx_velab.specs.Coded.{values_of, items_exprs, edge_exprs, module_exprs}

@@ -5,19 +5,16 @@ use Rattle.std.specs.Cmp.Lexicographic.{same_text}
 use Rattle.cx_vtree.specs.declared.meanings.Meaning.TheVariants.{Register}
 use Rattle.cx_vtree.specs.Plain.{PlainExpr, PlainPort, PlainDecl, WireOf, RegisterOf, ArrayOf}
 use Rattle.cx_vtree.specs.InstanceTree as kinds
-use Rattle.cx_vtree.specs.InstanceTree.{Placed, same_name, ports_at, decls_at, declared_nets, nets_at, NetKind, kind_in, driving_output, assigned, driver_of, origin_by, Origin, Outside, Tied, Held, Given, origin_of}
+use Rattle.cx_vtree.specs.InstanceTree.{Placed, same_name, ports_at, decls_at, declared_nets, nets_at, NetKind, kind_in, driving_output, assigned, driver_of, origin_by, Origin, Outside, Tied, Held, Given, origin_of, declared_arrays, arrays_at}
 use Rattle.cx_vtree.specs.Sound.{Scope, width_of, is_array, decl_name, decl_meaning, port_meaning}
-use Rattle.cx_vnets.specs.ModuleNumbers.{declared_arrays}
 use Rattle.cx_vnets.specs.CodeLaws.{declared_widths, net_widths, array_widths}
-use Rattle.cx_vnets.specs.Numbers.{arrays_at}
-use Rattle.cx_vlaws.specs.Names as facts
 use Rattle.cx_vlaws.specs.Widths.{scope_at}
 use Rattle.cx_vlaws.specs.Origins.{width_at, IsThere}
 use Rattle.cx_vlaws.specs.MainPorts.{main_ports}
 use Rattle.cx_velab.specs.Zeros.{widths_at, InputsAreBits}
 use Rattle.cx_velab.specs.FitsLaws.{IsAsWide, OriginsAreAsWide, SetsAreAsWide, StoresAreAsWide}
 use Rattle.cx_vsim.specs.Trees.{IsEvenlyWide}
-use Rattle.cx_vsim.proofs.Positions.{position_there, origin_found, origin_position, ports_there, arrays_at_same}
+use Rattle.cx_vsim.proofs.Positions.{position_there, origin_found, origin_position, ports_there}
 use Rattle.cx_vsim.proofs.TidyLemmas.{Origins}
 use Rattle.cx_vsim.proofs.CodedLemmas.{SetsAre, StoresAre}
 use Rattle.cx_vtree.proofs.InstanceTreeLemmas.{driving_not_outside}
@@ -127,7 +124,7 @@ module _ (tree : List Placed) (origins : Origins tree)
 
   module _ (sets : SetsAre tree) (stores : StoresAre tree)
       (held : (i w : ℕ) (n : List ℕ) → scope_at tree i n ≡ Register w → origin_of tree i n ≡ Some (Held w))
-      (arrays : (i : ℕ) (n : List ℕ) → is_array (scope_at tree i n) ≡ true → (k : ℕ) × (slice_get (facts.arrays_at tree i) k ≡ Some n)) where
+      (arrays : (i : ℕ) (n : List ℕ) → is_array (scope_at tree i n) ≡ true → (k : ℕ) × (slice_get (arrays_at tree i) k ≡ Some n)) where
     sets_wide : (reset : ℕ) → SetsAreAsWide tree reset
     sets_wide reset i j a at =
         let is = sets i reset j a at in
@@ -144,7 +141,7 @@ module _ (tree : List Placed) (origins : Origins tree)
     stores_wide reset i j s at =
         let is = stores i reset j s at in
         let r = arrays i s.array (ap is_array is.array) in
-        let number = position_there (arrays_at tree i) s.array r.0 (ap (λ l. slice_get l r.0) (sym (arrays_at_same tree i)) ∙ r.1) in
+        let number = position_there (arrays_at tree i) s.array r.0 r.1 in
         record {
           number = number.0;
           width = width_of (scope_at tree i s.array);

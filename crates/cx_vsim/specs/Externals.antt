@@ -1,9 +1,9 @@
 -- The arrays of external memories.
 use Rattle.std.specs.Prelude.{◌≡◌, ℕ, List, [], ◌∷◌, Option, Some, option_and_then}
 use Rattle.cx_vtree.specs.Plain.{PlainExternal}
-use Rattle.cx_vtree.specs.InstanceTree.{Placed, decls_at}
+use Rattle.cx_vtree.specs.InstanceTree.{Placed, decls_at, arrays_at}
 use Rattle.cx_vtree.specs.SimRun.{instance_named, first_array}
-use Rattle.cx_vnets.specs.Numbers.{arrays_at, array_number}
+use Rattle.cx_vnets.specs.Numbers.{array_number}
 
 -- the number of the array of an external memory, among those of all instances
 abbrev pub array_of : List Placed → PlainExternal → Option ℕ

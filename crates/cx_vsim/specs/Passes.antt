@@ -7,7 +7,7 @@ use Rattle.cx_vnets.specs.declared.codes.Code.{Code}
 use Rattle.cx_vnets.specs.declared.nets.Driver.{Driver}
 use Rattle.cx_vnets.specs.declared.edges.Set.{Set}
 use Rattle.cx_vnets.specs.declared.stores.Store.{Store}
-use Rattle.cx_vnets.specs.ModuleNumbers.{position}
+use Rattle.cx_vtree.specs.NameNumbers.{position}
 use Rattle.cx_vnets.specs.EdgesFlat.{SetStands, StoreStands}
 use Rattle.cx_velab.specs.Added.{Adds}
 use Rattle.cx_velab.specs.Driven.{IsRight, IsWhole, IsTied}

@@ -2,12 +2,11 @@
 use Rattle.std.specs.Prelude.{◌≡◌, ℕ, ◌+◌, ◌<◌, ◌^◌, List, [], Some, length, map, slice_get}
 use Rattle.std.specs.Option.{option_map_or}
 use Rattle.cx_vtree.specs.Plain.{PlainExpr}
-use Rattle.cx_vtree.specs.InstanceTree.{Placed, nets_at}
+use Rattle.cx_vtree.specs.InstanceTree.{Placed, nets_at, arrays_at}
 use Rattle.cx_vnets.specs.declared.codes.Code.{Code}
-use Rattle.cx_vnets.specs.ModuleNumbers.{position}
+use Rattle.cx_vtree.specs.NameNumbers.{position}
 use Rattle.cx_vnets.specs.Numberings.{nets_by, arrays_by}
 use Rattle.cx_velab.specs.Rows.{placed_of}
-use Rattle.cx_vnets.specs.Numbers.{arrays_at}
 use Rattle.cx_vnets.specs.Flat.{CodeStands}
 use Rattle.cx_velab.specs.Tables.{all_places}
 use Rattle.cx_velab.specs.Coded.{module_exprs}

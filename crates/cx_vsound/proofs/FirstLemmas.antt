@@ -3,21 +3,21 @@ use Rattle.std.proofs.Common.{◌≡◌, ℕ, suc, ◌+◌, ◌<◌, ◌≤◌, 
 use Rattle.std.specs.HashMap as maps
 use Rattle.std.specs.HashMap.{HashMap}
 use Rattle.std.specs.Cmp.Lexicographic.{same_text}
-use Rattle.std.specs.Option.{option_and_then, option_map_or, option_or, unwrap_or}
-use Rattle.std.specs.Prelude.{codes}
+use Rattle.std.specs.Option.{option_or, unwrap_or}
 use Rattle.std.proofs.lemmas.List.{length-take-le, map_push, take_more}
 use Rattle.std.proofs.lemmas.Option.{slice_get-map, slice_get_past}
 use denote.Ref.{Bor}
 use Rattle.cx_vtree.specs.InstanceTree.{same_name}
-use Rattle.cx_vtree.specs.Plain.{PlainExternal, PlainInstance, PlainModule}
-use Rattle.cx_vtree.specs.Sound.{Counts, counts_named, has_name, instance_kind, last_named, memory_module, module_named, no_counts}
+use Rattle.cx_vtree.specs.Plain.{PlainInstance, PlainModule}
+use Rattle.cx_vtree.specs.Sound.{Counts, counts_named, has_name, instance_kind, module_named, no_counts}
 use Rattle.cx_vscope.specs.declared.drafts.DraftModule.{DraftModule}
 use Rattle.cx_vscope.specs.Drafts.{draft_module, draft_modules}
 use Rattle.cx_vtree.specs.declared.modules.Instance.{Instance}
 use Rattle.cx_vtree.specs.PlainParts.{plain_instance}
 use Rattle.cx_vsound.specs.declared.counts.Sums.{Sums}
 use Rattle.cx_vsound.specs.Parts.{counts_in}
-use Rattle.cx_vsound.specs.Firsts.{HasFirst, first_number, instance_names, main_instances, module_names, number_by}
+use Rattle.cx_vsound.specs.Firsts.{HasFirst, instance_names, module_names}
+use Rattle.cx_vtree.specs.NameNumbers.{position, number_by}
 use Rattle.cx_text.proofs.ListLaws.{length-map}
 use Rattle.cx_text.proofs.OptionLaws.{none_of, option_or-none}
 
@@ -36,25 +36,25 @@ later true (Some k) n = refl
 later false None n = refl
 later false (Some k) n = refl
 
-first_more : (ns : List (List ℕ)) (n q : List ℕ) → first_number (ns ++ n ∷ []) q ≡ option_or (first_number ns q) (if same_name n q then Some (length ns) else None)
+first_more : (ns : List (List ℕ)) (n q : List ℕ) → position (ns ++ n ∷ []) q ≡ option_or (position ns q) (if same_name n q then Some (length ns) else None)
 first_more [] n q = refl
 first_more (x ∷ ns) n q = go (same_name x q) (first_more ns n q)
   where
-    go : (t : Bool) → first_number (ns ++ n ∷ []) q ≡ option_or (first_number ns q) (if same_name n q then Some (length ns) else None)
-        → (if t then Some 0 else option_map suc (first_number (ns ++ n ∷ []) q)) ≡ option_or (if t then Some 0 else option_map suc (first_number ns q)) (if same_name n q then Some (suc (length ns)) else None)
+    go : (t : Bool) → position (ns ++ n ∷ []) q ≡ option_or (position ns q) (if same_name n q then Some (length ns) else None)
+        → (if t then Some 0 else option_map suc (position (ns ++ n ∷ []) q)) ≡ option_or (if t then Some 0 else option_map suc (position ns q)) (if same_name n q then Some (suc (length ns)) else None)
     go true e = refl
-    go false e = ap (option_map suc) e ∙ later (same_name n q) (first_number ns q) (length ns)
+    go false e = ap (option_map suc) e ∙ later (same_name n q) (position ns q) (length ns)
 
 pub has_more : {S : Type 0} (m n : HashMap (Bor (List ℕ)) ℕ S) (ns more : List (List ℕ)) (name : List ℕ) (v : ℕ) → HasFirst m ns
     → ((q : List ℕ) → number_by n q ≡ option_or (number_by m q) (if same_name name q then Some v else None)) → v ≡ length ns → more ≡ ns ++ name ∷ [] → HasFirst n more
 has_more m n ns more name v has put is is_more q =
-    put q ∙ ap (λ o. option_or o (if same_name name q then Some v else None)) (has q) ∙ ap (λ k. option_or (first_number ns q) (if same_name name q then Some k else None)) is
-    ∙ sym (first_more ns name q) ∙ ap (λ l. first_number l q) (sym is_more)
+    put q ∙ ap (λ o. option_or o (if same_name name q then Some v else None)) (has q) ∙ ap (λ k. option_or (position ns q) (if same_name name q then Some k else None)) is
+    ∙ sym (first_more ns name q) ∙ ap (λ l. position l q) (sym is_more)
 
 -- what has a number, and what has none
-module-at : (ms : List PlainModule) (q : List ℕ) (n : ℕ) → first_number (module_names ms) q ≡ Some n → module_named ms q ≡ slice_get ms n
+module-at : (ms : List PlainModule) (q : List ℕ) (n : ℕ) → position (module_names ms) q ≡ Some n → module_named ms q ≡ slice_get ms n
 module-at [] q n e = absurd (cc)
-module-at (m ∷ ms) q n e = go (same_name m.name q) (first_number (module_names ms) q) e (module-at ms q)
+module-at (m ∷ ms) q n e = go (same_name m.name q) (position (module_names ms) q) e (module-at ms q)
   where
     go : (t : Bool) (o : Option ℕ) → (if t then Some 0 else option_map suc o) ≡ Some n → ((k : ℕ) → o ≡ Some k → module_named ms q ≡ slice_get ms k)
         → (if t then Some m else module_named ms q) ≡ slice_get (m ∷ ms) n
@@ -62,18 +62,18 @@ module-at (m ∷ ms) q n e = go (same_name m.name q) (first_number (module_names
     go false None e h = absurd (cc)
     go false (Some k) e h = let next : suc k ≡ n = cc in h k refl ∙ ap (slice_get (m ∷ ms)) next
 
-module-none : (ms : List PlainModule) (q : List ℕ) → first_number (module_names ms) q ≡ None → module_named ms q ≡ None
+module-none : (ms : List PlainModule) (q : List ℕ) → position (module_names ms) q ≡ None → module_named ms q ≡ None
 module-none [] q e = refl
-module-none (m ∷ ms) q e = go (same_name m.name q) (first_number (module_names ms) q) e (module-none ms q)
+module-none (m ∷ ms) q e = go (same_name m.name q) (position (module_names ms) q) e (module-none ms q)
   where
     go : (t : Bool) (o : Option ℕ) → (if t then Some 0 else option_map suc o) ≡ None → (o ≡ None → module_named ms q ≡ None) → (if t then Some m else module_named ms q) ≡ None
     go true o e h = absurd (cc)
     go false None e h = h refl
     go false (Some k) e h = absurd (cc)
 
-kind-at : (is : List PlainInstance) (q : List ℕ) (n : ℕ) → first_number (instance_names is) q ≡ Some n → instance_kind is q ≡ option_map (λ i. i.kind) (slice_get is n)
+kind-at : (is : List PlainInstance) (q : List ℕ) (n : ℕ) → position (instance_names is) q ≡ Some n → instance_kind is q ≡ option_map (λ i. i.kind) (slice_get is n)
 kind-at [] q n e = absurd (cc)
-kind-at (i ∷ is) q n e = go (same_name i.name q) (first_number (instance_names is) q) e (kind-at is q)
+kind-at (i ∷ is) q n e = go (same_name i.name q) (position (instance_names is) q) e (kind-at is q)
   where
     go : (t : Bool) (o : Option ℕ) → (if t then Some 0 else option_map suc o) ≡ Some n → ((k : ℕ) → o ≡ Some k → instance_kind is q ≡ option_map (λ i. i.kind) (slice_get is k))
         → (if t then Some i.kind else instance_kind is q) ≡ option_map (λ i. i.kind) (slice_get (i ∷ is) n)
@@ -81,19 +81,19 @@ kind-at (i ∷ is) q n e = go (same_name i.name q) (first_number (instance_names
     go false None e h = absurd (cc)
     go false (Some k) e h = let next : suc k ≡ n = cc in h k refl ∙ ap (λ k. option_map (λ i. i.kind) (slice_get (i ∷ is) k)) next
 
-kind-none : (is : List PlainInstance) (q : List ℕ) → first_number (instance_names is) q ≡ None → instance_kind is q ≡ None
+kind-none : (is : List PlainInstance) (q : List ℕ) → position (instance_names is) q ≡ None → instance_kind is q ≡ None
 kind-none [] q e = refl
-kind-none (i ∷ is) q e = go (same_name i.name q) (first_number (instance_names is) q) e (kind-none is q)
+kind-none (i ∷ is) q e = go (same_name i.name q) (position (instance_names is) q) e (kind-none is q)
   where
     go : (t : Bool) (o : Option ℕ) → (if t then Some 0 else option_map suc o) ≡ None → (o ≡ None → instance_kind is q ≡ None) → (if t then Some i.kind else instance_kind is q) ≡ None
     go true o e h = absurd (cc)
     go false None e h = h refl
     go false (Some k) e h = absurd (cc)
 
-counts-at : (ms : List PlainModule) (cs : List Counts) (q : List ℕ) (n : ℕ) → first_number (module_names ms) q ≡ Some n → counts_named ms cs q ≡ unwrap_or (slice_get cs n) no_counts
+counts-at : (ms : List PlainModule) (cs : List Counts) (q : List ℕ) (n : ℕ) → position (module_names ms) q ≡ Some n → counts_named ms cs q ≡ unwrap_or (slice_get cs n) no_counts
 counts-at [] cs q n e = absurd (cc)
 counts-at (m ∷ ms) [] q n e = refl
-counts-at (m ∷ ms) (c ∷ cs) q n e = go (same_name m.name q) (first_number (module_names ms) q) e (counts-at ms cs q)
+counts-at (m ∷ ms) (c ∷ cs) q n e = go (same_name m.name q) (position (module_names ms) q) e (counts-at ms cs q)
   where
     go : (t : Bool) (o : Option ℕ) → (if t then Some 0 else option_map suc o) ≡ Some n → ((k : ℕ) → o ≡ Some k → counts_named ms cs q ≡ unwrap_or (slice_get cs k) no_counts)
         → (if t then c else counts_named ms cs q) ≡ unwrap_or (slice_get (c ∷ cs) n) no_counts
@@ -101,10 +101,10 @@ counts-at (m ∷ ms) (c ∷ cs) q n e = go (same_name m.name q) (first_number (m
     go false None e h = absurd (cc)
     go false (Some k) e h = let next : suc k ≡ n = cc in h k refl ∙ ap (λ k. unwrap_or (slice_get (c ∷ cs) k) no_counts) next
 
-counts-none : (ms : List PlainModule) (cs : List Counts) (q : List ℕ) → first_number (module_names ms) q ≡ None → counts_named ms cs q ≡ no_counts
+counts-none : (ms : List PlainModule) (cs : List Counts) (q : List ℕ) → position (module_names ms) q ≡ None → counts_named ms cs q ≡ no_counts
 counts-none [] cs q e = refl
 counts-none (m ∷ ms) [] q e = refl
-counts-none (m ∷ ms) (c ∷ cs) q e = go (same_name m.name q) (first_number (module_names ms) q) e (counts-none ms cs q)
+counts-none (m ∷ ms) (c ∷ cs) q e = go (same_name m.name q) (position (module_names ms) q) e (counts-none ms cs q)
   where
     go : (t : Bool) (o : Option ℕ) → (if t then Some 0 else option_map suc o) ≡ None → (o ≡ None → counts_named ms cs q ≡ no_counts) → (if t then c else counts_named ms cs q) ≡ no_counts
     go true o e h = absurd (cc)
@@ -112,23 +112,14 @@ counts-none (m ∷ ms) (c ∷ cs) q e = go (same_name m.name q) (first_number (m
     go false (Some k) e h = absurd (cc)
 
 -- a name is there where it has a number
-pub named-has : (ms : List PlainModule) (q : List ℕ) → is_some (first_number (module_names ms) q) ≡ has_name (map (λ m. m.name) ms) q
+pub named-has : (ms : List PlainModule) (q : List ℕ) → is_some (position (module_names ms) q) ≡ has_name (map (λ m. m.name) ms) q
 named-has [] q = refl
-named-has (m ∷ ms) q = go (same_name m.name q) (first_number (module_names ms) q) (named-has ms q)
+named-has (m ∷ ms) q = go (same_name m.name q) (position (module_names ms) q) (named-has ms q)
   where
     go : (t : Bool) (o : Option ℕ) → is_some o ≡ has_name (map (λ m. m.name) ms) q → is_some (if t then Some 0 else option_map suc o) ≡ (t || has_name (map (λ m. m.name) ms) q)
     go true o e = refl
     go false None e = e
     go false (Some k) e = e
-
--- the module of an external memory, by the instances of `main`
-pub memory-by_main : (ms : List PlainModule) (e : PlainExternal) → option_and_then (module_named ms) (instance_kind (main_instances ms) e.instance) ≡ memory_module ms e
-memory-by_main ms e = go (last_named ms (codes "main"))
-  where
-    go : (o : Option PlainModule) → option_and_then (module_named ms) (instance_kind (option_map_or (λ m. m.instances) o []) e.instance)
-        ≡ option_and_then (λ m. option_and_then (module_named ms) (instance_kind m.instances e.instance)) o
-    go None = refl
-    go (Some m) = refl
 
 module _ {S : Type 0} (first : HashMap (Bor (List ℕ)) ℕ S) where
   pub named_at : (ms : List PlainModule) (q : List ℕ) (n : ℕ) → HasFirst first (module_names ms) → Some n ≡ number_by first q → slice_get ms n ≡ module_named ms q
@@ -175,10 +166,10 @@ module _ {S : Type 0} (first : HashMap (Bor (List ℕ)) ℕ S) (q : List ℕ) (n
   kind_past l has past = sym (ap (option_map (λ i. i.kind)) (slice_get-map plain_instance l n ∙ ap (option_map plain_instance) (slice_get_past l n past))) ∙ kind_at first (map plain_instance l) q n has is
 
 -- the counts of the first module of a name
-pub counts_absent : (ms : List PlainModule) (cs : List Counts) (q : List ℕ) → None ≡ first_number (module_names ms) q → no_counts ≡ counts_named ms cs q
+pub counts_absent : (ms : List PlainModule) (cs : List Counts) (q : List ℕ) → None ≡ position (module_names ms) q → no_counts ≡ counts_named ms cs q
 counts_absent ms cs q e = sym (counts-none ms cs q (sym e))
 
-module _ (ms : List PlainModule) (sums : List Sums) (q : List ℕ) (n : ℕ) (is : Some n ≡ first_number (module_names ms) q) where
+module _ (ms : List PlainModule) (sums : List Sums) (q : List ℕ) (n : ℕ) (is : Some n ≡ position (module_names ms) q) where
   pub counts_past : length sums ≤ n → no_counts ≡ counts_named ms (map counts_in sums) q
   counts_past past = sym (counts-at ms (map counts_in sums) q n (sym is) ∙ ap (λ o. unwrap_or o no_counts) (slice_get-map counts_in sums n ∙ ap (option_map counts_in) (slice_get_past sums n past)))
 

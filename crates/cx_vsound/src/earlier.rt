@@ -6,7 +6,8 @@ ghost use Rattle.cx_vtree.specs.InstanceTree.{same_name};
 ghost use Rattle.cx_vtree.specs.PlainParts.{plain_instance};
 ghost use Rattle.cx_vtree.specs.Sound as sound;
 ghost use Rattle.cx_vscope.specs.Drafts.{draft_module, draft_modules};
-ghost use Rattle.cx_vsound.specs.Firsts.{HasFirst, first_number, instance_names, module_names, number_by};
+ghost use Rattle.cx_vsound.specs.Firsts.{HasFirst, instance_names, module_names};
+ghost use Rattle.cx_vtree.specs.NameNumbers.{position, number_by};
 
 use cx_text::{Memory, Name};
 use cx_vscope::DraftModule;
@@ -69,7 +70,7 @@ impl<'a> Earlier<'a> {
 
     /// The number of the first module of a name.
     pub fn number(&self, name: &Name) -> Option<usize>
-        ensures { result ≡ first_number (module_names (draft_modules self.now)) name.now }
+        ensures { result ≡ position (module_names (draft_modules self.now)) name.now }
     {
         match self.first.get(&name) {
             None => None,

@@ -2,7 +2,7 @@
 use Rattle.std.proofs.Common.{◌≡◌, ℕ, zero, suc, Bool, true, false, List, [], ◌∷◌, Some, None, refl, sym, subst, if◌then◌else◌}
 use Rattle.std.specs.Prelude.{IsSome, slice_get, codes}
 use Rattle.std.specs.Cmp.Lexicographic.{same_text}
-use Rattle.cx_bits.specs.BitVector.{BitVector}
+use Rattle.cx_bits.specs.BitVector.{BitVector, of_width}
 use Rattle.cx_vtree.specs.Plain.{PlainExpr, Named, Number, Chosen, PlainPort, RegisterOf, ArrayOf, PlainModule, SetTo, StoreTo, PlainSource}
 use Rattle.cx_vtree.specs.InstanceTree.{Placed, same_name, nets_at, Tied, origin_of, instances_of}
 use Rattle.cx_vtree.specs.Meaning.{State, Moment, resetting, running, outside_value, Look, expr_at, HasValue, by_step, IsRight}
@@ -10,9 +10,6 @@ use Rattle.cx_vtree.specs.Edges.{state_after}
 use Rattle.cx_vtree.specs.SimRun.{DoneAt, IsWhole, words_of, start_state, ends, SimRun, after_reset}
 use Rattle.cx_vtree.specs.Sound.{NameAt, WidthAt, break_of, is_sound}
 use Rattle.cx_text.proofs.OptionLaws.{by_test}
-
-abbrev bits : ℕ → ℕ → BitVector
-bits width value = record { width = width; value = value }
 
 -- a <= b and b <= a at an edge without reset, and words[1] <= a; at one with reset a <= 7
 abbrev swapping : PlainSource
@@ -25,9 +22,9 @@ swapping = record {
     assigns = [];
     instances = [];
     edge = Some (record {
-      reset = record { name = codes "a"; value = Number (bits 8 7) } ∷ [];
+      reset = record { name = codes "a"; value = Number (of_width 8 7) } ∷ [];
       step = SetTo (record { name = codes "a"; value = Named (codes "b") }) ∷ SetTo (record { name = codes "b"; value = Named (codes "a") })
-          ∷ StoreTo (record { guard = Number (bits 1 1); array = codes "words"; index = Number (bits 1 1); value = Named (codes "a") }) ∷ [];
+          ∷ StoreTo (record { guard = Number (of_width 1 1); array = codes "words"; index = Number (of_width 1 1); value = Named (codes "a") }) ∷ [];
     });
   } ∷ [];
 }
@@ -40,7 +37,7 @@ abbrev before : State
 before = record { register = λ i name. is_a name 3 4; word = λ i name index. 9 }
 
 abbrev known : Look
-known i name = Some (is_a name (bits 8 3) (bits 8 4))
+known i name = Some (is_a name (of_width 8 3) (of_width 8 4))
 
 abbrev stepped : State
 stepped = state_after (instances_of swapping) (running before) known
@@ -61,11 +58,11 @@ pub known_reset : (cleared.register 0 (codes "a") ≡ 7) × (cleared.register 0 
 known_reset = (refl, refl, refl)
 
 -- the test is 0, so the second side is chosen
-pub known_choice : expr_at (instances_of swapping) (running before) known 0 (Chosen (Number (bits 1 0)) (Named (codes "a")) (Named (codes "b"))) ≡ Some (bits 8 4)
+pub known_choice : expr_at (instances_of swapping) (running before) known 0 (Chosen (Number (of_width 1 0)) (Named (codes "a")) (Named (codes "b"))) ≡ Some (of_width 8 4)
 known_choice = refl
 
 -- go is 0 while reset is 1
-pub known_inputs : (outside_value (resetting before) (codes "go") ≡ bits 1 0) × (outside_value (running before) (codes "go") ≡ bits 1 1)
+pub known_inputs : (outside_value (resetting before) (codes "go") ≡ of_width 1 0) × (outside_value (running before) (codes "go") ≡ of_width 1 1)
 known_inputs = (refl, refl)
 
 -- main holds an outer instance, and that an inner one whose input x is its net y
@@ -97,7 +94,7 @@ raising = record {
     decls = RegisterOf (codes "r") 1 ∷ [];
     assigns = record { name = codes "done"; value = Named (codes "r") } ∷ [];
     instances = [];
-    edge = Some (record { reset = record { name = codes "r"; value = Number (bits 1 1) } ∷ []; step = [] });
+    edge = Some (record { reset = record { name = codes "r"; value = Number (of_width 1 1) } ∷ []; step = [] });
   } ∷ [];
 }
 
@@ -105,7 +102,7 @@ abbrev raised : List Placed
 raised = instances_of raising
 
 abbrev held : Moment → BitVector
-held m = bits 1 (m.state.register 0 (codes "r"))
+held m = of_width 1 (m.state.register 0 (codes "r"))
 
 -- what is known of r alone, and of both nets
 abbrev known_r : Moment → Look
@@ -188,8 +185,8 @@ assigning value = record {
 pub known_sound : is_sound (assigning (Named (codes "go"))) ≡ true
 known_sound = refl
 
--- two bits for one
-pub known_width : break_of (assigning (Number (bits 2 1))) ≡ Some (WidthAt 7)
+-- two of_width for one
+pub known_width : break_of (assigning (Number (of_width 2 1))) ≡ Some (WidthAt 7)
 known_width = refl
 
 -- a name that stands for nothing has no width either: the name is told

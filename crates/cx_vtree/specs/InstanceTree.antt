@@ -54,6 +54,17 @@ declared_nets (ArrayOf n w k ∷ ds) = declared_nets ds
 abbrev pub nets_at : List Placed → ℕ → List (List ℕ)
 nets_at tree i = map (λ p. p.name) (ports_at tree i) ++ declared_nets (decls_at tree i)
 
+-- the arrays, in the order of the text
+abbrev pub declared_arrays : List PlainDecl → List (List ℕ)
+declared_arrays [] = []
+declared_arrays (WireOf n w ∷ ds) = declared_arrays ds
+declared_arrays (RegisterOf n w ∷ ds) = declared_arrays ds
+declared_arrays (ArrayOf n w k ∷ ds) = n ∷ declared_arrays ds
+
+-- the arrays of an instance, numbered from 0
+abbrev pub arrays_at : List Placed → ℕ → List (List ℕ)
+arrays_at tree i = declared_arrays (decls_at tree i)
+
 -- what a net is in its module
 pub data NetKind : Type 0 where
   Input : NetKind

@@ -2,6 +2,7 @@ pub mod Plain
 pub mod PlainParts
 pub mod Operators
 pub mod InstanceTree
+pub mod NameNumbers
 pub mod Meaning
 pub mod Edges
 pub mod SimRun

@@ -141,6 +141,17 @@ chosen_width t v w = if t == 1 && v == w then Some v else None
 abbrev pub joined_width : ℕ → ℕ → Option ℕ
 joined_width v w = if nat_le (v + w) 128 then Some (v + w) else None
 
+-- the same of operands, None where one of them has no width
+abbrev pub operator_width : Operator → Option ℕ → Option ℕ → Option ℕ
+operator_width op left right = option_and_then (λ v. option_and_then (applied_width op v) right) left
+
+abbrev pub choice_width : Option ℕ → Option ℕ → Option ℕ → Option ℕ
+choice_width test one other =
+    option_and_then (λ t. option_and_then (λ v. option_and_then (chosen_width t v) other) one) test
+
+abbrev pub sides_width : Option ℕ → Option ℕ → Option ℕ
+sides_width high low = option_and_then (λ v. option_and_then (joined_width v) low) high
+
 abbrev pub part_width : ℕ → ℕ → ℕ → Option ℕ
 part_width w high low = if nat_le low high && nat_lt high w then Some (high + 1 - low) else None
 

@@ -1,5 +1,5 @@
 -- The inputs of a call, held one after the other.
-use Rattle.std.proofs.Common.{◌≡◌, ◌≢◌, ℕ, ◌+◌, ◌≤◌, ◌<◌, ⊎_elim, List, [], ◌∷◌, ◌++◌, length, Some, None, Result, Ok, Err, IfOk, refl, sym, ap, ◌∙◌, subst, arith}
+use Rattle.std.proofs.Common.{◌≡◌, ◌≢◌, ℕ, ◌+◌, ◌≤◌, ◌<◌, ⊎_elim, List, [], ◌∷◌, ◌++◌, length, Some, None, sym, ap, ◌∙◌, subst, arith}
 use Rattle.std.proofs.Math.Path.{fun_ext}
 use Rattle.std.specs.List.{slice_get}
 use Rattle.std.proofs.lemmas.Bool.{cases_lt}
@@ -30,14 +30,7 @@ pub record HoldsSoFar (d : PlainDesign) (old new : List PlainInstance) (child : 
   pub own : (j : ℕ) → j < k → inputs_held new child j ≡ held_as inputs j
   pub others : (m input : ℕ) → m ≢ child → inputs_held new m input ≡ inputs_held old m input
 
-pub ok_map : {A E : Type 0} {P Q : A → Type 0} (r : Result A E) → ((x : A) → P x → Q x) → IfOk r P → IfOk r Q
-ok_map (Ok x) f p = f x p
-ok_map (Err e) f p = tt
-
 module _ (d : PlainDesign) (old : List PlainInstance) (child : ℕ) (inputs : List Seen) where
-  pub held_starts : HoldsSoFar d old old child inputs 0
-  held_starts = record { stands = λ s h. h; own = λ j less. absurd (omega (arith, less)); others = λ m input ne. refl }
-
   -- each of them is there
   pub input_there : (n c k : ℕ) → HasChild d n c child → (at : Path) → IsNumber d n at → InputsFit d n c (Some inputs) → (mid : List PlainInstance) → IsStateOf d mid → k < length inputs → k < length (instance_state mid child).held
   input_there n c k has at number fits mid state less =
@@ -97,6 +90,3 @@ module _ (d : PlainDesign) (old new : List PlainInstance) (n g c child : ℕ) (p
           widths = λ k b e. fit.widths k b (ap (λ (xs : List Seen). slice_get xs k) (sym is) ∙ e);
         };
   }
-
-pub again_held : (d : PlainDesign) (old new : List PlainInstance) (n g c child : ℕ) (inputs : List Seen) → InputsFit d n c (Some inputs) → HoldsList d old new child inputs → HoldsAs d old new n g c child (Some inputs) inputs
-again_held d old new n g c child inputs fits holds = record { holds = holds; seen = λ path s number stands. refl; fits = fits }

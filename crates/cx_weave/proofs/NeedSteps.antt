@@ -43,9 +43,6 @@ module _ (k : Piece) (i : Instance) where
   abbrev pub MostSoFar : List Statement → ℕ → ℕ → Type 0
   MostSoFar parts at most = (a : ℕ) × Covers most a × (max a (needs k i (plain_statements (drop at parts))) ≡ needs k i (plain_statements parts))
 
-  pub most_starts : (parts : List Statement) → MostSoFar parts 0 0
-  most_starts parts = (0, λ less. omega arith, omega arith)
-
   pub most_next : (parts : List Statement) (at most told next : ℕ) (s : Statement) → at < length parts → s ≡ get_or parts at s → MostSoFar parts at most → Covers told (need k i (plain_statement s))
       → ((a b : ℕ) → Covers most a → Covers told b → Covers next (max a b)) → MostSoFar parts (at + 1) next
   most_next parts at most told next s less is (a, covers, e) one larger =
@@ -53,18 +50,9 @@ module _ (k : Piece) (i : Instance) where
       subst (λ xs. max a (needs k i (plain_statements xs)) ≡ needs k i (plain_statements parts)) (split_at parts at s less is) e in
       (max a (need k i (plain_statement s)), larger a (need k i (plain_statement s)) covers one, omega (arith, whole))
 
-  pub most_ends : (parts : List Statement) (at most : ℕ) → drop at parts ≡ [] → MostSoFar parts at most → Covers most (needs k i (plain_statements parts))
-  most_ends parts at most past (a, covers, e) small =
-      let whole : max a 0 ≡ needs k i (plain_statements parts) = subst (λ xs. max a (needs k i (plain_statements xs)) ≡ needs k i (plain_statements parts)) past e in
-      let le = covers small in
-      omega (arith, le, whole)
-
   -- THE ARMS OF A PAR so far
   abbrev pub AllSoFar : List Statement → ℕ → ℕ → Type 0
   AllSoFar arms at all = (a : ℕ) × Covers all a × (a + all_needs k i (plain_statements (drop at arms)) ≡ all_needs k i (plain_statements arms))
-
-  pub all_starts : (arms : List Statement) → AllSoFar arms 0 0
-  all_starts arms = (0, λ less. omega arith, omega arith)
 
   pub all_next : (arms : List Statement) (at all told next : ℕ) (s : Statement) → at < length arms → s ≡ get_or arms at s → AllSoFar arms at all → Covers told (need k i (plain_statement s))
       → ((a b : ℕ) → Covers all a → Covers told b → Covers next (a + b)) → AllSoFar arms (at + 1) next
@@ -72,11 +60,6 @@ module _ (k : Piece) (i : Instance) where
       let whole : a + (need k i (plain_statement s) + all_needs k i (plain_statements (drop (at + 1) arms))) ≡ all_needs k i (plain_statements arms) =
       subst (λ xs. a + all_needs k i (plain_statements xs) ≡ all_needs k i (plain_statements arms)) (split_at arms at s less is) e in
       (a + need k i (plain_statement s), both a (need k i (plain_statement s)) covers one, omega (arith, whole))
-
-  pub all_ends : (arms : List Statement) (at all : ℕ) → drop at arms ≡ [] → AllSoFar arms at all → Covers all (all_needs k i (plain_statements arms))
-  all_ends arms at all past (a, covers, e) =
-      let whole : a + 0 ≡ all_needs k i (plain_statements arms) = subst (λ xs. a + all_needs k i (plain_statements xs) ≡ all_needs k i (plain_statements arms)) past e in
-      subst (λ n. Covers all n) (let same : a ≡ all_needs k i (plain_statements arms) = omega (arith, whole) in same) covers
 
 -- THE ENABLE OF A GROUP: of a call, with what the child's control takes
 kind_called : (k : Piece) (i : Instance) (child : ℕ → ℕ) (g : ℕ) (kind : GroupKind) → None ≡ kind_length kind → kind_need k i child g kind ≡ called_need k child (called i g)
@@ -104,11 +87,6 @@ module _ (d : PlainDesign) (n : ℕ) (k : Piece) where
   enable_none g told is length path number calls =
       let i = instance_at (tree_of d) path in
       covers_self told (need k i (Placed (Enable g) no_place)) (is ∙ sym (kind_called k i (below_need k (cells_of i)) g (group_at (part_of i) g).kind (length path number) ∙ ap (called_need k (below_need k (cells_of i))) calls))
-
-  pub enable_island : (g cycles told : ℕ) → told ≡ island_takes k → HasLength d n g (Some cycles) → (path : Path) → IsNumber d n path → Covers told (need k (instance_at (tree_of d) path) (Placed (Enable g) no_place))
-  enable_island g cycles told is length path number =
-      let i = instance_at (tree_of d) path in
-      covers_self told (need k i (Placed (Enable g) no_place)) (is ∙ sym (kind_island k i (below_need k (cells_of i)) g cycles (group_at (part_of i) g).kind (length path number)))
 
   pub enable_call : (g c m told inner own : ℕ) (table : List ℕ) → HasLength d n g None → IsPart d n c → HasChild d n c m → CoversBehind d k table n → inner ≡ get_or table m 0 → own ≡ call_takes k
       → ((a b : ℕ) → Covers own a → Covers inner b → Covers told (a + b)) → (path : Path) → IsNumber d n path → called (instance_at (tree_of d) path) g ≡ Some c → Covers told (need k (instance_at (tree_of d) path) (Placed (Enable g) no_place))
@@ -138,9 +116,6 @@ needs_call d n k g c m control length part has controls path number calls =
 module _ (d : PlainDesign) (k : Piece) where
   pub none_behind : (table : List ℕ) (at : ℕ) → length (paths_of (tree_of d)) ≤ at → CoversFrom d k table at
   none_behind table at past m path le number = absurd (let h = there_below (paths_of (tree_of d)) m path number in omega (arith, past, le, h))
-
-  pub behind_from : (table : List ℕ) (n at : ℕ) → at ≡ suc n → CoversFrom d k table at → CoversBehind d k table n
-  behind_from table n at is from m path less number = from m path (omega (arith, is, less)) number
 
   pub from_next : (table : List ℕ) (n told : ℕ) (control : PlainStatement) → n < length table → HasControl d n control → ((path : Path) → IsNumber d n path → Covers told (need k (instance_at (tree_of d) path) control)) → CoversBehind d k table n
       → CoversFrom d k (set table n told) n

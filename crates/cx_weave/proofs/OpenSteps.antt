@@ -4,7 +4,6 @@ use Rattle.std.specs.Prelude.{is_some}
 use Rattle.std.proofs.lemmas.List.{take-append-drop}
 use Rattle.cx_text.proofs.MemberLaws.{in_left, in_right}
 use Rattle.cx_text.specs.declared.places.Place.{Place}
-use Rattle.cx_meaning.specs.declared.ports.PlacedPort.{PlacedPort}
 use Rattle.cx_meaning.specs.declared.kinds.GroupKind.{GroupKind}
 use Rattle.cx_meaning.specs.declared.kinds.GroupKind.TheVariants as kinds
 use Rattle.cx_meaning.specs.Designs.{PlainDesign, PlainForm, Empty, Enable, Seq, Par, If, While, Repeat, StaticSeq, StaticPar, StaticIf, StaticRepeat, Timed, PlainStatement, Placed, no_place, PlainStatements, group_at}
@@ -19,14 +18,14 @@ use Rattle.cx_design.specs.PlainForms.{plain_statement, plain_statements}
 use Rattle.cx_state.specs.Tables.{IsNumber}
 use Rattle.cx_turns.specs.Children.{IsPart, HasChild, HasControl}
 use Rattle.cx_turns.specs.Groups.{HasLength, IsGroupOf}
-use Rattle.cx_turns.specs.Machines.{FormStands, StandsIn, StandIn}
+use Rattle.cx_turns.specs.Machines.{StandsIn, StandIn}
 use Rattle.cx_turns.proofs.Measures.{all_steps, steps}
 use Rattle.cx_state.proofs.TableLemmas.{further}
 use Rattle.cx_weave.specs.declared.strands.Strand.{Strand}
 use Rattle.cx_weave.specs.declared.strands.Arms.{Arms}
 use Rattle.cx_orders.specs.Open.{Open, InSeq, InRepeat, an_arm, beside, open_with, open_form, open_island, open_called, open_kind, open_enable, open_control, open_below, open_statement, open_statements}
 use Rattle.cx_orders.specs.Steps.{seq_left, repeat_left}
-use Rattle.cx_weave.specs.Strands.{PlainStrand, AnIdling, AGroup, AChoice, ATest, AWaiting, ASeq, APar, ARepeat, ACall, one_arm, plain_strand, plain_arms, CallsCell, IsBoth, Shows, ShowsAll}
+use Rattle.cx_weave.specs.Strands.{PlainStrand, AnIdling, ASeq, APar, ARepeat, ACall, one_arm, plain_strand, plain_arms, CallsCell, IsBoth, Shows, ShowsAll}
 use Rattle.cx_weave.specs.Strides.{OpensAs, OpenAs, LeftShown, LeavesAs}
 use Rattle.cx_weave.proofs.PartSteps.{both_shown}
 use Rattle.cx_text.proofs.NumberLaws.{never}
@@ -96,15 +95,6 @@ module _ (d : PlainDesign) (n : ℕ) where
   opens_as form strand p is shows path number =
       subst (Shows d n (plain_strand strand)) (sym (statement_opens (instance_at (tree_of d) path) form no_place)) (subst (λ q. Shows d n q (opens (instance_at (tree_of d) path) form)) (sym is) (shows path number))
 
-  pub opens_placed : (form : PlainForm) (place : Place) (st : PlainStatement) (strand : Strand) → st ≡ Placed form place → OpensAs d n (Placed form no_place) strand → OpensAs d n st strand
-  opens_placed form place st strand is opens path number =
-      subst (λ x. Shows d n (plain_strand strand) (open_statement (instance_at (tree_of d) path) x)) (sym is)
-      (subst (Shows d n (plain_strand strand)) (statement_opens (instance_at (tree_of d) path) form no_place ∙ sym (statement_opens (instance_at (tree_of d) path) form place)) (opens path number))
-
-  -- of the same form
-  pub opens_form : (form other : PlainForm) (strand : Strand) → form ≡ other → OpensAs d n (Placed other no_place) strand → OpensAs d n (Placed form no_place) strand
-  opens_form form other strand is opens = subst (λ f. OpensAs d n (Placed f no_place) strand) (sym is) opens
-
   -- A SEQ
   pub seq_none : (parts : List Statement) (strand : Strand) → parts ≡ [] → plain_strand strand ≡ AnIdling → OpensAs d n (Placed (Seq (plain_statements parts)) no_place) strand
   seq_none parts strand none is = opens_as (Seq (plain_statements parts)) strand AnIdling is (λ path number. ap (λ (xs : List Statement). opens (instance_at (tree_of d) path) (Seq (plain_statements xs))) none)
@@ -125,38 +115,10 @@ module _ (d : PlainDesign) (n : ℕ) where
       ap (λ (xs : List Statement). opens i (Seq (plain_statements xs))) are ∙ ap (λ o. InSeq o (plain_statements later)) (with_statement i (plain_statement part)) in
       subst (Shows d n (plain_strand strand)) (sym e) (seq_shown (plain_statements later) (plain_statement part) strand inner is opened stands path number))
 
-  -- A REPEAT
-  pub repeat_zero : (count : ℕ) (body : PlainStatement) (strand : Strand) → count ≡ 0 → plain_strand strand ≡ AnIdling → OpensAs d n (Placed (Repeat count body) no_place) strand
-  repeat_zero count body strand none is = opens_as (Repeat count body) strand AnIdling is (λ path number. ap (λ k. opens (instance_at (tree_of d) path) (Repeat k body)) none)
-
   pub repeat_shown : (left : ℕ) (body : PlainStatement) (strand inner : Strand) → plain_strand strand ≡ ARepeat (plain_strand inner) left body → OpensAs d n body inner → StandsIn d n body → (path : Path) → IsNumber d n path
       → Shows d n (plain_strand strand) (InRepeat (open_statement (instance_at (tree_of d) path) body) left body)
   repeat_shown left body strand inner is opens stands path number =
       subst (λ q. Shows d n q (InRepeat (open_statement (instance_at (tree_of d) path) body) left body)) (sym is) (open_statement (instance_at (tree_of d) path) body, refl, opens path number, stands)
-
-  pub repeat_some : (count left : ℕ) (body : PlainStatement) (strand inner : Strand) → count ≡ suc left → plain_strand strand ≡ ARepeat (plain_strand inner) left body → OpensAs d n body inner → StandsIn d n body → OpensAs d n (Placed (Repeat count body) no_place) strand
-  repeat_some count left body strand inner some is opened stands =
-      opens_as (Repeat count body) strand (plain_strand strand) refl
-      (λ path number.
-      let i = instance_at (tree_of d) path in
-      let e : opens i (Repeat count body) ≡ InRepeat (open_statement i body) left body = ap (λ k. opens i (Repeat k body)) some ∙ ap (λ o. InRepeat o left body) (with_statement i body) in
-      subst (Shows d n (plain_strand strand)) (sym e) (repeat_shown left body strand inner is opened stands path number))
-
-  -- LEAVES
-  pub if_opens : (port : PlacedPort) (comb : Option ℕ) (a b : PlainStatement) (strand : Strand) → plain_strand strand ≡ AChoice port comb a b → FormStands d n (If port comb a b) → OpensAs d n (Placed (If port comb a b) no_place) strand
-  if_opens port comb a b strand is stands = opens_as (If port comb a b) strand (AChoice port comb a b) is (λ path number. (refl, stands))
-
-  pub while_opens : (port : PlacedPort) (comb : Option ℕ) (body : PlainStatement) (strand : Strand) → plain_strand strand ≡ ATest port comb body → FormStands d n (While port comb body) → OpensAs d n (Placed (While port comb body) no_place) strand
-  while_opens port comb body strand is stands = opens_as (While port comb body) strand (ATest port comb body) is (λ path number. (refl, stands))
-
-  pub empty_opens : (strand : Strand) → plain_strand strand ≡ AnIdling → OpensAs d n (Placed Empty no_place) strand
-  empty_opens strand is = opens_as Empty strand AnIdling is (λ path number. refl)
-
-  pub timed_opens : (k : ℕ) (strand : Strand) → plain_strand strand ≡ AWaiting → OpensAs d n (Placed (Timed k) no_place) strand
-  timed_opens k strand is = opens_as (Timed k) strand AWaiting is (λ path number. refl)
-
-  pub group_opens : (g : ℕ) (strand : Strand) → plain_strand strand ≡ AGroup g → IsGroupOf d n g → HasLength d n g None → ((path : Path) → IsNumber d n path → called (instance_at (tree_of d) path) g ≡ None) → OpensAs d n (Placed (Enable g) no_place) strand
-  group_opens g strand is group length calls = opens_as (Enable g) strand (AGroup g) is (λ path number. (enable_opens d n g None length path number (calls path number), group))
 
   -- A CALL
   pub call_opens : (g c m : ℕ) (control : PlainStatement) (strand inner : Strand) → plain_strand strand ≡ ACall g c None (plain_strand inner) → IsGroupOf d n g → HasLength d n g None → CallsCell d n g c → IsPart d n c → HasChild d n c m → HasControl d m control

@@ -45,10 +45,6 @@ pub turned_asked : (d : PlainDesign) (n : ℕ) (old new : Spares) (asked also : 
 turned_asked d n old new asked also hand before after rest kept s l first last fewer =
     onward d n n old new asked also hand before after rest (λ x. 0) kept s l s.path s.number (λ x. (let e = first x in omega (arith, e))) last (λ k. (let h = fewer k (instance_at (tree_of d) s.path) in omega (arith, h)))
 
--- all that is in hand has its place
-pub has_places : (d : PlainDesign) (n : ℕ) (spares : Spares) (asked : Piece → Instance → ℕ) (hand kept rest : Kind → ℕ) → Supplied d n spares asked hand → ((x : Kind) → hand x ≡ kept x + rest x) → HasPlaces spares kept
-has_places d n spares asked hand kept rest s is k = (let p = s.places k in let e = is (Pieces k) in omega (arith, p, e))
-
 -- A STATEMENT OF WHICH ONE PART IS OPEN: of the part
 part_turns : (d : PlainDesign) (n : ℕ) (spares : Spares) (inner : PlainStrand) (whole run : Open) (hand part : Kind → ℕ) → Shows d n inner run → ((k : Piece) (i : Instance) → room k i run + box_takes k ≤ room k i whole)
     → ((x : Kind) → hand x ≡ box_amount x + part x) → Supplied d n spares (λ k i. room k i whole) hand → MayTurn d n spares inner part

@@ -1,7 +1,7 @@
 -- A woven run, choice by choice.
 use Rattle.std.proofs.Common.{◌≡◌, ℕ, zero, suc, ◌+◌, ◌-◌, ◌%◌, ◌^◌, ◌≤◌, ◌<◌, ⊎_elim, List, [], Option, Some, None, Result, Ok, Err, refl, sym, ap, ◌∙◌, subst, arith}
 use Rattle.std.proofs.Math.Path.{fun_ext}
-use Rattle.std.proofs.Math.Nat.{mod-eq_of_lt, mod-lt}
+use Rattle.std.proofs.Math.Nat.{mod-eq_of_lt}
 use Rattle.std.proofs.lemmas.Bool.{cases_lt}
 use Rattle.cx_meaning.specs.Designs.{PlainDesign, PlainStatement}
 use Rattle.cx_meaning.specs.Instances.{Instance, Node, Path, State, start, part_of, instance_at, tree_of}
@@ -33,9 +33,6 @@ capped_leaf choice leaves less = ⊎_elim
 -- the leaf that a choice names, where leaves are counted up to a limit
 pub leaf_named : (choice other leaves count : ℕ) → choice < 2 ^ 32 → choice ≡ other → count ≡ capped leaves → choice % count ≡ other % leaves
 leaf_named choice other leaves count less is told = ap (λ m. choice % m) told ∙ capped_leaf choice leaves less ∙ ap (λ k. k % leaves) is
-
-pub leaf_within : (choice leaves count : ℕ) → choice < 2 ^ 32 → 0 < leaves → count ≡ capped leaves → choice % count < leaves
-leaf_within choice leaves count less some told = subst (λ k. k < leaves) (sym (leaf_named choice choice leaves count less refl told)) (mod-lt choice some)
 
 -- A RUN SO FAR: what is open, and the state
 pub record WovenSoFar (d : PlainDesign) (words : List (List ℕ)) (choice : Choices) (steps made sum : ℕ) (p : PlainStrand) (rows : List PlainInstance) : Type 0 where

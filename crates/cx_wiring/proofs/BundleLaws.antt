@@ -2,9 +2,9 @@
 use Rattle.std.proofs.Common.{◌≡◌, ℕ, zero, suc, ◌+◌, ◌-◌, ◌<◌, ◌≤◌, Bool, true, false, if◌then◌else◌, List, [], ◌∷◌, ◌++◌, length, Option, Some, None, option_and_then, refl, sym, ap, ap₂, ◌∙◌, arith}
 use Rattle.std.specs.Prelude.{nat_lt}
 use Rattle.std.specs.Option.{option_map_or}
-use Rattle.cx_bits.specs.BitVector.{BitVector}
+use Rattle.cx_bits.specs.BitVector.{BitVector, zero_of}
 use Rattle.cx_net.specs.Nets.{PlainNetExpr, PlainNetTarget, ToWire, PlainNetDriver}
-use Rattle.cx_net.specs.NetMeaning.{Node, AWire, NetAround, is_true, zero_wide, net_expr, chain as first_true}
+use Rattle.cx_net.specs.NetMeaning.{Node, AWire, NetAround, is_true, net_expr, chain as first_true}
 use Rattle.cx_net.specs.NetEdges.{taken}
 use Rattle.cx_wiring.specs.Parts.{one}
 use Rattle.cx_wiring.specs.Trees.{together, with_first, bundles, begun, bundle_count, switches, moved, behind, heads, tree_within, pairs_within}
@@ -77,7 +77,7 @@ module _ (around : NetAround) (registers : ℕ → Option BitVector) (look : Nod
   abbrev pub BundlesHold : BitVector → ℕ → List (List PlainNetDriver) → Type 0
   BundlesHold undriven wire [] = Unit {0}
   BundlesHold undriven wire (b ∷ bs) =
-      (look (AWire wire) ≡ taking (zero_wide 1) (switches wire b)) × (look (AWire (suc wire)) ≡ taking undriven (moved (ToWire (suc wire)) b)) × BundlesHold undriven (suc (suc wire)) bs
+      (look (AWire wire) ≡ taking (zero_of 1) (switches wire b)) × (look (AWire (suc wire)) ≡ taking undriven (moved (ToWire (suc wire)) b)) × BundlesHold undriven (suc (suc wire)) bs
 
   abbrev pub TreeHolds : BitVector → PlainNetTarget → ℕ → ℕ → List PlainNetDriver → Type 0
   TreeHolds undriven target zero wire ds = Unit {0}
@@ -96,10 +96,10 @@ module _ (around : NetAround) (registers : ℕ → Option BitVector) (look : Nod
       choice false = h
 
   bundle_takes : (undriven value : BitVector) (wire : ℕ) (at : PlainNetTarget) (b xs ys : List PlainNetDriver) → taking undriven xs ≡ taking undriven ys
-      → option_and_then (λ g. if is_true g then taking value (moved at b) else taking undriven xs) (taking (zero_wide 1) (switches wire b)) ≡ taking undriven (b ++ ys)
+      → option_and_then (λ g. if is_true g then taking value (moved at b) else taking undriven xs) (taking (zero_of 1) (switches wire b)) ≡ taking undriven (b ++ ys)
   bundle_takes undriven value wire at [] xs ys h = h
   bundle_takes undriven value wire at (d ∷ b) xs ys h =
-      one_more (expr_value d.guard) (expr_value d.source) (taking (zero_wide 1) (switches wire b)) (taking value (moved at b)) (taking undriven xs) (taking undriven (b ++ ys)) (bundle_takes undriven value wire at b xs ys h)
+      one_more (expr_value d.guard) (expr_value d.source) (taking (zero_of 1) (switches wire b)) (taking value (moved at b)) (taking undriven xs) (taking undriven (b ++ ys)) (bundle_takes undriven value wire at b xs ys h)
 
   -- BUNDLES give a target what their drivers gave it
   pub heads_take : (undriven value : BitVector) (target : PlainNetTarget) (wire : ℕ) (bs : List (List PlainNetDriver)) → BundlesHold value wire bs → taking undriven (heads target wire bs) ≡ taking undriven (joined bs)
@@ -149,11 +149,11 @@ module _ (around : NetAround) (registers : ℕ → Option BitVector) (look : Nod
         choice true is = refl
         choice false is = ih is
 
-    bundle_keeps : (value : BitVector) (wire : ℕ) (at : PlainNetTarget) (b xs ys : List PlainNetDriver) (c : BitVector) → keeps xs ≡ keeps ys → taking (zero_wide 1) (switches wire b) ≡ Some c
-        → (if option_map_or is_true (taking (zero_wide 1) (switches wire b)) false then value_of (taking value (moved at b)) else keeps xs) ≡ keeps (b ++ ys)
+    bundle_keeps : (value : BitVector) (wire : ℕ) (at : PlainNetTarget) (b xs ys : List PlainNetDriver) (c : BitVector) → keeps xs ≡ keeps ys → taking (zero_of 1) (switches wire b) ≡ Some c
+        → (if option_map_or is_true (taking (zero_of 1) (switches wire b)) false then value_of (taking value (moved at b)) else keeps xs) ≡ keeps (b ++ ys)
     bundle_keeps value wire at [] xs ys c h known = h
     bundle_keeps value wire at (d ∷ b) xs ys c h known =
-        one_kept (expr_value d.guard) (expr_value d.source) (taking (zero_wide 1) (switches wire b)) (taking value (moved at b)) (keeps xs) (keeps (b ++ ys)) c (λ is. bundle_keeps value wire at b xs ys c h is) known
+        one_kept (expr_value d.guard) (expr_value d.source) (taking (zero_of 1) (switches wire b)) (taking value (moved at b)) (keeps xs) (keeps (b ++ ys)) c (λ is. bundle_keeps value wire at b xs ys c h is) known
 
     heads_keep : (value : BitVector) (target : PlainNetTarget) (wire : ℕ) (bs : List (List PlainNetDriver)) → BundlesHold value wire bs → KnownFrom wire (length bs + length bs) → keeps (heads target wire bs) ≡ keeps (joined bs)
     heads_keep value target wire [] hold known = refl

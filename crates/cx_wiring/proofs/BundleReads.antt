@@ -1,9 +1,9 @@
 -- Where each wire of the trees takes its drivers, it has what its own drivers in its tree give it.
 use Rattle.std.proofs.Common.{◌≡◌, ℕ, zero, suc, ◌+◌, ◌<◌, ◌≤◌, Bool, true, false, if◌then◌else◌, List, [], ◌∷◌, ◌++◌, length, Option, refl, sym, ap, ◌∙◌, subst, arith}
 use Rattle.std.specs.Prelude.{nat_lt}
-use Rattle.cx_bits.specs.BitVector.{BitVector}
+use Rattle.cx_bits.specs.BitVector.{BitVector, zero_of}
 use Rattle.cx_net.specs.Nets.{PlainNetTarget, ToWire, PlainNetDriver}
-use Rattle.cx_net.specs.NetMeaning.{Node, AWire, NetAround, same_target, drivers_to, zero_wide, chain as first_true}
+use Rattle.cx_net.specs.NetMeaning.{Node, AWire, NetAround, same_target, drivers_to, chain as first_true}
 use Rattle.cx_wiring.specs.Trees.{Driven, together, bundles, bundle_count, moved, bundle_drivers, behind, heads, tree_within, tree, pairs_within, pairs, trees, pair_widths, tree_widths}
 use Rattle.std.proofs.lemmas.Bool.{ne_eqb}
 use Rattle.cx_wiring.proofs.BundleLaws.{bundles_long, later_pairs, pairs_if, above, WhereTrue, BundlesHold, TreeHolds}
@@ -30,7 +30,7 @@ module _ (around : NetAround) (registers : ℕ → Option BitVector) (look : Nod
   -- wires from one on, of these widths, take their drivers in a list
   abbrev pub TakeTheirs : ℕ → List ℕ → List PlainNetDriver → Type 0
   TakeTheirs n [] ds = Unit {0}
-  TakeTheirs n (w ∷ ws) ds = (look (AWire n) ≡ first_true around registers look (zero_wide w) (drivers_to (ToWire n) ds)) × TakeTheirs (suc n) ws ds
+  TakeTheirs n (w ∷ ws) ds = (look (AWire n) ≡ first_true around registers look (zero_of w) (drivers_to (ToWire n) ds)) × TakeTheirs (suc n) ws ds
 
   taken_both : (width n wire : ℕ) (ws : List ℕ) (ds : List PlainNetDriver) → TakeTheirs wire (pair_widths width n ++ ws) ds → TakeTheirs wire (pair_widths width n) ds × TakeTheirs (behind wire n) ws ds
   taken_both width zero wire ws ds h = let e : wire ≡ wire + (0 + 0) = omega arith in (tt, subst (λ k. TakeTheirs k ws ds) e h)
@@ -47,27 +47,27 @@ module _ (around : NetAround) (registers : ℕ → Option BitVector) (look : Nod
 
   module _ (all : List PlainNetDriver) where
     bundles_hold : (width : ℕ) (bs : List (List PlainNetDriver)) (wire : ℕ) → TakeTheirs wire (pair_widths width (length bs)) all → SameIn all (bundle_drivers wire bs) wire (length bs + length bs)
-        → BundlesHold around registers look (zero_wide width) wire bs
+        → BundlesHold around registers look (zero_of width) wire bs
     bundles_hold width [] wire reads same = tt
     bundles_hold width (b ∷ bs) wire reads same = (
-      reads.0 ∙ ap (first_true around registers look (zero_wide 1)) (same wire (omega arith) (omega arith) ∙ first_on wire b bs),
-      reads.1.0 ∙ ap (first_true around registers look (zero_wide width)) (same (suc wire) (omega arith) (omega arith) ∙ first_value wire b bs),
+      reads.0 ∙ ap (first_true around registers look (zero_of 1)) (same wire (omega arith) (omega arith) ∙ first_on wire b bs),
+      reads.1.0 ∙ ap (first_true around registers look (zero_of width)) (same (suc wire) (omega arith) (omega arith) ∙ first_value wire b bs),
       bundles_hold width bs (suc (suc wire)) reads.1.1 (λ m low high. same m (omega arith) (omega arith) ∙ later_wire m wire b bs low),
     )
 
     tree_holds : (target : PlainNetTarget) (width levels wire : ℕ) (ds : List PlainNetDriver) → ((n : ℕ) → wire ≤ n → same_target target (ToWire n) ≡ false)
         → TakeTheirs wire (pair_widths width (pairs_within levels (length ds))) all
         → SameIn all (tree_within target levels wire ds) wire (pairs_within levels (length ds) + pairs_within levels (length ds))
-        → TreeHolds around registers look (zero_wide width) target levels wire ds
+        → TreeHolds around registers look (zero_of width) target levels wire ds
     tree_holds target width zero wire ds apart reads same = tt
     tree_holds target width (suc levels) wire ds apart reads same = choice (nat_lt together (length ds)) reads same (tree_holds target width levels (behind wire (length (bundles together ds))) (heads target wire (bundles together ds)))
       where
         choice : (b : Bool) → TakeTheirs wire (pair_widths width (pairs_if b levels (length ds))) all → SameIn all (if b then bundle_drivers wire (bundles together ds) ++ above target levels wire ds else moved target ds) wire (pairs_if b levels (length ds) + pairs_if b levels (length ds))
             → (((n : ℕ) → behind wire (length (bundles together ds)) ≤ n → same_target target (ToWire n) ≡ false) → TakeTheirs (behind wire (length (bundles together ds))) (pair_widths width (pairs_within levels (length (heads target wire (bundles together ds))))) all
             → SameIn all (tree_within target levels (behind wire (length (bundles together ds))) (heads target wire (bundles together ds))) (behind wire (length (bundles together ds))) (pairs_within levels (length (heads target wire (bundles together ds))) + pairs_within levels (length (heads target wire (bundles together ds))))
-            → TreeHolds around registers look (zero_wide width) target levels (behind wire (length (bundles together ds))) (heads target wire (bundles together ds)))
-            → WhereTrue b (BundlesHold around registers look (zero_wide width) wire (bundles together ds)
-            × TreeHolds around registers look (zero_wide width) target levels (behind wire (length (bundles together ds))) (heads target wire (bundles together ds)))
+            → TreeHolds around registers look (zero_of width) target levels (behind wire (length (bundles together ds))) (heads target wire (bundles together ds)))
+            → WhereTrue b (BundlesHold around registers look (zero_of width) wire (bundles together ds)
+            × TreeHolds around registers look (zero_of width) target levels (behind wire (length (bundles together ds))) (heads target wire (bundles together ds)))
         choice true r s above_holds =
             let long : length (bundles together ds) ≡ bundle_count (length ds) = bundles_long ds in
             let more : pairs_within levels (length (heads target wire (bundles together ds))) ≡ pairs_within levels (bundle_count (length ds)) = later_pairs target levels wire ds in
@@ -84,7 +84,7 @@ module _ (around : NetAround) (registers : ℕ → Option BitVector) (look : Nod
 
     module _ (width : PlainNetTarget → ℕ) (base : ℕ) where
       pub all_hold : (ts : List Driven) (wire : ℕ) → base ≤ wire → NotWires base ts → TakeTheirs wire (tree_widths width ts) all
-          → ((m : ℕ) → wire ≤ m → drivers_to (ToWire m) all ≡ drivers_to (ToWire m) (trees wire ts)) → AllHold around registers look (λ t. zero_wide (width t)) wire ts
+          → ((m : ℕ) → wire ≤ m → drivers_to (ToWire m) all ≡ drivers_to (ToWire m) (trees wire ts)) → AllHold around registers look (λ t. zero_of (width t)) wire ts
       all_hold [] wire low free reads same = tt
       all_hold (u ∷ us) wire low free reads same =
           let k = taken_both (width u.target) (pairs (length u.drivers)) wire (tree_widths width us) all reads in (

@@ -1,8 +1,8 @@
 -- In the net of a component, where each wire of a tree takes its drivers, each other target takes what the leaves of its tree give it.
 use Rattle.std.proofs.Common.{◌≡◌, ℕ, ◌+◌, ◌<◌, ◌≤◌, Bool, true, false, if◌then◌else◌, List, [], ◌∷◌, ◌++◌, length, Option, Some, refl, sym, ap, ◌∙◌, subst, arith}
-use Rattle.cx_bits.specs.BitVector.{BitVector}
+use Rattle.cx_bits.specs.BitVector.{BitVector, zero_of}
 use Rattle.cx_net.specs.Nets.{PlainNetTarget, ToRegister, ToWire, PlainNetDriver}
-use Rattle.cx_net.specs.NetMeaning.{Node, AWire, NetAround, same_target, drivers_to, zero_wide, net_expr, chain as first_true}
+use Rattle.cx_net.specs.NetMeaning.{Node, AWire, NetAround, same_target, drivers_to, net_expr, chain as first_true}
 use Rattle.cx_net.specs.NetEdges.{taken}
 use Rattle.cx_static.specs.Islands.{PlainLowered, PlainLowereds}
 use Rattle.cx_wiring.specs.Bounds.{AllDrive}
@@ -38,7 +38,7 @@ module _ (d : PlainLowereds) (lowered : PlainLowered) (around : NetAround) (regi
   entries : AreEntries (component_driven lowered)
   entries = (driven_entries (by_target (plain_drivers lowered)) (by_target_drive IsProper (plain_drivers lowered) (plain_both (length (plain_wires lowered)) (plain_drivers lowered) plain)) (by_target_sorted (plain_drivers lowered))).0
 
-  pub trees_all_hold : AllHold around registers look (λ t. zero_wide (target_width d lowered t)) (length (plain_wires lowered)) (component_driven lowered)
+  pub trees_all_hold : AllHold around registers look (λ t. zero_of (target_width d lowered t)) (length (plain_wires lowered)) (component_driven lowered)
   trees_all_hold =
       let low : length (plain_wires lowered) ≤ length (plain_wires lowered) = omega arith in
       all_hold around registers look (net_component d lowered).drivers (target_width d lowered) (length (plain_wires lowered)) (component_driven lowered) (length (plain_wires lowered)) low
@@ -51,19 +51,19 @@ module _ (d : PlainLowereds) (lowered : PlainLowered) (around : NetAround) (regi
 
   -- A TARGET
   pub target_takes : (t : PlainNetTarget) → IsProper t → NoWireFrom t (length (plain_wires lowered))
-      → first_true around registers look (zero_wide (target_width d lowered t)) (drivers_to t (net_component d lowered).drivers) ≡ takes around registers look t (Some (zero_wide (target_width d lowered t))) (plain_drivers lowered)
+      → first_true around registers look (zero_of (target_width d lowered t)) (drivers_to t (net_component d lowered).drivers) ≡ takes around registers look t (Some (zero_of (target_width d lowered t))) (plain_drivers lowered)
   target_takes t proper free =
-      ap (first_true around registers look (zero_wide (target_width d lowered t))) (trees_stand t (component_driven lowered) (length (plain_wires lowered)) proper entries free)
-      ∙ tops_give around registers look (λ u. zero_wide (target_width d lowered u)) t (component_driven lowered) (length (plain_wires lowered)) proper entries trees_all_hold
-      ∙ ap (first_true around registers look (zero_wide (target_width d lowered t))) (flat_is t)
-      ∙ sym (takes_to around registers look t (zero_wide (target_width d lowered t)) (plain_drivers lowered))
+      ap (first_true around registers look (zero_of (target_width d lowered t))) (trees_stand t (component_driven lowered) (length (plain_wires lowered)) proper entries free)
+      ∙ tops_give around registers look (λ u. zero_of (target_width d lowered u)) t (component_driven lowered) (length (plain_wires lowered)) proper entries trees_all_hold
+      ∙ ap (first_true around registers look (zero_of (target_width d lowered t))) (flat_is t)
+      ∙ sym (takes_to around registers look t (zero_of (target_width d lowered t)) (plain_drivers lowered))
 
   -- A REGISTER, which keeps its value where no driver is on
   module _ (n kept : ℕ) (known : (m : ℕ) → length (plain_wires lowered) ≤ m → m < length (plain_wires lowered) + length (tree_widths (target_width d lowered) (component_driven lowered)) → (b : BitVector) × (look (AWire m) ≡ Some b)) where
     abbrev keeps : List PlainNetDriver → ℕ
     keeps = taken (λ e. net_expr around registers look e.guard) (λ e. net_expr around registers look e.source) kept
 
-    tops_keep : (ts : List Driven) (wire : ℕ) → AreEntries ts → AllHold around registers look (λ t. zero_wide (target_width d lowered t)) wire ts
+    tops_keep : (ts : List Driven) (wire : ℕ) → AreEntries ts → AllHold around registers look (λ t. zero_of (target_width d lowered t)) wire ts
         → KnownFrom around registers look wire (length (tree_widths (target_width d lowered) ts)) → keeps (top_of (ToRegister n) wire ts) ≡ keeps (drivers_to (ToRegister n) (flat ts))
     tops_keep [] wire es hold there = refl
     tops_keep (u ∷ us) wire es hold there =
@@ -79,7 +79,7 @@ module _ (d : PlainLowereds) (lowered : PlainLowered) (around : NetAround) (regi
             → keeps (if b then top wire u else top_of (ToRegister n) (behind wire (pairs (length u.drivers))) us) ≡ keeps (drivers_to (ToRegister n) u.drivers ++ drivers_to (ToRegister n) (flat us))
         choice true e ih own =
             let is : u.target ≡ ToRegister n = target_is u.target (ToRegister n) es.0 tt e in
-            tree_keeps around registers look kept (zero_wide (target_width d lowered u.target)) u.target (length u.drivers) wire u.drivers hold.0 own
+            tree_keeps around registers look kept (zero_of (target_width d lowered u.target)) u.target (length u.drivers) wire u.drivers hold.0 own
             ∙ ap keeps
             (sym (append_none (drivers_to (ToRegister n) u.drivers) (drivers_to (ToRegister n) (flat us)) (flat_dropped (ToRegister n) us tt es.3 (subst (λ v. NoneHas v us) is es.2))
             ∙ all_kept (ToRegister n) u.drivers (subst (λ v. AllDrive (λ w. IsProper w × (same_target w v ≡ true)) u.drivers) is es.1)))

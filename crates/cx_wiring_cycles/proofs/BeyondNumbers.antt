@@ -9,7 +9,7 @@ use Rattle.cx_meaning.specs.Instances.{Instance, part_of}
 use Rattle.cx_meaning.specs.Islands.{group_length}
 use Rattle.cx_meaning.specs.Calls.{called}
 use Rattle.cx_laws.specs.Samples.{form_ifs}
-use Rattle.cx_lockstep.specs.Worlds.{Control, At, Done, Machine}
+use Rattle.cx_lockstep.specs.Worlds.{Control, At, Machine}
 use Rattle.cx_lockstep.specs.Machines.{First, Second, AtTest, InThen, InElse, AtHead, InBody}
 use Rattle.cx_lockstep.specs.Statements.{LeafMachines, form_machine, machine_of, parts_machine, arms_machine}
 use Rattle.cx_control.specs.Codings.{Coding, Bank, beside, zeros, region_bank, left_control, right_control, at_fine}
@@ -30,15 +30,6 @@ beside_over c m f g n over none =
 -- THE MACHINE'S numbers
 abbrev pub Short : {P : Type 0} → Coding P → Type 0
 Short {P} c = (p : P) → c.IsFine p → (n : ℕ) → c.extra ≤ n → c.other p n ≡ 0
-
-abbrev BankShort : {P : Type 0} → Bank P → Type 0
-BankShort {P} b = (k : Control P) → at_fine b.IsFine k → (n : ℕ) → b.count ≤ n → b.code k n ≡ 0
-
-region_short : {P : Type 0} (a : Coding P) → Short a → BankShort (region_bank a)
-region_short a short (At p) fine zero over = absurd (omega arith)
-region_short a short (At p) fine (suc n) over = short p fine n (omega arith)
-region_short a short Done fine zero over = absurd (omega arith)
-region_short a short Done fine (suc n) over = refl
 
 module _ {X : Type 0} {V : X → Type 0} {F : Type 0} (leaves : LeafMachines X V F) (codings : LeafCodings leaves) (enable_short : (g : ℕ) → Short (LeafCodings.enable codings g)) (island_short : (form : PlainForm) → Short (LeafCodings.island codings form)) where
   mutual

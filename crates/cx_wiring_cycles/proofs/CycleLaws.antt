@@ -1,14 +1,14 @@
 -- Where the nodes of a component in its net have what their own rules give, its control has one cycle of its own drivers.
 use Rattle.std.proofs.Common.{◌≡◌, ℕ, ◌+◌, ◌<◌, ◌≤◌, Bool, true, List, [], ◌∷◌, ◌++◌, length, Some, sym, ap, ◌∙◌, subst, arith}
 use Rattle.std.proofs.lemmas.Bool.{lt-ltb}
-use Rattle.cx_bits.specs.BitVector.{BitVector}
+use Rattle.cx_bits.specs.BitVector.{BitVector, zero_of}
 use Rattle.cx_meaning.specs.declared.ports.PortRef.{PortRef}
 use Rattle.cx_meaning.specs.Designs.{PlainComponent}
 use Rattle.cx_meaning.specs.Active.{Owned}
 use Rattle.cx_text.specs.Members.{In}
 use Rattle.cx_net.specs.Nets.{ToRegister, ToWire, PlainNetDriver}
 use Rattle.cx_net.specs.NetTree.{NetCells}
-use Rattle.cx_net.specs.NetMeaning.{NetState, Node, AWire, NetLook, NetAround, truth_bit, zero_wide, drivers_to, registers_of, own_step, is_own_node}
+use Rattle.cx_net.specs.NetMeaning.{NetState, Node, AWire, NetLook, NetAround, truth_bit, drivers_to, registers_of, own_step, is_own_node}
 use Rattle.cx_net.specs.NetEdges.{taken, value_in, guard_in, own_register}
 use Rattle.cx_static.specs.Islands.{PlainLowereds}
 use Rattle.cx_static.specs.Lowering.{lowered, lowered_component, unlowered}
@@ -76,4 +76,4 @@ module _ (d : PlainLowereds) (part : PlainComponent) (named : IslandsName (group
       wires_are n less =
           let count : length (plain_wires (lowered_component part)) ≡ groups (lowered_component part) + bits (lowered_component part) = plain_wires_count (lowered_component part) in
           let there : n < length (plain_wires (lowered_component part)) = omega arith in
-          record { behind_them = Some (zero_wide (target_width d (lowered_component part) (ToWire n))); reads = wire_takes d part cells around s look solves plain n there }
+          record { behind_them = Some (zero_of (target_width d (lowered_component part) (ToWire n))); reads = wire_takes d part cells around s look solves plain n there }

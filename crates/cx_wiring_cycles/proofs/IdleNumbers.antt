@@ -41,9 +41,6 @@ counted_idled : (r : Role) (xs : List Role) (a b : ℕ) (f g : ℕ → ℕ) → 
 counted_idled r xs a b f g first later zero = first
 counted_idled r xs a b f g first later (suc n) = later n
 
-none_idled : Idled [] (λ n. 0) (λ n. 0)
-none_idled n = refl
-
 sample_idle : (k j v : ℕ) → v ≡ role_idle (slice_get (replicate k OfSample) j) v
 sample_idle zero j v = refl
 sample_idle (suc k) zero v = refl

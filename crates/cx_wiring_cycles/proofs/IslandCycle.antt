@@ -1,6 +1,6 @@
 -- The wires of an island in one of its cycles: which timers run, the samples that are taken, the enables that are active.
 use Rattle.std.proofs.Common.{◌≡◌, ℕ, zero, suc, ◌+◌, ◌-◌, ◌<◌, ◌==◌, ◌&&◌, inl, inr, not, nat_lt, Bool, true, false, if◌then◌else◌, List, [], ◌∷◌, length, Option, Some, None, unwrap_or, slice_get, refl, sym, ap, ap₂, ◌∙◌, arith}
-use Rattle.cx_bits.specs.BitVector.{BitVector}
+use Rattle.cx_bits.specs.BitVector.{BitVector, zero_of}
 use Rattle.cx_meaning.specs.declared.ports.PortRef.{PortRef}
 use Rattle.cx_meaning.specs.Designs.{PlainCell, PlainComponent, PlainForm}
 use Rattle.cx_meaning.specs.Islands.{or_zero, form_length}
@@ -10,7 +10,7 @@ use Rattle.cx_control.specs.Sampling.{taken, form_now}
 use Rattle.cx_laws.specs.Positions.{FormIfs, entry_at, no_entry}
 use Rattle.cx_laws.specs.Samples.{form_ifs, form_by}
 use Rattle.cx_net.specs.Nets.{OfPort, ToWire}
-use Rattle.cx_net.specs.NetMeaning.{Node, NetAround, is_true, truth_bit, zero_wide}
+use Rattle.cx_net.specs.NetMeaning.{Node, NetAround, is_true, truth_bit}
 use Rattle.cx_static.specs.declared.islands.Sample.{Sample}
 use Rattle.cx_static.specs.declared.islands.IslandTimer.{IslandTimer}
 use Rattle.cx_static.specs.Islands.{PlainPoint, PlainOccurrence}
@@ -117,7 +117,7 @@ module _ (part : PlainComponent) (form : PlainForm) (front : List PlainCell) (gr
   -- A SAMPLE is its port where its static if begins, and else what is kept
   module _ (kept : ℕ → Bool) (kept_so : (m : ℕ) → m < length (island_gathered part form front).points → registers (x.register + m) ≡ Some (truth_bit (kept m))) where
     abbrev pub port_bit : PortRef → Bool
-    port_bit p = is_true (unwrap_or (value around registers look (OfPort p)) (zero_wide 1))
+    port_bit p = is_true (unwrap_or (value around registers look (OfPort p)) (zero_of 1))
 
     abbrev pub begins_now : PlainPoint → Bool
     begins_now p = runs p.timer && ((count p.timer == p.at) && wanted p.samples)
@@ -142,17 +142,17 @@ module _ (part : PlainComponent) (form : PlainForm) (front : List PlainCell) (gr
         r.1 ∙ sample_wire groups x first (island_of (form_length part form) final) around registers look looks.high looks.groups_low r.0 m p e
         ∙ takes_known around registers look (drive (ToWire 0) (wired.begins groups x first (island_of (form_length part form) final) p) (OfPort p.port)) (begins_now p) (registers (x.register + m)) (begins_says m p e)
         ∙ ap (λ o. if begins_now p then value around registers look (OfPort p.port) else o) (kept_so m low))
-        ∙ b.1 ∙ ap (λ c. Some (truth_bit c)) (sym (ap (λ o. is_true (unwrap_or o (zero_wide 1))) b.1 ∙ true_bit b.0))
+        ∙ b.1 ∙ ap (λ c. Some (truth_bit c)) (sym (ap (λ o. is_true (unwrap_or o (zero_of 1))) b.1 ∙ true_bit b.0))
 
     sampled : (m : ℕ) (p : PlainPoint) → slice_get (island_gathered part form front).points m ≡ Some p → taken_sample m ≡ taken (port_bit p.port) (kept m) (live_in counts taken_sample (begin_at p.timer p.at p.samples) 1)
     sampled m p e =
         let timer_low : p.timer < length final.timers = (lists.points m p e).0 in
-        sym (ap (λ o. is_true (unwrap_or o (zero_wide 1))) (takes_port m p e) ∙ true_bit (taken_sample m))
+        sym (ap (λ o. is_true (unwrap_or o (zero_of 1))) (takes_port m p e) ∙ true_bit (taken_sample m))
         ∙ by (begins_now p)
         ∙ ap (λ b. if b then port_bit p.port else kept m) (ap₂ (λ a w. a && ((count p.timer == p.at) && w)) (runs_so p.timer timer_low) (wanted_so p.samples))
         ∙ taken_there p.at (count p.timer) (are_wanted counts taken_sample p.samples) (port_bit p.port) (kept m) (counts p.timer) (λ c f. count_so p.timer timer_low c f)
       where
-        by : (b : Bool) → is_true (unwrap_or (if b then value around registers look (OfPort p.port) else Some (truth_bit (kept m))) (zero_wide 1)) ≡ (if b then port_bit p.port else kept m)
+        by : (b : Bool) → is_true (unwrap_or (if b then value around registers look (OfPort p.port) else Some (truth_bit (kept m))) (zero_of 1)) ≡ (if b then port_bit p.port else kept m)
         by true = refl
         by false = true_bit (kept m)
 

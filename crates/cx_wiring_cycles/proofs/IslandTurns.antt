@@ -1,7 +1,7 @@
 -- ONE CYCLE OF AN ISLAND where control stands at it: what goes, and its numbers after the edge.
 use Rattle.std.proofs.Common.{◌≡◌, ℕ, zero, suc, ◌+◌, ◌-◌, ◌^◌, ◌<◌, ◌≤◌, ◌==◌, ◌&&◌, not, Bool, true, false, if◌then◌else◌, List, [], ◌∷◌, ◌++◌, length, Option, Some, None, unwrap_or, slice_get, refl, sym, ap, ◌∙◌, subst, arith}
 use Rattle.std.proofs.lemmas.Bool.{eq-eqb, ne_eqb, lt-ltb, and_left}
-use Rattle.cx_bits.specs.BitVector.{BitVector}
+use Rattle.cx_bits.specs.BitVector.{BitVector, zero_of}
 use Rattle.cx_prim.specs.CellStates.{CellState, Timer}
 use Rattle.cx_prim.specs.PipeRows.{timer_idle, timer_go}
 use Rattle.cx_meaning.specs.Designs.{PlainCell, PlainComponent, PlainForm}
@@ -13,7 +13,7 @@ use Rattle.cx_control.specs.Sampling.{form_now}
 use Rattle.cx_control.specs.Leaves.{Cycle, LastTurn}
 use Rattle.cx_control.specs.Controls.{bit, island_other}
 use Rattle.cx_net.specs.Nets.{OfPort, ToRegister, ToWire, ToHole}
-use Rattle.cx_net.specs.NetMeaning.{Node, NetAround, is_true, truth_bit, zero_wide}
+use Rattle.cx_net.specs.NetMeaning.{Node, NetAround, is_true, truth_bit}
 use Rattle.cx_static.specs.declared.islands.IslandTimer.{IslandTimer}
 use Rattle.cx_static.specs.Islands.{PlainOccurrence, PlainIsland}
 use Rattle.cx_static.specs.Lowering.{Gathered, begin_at, island_gathered, island_of}
@@ -116,7 +116,7 @@ module _ (part : PlainComponent) (form : PlainForm) (front cells : List PlainCel
 
   -- A CYCLE
   module _ (ifs : FormIfs (λ n. 0 < n) part form) (t : ℕ) (sampled : Samples) (less : t < form_length part form) (shows : (m : ℕ) → m < 2 + form_ifs form → Now m ≡ island_other (Cycle t sampled) m) (machine : Samples)
-      (saw : (m : ℕ) → m < form_ifs form → form_now part (λ p. is_true (unwrap_or (value around registers look (OfPort p)) (zero_wide 1))) sampled form 0 (Some t) m ≡ machine m) where
+      (saw : (m : ℕ) → m < form_ifs form → form_now part (λ p. is_true (unwrap_or (value around registers look (OfPort p)) (zero_of 1))) sampled form 0 (Some t) m ≡ machine m) where
     counted : (are_in_step cells now kept (island_gathered part form front).timers ≡ true) × (count 0 ≡ t)
     counted = counted_so (are_in_step cells now kept final.timers) (count 0) (form_length part form) t (shows 0 (omega arith)) less
 

@@ -2,14 +2,14 @@
 -- is, which enables are active.
 use Rattle.std.proofs.Common.{◌≡◌, ℕ, zero, suc, ◌+◌, ◌<◌, ◌≤◌, ◌==◌, ◌&&◌, inl, inr, not, nat_lt, Bool, true, false, if◌then◌else◌, List, [], ◌∷◌, ◌++◌, length, map, Option, Some, None, option_map, unwrap_or, slice_get, refl, sym, ap, ◌∙◌, arith}
 use Rattle.std.proofs.lemmas.Bool.{eq-eqb, ne_eqb}
-use Rattle.cx_bits.specs.BitVector.{BitVector}
+use Rattle.cx_bits.specs.BitVector.{BitVector, zero_of}
 use Rattle.cx_meaning.specs.declared.ports.PortRef.TheVariants as ports
 use Rattle.cx_meaning.specs.declared.ports.Comparison.{Comparison}
 use Rattle.cx_meaning.specs.declared.ports.Comparison.TheVariants.{Less, AtLeast}
 use Rattle.cx_text.specs.Members.{In}
 use Rattle.cx_meaning.specs.Truths.{compares}
 use Rattle.cx_net.specs.Nets.{PlainNetExpr, OfPort, OfRegister, OfWire, Inverse, AllOf, Compares, exprs_of, ToPort, ToRegister, ToWire, ToHole, PlainNetDriver}
-use Rattle.cx_net.specs.NetMeaning.{Node, APort, AWire, NetAround, both_known, is_true, truth_bit, zero_wide, all_expr, same_target}
+use Rattle.cx_net.specs.NetMeaning.{Node, APort, AWire, NetAround, both_known, is_true, truth_bit, all_expr, same_target}
 use Rattle.cx_static.specs.declared.islands.Sample.{Sample}
 use Rattle.cx_static.specs.declared.islands.IslandTimer.{IslandTimer}
 use Rattle.cx_static.specs.Islands.{PlainPoint, PlainOccurrence, PlainIsland}
@@ -159,7 +159,7 @@ module _ (groups : ℕ) (x : Stand) (first : ℕ) (island : PlainIsland) (around
   module _ (count : ℕ → ℕ) (done : Bool) (looks : IslandLooks count done) where
     -- the bit that a wire is
     abbrev pub bit_at : ℕ → Bool
-    bit_at n = is_true (unwrap_or (look (AWire n)) (zero_wide 1))
+    bit_at n = is_true (unwrap_or (look (AWire n)) (zero_of 1))
 
     -- a timer runs, a sample is 1, an enable is active
     abbrev pub live : ℕ → Bool
@@ -172,7 +172,7 @@ module _ (groups : ℕ) (x : Stand) (first : ℕ) (island : PlainIsland) (around
     active n = bit_at (first + length island.timers + length island.points + n)
 
     pub bit_is : (n : ℕ) (b : Bool) → look (AWire n) ≡ Some (truth_bit b) → bit_at n ≡ b
-    bit_is n b e = ap (λ o. is_true (unwrap_or o (zero_wide 1))) e ∙ true_bit b
+    bit_is n b e = ap (λ o. is_true (unwrap_or o (zero_of 1))) e ∙ true_bit b
 
     says_wire : (n : ℕ) → first ≤ n → n < first + wires_of_island island → Says around registers look (OfWire n) (bit_at n)
     says_wire n l h = let b = looks.bits n l h in b.1 ∙ ap (λ c. Some (truth_bit c)) (sym (bit_is n b.0 b.1))

@@ -1,7 +1,7 @@
 -- In the net of a component a port of a cell, or an output, has what the first of its active assignments with a true guard gives it; so
 -- has a hole, of the assignments of its group's done.
 use Rattle.std.proofs.Common.{◌≡◌, ℕ, ◌+◌, ◌<◌, Bool, true, false, List, [], ◌∷◌, length, Option, Some, None, slice_get, refl, ap, ◌∙◌, arith}
-use Rattle.cx_bits.specs.BitVector.{BitVector}
+use Rattle.cx_bits.specs.BitVector.{BitVector, zero_of}
 use Rattle.cx_meaning.specs.declared.ports.PortRef.{PortRef}
 use Rattle.cx_meaning.specs.declared.ports.PortRef.TheVariants as ports
 use Rattle.cx_meaning.specs.Designs.{PlainComponent}
@@ -10,7 +10,7 @@ use Rattle.cx_text.specs.Members.{In}
 use Rattle.cx_control.specs.Flows.{Values, first_on}
 use Rattle.cx_net.specs.Nets.{ToPort, ToHole, PlainNetDriver}
 use Rattle.cx_net.specs.NetTree.{NetCells}
-use Rattle.cx_net.specs.NetMeaning.{NetState, Node, NetLook, NetAround, zero_wide, same_target, drivers_to, registers_of, own_step, is_own_node, chain as first_true}
+use Rattle.cx_net.specs.NetMeaning.{NetState, Node, NetLook, NetAround, same_target, drivers_to, registers_of, own_step, is_own_node, chain as first_true}
 use Rattle.cx_static.specs.Islands.{PlainIsland, PlainLowereds}
 use Rattle.cx_static.specs.Lowering.{lowered, lowered_component, unlowered}
 use Rattle.cx_wiring.specs.Control.{control_drivers}
@@ -50,27 +50,27 @@ module _ (d : PlainLowereds) (part : PlainComponent) (named : IslandsName (group
     pub driven_port : ((a : Owned) → In (source_order part) a → is_driven (lowered_component part) a ≡ false → offset_of (going_set goes at) a.owner ≡ None)
         → (p : PortRef) → IsProper (ToPort p) → ((q : PortRef) → same_target (target_of q) (ToPort p) ≡ same_port q p)
         → ((k : ℕ) (island : PlainIsland) → slice_get (lowered_component part).islands k ≡ Some island → OfTimers (λ u. same_target u (ToPort p) ≡ false) island.timers)
-        → first_true around R (look []) (zero_wide (target_width d (lowered_component part) (ToPort p))) (drivers_to (ToPort p) (net_component d (lowered_component part)).drivers)
-        ≡ Some (first_on v (zero_wide (target_width d (lowered_component part) (ToPort p))) (drivers part (going_set goes at) p))
+        → first_true around R (look []) (zero_of (target_width d (lowered_component part) (ToPort p))) (drivers_to (ToPort p) (net_component d (lowered_component part)).drivers)
+        ≡ Some (first_on v (zero_of (target_width d (lowered_component part) (ToPort p))) (drivers part (going_set goes at) p))
     driven_port left_out p proper same no_timer =
         takes_all d part cells around s look solves plain (ToPort p) proper (λ m from. refl)
         ∙ takes_append around R (look []) (ToPort p) _ CD AD
         ∙ others_pass around R (look []) (ToPort p) _ CD
         (control_free (λ u. same_target u (ToPort p) ≡ false) (λ n. refl) (λ n. refl) (λ n. refl) refl (groups (lowered_component part)) (lowered_component part).islands no_timer (first_of_control (lowered_component part)) (lowered part part.control (unlowered part)))
-        ∙ port_takes (groups (lowered_component part)) (lowered_component part).islands named around R (look []) v goes at p same (zero_wide (target_width d (lowered_component part) (ToPort p)))
+        ∙ port_takes (groups (lowered_component part)) (lowered_component part).islands named around R (look []) v goes at p same (zero_of (target_width d (lowered_component part) (ToPort p)))
         (driven_assigns (lowered_component part)) (first_of_assigns (lowered_component part)) (omega arith) assigned (assign_reads d part cells around s look solves plain named names) holds
-        ∙ ap (λ list. Some (first_on v (zero_wide (target_width d (lowered_component part) (ToPort p))) list)) (acting_filter (going_set goes at) p (is_driven (lowered_component part)) (source_order part) (λ a i t e. left_out a i e))
+        ∙ ap (λ list. Some (first_on v (zero_of (target_width d (lowered_component part) (ToPort p))) list)) (acting_filter (going_set goes at) p (is_driven (lowered_component part)) (source_order part) (λ a i t e. left_out a i e))
 
     -- A HOLE of a group's done
     pub driven_hole : (g : ℕ) → g < groups (lowered_component part) → HolesFit v at g (driven_assigns (lowered_component part))
         → ((a : Owned) → In (source_order part) a → same_port a.assign.target (ports.Done g) ≡ true → is_driven (lowered_component part) a ≡ false → ⊥)
-        → first_true around R (look []) (zero_wide 1) (drivers_to (ToHole g) (net_component d (lowered_component part)).drivers) ≡ Some (first_on v (zero_wide 1) (drivers part (group g) (ports.Done g)))
+        → first_true around R (look []) (zero_of 1) (drivers_to (ToHole g) (net_component d (lowered_component part)).drivers) ≡ Some (first_on v (zero_of 1) (drivers part (group g) (ports.Done g)))
     driven_hole g there fits all_driven =
         takes_all d part cells around s look solves plain (ToHole g) tt (λ m from. refl)
         ∙ takes_append around R (look []) (ToHole g) _ CD AD
         ∙ others_pass around R (look []) (ToHole g) _ CD
         (control_drives (λ u. same_target u (ToHole g) ≡ false) (no_port_hole g) (groups (lowered_component part)) (lowered_component part).islands (λ m less. refl) (λ h less. ne_eqb (groups (lowered_component part) + h) g (λ e. omega arith))
         named refl (first_of_control (lowered_component part)) (lowered part part.control (unlowered part)) names (record { wire_in = λ m l h. refl; register_in = λ m l h. refl }))
-        ∙ hole_takes (groups (lowered_component part)) (lowered_component part).islands named around R (look []) v goes at g (zero_wide 1)
+        ∙ hole_takes (groups (lowered_component part)) (lowered_component part).islands named around R (look []) v goes at g (zero_of 1)
         (driven_assigns (lowered_component part)) (first_of_assigns (lowered_component part)) (omega arith) assigned (assign_reads d part cells around s look solves plain named names) holds fits
-        ∙ ap (λ list. Some (first_on v (zero_wide 1) list)) (acting_filter (group g) (ports.Done g) (is_driven (lowered_component part)) (source_order part) (λ a i t e. absurd (all_driven a i t e)))
+        ∙ ap (λ list. Some (first_on v (zero_of 1) list)) (acting_filter (group g) (ports.Done g) (is_driven (lowered_component part)) (source_order part) (λ a i t e. absurd (all_driven a i t e)))

@@ -2,7 +2,7 @@
 -- the end.
 use Rattle.std.proofs.Common.{◌≡◌, ℕ, zero, suc, ◌+◌, ◌<◌, ◌==◌, Bool, [], ◌∷◌, length, Option, Some, unwrap_or, sym, ap, ◌∙◌, arith}
 use Rattle.std.proofs.lemmas.Bool.{eq-eqb, lt-ltb, ne_eqb}
-use Rattle.cx_bits.specs.BitVector.{BitVector}
+use Rattle.cx_bits.specs.BitVector.{BitVector, zero_of}
 use Rattle.cx_meaning.specs.declared.ports.PortRef.{PortRef}
 use Rattle.cx_meaning.specs.declared.ports.PortRef.TheVariants as ports
 use Rattle.cx_meaning.specs.Designs.{PlainComponent, PlainDesign, PlainForm, Empty, Enable, Seq, Par, If, While, Repeat, StaticSeq, StaticPar, StaticIf, StaticRepeat, Timed, PlainStatement, Placed, PlainStatements, no_statements, a_statement}
@@ -11,9 +11,8 @@ use Rattle.cx_meaning.specs.Instances.{Cells, cell_count}
 use Rattle.cx_control.specs.Codings.{Coding}
 use Rattle.cx_control.specs.Leaves.{Coded, leaf_machines}
 use Rattle.cx_control.specs.Controls.{coded_control, coded_below, leaf_codings}
-use Rattle.cx_net.specs.Nets.{OfPort, OfHole, PlainNetComponent}
-use Rattle.cx_net.specs.NetTree.{NetCells}
-use Rattle.cx_net.specs.NetMeaning.{NetState, Node, APort, AHole, TheDone, NetLook, NetAround, is_true, truth_bit, zero_wide, registers_of}
+use Rattle.cx_net.specs.Nets.{OfPort, OfHole}
+use Rattle.cx_net.specs.NetMeaning.{NetState, Node, APort, AHole, TheDone, NetLook, NetAround, is_true, truth_bit, registers_of}
 use Rattle.cx_net.specs.NetEdges.{own_register}
 use Rattle.cx_static.specs.Lowering.{lowered, lowered_component, lowered_of, unlowered}
 use Rattle.cx_wiring.specs.Counts.{positions_of}
@@ -64,16 +63,10 @@ module _ (groups : ℕ) (around : NetAround) (registers : ℕ → Option BitVect
     parts_bits (a_statement s ss) names tests = (statement_bits s names.0 tests.0, parts_bits ss names.1 tests.1)
 
 -- what is a bit is the bit that it is
-itself : (o : Option BitVector) (b : Bool) → o ≡ Some (truth_bit b) → o ≡ Some (truth_bit (is_true (unwrap_or o (zero_wide 1))))
-itself o b e = e ∙ ap (λ c. Some (truth_bit c)) (sym (ap (λ x. is_true (unwrap_or x (zero_wide 1))) e ∙ true_bit b))
+itself : (o : Option BitVector) (b : Bool) → o ≡ Some (truth_bit b) → o ≡ Some (truth_bit (is_true (unwrap_or o (zero_of 1))))
+itself o b e = e ∙ ap (λ c. Some (truth_bit c)) (sym (ap (λ x. is_true (unwrap_or x (zero_of 1))) e ∙ true_bit b))
 
 module _ (d : PlainDesign) (of_island : PlainComponent → NetState → ℕ → ℕ → ℕ → ℕ) (part : PlainComponent) (cells : Cells) where
-  abbrev pub wired_part : PlainNetComponent
-  wired_part = wired_in d part
-
-  abbrev pub wired_cells : NetCells
-  wired_cells = net_of_cells (wired_in d) timers_of (component_numbers of_island) cells (timers_of part)
-
   -- WHAT A NODE IS LIKE: the groups that it names are there, targets have ranks, tests are of one bit
   pub record IsFineNode : Type 0 where
     pub islands_named : IslandsName (groups (lowered_component part)) (lowered_component part).islands
@@ -92,10 +85,10 @@ module _ (d : PlainDesign) (of_island : PlainComponent → NetState → ℕ → 
     R = registers_of (wired_in d part) (net_of_cells (wired_in d) timers_of (component_numbers of_island) cells (timers_of part)) around v (look []) (λ c. look (c ∷ []))
 
     abbrev pub hole_now : ℕ → Bool
-    hole_now g = is_true (unwrap_or (look [] (AHole g)) (zero_wide 1))
+    hole_now g = is_true (unwrap_or (look [] (AHole g)) (zero_of 1))
 
     abbrev pub port_now : PortRef → Bool
-    port_now p = is_true (unwrap_or (value around R (look []) (OfPort p)) (zero_wide 1))
+    port_now p = is_true (unwrap_or (value around R (look []) (OfPort p)) (zero_of 1))
 
     hole_says : (g : ℕ) → g < groups (lowered_component part) → Says around R (look []) (OfHole g) (hole_now g)
     hole_says g there =

@@ -3,7 +3,7 @@ use Rattle.std.proofs.Common.{◌≡◌, ℕ, suc, ◌+◌, ◌<◌, inl, inr, B
 use Rattle.std.specs.Prelude.{slice_get}
 use Rattle.cx_text.specs.Members.{In}
 use Rattle.cx_text.specs.declared.places.Place.{Place}
-use Rattle.cx_bits.specs.BitVector.{BitVector}
+use Rattle.cx_bits.specs.BitVector.{BitVector, zero_of as zero_wide}
 use Rattle.cx_prim.specs.Rows.{Row}
 use Rattle.cx_prim.specs.RegisterRow.{register_output, register_row}
 use Rattle.cx_prim.specs.CellStates as states
@@ -35,7 +35,7 @@ use Rattle.cx_control.specs.ControlRules.{ControlRules}
 use Rattle.cx_control.proofs.LeafLaws.{is_one_of, ActsAs, kind_acts}
 use Rattle.cx_control.proofs.RegisterLemmas.{set, Captured, captured_is, done_of_one, one_of_dones}
 use Rattle.cx_control.proofs.HoleLemmas.{last_is_done, CaptureRules, wanted_are, Register, register, done_seen, all_done, hole_is_set}
-use Rattle.cx_net.specs.NetMeaning.{NetState, AHole, TheDone, NetLook, NetAround, is_true, truth_bit, zero_wide}
+use Rattle.cx_net.specs.NetMeaning.{NetState, AHole, TheDone, NetLook, NetAround, is_true, truth_bit}
 use Rattle.cx_wiring.specs.PartNets.{wired_in, timers_of}
 use Rattle.cx_wiring_runs.proofs.SeamRules.{SeamRules}
 use Rattle.cx_wiring_runs.specs.Blocks.{block, Solves}

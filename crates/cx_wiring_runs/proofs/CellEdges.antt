@@ -2,7 +2,7 @@
 -- primitive that no group drives which goes makes its idle step, and a component cell that none drives has no go.
 use Rattle.std.proofs.Common.{◌≡◌, ℕ, suc, ◌+◌, ◌<◌, false, ◌&&◌, if◌then◌else◌, List, [], ◌∷◌, length, Some, None, unwrap_or, refl, sym, ap, ◌∙◌, arith}
 use Rattle.std.proofs.lemmas.Bool.{lt-ltb}
-use Rattle.cx_bits.specs.BitVector.{BitVector}
+use Rattle.cx_bits.specs.BitVector.{BitVector, zero_of as zero_wide}
 use Rattle.cx_prim.specs.declared.ports.PortRow.{PortRow}
 use Rattle.cx_prim.specs.declared.ports.Side.TheVariants as sides
 use Rattle.cx_prim.specs.Rows.{Row, IsLawful}
@@ -18,7 +18,7 @@ use Rattle.cx_rules.proofs.ForeignLemmas.{assigns_drive_in, acting_none, OwnerOf
 use Rattle.cx_frames.specs.Rests.{IsUndriven}
 use Rattle.cx_control.specs.Flows.{zero_of, first_on, given, cell_flow}
 use Rattle.cx_control.proofs.CellLemmas.{idle_step}
-use Rattle.cx_net.specs.NetMeaning.{NetState, NetLook, NetAround, APort, AHole, is_true, truth_bit, zero_wide}
+use Rattle.cx_net.specs.NetMeaning.{NetState, NetLook, NetAround, APort, AHole, is_true, truth_bit}
 use Rattle.cx_net.specs.NetEdges.{inputs_from}
 use Rattle.cx_static.specs.Lowering.{lowered_component}
 use Rattle.cx_wiring.specs.Assignments.{owner_drives}

@@ -9,7 +9,7 @@ use Rattle.cx_rules.specs.Flat.{IsFlat}
 use Rattle.cx_rules.specs.Accepted.{IsAccepted}
 use Rattle.cx_rules.specs.Wellformed.{IsDesign}
 use Rattle.cx_rules.specs.Ports.{declared_width}
-use Rattle.cx_net.specs.Nets.{PlainNetComponent, PlainNet}
+use Rattle.cx_net.specs.Nets.{PlainNetComponent}
 use Rattle.cx_net.specs.NetTree.{NetInstance, net_part, net_tree}
 use Rattle.cx_net.specs.NetMeaning.{NetState, Node, NetLook, NetHas, outside, truth_bit}
 use Rattle.cx_net.specs.NetEdges.{net_after}
@@ -37,9 +37,6 @@ use Rattle.cx_wiring_runs.specs.Blocks.{block, Solves}
 use Rattle.cx_wiring_runs.proofs.StartHolds.{holds_at_start, start_holds}
 
 module _ (d : PlainDesign) (design : IsDesign d) (flat : IsFlat d) (accepted : IsAccepted d) where
-  abbrev the_net : PlainNet
-  the_net = net_of (lowered_of d)
-
   abbrev tree : NetInstance
   tree = net_of_instance (wired_in d) timers_of (component_numbers of_island) (tree_of d)
 

@@ -5,7 +5,7 @@ use Rattle.std.specs.Prelude.{nat_lt}
 use Rattle.cx_text.proofs.MemberLaws.{in_either, in_left, in_right}
 use Rattle.cx_text.specs.Members.{In}
 use Rattle.cx_text.specs.declared.places.Place.{Place}
-use Rattle.cx_bits.specs.BitVector.{BitVector}
+use Rattle.cx_bits.specs.BitVector.{BitVector, zero_of}
 use Rattle.cx_prim.specs.Rows.{Row}
 use Rattle.cx_meaning.specs.declared.ports.PortRef.{PortRef}
 use Rattle.cx_meaning.specs.declared.ports.PortRef.TheVariants as ports
@@ -36,7 +36,7 @@ use Rattle.cx_control.specs.Standing.{RestsAt, bare}
 use Rattle.cx_control.specs.InstanceRules.{Stands}
 use Rattle.cx_control.specs.ControlRules.{ControlRules}
 use Rattle.cx_net.specs.Nets.{OfPort}
-use Rattle.cx_net.specs.NetMeaning.{NetState, NetLook, NetAround, is_true, zero_wide, registers_of}
+use Rattle.cx_net.specs.NetMeaning.{NetState, NetLook, NetAround, is_true, registers_of}
 use Rattle.cx_wiring.specs.PartNets.{wired_in, timers_of, net_of_cells}
 use Rattle.cx_wiring.specs.Takings.{value}
 use Rattle.cx_wiring.proofs.TakingLemmas.{true_bit}
@@ -203,21 +203,21 @@ module _ (d : PlainDesign) (numbers : Instance → NetState → ℕ → ℕ) (pa
         (seen_found (Node part cells) (held_in s) nothing (cells_in s) (control.rules.circles).0 (control.rules.circles).1 (IsTest.test t).port))
 
     test_says : (b : BitVector) → seen (Node part cells) (held_in s) nothing (cells_in s) (IsTest.test t).port ≡ Value b
-        → is_true (unwrap_or (value around R (look []) (OfPort (IsTest.test t).port)) (zero_wide 1)) ≡ says (seen (Node part cells) (held_in s) nothing (cells_in s)) (IsTest.test t).port
+        → is_true (unwrap_or (value around R (look []) (OfPort (IsTest.test t).port)) (zero_of 1)) ≡ says (seen (Node part cells) (held_in s) nothing (cells_in s)) (IsTest.test t).port
     test_says b e =
         let kept = rules.node.ports.tests (IsTest.at t) (IsTest.test t) stands_in has in
-        ap (λ o. is_true (unwrap_or o (zero_wide 1))) (bit_says d numbers part cells rules.node.ports around v look solves (IsTest.test t).port kept.named kept.one_bit) ∙ true_bit (is_set (V (IsTest.test t).port))
+        ap (λ o. is_true (unwrap_or o (zero_of 1))) (bit_says d numbers part cells rules.node.ports around v look solves (IsTest.test t).port kept.named kept.one_bit) ∙ true_bit (is_set (V (IsTest.test t).port))
         ∙ ap is_set (test_value b e) ∙ sym (ap (λ x. is_one (truth_of x)) e ∙ says_bit (is_set b))
 
   -- THE PORTS THAT BEGIN in a cycle of the island
   pub begun_seen : (t : ℕ) (kept : Samples) → island_faults (Node part cells) form (Cycle t kept) s ≡ false → (port : PortRef) → In (begun_by part (sampled_now (Node part cells) form t kept s) t form) port
-      → is_true (unwrap_or (value around R (look []) (OfPort port)) (zero_wide 1)) ≡ says (seen (Node part cells) (held_in s) nothing (cells_in s)) port
+      → is_true (unwrap_or (value around R (look []) (OfPort port)) (zero_of 1)) ≡ says (seen (Node part cells) (held_in s) nothing (cells_in s)) port
   begun_seen t kept fine port i =
       let test = form_begun part (sampled_now (Node part cells) form t kept s) port form place Dynamic 0 t i in
       let b = all_clear (seen (Node part cells) (held_in s) nothing (cells_in s)) (begun_by part (sampled_now (Node part cells) form t kept s) t form)
       (clear (first_unclear (seen (Node part cells) (held_in s) nothing (cells_in s)) (begun_by part (sampled_now (Node part cells) form t kept s) t form))
       (cycle (Node part cells) (held_in s) (entries (active_by part (sampled_now (Node part cells) form t kept s) t form)) (cells_in s)) fine) port i in
-      subst (λ q. is_true (unwrap_or (value around R (look []) (OfPort q)) (zero_wide 1)) ≡ says (seen (Node part cells) (held_in s) nothing (cells_in s)) q) (IsTest.port_is test)
+      subst (λ q. is_true (unwrap_or (value around R (look []) (OfPort q)) (zero_of 1)) ≡ says (seen (Node part cells) (held_in s) nothing (cells_in s)) q) (IsTest.port_is test)
       (test_says port test b.0 (ap (seen (Node part cells) (held_in s) nothing (cells_in s)) (IsTest.port_is test) ∙ b.1))
     where
       clear : (o : Option Fault) (e : Ended) → turn_faults (unless_unclear o e) ≡ false → o ≡ None

@@ -3,7 +3,7 @@
 use Rattle.std.proofs.Common.{◌≡◌, ℕ, zero, suc, ◌+◌, ◌^◌, ◌<◌, ◌≤◌, ◌&&◌, ⊎_elim, Bool, true, false, if◌then◌else◌, List, [], ◌∷◌, ◌++◌, length, replicate, Option, Some, None, option_map, unwrap_or, slice_get, refl, sym, ap, ◌∙◌, subst, arith}
 use Rattle.std.proofs.lemmas.Bool.{cases_lt, lt-ltb, le-ltb, eq-eqb, ne_eqb}
 use Rattle.cx_text.specs.declared.places.Place.{Place}
-use Rattle.cx_bits.specs.BitVector.{BitVector}
+use Rattle.cx_bits.specs.BitVector.{BitVector, zero_of}
 use Rattle.cx_prim.specs.CellStates.{CellState, Timer}
 use Rattle.cx_prim.specs.PipeRows.{timer_idle, timer_go}
 use Rattle.cx_meaning.specs.declared.kinds.GroupKind.{GroupKind}
@@ -31,7 +31,7 @@ use Rattle.cx_control.proofs.CallLaws.{ChildLaws}
 use Rattle.cx_control.proofs.ControlLaws.{IslandsDo}
 use Rattle.cx_control.proofs.KeepLaws.{KeepsBelow}
 use Rattle.cx_net.specs.Nets.{OfPort, ToRegister, ToWire, ToHole}
-use Rattle.cx_net.specs.NetMeaning.{NetState, NetLook, NetAround, Node, is_true, truth_bit, zero_wide, registers_of}
+use Rattle.cx_net.specs.NetMeaning.{NetState, NetLook, NetAround, Node, is_true, truth_bit, registers_of}
 use Rattle.cx_static.specs.declared.islands.IslandTimer.{IslandTimer}
 use Rattle.cx_static.specs.Islands.{PlainIsland}
 use Rattle.cx_static.specs.Lowering.{Gathered, timer_cell, Lowering, island_gathered, island_of, with_island, after_enable, lowered_enable, after, lowered, lowered_component, unlowered}
@@ -105,7 +105,7 @@ module _ (d : PlainDesign) (part : PlainComponent) (cells : Cells) where
   -- a port in the net
   abbrev pub port_in : NetState → NetAround → NetLook → PortRef → Bool
   port_in v around look p =
-      is_true (unwrap_or (value around (registers_of (wired_in d part) (net_of_cells (wired_in d) timers_of (component_numbers of_island) cells (timers_of part)) around v (look []) (λ c. look (c ∷ []))) (look []) (OfPort p)) (zero_wide 1))
+      is_true (unwrap_or (value around (registers_of (wired_in d part) (net_of_cells (wired_in d) timers_of (component_numbers of_island) cells (timers_of part)) around v (look []) (λ c. look (c ∷ []))) (look []) (OfPort p)) (zero_of 1))
 
   -- THE PORTS OF THE STATIC IFS THAT BEGIN have in the net what the machine takes
   abbrev pub Begun : Machine.Place (Coded.machine (coded_control (instances.Node part cells))) → Kept → NetState → NetAround → NetLook → Type 0

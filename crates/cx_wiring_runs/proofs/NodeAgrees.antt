@@ -7,7 +7,7 @@ use Rattle.std.proofs.lemmas.Option.{slice_get-get_or}
 use Rattle.cx_text.proofs.MemberLaws.{in_left}
 use Rattle.cx_text.specs.Members.{In}
 use Rattle.cx_text.specs.declared.places.Place.{Place}
-use Rattle.cx_bits.specs.BitVector.{BitVector}
+use Rattle.cx_bits.specs.BitVector.{BitVector, zero_of as zero_wide}
 use Rattle.cx_prim.specs.Rows.{Row}
 use Rattle.cx_meaning.specs.declared.ports.PortRef.{PortRef}
 use Rattle.cx_meaning.specs.declared.ports.PortRef.TheVariants as ports
@@ -47,7 +47,7 @@ use Rattle.cx_control.specs.ControlRules.{ControlRules}
 use Rattle.cx_control.proofs.ShapeLemmas.{called_driving}
 use Rattle.cx_rules.proofs.ForeignLemmas.{assigns_drive_in}
 use Rattle.cx_net.specs.Nets.{OfPort}
-use Rattle.cx_net.specs.NetMeaning.{NetState, below_cell, APort, AHole, TheDone, NetLook, NetAround, around_child, is_true, truth_bit, zero_wide, registers_of}
+use Rattle.cx_net.specs.NetMeaning.{NetState, below_cell, APort, AHole, TheDone, NetLook, NetAround, around_child, is_true, truth_bit, registers_of}
 use Rattle.cx_static.specs.Lowering.{lowered_component}
 use Rattle.cx_wiring.specs.Assignments.{kind_drives, occurs_in, owner_drives}
 use Rattle.cx_wiring.specs.PartNets.{wired_in, timers_of, net_of_cells}

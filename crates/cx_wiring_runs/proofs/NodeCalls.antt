@@ -5,12 +5,12 @@ use Rattle.std.proofs.lemmas.Bool.{lt-ltb, ltb-true}
 use Rattle.std.proofs.lemmas.Bool.Decides.{eqb_tells}
 use Rattle.cx_text.specs.Members.{In}
 use Rattle.cx_text.specs.declared.places.Place.{Place}
-use Rattle.cx_bits.specs.BitVector.{BitVector}
+use Rattle.cx_bits.specs.BitVector.{BitVector, zero_of as zero_wide}
 use Rattle.cx_prim.specs.Rows.{Row}
 use Rattle.cx_meaning.specs.declared.ports.PortRef.TheVariants as ports
 use Rattle.cx_meaning.specs.declared.sights.Seen.TheVariants.{Value, Undefined}
 use Rattle.cx_meaning.specs.Designs.{PlainComponent, PlainDesign, PlainStatement, Enable, Placed, group_at}
-use Rattle.cx_meaning.specs.Instances.{Instance, Node, Cells, OfRow, OfInstance, cell_at, part_of, under}
+use Rattle.cx_meaning.specs.Instances.{Instance, Node, Cells, OfRow, OfInstance, cell_at, part_of, under, input_count}
 use Rattle.cx_meaning.specs.Active.{Active, Owned, nothing, group, source_order, offset_of}
 use Rattle.cx_meaning.specs.Sights.{unheld, Sees, seen, AnOutput, ItsDone, part_port}
 use Rattle.cx_meaning.specs.Islands.{kind_length}
@@ -25,7 +25,7 @@ use Rattle.cx_control.specs.Flows.{Values, Reaches, zero_of, is_set, cell_flow, 
 use Rattle.cx_lockstep.specs.Worlds.{Machine, is_done}
 use Rattle.cx_lockstep.specs.Statements.{LeafMachines}
 use Rattle.cx_lockstep.specs.Running.{AGroup}
-use Rattle.cx_control.specs.Spots.{Cell, Kept, cells_in, held_in, input_count}
+use Rattle.cx_control.specs.Spots.{Cell, Kept, cells_in, held_in}
 use Rattle.cx_control.specs.Leaves.{Coded, child_at, inputs_now, leaf_machines}
 use Rattle.cx_control.specs.Controls.{coded_control, coded_below}
 use Rattle.cx_control.specs.Standing.{RestsAt, bare}
@@ -33,7 +33,7 @@ use Rattle.cx_control.specs.InstanceRules.{Stands}
 use Rattle.cx_control.specs.CallRules.{CallForm, CallRules}
 use Rattle.cx_control.specs.ControlRules.{ControlRules}
 use Rattle.cx_control.proofs.ShapeLemmas.{called_driving}
-use Rattle.cx_net.specs.NetMeaning.{NetState, APort, AHole, TheDone, NetLook, NetAround, is_true, truth_bit, zero_wide, around_child}
+use Rattle.cx_net.specs.NetMeaning.{NetState, APort, AHole, TheDone, NetLook, NetAround, is_true, truth_bit, around_child}
 use Rattle.cx_wiring.specs.PartNets.{wired_in, timers_of}
 use Rattle.cx_wiring.proofs.TakingLemmas.{true_bit}
 use Rattle.cx_wiring_runs.proofs.SeamRules.{SeamRules}

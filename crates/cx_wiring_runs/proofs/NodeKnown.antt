@@ -2,7 +2,7 @@
 use Rattle.std.proofs.Common.{◌≡◌, ℕ, ◌+◌, ◌<◌, inl, inr, true, false, List, [], ◌∷◌, length, Option, Some, None, option_map, unwrap_or, slice_get, refl, sym, ap, ◌∙◌, subst, arith}
 use Rattle.std.proofs.lemmas.Bool.{eqb-true, lt-ltb, ltb-true, cases_lt, ne_eqb}
 use Rattle.cx_text.specs.Members.{In}
-use Rattle.cx_bits.specs.BitVector.{BitVector}
+use Rattle.cx_bits.specs.BitVector.{BitVector, zero_of}
 use Rattle.cx_prim.specs.declared.ports.PortRow.{PortRow}
 use Rattle.cx_prim.specs.declared.ports.Side.{Side}
 use Rattle.cx_prim.specs.declared.ports.Side.TheVariants as sides
@@ -19,7 +19,7 @@ use Rattle.cx_rules.specs.Circles.{IsAcyclic}
 use Rattle.cx_control.specs.Together.{IsTogether}
 use Rattle.cx_net.specs.Nets.{PlainNetExpr, OfPort, OfWire, OfHole, OfGo, OfRegister, PlainNetTarget, ToPort, ToWire, ToHole, ToDone, PlainNetDriver}
 use Rattle.cx_net.specs.NetTree.{NetInstance, NetCells, NetAt, NoCell, ARow, AChild, net_part, net_cell_at}
-use Rattle.cx_net.specs.NetMeaning.{NetState, Node, APort, AWire, AHole, TheDone, NetLook, NetAround, is_true, truth_bit, zero_wide, same_target, own_step, is_port_of, is_own_node, driven_node, row_node, child_node, cell_node, decl_width, net_at_width, net_part_port}
+use Rattle.cx_net.specs.NetMeaning.{NetState, Node, APort, AWire, AHole, TheDone, NetLook, NetAround, is_true, truth_bit, same_target, own_step, is_port_of, is_own_node, driven_node, row_node, child_node, cell_node, decl_width, net_at_width, net_part_port}
 use Rattle.cx_static.specs.Islands.{PlainIsland}
 use Rattle.cx_static.specs.Lowering.{lowered, lowered_component, lowered_of, unlowered}
 use Rattle.cx_wiring.specs.Parts.{equals}
@@ -144,7 +144,7 @@ module _ (d : PlainDesign) (part : PlainComponent) (cells : Cells) (numbers : In
   pub done_known : Known (look [] TheDone)
   done_known =
       known_as _ _ (done_takes (lowered_of d) part NC around s look solves (NodeRules.plain (SeamRules.node seam)))
-      (fed_takes around Reg (look []) ToDone (Some (zero_wide 1)) (plain_drivers (lowered_component part)) all (_, refl))
+      (fed_takes around Reg (look []) ToDone (Some (zero_of 1)) (plain_drivers (lowered_component part)) all (_, refl))
     where
       of_control : AllDrive (λ u. same_target u ToDone ≡ false) SD
       of_control =
@@ -206,7 +206,7 @@ module _ (d : PlainDesign) (part : PlainComponent) (cells : Cells) (numbers : In
     done_hole : (g : ℕ) → g < groups (lowered_component part) → KE (OfHole g)
     done_hole g less =
         known_as _ _ (hole_takes (lowered_of d) part NC around s look solves (NodeRules.plain (SeamRules.node seam)) g (omega arith))
-        (fed_takes around Reg (look []) (ToHole g) (Some (zero_wide 1)) (plain_drivers (lowered_component part))
+        (fed_takes around Reg (look []) (ToHole g) (Some (zero_of 1)) (plain_drivers (lowered_component part))
         (all_to_append FedHere (ToHole g) CD AD (all_to_other FedHere (ToHole g) CD of_control)
         (assigns_fed (groups (lowered_component part)) (lowered_component part).islands (NodeRules.islands_named (SeamRules.node seam)) around Reg (look []) (ToHole g) tt (driven_assigns (lowered_component part)) (first_of_assigns (lowered_component part)) (omega arith)
         (all_read d part cells numbers (SeamRules.node seam) around s look solves) (λ a i e. done_fed g less a i (target_hole g a.assign.target e))))
@@ -228,10 +228,10 @@ module _ (d : PlainDesign) (part : PlainComponent) (cells : Cells) (numbers : In
     go_hole : (g : ℕ) → g < groups (lowered_component part) → (b : BitVector) × (look [] (AHole (groups (lowered_component part) + g)) ≡ Some b) × (is_true b ≡ true → IsOn (Goes.act what_goes) g)
     go_hole g less =
         let value = hole_takes (lowered_of d) part NC around s look solves (NodeRules.plain (SeamRules.node seam)) (groups (lowered_component part) + g) (omega arith) in
-        let known = fed_takes around Reg (look []) (ToHole (groups (lowered_component part) + g)) (Some (zero_wide 1)) (plain_drivers (lowered_component part)) (all_to_map Both FedHere (ToHole (groups (lowered_component part) + g)) (λ x h. h.0) (plain_drivers (lowered_component part)) all) (_, refl) in (
+        let known = fed_takes around Reg (look []) (ToHole (groups (lowered_component part) + g)) (Some (zero_of 1)) (plain_drivers (lowered_component part)) (all_to_map Both FedHere (ToHole (groups (lowered_component part) + g)) (λ x h. h.0) (plain_drivers (lowered_component part)) all) (_, refl) in (
           known.0,
           value ∙ known.1,
-          (λ on. on_takes around Reg (look []) (ToHole (groups (lowered_component part) + g)) (zero_wide 1) refl (plain_drivers (lowered_component part))
+          (λ on. on_takes around Reg (look []) (ToHole (groups (lowered_component part) + g)) (zero_of 1) refl (plain_drivers (lowered_component part))
               (all_to_map Both (λ x. KE x.guard × (On around Reg (look []) x.guard → IsOn (Goes.act what_goes) g)) (ToHole (groups (lowered_component part) + g)) (λ x h. (Fed.guard h.0, h.1)) (plain_drivers (lowered_component part)) all) known.0 known.1 on),
         )
       where
@@ -293,7 +293,7 @@ module _ (d : PlainDesign) (part : PlainComponent) (cells : Cells) (numbers : In
 
     any_target : (t : PlainNetTarget) → IsProper t → NoWireFrom t (length (plain_wires (lowered_component part))) → (w : ℕ) → Known (driven_node (wired_in d part) NC around s (look []) (λ c. look (c ∷ [])) w t)
     any_target t proper free_of w =
-        target_known (lowered_of d) part NC around s look solves (NodeRules.plain (SeamRules.node seam)) t proper free_of (all_any_target FedHere t (plain_drivers (lowered_component part)) all_drivers_fed) (zero_wide w)
+        target_known (lowered_of d) part NC around s look solves (NodeRules.plain (SeamRules.node seam)) t proper free_of (all_any_target FedHere t (plain_drivers (lowered_component part)) all_drivers_fed) (zero_of w)
 
     -- EVERY NODE
     row_port : (c p : ℕ) (row : Row) → net_cell_at NC c ≡ ARow row → p < length row.ports → (side : Side) → side_of row p ≡ side → ((m : ℕ) → m < length row.ports → row.reads p m ≡ true → Known (look [] (APort (ports.Cell c m)))) → Known (look [] (APort (ports.Cell c p)))
@@ -310,7 +310,7 @@ module _ (d : PlainDesign) (part : PlainComponent) (cells : Cells) (numbers : In
         by sides.Plain f = any_target (ToPort (ports.Cell c p)) tt (λ m from. refl) (net_at_width (ARow row) p)
         by sides.Output f =
             let g = gathered (λ q. look [] (APort (ports.Cell c q))) (row.reads p) 0 row.ports (λ q low high wanted. inputs_known q (omega arith) wanted) in
-            (_, ap (option_map (λ ins. unwrap_or (row.output (s.cell (c ∷ [])) ins p) (zero_wide (net_at_width (ARow row) p)))) g.1)
+            (_, ap (option_map (λ ins. unwrap_or (row.output (s.cell (c ∷ [])) ins p) (zero_of (net_at_width (ARow row) p)))) g.1)
         by sides.Registered f =
             let r = side_there row.ports p less in
             NetShows.registered net_shows c row p r.0 is r.1 (sym r.2 ∙ f)
@@ -360,5 +360,5 @@ module _ (d : PlainDesign) (part : PlainComponent) (cells : Cells) (numbers : In
     node_known (AWire n) e = wire_known n (ltb-true n (length (wired_in d part).wires) e)
     node_known (AHole n) e =
         known_as _ _ (hole_takes (lowered_of d) part NC around s look solves (NodeRules.plain (SeamRules.node seam)) n (ltb-true n (groups (lowered_component part) + groups (lowered_component part)) e))
-        (fed_takes around Reg (look []) (ToHole n) (Some (zero_wide 1)) (plain_drivers (lowered_component part)) (all_any_target FedHere (ToHole n) (plain_drivers (lowered_component part)) all_drivers_fed) (_, refl))
+        (fed_takes around Reg (look []) (ToHole n) (Some (zero_of 1)) (plain_drivers (lowered_component part)) (all_any_target FedHere (ToHole n) (plain_drivers (lowered_component part)) all_drivers_fed) (_, refl))
     node_known TheDone e = done_known

@@ -3,11 +3,11 @@
 use Rattle.std.proofs.Common.{◌≡◌, ℕ, zero, suc, ◌+◌, ◌<◌, ◌≤◌, ◌⊎◌, inl, inr, Bool, true, false, not, if◌then◌else◌, List, [], ◌∷◌, ◌++◌, length, flat_map, Option, Some, option_map, option_and_then, refl, sym, ap, subst, arith}
 use Rattle.std.specs.Prelude.{nat_lt}
 use Rattle.std.proofs.lemmas.Bool.{cases_lt}
-use Rattle.cx_bits.specs.BitVector.{BitVector}
+use Rattle.cx_bits.specs.BitVector.{BitVector, zero_of}
 use Rattle.cx_meaning.specs.Designs.{PlainComponent}
 use Rattle.cx_net.specs.Nets.{PlainNetTarget, ToWire, PlainNetDriver}
 use Rattle.cx_net.specs.NetTree.{NetCells}
-use Rattle.cx_net.specs.NetMeaning.{NetState, Node, AWire, NetLook, NetAround, is_true, truth_bit, zero_wide, drivers_to, registers_of, own_step, is_own_node, chain as first_true}
+use Rattle.cx_net.specs.NetMeaning.{NetState, Node, AWire, NetLook, NetAround, is_true, truth_bit, drivers_to, registers_of, own_step, is_own_node, chain as first_true}
 use Rattle.cx_static.specs.Islands.{PlainLowereds}
 use Rattle.cx_static.specs.Lowering.{lowered_component}
 use Rattle.cx_wiring.specs.Parts.{one, drive}
@@ -82,7 +82,7 @@ module _ (around : NetAround) (registers : ℕ → Option BitVector) (look : Nod
   heads_fed z t wire (b ∷ bs) fed hold =
       let k = all_split F b (joined bs) fed in (
         record {
-          guard = known_as _ _ hold.0 (switches_known wire (zero_wide 1) b k.0);
+          guard = known_as _ _ hold.0 (switches_known wire (zero_of 1) b k.0);
           source = λ on. known_as _ _ hold.1 (moved_known (ToWire (suc wire)) z b k.0);
         },
         heads_fed z t (suc (suc wire)) bs k.1 hold.2,
@@ -92,7 +92,7 @@ module _ (around : NetAround) (registers : ℕ → Option BitVector) (look : Nod
   bundles_known z wire [] fed hold m low high = absurd (omega arith)
   bundles_known z wire (b ∷ bs) fed hold m low high =
       let k = all_split F b (joined bs) fed in
-      choice (cases_lt wire m) (cases_lt (suc wire) m) (known_as _ _ hold.0 (switches_known wire (zero_wide 1) b k.0)) (known_as _ _ hold.1 (moved_known (ToWire (suc wire)) z b k.0))
+      choice (cases_lt wire m) (cases_lt (suc wire) m) (known_as _ _ hold.0 (switches_known wire (zero_of 1) b k.0)) (known_as _ _ hold.1 (moved_known (ToWire (suc wire)) z b k.0))
       (λ l. bundles_known z (suc (suc wire)) bs k.1 hold.2 m l (omega arith))
     where
       choice : (wire < m) ⊎ (m ≤ wire) → (suc wire < m) ⊎ (m ≤ suc wire) → Known (look (AWire wire)) → Known (look (AWire (suc wire))) → (suc (suc wire) ≤ m → Known (look (AWire m))) → Known (look (AWire m))
@@ -125,13 +125,13 @@ module _ (around : NetAround) (registers : ℕ → Option BitVector) (look : Nod
           side (inr l) f g = g l
       choice false h above_known m low high = absurd (omega arith)
 
-  trees_known : (width : PlainNetTarget → ℕ) (ts : List Driven) (wire : ℕ) → EachDriven F ts → AllHold around registers look (λ t. zero_wide (width t)) wire ts
+  trees_known : (width : PlainNetTarget → ℕ) (ts : List Driven) (wire : ℕ) → EachDriven F ts → AllHold around registers look (λ t. zero_of (width t)) wire ts
       → KnownFrom around registers look wire (length (tree_widths width ts))
   trees_known width [] wire fed hold m low high = absurd (omega arith)
   trees_known width (u ∷ us) wire fed hold m low high =
       let count : length (tree_widths width (u ∷ us)) ≡ (pairs (length u.drivers) + pairs (length u.drivers)) + length (tree_widths width us) = entries_long width u us in
       choice (cases_lt m (behind wire (pairs (length u.drivers))))
-      (λ l. tree_known (zero_wide (width u.target)) u.target (length u.drivers) wire u.drivers fed.0 hold.0 m low l)
+      (λ l. tree_known (zero_of (width u.target)) u.target (length u.drivers) wire u.drivers fed.0 hold.0 m low l)
       (λ l. trees_known width us (behind wire (pairs (length u.drivers))) fed.1 hold.1 m l (omega arith))
     where
       choice : (m < behind wire (pairs (length u.drivers))) ⊎ (behind wire (pairs (length u.drivers)) ≤ m) → (m < behind wire (pairs (length u.drivers)) → Known (look (AWire m)))
@@ -154,8 +154,8 @@ module _ (d : PlainLowereds) (part : PlainComponent) (cells : NetCells) (around 
   pub target_known : (t : PlainNetTarget) → IsProper t → NoWireFrom t (length (plain_wires (lowered_component part)))
       → AllTo (Fed around R (look [])) t (plain_drivers (lowered_component part)) → (z : BitVector) → Known (G t z)
   target_known t proper free fed z =
-      any_undriven around R (look []) (zero_wide (target_width d (lowered_component part) t)) z (drivers_to t (net_component d (lowered_component part)).drivers)
-      (known_as _ _ (takes_all d part cells around s look solves plain t proper free) (fed_takes around R (look []) t (Some (zero_wide (target_width d (lowered_component part) t))) (plain_drivers (lowered_component part)) fed (zero_wide (target_width d (lowered_component part) t), refl)))
+      any_undriven around R (look []) (zero_of (target_width d (lowered_component part) t)) z (drivers_to t (net_component d (lowered_component part)).drivers)
+      (known_as _ _ (takes_all d part cells around s look solves plain t proper free) (fed_takes around R (look []) t (Some (zero_of (target_width d (lowered_component part) t))) (plain_drivers (lowered_component part)) fed (zero_of (target_width d (lowered_component part) t), refl)))
 
   -- registers that are there have values
   pub register_known : (n : ℕ) → n < length (component_registers (lowered_component part)) → Known (R n)

@@ -6,7 +6,7 @@ use Rattle.std.proofs.lemmas.Bool.{eq-eqb}
 use Rattle.std.proofs.lemmas.Bool.Decides.{eqb_tells}
 use Rattle.cx_text.specs.Members.{In}
 use Rattle.cx_text.specs.declared.places.Place.{Place}
-use Rattle.cx_bits.specs.BitVector.{BitVector}
+use Rattle.cx_bits.specs.BitVector.{BitVector, zero_of as zero_wide}
 use Rattle.cx_prim.specs.CellStates.{CellState}
 use Rattle.cx_prim.specs.Rows.{Row, is_enable_side}
 use Rattle.cx_prim.specs.declared.ports.Side.TheVariants as sides
@@ -51,7 +51,7 @@ use Rattle.cx_control.proofs.KeepLaws as keeps
 use Rattle.cx_control.proofs.KeepLaws.{KeepsBelow}
 use Rattle.cx_control.specs.Keeping.{AllRest, Keeps}
 use Rattle.cx_control.proofs.RegisterLemmas.{cycle_steps}
-use Rattle.cx_net.specs.NetMeaning.{NetState, APort, AHole, TheDone, NetLook, NetAround, is_true, truth_bit, zero_wide}
+use Rattle.cx_net.specs.NetMeaning.{NetState, APort, AHole, TheDone, NetLook, NetAround, is_true, truth_bit}
 use Rattle.cx_net.specs.NetEdges.{inputs_from}
 use Rattle.cx_wiring.specs.PartNets.{wired_in, timers_of}
 use Rattle.cx_wiring_runs.proofs.SeamRules.{SeamRules, row_lawful}

@@ -4,7 +4,7 @@ use Rattle.std.proofs.Common.{◌≡◌, ◌⊎◌, ℕ, true, false, List, [], 
 use Rattle.std.specs.Prelude.{is_some}
 use Rattle.cx_text.specs.Members.{In}
 use Rattle.cx_text.specs.declared.places.Place.{Place}
-use Rattle.cx_bits.specs.BitVector.{BitVector}
+use Rattle.cx_bits.specs.BitVector.{BitVector, zero_of}
 use Rattle.cx_prim.specs.CellStates.{CellState}
 use Rattle.cx_prim.specs.Rows.{Row}
 use Rattle.cx_meaning.specs.declared.ports.PortRef.TheVariants as ports
@@ -34,7 +34,7 @@ use Rattle.cx_wiring_cycles.specs.Shown.{wide, Going, told}
 use Rattle.cx_control.specs.Controls.{coded_control, coded_below}
 use Rattle.cx_control.specs.Standing.{RestsAt, bare}
 use Rattle.cx_control.specs.InstanceRules.{Stands}
-use Rattle.cx_net.specs.NetMeaning.{NetState, APort, AWire, AHole, TheDone, NetLook, NetAround, is_true, truth_bit, zero_wide}
+use Rattle.cx_net.specs.NetMeaning.{NetState, APort, AWire, AHole, TheDone, NetLook, NetAround, is_true, truth_bit}
 use Rattle.cx_wiring_runs.specs.PortValues.{port_value, active_now}
 
 module _ (part : PlainComponent) (cells : Cells) (around : NetAround) (v : NetState) (look : NetLook) (s : Kept) (p : Machine.Place (Coded.machine (coded_control (Node part cells)))) where
@@ -99,7 +99,7 @@ module _ (part : PlainComponent) (cells : Cells) (around : NetAround) (v : NetSt
   pub record NodeSeam : Type 0 where
     pub stands : (r : Running (leaf_machines (Node part cells) (coded_below cells))) → Runs r → Stands (Node part cells) (leaf_of (leaf_machines (Node part cells) (coded_below cells)) r)
     pub group_apart : (g : ℕ) (place : Place) (stand : Machine.Place (LeafMachines.enable (leaf_machines (Node part cells) (coded_below cells)) g)) → Runs (AGroup g place stand) → kind_length (group_at part g).kind ≡ None
-        → is_true (unwrap_or (look [] (AHole g)) (zero_wide 1)) ≡ false → IsApart part (Placed (Enable g) place) (group g) (active_now (Node part cells) around v look)
+        → is_true (unwrap_or (look [] (AHole g)) (zero_of 1)) ≡ false → IsApart part (Placed (Enable g) place) (group g) (active_now (Node part cells) around v look)
     pub group_rests : (g : ℕ) (place : Place) (stand : Machine.Place (LeafMachines.enable (leaf_machines (Node part cells) (coded_below cells)) g)) → Runs (AGroup g place stand) → (c : ℕ) (child : Instance)
         → Reads part (Placed (Enable g) place) c → cell_at cells c ≡ OfInstance child → (called (Node part cells) g ≡ Some c → ⊥) → RestsAt cells c (bare s)
     pub island_rests : (form : PlainForm) (place : Place) (stand : Machine.Place (LeafMachines.island (leaf_machines (Node part cells) (coded_below cells)) form)) → Runs (AnIsland form place stand) → (c : ℕ) (child : Instance)
@@ -110,6 +110,6 @@ module _ (part : PlainComponent) (cells : Cells) (around : NetAround) (v : NetSt
     pub rests_done : (c : ℕ) (child : Instance) → RestsAt cells c (bare s) → cell_at cells c ≡ OfInstance child → look (c ∷ []) TheDone ≡ Some (truth_bit false)
     -- of groups that drive what a group that ends reads none goes; and of those that drive a cell that no leaf drives, comb groups alone
     pub ended_group : (g : ℕ) (place : Place) (stand : Machine.Place (LeafMachines.enable (leaf_machines (Node part cells) (coded_below cells)) g)) → Runs (AGroup g place stand) → kind_length (group_at part g).kind ≡ None
-        → is_true (unwrap_or (look [] (AHole g)) (zero_wide 1)) ≡ true → (c h : ℕ) → Reads part (Placed (Enable g) place) c → group_drives part h c ≡ true → (active_now (Node part cells) around v look).offset h ≡ None
+        → is_true (unwrap_or (look [] (AHole g)) (zero_of 1)) ≡ true → (c h : ℕ) → Reads part (Placed (Enable g) place) c → group_drives part h c ≡ true → (active_now (Node part cells) around v look).offset h ≡ None
     pub free_cell : (c : ℕ) → ((r : Running (leaf_machines (Node part cells) (coded_below cells))) → Runs r → drives part (leaf_of (leaf_machines (Node part cells) (coded_below cells)) r) c ≡ false) → (h : ℕ) → group_drives part h c ≡ true
         → ((active_now (Node part cells) around v look).offset h ≡ None) ⊎ (is_comb (group_at part h).kind ≡ true)

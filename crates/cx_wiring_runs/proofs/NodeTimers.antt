@@ -2,7 +2,7 @@
 use Rattle.std.proofs.Common.{◌≡◌, ℕ, zero, suc, ◌<◌, ◌≤◌, ◌==◌, Bool, true, false, if◌then◌else◌, [], ◌∷◌, Option, Some, unwrap_or, slice_get, refl, sym, ap, ◌∙◌, arith}
 use Rattle.std.specs.Option.{option_map_or}
 use Rattle.cx_text.specs.declared.places.Place.{Place}
-use Rattle.cx_bits.specs.BitVector.{BitVector}
+use Rattle.cx_bits.specs.BitVector.{BitVector, zero_of}
 use Rattle.cx_prim.specs.CellStates.{CellState}
 use Rattle.cx_prim.specs.Rows.{Row}
 use Rattle.cx_prim.specs.PipeRows.{timer_idle, timer_go, timer_row}
@@ -12,7 +12,7 @@ use Rattle.cx_meaning.specs.Instances as instances
 use Rattle.cx_meaning.specs.Instances.{Cells}
 use Rattle.cx_net.specs.Nets.{ToPort}
 use Rattle.cx_net.specs.NetTree.{NetCells, no_net_cells, a_row, a_child, ARow, net_cell_at}
-use Rattle.cx_net.specs.NetMeaning.{NetState, APort, AWire, NetLook, NetAround, truth_bit, zero_wide, cell_node, is_port_of}
+use Rattle.cx_net.specs.NetMeaning.{NetState, APort, AWire, NetLook, NetAround, truth_bit, cell_node, is_port_of}
 use Rattle.cx_net.specs.NetEdges.{cell_below, inputs_from, own_register}
 use Rattle.cx_static.specs.declared.islands.IslandTimer.{IslandTimer}
 use Rattle.cx_static.specs.Islands.{PlainIsland}
@@ -49,7 +49,7 @@ row_below (a_child child rest) (suc at) c row look d e = row_below rest at c row
 -- a timer whose go is this bit
 timer_next : (p c : ℕ) (look : NetLook) (d : CellState) (b : Bool) → look [] (APort (ports.Cell c 0)) ≡ Some (truth_bit b) → Row.next (timer_row p) d (inputs_from look c 0 (Row.ports (timer_row p))) ≡ (if b then timer_go p d else timer_idle d)
 timer_next p c look d b e =
-    ap (λ o. if ((unwrap_or o (zero_wide 1)).value == 1) then timer_go p d else timer_idle d) e ∙ by b
+    ap (λ o. if ((unwrap_or o (zero_of 1)).value == 1) then timer_go p d else timer_idle d) e ∙ by b
   where
     by : (b : Bool) → (if ((truth_bit b).value == 1) then timer_go p d else timer_idle d) ≡ (if b then timer_go p d else timer_idle d)
     by true = refl

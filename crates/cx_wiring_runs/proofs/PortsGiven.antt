@@ -2,7 +2,7 @@
 -- primitives make its steps, and calls that go on have go and their inputs. Of islands that is a premise here.
 use Rattle.std.proofs.Common.{◌≡◌, ℕ, suc, true, false, [], ◌∷◌, Some, None, unwrap_or, ap, ◌∙◌}
 use Rattle.cx_text.specs.declared.places.Place.{Place}
-use Rattle.cx_bits.specs.BitVector.{BitVector}
+use Rattle.cx_bits.specs.BitVector.{BitVector, zero_of}
 use Rattle.cx_prim.specs.Rows.{Row}
 use Rattle.cx_meaning.specs.declared.ports.PortRef.TheVariants as ports
 use Rattle.cx_meaning.specs.declared.sights.Seen.TheVariants.{Value}
@@ -24,7 +24,7 @@ use Rattle.cx_control.specs.ControlRules.{ControlRules}
 use Rattle.cx_control.proofs.CallLaws.{ChildLaws}
 use Rattle.cx_control.proofs.ControlLaws.{IslandsDo}
 use Rattle.cx_control.proofs.KeepLaws.{KeepsBelow}
-use Rattle.cx_net.specs.NetMeaning.{NetState, NetLook, NetAround, AHole, is_true, zero_wide, APort, around_child}
+use Rattle.cx_net.specs.NetMeaning.{NetState, NetLook, NetAround, AHole, is_true, APort, around_child}
 use Rattle.cx_net.specs.NetEdges.{inputs_from}
 use Rattle.cx_static.specs.Lowering.{lowered_component}
 use Rattle.cx_wiring.specs.PartNets.{wired_in, timers_of}
@@ -70,7 +70,7 @@ module _ (d : PlainDesign) (of_island : PlainComponent → NetState → ℕ → 
 
     module _ (agrees : Agrees d of_island part cells rules own p s v around look cycle.cycle.solves) where
       holes_so : (g : ℕ) (place : Place) (stand : Machine.Place (LeafMachines.enable (leaf_machines (instances.Node part cells) (coded_below cells)) g)) → In (running (leaf_machines (instances.Node part cells) (coded_below cells)) part.control p) (AGroup g place stand)
-          → group_length part g ≡ None → is_true (unwrap_or (look [] (AHole g)) (zero_wide 1)) ≡ is_done (Machine.step (LeafMachines.enable (leaf_machines (instances.Node part cells) (coded_below cells)) g) stand s)
+          → group_length part g ≡ None → is_true (unwrap_or (look [] (AHole g)) (zero_of 1)) ≡ is_done (Machine.step (LeafMachines.enable (leaf_machines (instances.Node part cells) (coded_below cells)) g) stand s)
       holes_so g place stand m plain =
           hole_agrees (leaf_machines (instances.Node part cells) (coded_below cells)) (leaf_codings (instances.Node part cells) (coded_below cells)) part (lowered_component part).islands s (holes d of_island part cells rules own p s v around look cycle.cycle.solves)
           (tests d of_island part cells rules own p s v around look cycle.cycle.solves) (AGroup g place stand) part.control p agrees m plain

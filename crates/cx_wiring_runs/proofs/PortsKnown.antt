@@ -7,7 +7,7 @@ use Rattle.cx_text.proofs.MemberLaws.{in_left, in_right}
 use Rattle.cx_text.specs.Members.{In}
 use Rattle.cx_text.proofs.OptionLaws.{none_is_some}
 use Rattle.cx_text.proofs.NumberLaws.{before_more}
-use Rattle.cx_bits.specs.BitVector.{BitVector}
+use Rattle.cx_bits.specs.BitVector.{BitVector, zero_of}
 use Rattle.cx_prim.specs.declared.ports.PortRow.{PortRow}
 use Rattle.cx_prim.specs.declared.ports.Side.{Side}
 use Rattle.cx_prim.specs.declared.ports.Side.TheVariants as sides
@@ -27,7 +27,7 @@ use Rattle.cx_rules.proofs.FoundLemmas.{same_is, source_in}
 use Rattle.cx_control.proofs.UnionLemmas.{stands_acting}
 use Rattle.cx_net.specs.Nets.{PlainNetExpr, OfPort, OfWire, ToPort, PlainNetDriver, PlainNetComponent}
 use Rattle.cx_net.specs.NetTree.{NetCells, ARow, AChild, net_part, net_cell_at}
-use Rattle.cx_net.specs.NetMeaning.{NetState, Node, APort, AHole, TheDone, NetLook, NetAround, is_true, zero_wide, same_target, gather_known, registers_of, driven_node, row_node, child_node, cell_node, own_step, is_port_of, is_own_node, net_part_port, net_at_width}
+use Rattle.cx_net.specs.NetMeaning.{NetState, Node, APort, AHole, TheDone, NetLook, NetAround, is_true, same_target, gather_known, registers_of, driven_node, row_node, child_node, cell_node, own_step, is_port_of, is_own_node, net_part_port, net_at_width}
 use Rattle.cx_static.specs.Islands.{PlainIsland}
 use Rattle.cx_static.specs.Lowering.{lowered, lowered_component, lowered_of, unlowered}
 use Rattle.cx_wiring.specs.Control.{control_drivers}
@@ -165,7 +165,7 @@ module _ (d : PlainDesign) (part : PlainComponent) (cells : Cells) (numbers : In
         (λ a i e. fed a i (same_is a.assign.target p (sym (same a.assign.target) ∙ e))))
 
     driven_known : (w : ℕ) → Known (driven_node (wired_in d part) NC around s (look []) (λ c. look (c ∷ [])) w (ToPort p))
-    driven_known w = target_known (lowered_of d) part NC around s look solves (NodeRules.plain rules) (ToPort p) proper (λ m from. refl) all_fed (zero_wide w)
+    driven_known w = target_known (lowered_of d) part NC around s look solves (NodeRules.plain rules) (ToPort p) proper (λ m from. refl) all_fed (zero_of w)
 
   pub cell_driven : (c q : ℕ) → c < length part.cells → ((a : Owned) → In (driven_assigns (lowered_component part)) a → a.assign.target ≡ ports.Cell c q → IsFed a) → (w : ℕ)
       → Known (driven_node (wired_in d part) NC around s (look []) (λ e. look (e ∷ [])) w (ToPort (ports.Cell c q)))
@@ -222,7 +222,7 @@ module _ (d : PlainDesign) (part : PlainComponent) (cells : Cells) (numbers : In
     output_known c p row is side less inputs =
         let g = gathered (λ q. look [] (APort (ports.Cell c q))) (row.reads p) 0 row.ports (λ q low high wanted. inputs q (omega arith) wanted) in
         known_as _ _ (row_has c p row sides.Output is side less)
-        (_, ap (option_map (λ ins. unwrap_or (row.output (s.cell (c ∷ [])) ins p) (zero_wide (net_at_width (ARow row) p)))) g.1)
+        (_, ap (option_map (λ ins. unwrap_or (row.output (s.cell (c ∷ [])) ins p) (zero_of (net_at_width (ARow row) p)))) g.1)
 
     child_output : (c p n : ℕ) (child : Instance) → cell_at cells c ≡ OfInstance child → part_port (part_of child) p ≡ AnOutput n → p < 2 + length (part_of child).inputs + length (part_of child).outputs → Known (look [] (APort (ports.Cell c p)))
     child_output c p n child is port less =

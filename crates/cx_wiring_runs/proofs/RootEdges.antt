@@ -17,7 +17,6 @@ use Rattle.cx_control.specs.Standing.{bare, good_control}
 use Rattle.cx_control.specs.Keeping.{Keeps}
 use Rattle.cx_control.specs.DesignRuns.{design_machine}
 use Rattle.cx_net.specs.Nets.{PlainNetComponent}
-use Rattle.cx_net.specs.NetTree.{NetInstance}
 use Rattle.cx_net.specs.NetMeaning.{NetState, NetLook, TheDone, outside, truth_bit, is_true}
 use Rattle.cx_net.specs.NetEdges.{net_after}
 use Rattle.cx_net.specs.NetRuns as nets
@@ -28,9 +27,6 @@ use Rattle.cx_wiring_runs.proofs.EdgeRuns.{EdgeKeeps}
 
 -- Holds says that the cells of a state hold what their rows can hold, so that values have their widths
 module _ (wired : PlainComponent → PlainNetComponent) (timers : PlainComponent → List Row) (numbers : Instance → NetState → ℕ → ℕ) (d : PlainDesign) (Holds : NetState → Type 0) where
-  abbrev pub root_tree : NetInstance
-  root_tree = net_of_instance wired timers numbers (tree_of d)
-
   -- the invariant at the root, which has no inputs
   pub record GoodRoot (c : Control (Machine.Place (design_machine d))) (s : Kept) : Type 0 where
     pub fine : at_fine (Coding.IsFine (Coded.coding (coded_control (tree_of d)))) c

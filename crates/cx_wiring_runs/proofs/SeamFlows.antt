@@ -5,7 +5,7 @@ use Rattle.std.specs.Prelude.{nat_eq, if◌then◌else◌}
 use Rattle.std.proofs.lemmas.Bool.{eqb-true, lt-ltb}
 use Rattle.cx_text.specs.Members.{In}
 use Rattle.cx_text.proofs.OptionLaws.{none_some}
-use Rattle.cx_bits.specs.BitVector.{BitVector}
+use Rattle.cx_bits.specs.BitVector.{BitVector, zero_of as zero_wide}
 use Rattle.cx_prim.specs.declared.ports.Side.{Side}
 use Rattle.cx_prim.specs.declared.ports.Side.TheVariants as sides
 use Rattle.cx_prim.specs.CellStates.{CellState}
@@ -31,7 +31,7 @@ use Rattle.cx_control.proofs.InstanceLemmas.{go_narrow}
 use Rattle.cx_control.proofs.CellLemmas.{cell_step}
 use Rattle.cx_control.proofs.LeadsLemmas.{Stands, acting_stands, Inside, leads_inside, apart_assigns, apart_holes}
 use Rattle.cx_control.proofs.PortFlows.{seen_flows}
-use Rattle.cx_net.specs.NetMeaning.{NetState, APort, AHole, TheDone, NetLook, NetAround, is_true, truth_bit, zero_wide}
+use Rattle.cx_net.specs.NetMeaning.{NetState, APort, AHole, TheDone, NetLook, NetAround, is_true, truth_bit}
 use Rattle.cx_wiring.specs.PartNets.{wired_in, timers_of}
 use Rattle.cx_wiring.proofs.TakingLemmas.{true_bit}
 use Rattle.cx_wiring_runs.proofs.RowPorts.{enable_width}

@@ -19,7 +19,8 @@ use Rattle.cx_meaning.specs.declared.ports.PlacedPort.{PlacedPort}
 use Rattle.cx_meaning.specs.Instances.{Instance, Node, Cells, OfRow, OfInstance, cell_at, cells_of, part_of, cells_for, tree_within, tree_of, Path, instance_at}
 use Rattle.cx_meaning.specs.Active.{Owned, source_order}
 use Rattle.cx_meaning.specs.Sights.{part_port}
-use Rattle.cx_rules.specs.Ports.{enables_cell, is_primitive_enable, is_part_port, component_of, path_of}
+use Rattle.cx_rules.specs.Ports.{is_primitive_enable, is_part_port, component_of, path_of}
+use Rattle.cx_meaning.specs.Calls.{enables_at}
 use Rattle.cx_rules.specs.StaticControl.{is_static}
 use Rattle.cx_rules.specs.Items.{Dynamic, Visited, statements_in, is_comb}
 use Rattle.cx_rules.specs.ShapeRules.{is_hole}
@@ -112,7 +113,7 @@ module _ (d : PlainDesign) (flat : IsFlat d) (accepted : IsAccepted d) (k : ℕ)
         enables : (is_primitive_enable (component_of d k) o.assign.target || is_part_port (component_of d k) o.assign.target || is_hole o.assign.target) ≡ true
         enables =
             ap (λ b. b || is_part_port (component_of d k) o.assign.target || is_hole o.assign.target)
-            (ap (is_primitive_enable (component_of d k)) target ∙ ap (λ x. enables_cell x p) at ∙ ap is_enable_side side)
+            (ap (is_primitive_enable (component_of d k)) target ∙ ap (λ x. enables_at x p) at ∙ ap is_enable_side side)
 
   test_rest : (v : Visited) (written : Option ℕ) (test : PlacedPort) (a b : PlainStatement) → In (statements_in (component_at d k)) v → v.form ≡ StaticIf written test a b → (Rests (component_of d k) test.port → ⊥) → ⊥
   test_rest v written test a b i form none =

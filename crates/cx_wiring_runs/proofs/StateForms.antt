@@ -10,8 +10,7 @@ use Rattle.cx_prim.specs.CellStates as states
 use Rattle.cx_prim.specs.CellStates.{CellState, StateShape, with_words, words_of}
 use Rattle.cx_prim.specs.Rows.{Inputs, is_output_side, is_on, Row, reset}
 use Rattle.cx_prim.specs.CombinationalRows.{combinational_row}
-use Rattle.cx_prim.specs.declared.ports.Side.{Side}
-use Rattle.cx_prim.specs.CombinationalLaws.{passes_at}
+use Rattle.cx_prim.specs.CombinationalLaws.{passes_at, is_unregistered_side}
 use Rattle.cx_prim.specs.RegisterRow.{register_row, register_output, register_next}
 use Rattle.cx_prim.specs.MemoryRows.{IsLayout, memory_row, memory_output, memory_read, sequential_memory_row, sequential_output}
 use Rattle.cx_prim.proofs.MemoryLaws.{MemoryOutput, is_read, is_done, memory_outputs}
@@ -54,17 +53,13 @@ by_test : (shape : StateShape) (b : Bool) (x y : CellState) → has_form shape x
 by_test shape true x y h k = h
 by_test shape false x y h k = k
 
-abbrev is_unregistered : Side → Bool
-is_unregistered Registered = false
-is_unregistered _ = true
-
-unregistered : (ports : List PortRow) → list_all (λ port. is_unregistered port.side) ports ≡ true → (n : ℕ) (port : PortRow) → slice_get ports n ≡ Some port → port.side ≡ Registered → ⊥
+unregistered : (ports : List PortRow) → list_all (λ port. is_unregistered_side port.side) ports ≡ true → (n : ℕ) (port : PortRow) → slice_get ports n ≡ Some port → port.side ≡ Registered → ⊥
 unregistered ports none n port at registered =
-    let test : is_unregistered port.side ≡ true = passes_at (λ (p : PortRow). is_unregistered p.side) ports n port none at in
-    let wrong : false ≡ true = ap is_unregistered (sym registered) ∙ test in absurd (cc)
+    let test : is_unregistered_side port.side ≡ true = passes_at (λ (p : PortRow). is_unregistered_side p.side) ports n port none at in
+    let wrong : false ≡ true = ap is_unregistered_side (sym registered) ∙ test in absurd (cc)
 
 -- THE ROWS
-combinational_forms : (ports : List PortRow) (count : ℕ) (value : Inputs → Option BitVector) → list_all (λ port. is_unregistered port.side) ports ≡ true → KeepsForm (combinational_row ports count value)
+combinational_forms : (ports : List PortRow) (count : ℕ) (value : Inputs → Option BitVector) → list_all (λ port. is_unregistered_side port.side) ports ≡ true → KeepsForm (combinational_row ports count value)
 combinational_forms ports count value none = record { start = refl; next = λ state inputs h. refl; shows = λ state n port h at registered. absurd (unregistered ports none n port at registered) }
 
 register_forms : (w : ℕ) → KeepsForm (register_row w)

@@ -5,7 +5,7 @@ use Rattle.std.specs.Prelude.{nat_lt}
 use Rattle.std.proofs.lemmas.Bool.{lt-ltb, ltb-true, ltb-false, le-ltb}
 use Rattle.std.proofs.lemmas.Option.{slice_get-map, slice_get-get_or}
 use Rattle.cx_text.specs.Members.{In}
-use Rattle.cx_bits.specs.BitVector.{BitVector}
+use Rattle.cx_bits.specs.BitVector.{BitVector, zero_of as zero_wide}
 use Rattle.cx_prim.specs.declared.ports.PortRow.{PortRow}
 use Rattle.cx_prim.specs.declared.ports.Side.{Side}
 use Rattle.cx_prim.specs.declared.ports.Side.TheVariants as sides
@@ -28,7 +28,7 @@ use Rattle.cx_rules.proofs.FoundLemmas.{same_is}
 use Rattle.cx_control.specs.Flows.{Values, zero_of, guard_on, first_on, given, side_flow, part_flow, cell_flow}
 use Rattle.cx_net.specs.Nets.{ToPort, ToHole}
 use Rattle.cx_net.specs.NetTree.{ARow, AChild}
-use Rattle.cx_net.specs.NetMeaning.{NetState, APort, AHole, TheDone, NetLook, NetAround, zero_wide, net_at_width, gather_known, is_port_of, is_own_node, same_target, drivers_to, registers_of, row_node, child_node, cell_node, chain as first_true}
+use Rattle.cx_net.specs.NetMeaning.{NetState, APort, AHole, TheDone, NetLook, NetAround, net_at_width, gather_known, is_port_of, is_own_node, same_target, drivers_to, registers_of, row_node, child_node, cell_node, chain as first_true}
 use Rattle.cx_static.specs.Islands.{PlainIsland}
 use Rattle.cx_static.specs.Lowering.{lowered_component, lowered_of}
 use Rattle.cx_wiring.specs.Assignments.{target_of, occurs_in, kind_drives, owner_drives, is_driven}

@@ -1,9 +1,9 @@
 use Rattle.std.proofs.Common.{◌≡◌, ◌∙◌, inl, inr, not, ap, sym}
-use Rattle.cx_meaning.specs.Instances.{cells_of, cell_at}
+use Rattle.cx_meaning.specs.Instances.{cells_of, cell_at, input_count}
 use Rattle.cx_rules.specs.Ports.{component_of}
 use Rattle.cx_design.specs.PlainForms.{plain_assigns, plain_invoke}
 use Rattle.cx_design.specs.PlainDesigns.{plain_design}
-use Rattle.cx_shape_calls.specs.StaticInvokes.{input_count, is_restless, some_unbound}
+use Rattle.cx_shape_calls.specs.StaticInvokes.{is_restless, some_unbound}
 use Rattle.cx_shape_calls.proofs.InvokeLemmas.{marked_wrong, marked_late}
 use Rattle.cx_shape_calls.proofs.invokes.is_wrong_invoke.Goals as goal
 use Rattle.cx_text.proofs.OptionLaws.{none_of}

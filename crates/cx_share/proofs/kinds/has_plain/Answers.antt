@@ -1,6 +1,6 @@
 use Rattle.std.proofs.Common.{sym, ◌∙◌}
 use Rattle.cx_prim.specs.Table.{row_of}
-use Rattle.cx_sharing.specs.Uses.{is_plain_side}
+use Rattle.cx_prim.specs.Rows.{is_plain_side}
 use Rattle.cx_share.proofs.KindLemmas.{any_found, none_next}
 use Rattle.cx_share.proofs.kinds.has_plain.Goals as goal
 

@@ -1,7 +1,7 @@
 use Rattle.std.proofs.Common.{◌≡◌, false, take}
 use Rattle.std.specs.List.{list_any}
 use Rattle.cx_prim.specs.Table.{row_of}
-use Rattle.cx_sharing.specs.Uses.{is_plain_side}
+use Rattle.cx_prim.specs.Rows.{is_plain_side}
 use Rattle.cx_share.proofs.kinds.has_plain.Given as goal
 
 -- none so far is one

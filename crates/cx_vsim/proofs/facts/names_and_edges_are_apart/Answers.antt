@@ -5,7 +5,6 @@ use Rattle.cx_vtree.specs.InstanceTree.{instances_of}
 use Rattle.cx_vtree.specs.Edges.{edge_at, acting_sets, acting_stores}
 use Rattle.cx_vtree.specs.Sound.{width_of}
 use Rattle.cx_vlaws.specs.Widths.{scope_at}
-use Rattle.cx_vsim.proofs.Positions.{arrays_at_same}
 use Rattle.cx_vsim.proofs.facts.names_and_edges_are_apart.Goals as goal
 
 named_at : {A : Type 0} (f : A → List ℕ) (xs : List A) (k : ℕ) (x : A) → slice_get xs k ≡ Some x → slice_get (map f xs) k ≡ Some (f x)
@@ -17,8 +16,7 @@ returns c = λ source sound.
     record {
       names = record {
         nets = λ i k h name. c.names_are_apart.ensures.nets source i sound k h name;
-        arrays = λ i a b name at there.
-            c.names_are_apart.ensures.arrays source i sound a b name (ap (λ l. slice_get l a) (arrays_at_same tree i) ∙ at) (ap (λ l. slice_get l b) (arrays_at_same tree i) ∙ there);
+        arrays = λ i a b name. c.names_are_apart.ensures.arrays source i sound a b name;
       };
       edges = record {
         registers = λ reset i j a at.

@@ -1,7 +1,7 @@
 use Rattle.std.proofs.Common.{Some, None, ap, sym, ◌∙◌, if◌then◌else◌}
 use Rattle.std.specs.Option.{option_or}
 use Rattle.cx_vtree.specs.InstanceTree.{same_name}
-use Rattle.cx_vsound.specs.Firsts.{number_by}
+use Rattle.cx_vtree.specs.NameNumbers.{number_by}
 use Rattle.cx_vsound.proofs.FirstLemmas.{instances_next}
 use Rattle.cx_vsound.proofs.earlier.instance_numbers.Goals as goal
 

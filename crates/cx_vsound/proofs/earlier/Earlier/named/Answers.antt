@@ -2,7 +2,7 @@ use Rattle.std.proofs.Common.{◌≡◌, ◌≤◌, Some, None, List, map, lengt
 use Rattle.cx_vtree.specs.Sound.{module_named}
 use Rattle.cx_vscope.specs.declared.drafts.DraftModule.{DraftModule}
 use Rattle.cx_vscope.specs.Drafts.{draft_modules}
-use Rattle.cx_vsound.specs.Firsts.{number_by}
+use Rattle.cx_vtree.specs.NameNumbers.{number_by}
 use Rattle.cx_vsound.proofs.FirstLemmas.{module_past, module_there, named_none}
 use Rattle.cx_text.proofs.ListLaws.{item_at, length-map}
 use Rattle.cx_vsound.proofs.earlier.Earlier.named.Goals as goal

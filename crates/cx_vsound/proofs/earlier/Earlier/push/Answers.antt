@@ -2,14 +2,15 @@ use Rattle.std.proofs.Common.{◌≡◌, [], ◌∷◌, ◌++◌, List, map, len
 use Rattle.std.proofs.lemmas.List.{map_push}
 use Rattle.cx_vscope.specs.declared.drafts.DraftModule.{DraftModule}
 use Rattle.cx_vscope.specs.Drafts.{draft_modules}
-use Rattle.cx_vsound.specs.Firsts.{HasFirst, first_number, module_names}
+use Rattle.cx_vsound.specs.Firsts.{HasFirst, module_names}
+use Rattle.cx_vtree.specs.NameNumbers.{position}
 use Rattle.cx_vsound.proofs.FirstLemmas.{modules_more}
 use Rattle.cx_text.proofs.ListLaws.{length-map}
 use Rattle.cx_vsound.proofs.earlier.Earlier.push.Goals as goal
 
 pub invariant_of-self-in_err-enter : goal.invariant_of-self-in_err-enter
 invariant_of-self-in_err-enter c =
-    λ q. c.in_err-enter.ensures.err q ∙ c.self.invariant q ∙ ap (λ l. first_number (module_names (draft_modules (map (λ m. m.now) l))) q) (sym c.in_ok-reserve.ensures.items)
+    λ q. c.in_err-enter.ensures.err q ∙ c.self.invariant q ∙ ap (λ l. position (module_names (draft_modules (map (λ m. m.now) l))) q) (sym c.in_ok-reserve.ensures.items)
 
 pub invariant_of-self-2 : goal.invariant_of-self-2
 invariant_of-self-2 c =

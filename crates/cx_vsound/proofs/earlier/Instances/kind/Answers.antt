@@ -1,7 +1,7 @@
 use Rattle.std.proofs.Common.{◌≡◌, Some, None, map, ap, ◌∙◌}
 use Rattle.cx_vtree.specs.PlainParts.{plain_instance}
 use Rattle.cx_vtree.specs.Sound.{instance_kind}
-use Rattle.cx_vsound.specs.Firsts.{number_by}
+use Rattle.cx_vtree.specs.NameNumbers.{number_by}
 use Rattle.cx_vsound.proofs.FirstLemmas.{kind_none, kind_past, kind_there}
 use Rattle.cx_text.proofs.ListLaws.{read_at}
 use Rattle.cx_vsound.proofs.earlier.Instances.kind.Goals as goal
