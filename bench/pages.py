@@ -1,5 +1,5 @@
 #!/usr/bin/env python3
-"""Runs the commands of docs/TUTORIAL.md, docs/VERILOG.md, docs/MEANING.md, docs/LANGUAGE.md, docs/REWRITINGS.md, docs/PROFILING.md and docs/STATIC.md, and compares what they print with the pages; and the tests of tools/.
+"""Runs the commands of the pages of docs/ that are named below, and compares what they print with the pages; and the tests of tools/.
 
     bench/pages.py PROGRAM [--write]
 
@@ -16,7 +16,8 @@ import sys
 import tempfile
 
 TOP = os.path.abspath(os.path.join(os.path.dirname(os.path.abspath(__file__)), '..'))
-PAGES = [os.path.join(TOP, 'docs', name) for name in ('TUTORIAL.md', 'VERILOG.md', 'MEANING.md', 'LANGUAGE.md', 'REWRITINGS.md', 'PROFILING.md', 'STATIC.md')]
+PAGES = [os.path.join(TOP, 'docs', name) for name in
+         ('COMMANDS.md', 'TUTORIAL.md', 'VERILOG.md', 'MEANING.md', 'LANGUAGE.md', 'REWRITINGS.md', 'PROFILING.md', 'STATIC.md')]
 TOOLS = ('iverilog', 'vvp', 'verilator', 'yosys')
 
 
