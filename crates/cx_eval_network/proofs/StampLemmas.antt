@@ -6,39 +6,17 @@ use Rattle.std.proofs.lemmas.Option.{slice_get-map}
 use Rattle.cx_meaning.specs.declared.sights.Seen.{Seen}
 use Rattle.cx_text.proofs.ListLaws.{at_map, set_other, set_same, there_below}
 use Rattle.cx_text.proofs.OptionLaws.{none_is_some}
-use Rattle.cx_text.proofs.NumberLaws.{apart_numbers, from_eq, other, same_numbers, same_or}
+use Rattle.cx_text.proofs.NumberLaws.{apart_numbers, from_eq, same_numbers, same_or}
 use Rattle.cx_eval_network.specs.declared.marks.NodeMark.{NodeMark}
 use Rattle.cx_eval_network.specs.declared.marks.NodeMark.TheVariants.{Unseen, Open, Known}
 use Rattle.cx_eval_network.specs.declared.marks.StampedMark.{StampedMark}
-use Rattle.cx_eval_network.specs.Demands.{AllUnseen, Ready, is_known, known_at}
+use Rattle.cx_eval_network.specs.Demands.{AllUnseen, Ready}
 use Rattle.cx_eval_network.specs.Stamps.{AreStamped, copied, followed, mark_at, marks_at}
 
 known_so : (stamp : ℕ) (m : StampedMark) → m.stamp ≡ stamp → mark_at stamp m ≡ Known m.seen
 known_so stamp m e = ap (λ b. if b then Known m.seen else (if nat_eq (m.stamp + 1) stamp then Open else Unseen)) (same_numbers m.stamp stamp e)
 
-not_known : (c : Bool) → is_known (Some (if c then Open else Unseen)) ≡ false
-not_known true = refl
-not_known false = refl
-
-other_so : (stamp : ℕ) (m : StampedMark) → m.stamp ≢ stamp → is_known (Some (mark_at stamp m)) ≡ false
-other_so stamp m ne =
-    ap (λ b. is_known (Some (if b then Known m.seen else (if nat_eq (m.stamp + 1) stamp then Open else Unseen)))) (other m.stamp stamp ne)
-    ∙ not_known (nat_eq (m.stamp + 1) stamp)
-
--- READ
 module _ (stamp : ℕ) (marks : List StampedMark) (node : ℕ) where
-  shows : (o : Option StampedMark) → slice_get marks node ≡ o → slice_get (marks_at stamp marks) node ≡ option_map (mark_at stamp) o
-  shows o e = slice_get-map (mark_at stamp) marks node ∙ ap (option_map (mark_at stamp)) e
-
-  pub past_unknown : slice_get marks node ≡ None → known_at (marks_at stamp marks) node ≡ false
-  past_unknown e = ap is_known (shows None e)
-
-  pub stamped_known : (m : StampedMark) → slice_get marks node ≡ Some m → m.stamp ≡ stamp → slice_get (marks_at stamp marks) node ≡ Some (Known m.seen)
-  stamped_known m e same = shows (Some m) e ∙ ap Some (known_so stamp m same)
-
-  pub other_unknown : (m : StampedMark) → slice_get marks node ≡ Some m → m.stamp ≢ stamp → known_at (marks_at stamp marks) node ≡ false
-  other_unknown m e ne = ap is_known (shows (Some m) e) ∙ other_so stamp m ne
-
   -- WRITTEN
   pub known_put : (x : Seen) → marks_at stamp (set marks node (record { stamp = stamp; seen = x })) ≡ set (marks_at stamp marks) node (Known x)
   known_put x =
@@ -126,14 +104,6 @@ module _ (marks : List StampedMark) (cleared : (n : ℕ) (m : StampedMark) → s
 pub new_unseen : (count : ℕ) (x : Seen) → marks_at 2 (replicate count (record { stamp = 0; seen = x })) ≡ replicate count Unseen
 new_unseen zero x = refl
 new_unseen (suc count) x = ap (λ ms. Unseen ∷ ms) (new_unseen count x)
-
-pub new_stamped : (count : ℕ) (x : Seen) → AreStamped 2 (replicate count (record { stamp = 0; seen = x }))
-new_stamped count x = record { counts = omega arith; each = λ n m e. each count n m e }
-  where
-    each : (count n : ℕ) (m : StampedMark) → slice_get (replicate count (record { stamp = 0; seen = x })) n ≡ Some m → m.stamp ≤ 2
-    each zero n m e = absurd cc
-    each (suc count) zero m e = let first : StampedMark = record { stamp = 0; seen = x } in let f : Some first ≡ Some m = e in let same : first ≡ m = cc in subst (λ (j : StampedMark). j.stamp ≤ 2) same (omega arith)
-    each (suc count) (suc n) m e = each count n m e
 
 -- NOTHING IS KNOWN
 all_same : (count n : ℕ) (m : NodeMark) → slice_get (replicate count Unseen) n ≡ Some m → m ≡ Unseen

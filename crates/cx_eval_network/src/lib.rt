@@ -44,6 +44,11 @@ pub use network_laws::{
 };
 pub use node_laws::{later_nodes_are_greater, nodes_are_apart, nodes_are_within, ports_have_nodes};
 pub use numbering::{InstanceNodes, NodePort, Nodes};
+pub use outputs::{ROOM, cell_state, seen_of, state_seen};
 pub use parts::PartNodes;
-pub use planned::{DrivenPlan, PartPlans, PlannedAssign, PlannedGuard, PlannedPort, PortPlan};
+pub use places::cells_of;
+pub use planned::{
+    DrivenPlan, PartPlans, PlannedAssign, PlannedGuard, PlannedPort, PortPlan, port_plan,
+};
 pub use plans::PlannedPart;
+pub use soles::found_by;

@@ -52,12 +52,12 @@ pub struct NodePort {
 #[derive(Debug, Drop)]
 pub struct Nodes {
     /// The ports of each component.
-    parts: Vec<PartNodes>,
+    pub parts: Vec<PartNodes>,
     /// What is known of them before any run.
-    plans: Vec<PartPlans>,
+    pub plans: Vec<PartPlans>,
     /// The listed ports of the groups of each component.
-    lists: Vec<PartLists>,
-    instances: Vec<InstanceNodes>,
+    pub lists: Vec<PartLists>,
+    pub instances: Vec<InstanceNodes>,
     /// What stands at each node.
     ports: Vec<NodePort>,
     /// Nothing at each port of the longest primitive: what outputs are handed that read no input.

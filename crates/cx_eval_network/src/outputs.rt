@@ -174,7 +174,7 @@ fn primitive_output(
 }
 
 /// What a primitive cell holds.
-fn cell_state(cells: &[Option<PrimState>], cell: u32) -> Option<&PrimState>
+pub fn cell_state(cells: &[Option<PrimState>], cell: u32) -> Option<&PrimState>
     ensures none { IfNone result (get_or cells.now cell None ≡ None) }
     ensures some { IfSome result (λ state. get_or cells.now cell None ≡ Some state.now) }
 {
@@ -262,7 +262,7 @@ fn fill_seen(slot: &mut Option<Bits>, seen: Seen) -> Option<Found>
 }
 
 /// What an output gives, as it is seen.
-fn seen_of(output: Option<Bits>) -> Seen
+pub fn seen_of(output: Option<Bits>) -> Seen
     ensures value { result ≡ sights.of_option output }
 {
     match output {
