@@ -14,3 +14,7 @@ mod ShownLemmas
 mod AskedLemmas
 mod StepLemmas
 mod CycleLemmas
+pub mod TestLemmas
+pub mod SourceLaws
+mod UsingLemmas
+mod SourceLemmas

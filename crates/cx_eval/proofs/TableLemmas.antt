@@ -73,7 +73,7 @@ module _ (t : Tables) (are : AreTables t) (n : ℕ) (lt : n < length (paths_of (
 
   -- the cells of an instance
   module _ (row : InstanceRow) (is : row ≡ get_or rows_here n row) where
-    same_row : row_at rows_here n ≡ row
+    pub same_row : row_at rows_here n ≡ row
     same_row = get_same rows_here n no_row row in_rows ∙ sym is
 
     pub component_there : row.component < length t.design.now.components.items

@@ -3,3 +3,5 @@ pub mod Evaluated
 pub mod Firsts
 pub mod Tables
 pub mod Cycling
+pub mod Sources
+pub mod Shown

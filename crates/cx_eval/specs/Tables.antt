@@ -22,6 +22,7 @@ use Rattle.cx_eval_cycle.specs.declared.stepping.SteppingCells.{SteppingCells}
 use Rattle.cx_eval_cycle.specs.Rooms.{HaveRooms}
 use Rattle.cx_eval_cycle.specs.Stepping.{AreSteppingCells}
 use Rattle.cx_eval.specs.Firsts.{HaveFirsts}
+use Rattle.cx_eval.specs.Sources.{HaveSources}
 use Rattle.cx_eval.specs.declared.tables.Tables.{Tables}
 
 abbrev pub design_of : Tables → PlainDesign
@@ -41,6 +42,7 @@ pub record AreTables (t : Tables) : Type 0 where
   pub table : IsTable (design_of t) t.table.rows.items t.table.children.items
   pub numbered : IsNodesOf (design_of t) t.table.rows.items t.nodes
   pub firsts : HaveFirsts (design_of t) t.table.rows.items t.firsts.items
+  pub sources : HaveSources (design_of t) t.sources.items
   pub stepping : AreSteppingParts (design_of t) t.parts.items
   pub nothing : t.nothing ≡ actives.Nothing
 

@@ -10,28 +10,30 @@ ghost use Rattle.cx_eval_cycle.specs.Rooms.{HaveRooms};
 ghost use Rattle.cx_eval.specs.Cycling.{IsFirst};
 ghost use Rattle.cx_eval.specs.Evaluated.{CanAct, Cycled};
 ghost use Rattle.cx_eval.specs.Tables.{AreMarksOf, AreReady, AreRooms, AreTables, asked_in, cells_at, design_of, kept_of};
+ghost use Rattle.cx_eval.specs.Shown.{ServesIn};
 
 use crate::faults::first_fault;
+use crate::known::{Ahead, find_ahead};
 use crate::laws::seen_ports_are_wide;
-use crate::sights::fill_list;
 use crate::stepping::step_in;
 use crate::tables::{Tables, ask, group_at, stepping_of};
-use cx_design::{Active, GroupKind, PortFault, PortRef};
+use cx_design::{Active, GroupKind, PortFault, PortRef, Seen};
 use cx_eval_cycle::{CellFault, CellRoom};
 use cx_eval_network::{GroupList, Marks};
 use cx_state::State;
 
 /// The first fault among the listed cells of an instance; where there is none, the rooms have what stands at their ports.
-/// Where a list of what is active is named, its ports are found first, one behind the other, so that looks wait for none.
+/// What serves these cells is found first, so that looks wait for none.
 fn fault_in(
     tables: &Tables<'_>,
     marks: &mut Marks,
     rooms: &mut [CellRoom],
+    slots: &mut [Seen],
     state: &State,
     active: &Active,
     instance: usize,
     listed: &[u32],
-    list: Option<GroupList>,
+    ahead: Ahead<'_>,
 ) -> Option<CellFault>
     requires tables { AreTables tables.now }
     requires state { IsStateOf (design_of tables.now) (plain_state state.now) }
@@ -39,6 +41,7 @@ fn fault_in(
     requires active { CanAct (design_of tables.now) instance active.now }
     requires ready { AreReady tables.now (plain_state state.now) instance active.now marks.old }
     requires rooms { HaveRooms (kept_of tables.now instance) rooms.old }
+    requires ahead { ServesIn tables.now instance active.now ahead }
     ensures first { IsFirst (asked_in tables.now (plain_state state.now) instance active.now)
         (cells_at tables.now instance) (kept_of tables.now instance)
         (instance_state (plain_state state.now) instance).cells listed.now rooms.new result }
@@ -47,10 +50,19 @@ fn fault_in(
 {
     seen_ports_are_wide();
     let asking = ask(tables, state, active, instance);
-    fill_list(&asking, marks, list);
+    let component = tables.table.rows[instance].component;
+    let known = find_ahead(&asking, component, marks, slots, ahead);
     let firsts = tables.firsts[instance].as_slice();
     let stepping = stepping_of(tables, instance);
-    first_fault(&asking, firsts, marks, &stepping.cells, rooms, listed)
+    first_fault(
+        &asking,
+        firsts,
+        marks,
+        known,
+        &stepping.cells,
+        rooms,
+        listed,
+    )
 }
 
 /// The fault of a cell of an instance, as it is told.
@@ -71,11 +83,12 @@ fn cycle_in(
     tables: &Tables<'_>,
     marks: &mut Marks,
     rooms: &mut [CellRoom],
+    slots: &mut [Seen],
     state: &mut State,
     active: &Active,
     instance: usize,
     listed: &[u32],
-    list: Option<GroupList>,
+    ahead: Ahead<'_>,
 ) -> Result<(), PortFault>
     requires tables { AreTables tables.now }
     requires state { IsStateOf (design_of tables.now) (plain_state state.old) }
@@ -84,13 +97,16 @@ fn cycle_in(
     requires ready { AreReady tables.now (plain_state state.old) instance active.now marks.old }
     requires rooms { HaveRooms (kept_of tables.now instance) rooms.old }
     requires ascending { IsAscending listed.now }
+    requires ahead { ServesIn tables.now instance active.now ahead }
     ensures value { Cycled (design_of tables.now) (plain_state state.old)
         (plain_state state.new) instance active.now (listed_in listed.now) result }
     ensures fits { IsStateOf (design_of tables.now) (plain_state state.new) }
     ensures rooms { HaveRooms (kept_of tables.now instance) rooms.new }
     ensures count { AreMarksOf tables.now marks.new }
 {
-    if let Some(fault) = fault_in(tables, marks, rooms, state, active, instance, listed, list) {
+    if let Some(fault) = fault_in(
+        tables, marks, rooms, slots, state, active, instance, listed, ahead,
+    ) {
         return Err(told(fault, instance));
     }
     step_in(tables, rooms, state, instance, listed);
@@ -103,11 +119,12 @@ pub(crate) fn cycle_listed(
     tables: &Tables<'_>,
     marks: &mut Marks,
     rooms: &mut [Vec<CellRoom>],
+    slots: &mut [Seen],
     state: &mut State,
     active: &Active,
     instance: usize,
     listed: &[u32],
-    list: Option<GroupList>,
+    ahead: Ahead<'_>,
 ) -> Result<(), PortFault>
     requires tables { AreTables tables.now }
     requires state { IsStateOf (design_of tables.now) (plain_state state.old) }
@@ -116,6 +133,7 @@ pub(crate) fn cycle_listed(
     requires ready { AreReady tables.now (plain_state state.old) instance active.now marks.old }
     requires rooms { AreRooms tables.now rooms.old }
     requires ascending { IsAscending listed.now }
+    requires ahead { ServesIn tables.now instance active.now ahead }
     ensures value { Cycled (design_of tables.now) (plain_state state.old)
         (plain_state state.new) instance active.now (listed_in listed.now) result }
     ensures fits { IsStateOf (design_of tables.now) (plain_state state.new) }
@@ -124,7 +142,9 @@ pub(crate) fn cycle_listed(
 {
     let part = tables.table.rows[instance].component as usize;
     let own = &mut rooms[part];
-    cycle_in(tables, marks, own, state, active, instance, listed, list)
+    cycle_in(
+        tables, marks, own, slots, state, active, instance, listed, ahead,
+    )
 }
 
 /// How many cycles a static group has at most for its ports to be found before its cells are looked at. In a cycle of a longer one
@@ -139,15 +159,16 @@ fn is_short(tables: &Tables<'_>, instance: usize, group: u32) -> bool {
     }
 }
 
-/// The list that is gone through before the cells of a cycle are looked at that no turn has begun: that of the one short
-/// static group of an island.
-fn island_list(tables: &Tables<'_>, active: &Active, instance: usize) -> Option<GroupList> {
+/// What serves the cells of a cycle that no turn has begun: the list of the one short static group of an island.
+fn island_list(tables: &Tables<'_>, active: &Active, instance: usize) -> Ahead<'static>
+    ensures value { ServesIn tables.now instance active.now result }
+{
     match active {
         Active::Entries(entries)
             if entries.len() == 1 && is_short(tables, instance, entries[0].group) => {
-            Some(GroupList::Others)
+            Ahead::List(GroupList::Others)
         }
-        _ => None,
+        _ => Ahead::Nothing,
     }
 }
 
@@ -156,6 +177,7 @@ pub(crate) fn cycle_anew(
     tables: &Tables<'_>,
     marks: &mut Marks,
     rooms: &mut [Vec<CellRoom>],
+    slots: &mut [Seen],
     state: &mut State,
     active: &Active,
     instance: usize,
@@ -174,8 +196,10 @@ pub(crate) fn cycle_anew(
     ensures rooms { AreRooms tables.now rooms.new }
     ensures count { AreMarksOf tables.now marks.new }
 {
-    let list = island_list(tables, active, instance);
-    cycle_listed(tables, marks, rooms, state, active, instance, listed, list)
+    let ahead = island_list(tables, active, instance);
+    cycle_listed(
+        tables, marks, rooms, slots, state, active, instance, listed, ahead,
+    )
 }
 
 /// A cycle of all cells of an instance: of those that can step, since the others stay. It takes no memory.
@@ -183,6 +207,7 @@ pub(crate) fn cycle_all(
     tables: &Tables<'_>,
     marks: &mut Marks,
     rooms: &mut [Vec<CellRoom>],
+    slots: &mut [Seen],
     state: &mut State,
     active: &Active,
     instance: usize,
@@ -204,6 +229,7 @@ pub(crate) fn cycle_all(
         tables,
         marks,
         rooms,
+        slots,
         state,
         active,
         instance,

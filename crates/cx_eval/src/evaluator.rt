@@ -12,7 +12,8 @@ ghost use Rattle.cx_eval_cycle.specs.Passes.{IsAscending, listed_in};
 ghost use Rattle.cx_rules.specs.Flat.{IsFlat};
 
 use crate::cycling::{cycle_all, cycle_anew};
-use crate::sights::{seen_in, test_list};
+use crate::groups::most_operators;
+use crate::sights::{seen_in, test_seen};
 use crate::tables::{Tables, rooms_of};
 use crate::turns::{GroupTurn, turn_in};
 use cx_design::{Active, Checked, PortFault, PortRef, Seen};
@@ -31,6 +32,8 @@ pub struct Evaluator<'a> {
     marks: Marks,
     /// Room for a look at each cell of each component that can step.
     rooms: Vec<Vec<CellRoom>>,
+    /// Room for what the operators of a group are seen as. What it holds between calls is of no account.
+    slots: Vec<Seen>,
 }
 
 impl<'a> Model for Evaluator<'a> {
@@ -57,10 +60,12 @@ impl<'a> Evaluator<'a> {
         let tables = Tables::new(alloc, design)?;
         let marks = Marks::new(alloc, tables.nodes.count())?;
         let rooms = rooms_of(alloc, &tables)?;
+        let slots = vec![in alloc; Seen::Undefined; most_operators(&tables.sources)]?;
         Ok(Evaluator {
             tables,
             marks,
             rooms,
+            slots,
         })
     }
 
@@ -73,17 +78,21 @@ impl<'a> Evaluator<'a> {
         ensures value { IsSeen (plain_design self.old) (plain_state state.now) instance active.now port result }
         ensures same { self.new ≡ self.old }
     {
-        self.marks.forget();
-        let list = test_list(&self.tables, active, instance);
-        seen_in(
-            &self.tables,
-            &mut self.marks,
-            state,
-            active,
-            instance,
-            list,
-            port,
-        )
+        match test_seen(&self.tables, &mut self.slots, state, active, instance, port) {
+            Some(seen) => seen,
+            None => {
+                self.marks.forget();
+                seen_in(
+                    &self.tables,
+                    &mut self.marks,
+                    state,
+                    active,
+                    instance,
+                    None,
+                    port,
+                )
+            }
+        }
     }
 
     /// A cycle of an instance under an active set: its next state, or exactly its fault, which leaves the state. It takes no
@@ -107,6 +116,7 @@ impl<'a> Evaluator<'a> {
             &self.tables,
             &mut self.marks,
             &mut self.rooms,
+            &mut self.slots,
             state,
             active,
             instance,
@@ -135,6 +145,7 @@ impl<'a> Evaluator<'a> {
             &self.tables,
             &mut self.marks,
             &mut self.rooms,
+            &mut self.slots,
             state,
             active,
             instance,
@@ -166,6 +177,7 @@ impl<'a> Evaluator<'a> {
             &self.tables,
             &mut self.marks,
             &mut self.rooms,
+            &mut self.slots,
             state,
             instance,
             group,

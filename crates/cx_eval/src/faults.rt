@@ -1,7 +1,7 @@
 //! The first fault among the cells of the asked instance.
 
 ghost use Rattle.std.specs.Prelude.{◌≡◌, ◌≢◌, ℕ, IfNone, IfSome, None, Some};
-ghost use Rattle.cx_eval_network.specs.Askings.{IsAsking};
+ghost use Rattle.cx_eval_network.specs.Askings.{IsAsking, asked_of};
 ghost use Rattle.cx_eval_cycle.specs.Passes as passes;
 ghost use Rattle.cx_eval_cycle.specs.Passes.{cell_held, first_among, listed_in};
 ghost use Rattle.cx_eval_cycle.specs.Rooms.{HaveRooms, inputs_at};
@@ -9,7 +9,10 @@ ghost use Rattle.cx_eval_cycle.specs.Stepping.{AreStepping};
 ghost use Rattle.cx_eval_cycle.specs.Steps.{AreGathered, IsGatheredAt};
 ghost use Rattle.cx_eval.specs.Looked as looked;
 ghost use Rattle.cx_eval.specs.Looked.{CanDemand, StandFirst, own_cells, seen_look};
+ghost use Rattle.cx_eval.specs.Shown.{AreKnownCells, ShowPorts};
 
+use crate::demanding::PortSources;
+use crate::known::KnownCells;
 use crate::looking::look_in;
 use cx_cells::PrimState;
 use cx_eval_cycle::{CellFault, CellRoom, SteppingCell, stepping_at};
@@ -42,6 +45,7 @@ fn fault_of(
     cells: &[Option<SteppingCell<'_>>],
     rooms: &mut [CellRoom],
     held: &[Option<PrimState>],
+    sources: PortSources<'_>,
     cell: usize,
 ) -> Option<CellFault>
     requires can { IsAsking asking.now }
@@ -50,6 +54,7 @@ fn fault_of(
     requires cells { AreStepping (own_cells asking.now) cells.now }
     requires rooms { HaveRooms cells.now rooms.old }
     requires held { held.now ≡ looked.own_held asking.now }
+    requires sources { ShowPorts (asked_of asking.now) cell sources }
     ensures value { result ≡
         passes.fault_of (seen_look asking.now) (own_cells asking.now) (looked.own_held asking.now) cell }
     ensures ready { CanDemand asking.now marks.new }
@@ -69,6 +74,7 @@ fn fault_of(
         asking,
         marks,
         firsts[cell],
+        sources,
         stepping,
         state,
         &mut rooms[cell],
@@ -84,6 +90,7 @@ pub fn first_fault(
     asking: &Asking<'_>,
     firsts: &[usize],
     marks: &mut Marks,
+    known: KnownCells<'_>,
     cells: &[Option<SteppingCell<'_>>],
     rooms: &mut [CellRoom],
     listed: &[u32],
@@ -93,6 +100,7 @@ pub fn first_fault(
     requires ready { CanDemand asking.now marks.old }
     requires cells { AreStepping (own_cells asking.now) cells.now }
     requires rooms { HaveRooms cells.now rooms.old }
+    requires known { AreKnownCells (asked_of asking.now) known }
     ensures value { result ≡ first_among (passes.fault_of (seen_look asking.now) (own_cells asking.now)
         (looked.own_held asking.now)) listed.now }
     ensures ready { CanDemand asking.now marks.new }
@@ -103,7 +111,8 @@ pub fn first_fault(
     let held = own_held(asking);
     for number in 0..listed.len() {
         let cell = listed[number] as usize;
-        if let Some(fault) = fault_of(asking, firsts, marks, cells, rooms, held, cell) {
+        let sources = known.ports(number, cell);
+        if let Some(fault) = fault_of(asking, firsts, marks, cells, rooms, held, sources, cell) {
             return Some(fault);
         }
     }

@@ -2,14 +2,22 @@
 //! found on demand and without taking memory.
 #![tactic(auto)]
 
+mod closed_groups;
+mod closing;
 mod cycling;
 mod demanding;
 mod evaluator;
 mod faults;
 mod firsts;
+mod groups;
+mod known;
 pub mod laws;
+mod leaves;
 mod looking;
+mod operators;
+mod seeing;
 mod sights;
+mod sources;
 mod stepping;
 mod tables;
 mod turns;

@@ -13,8 +13,9 @@ ghost use Rattle.cx_eval_cycle.specs.Rooms.{HasRoom};
 ghost use Rattle.cx_eval_cycle.specs.Stepping.{IsStepping};
 ghost use Rattle.cx_eval_cycle.specs.Stops.{told};
 ghost use Rattle.cx_eval.specs.Looked.{CanDemand, HaveNodes, StandFrom, StandsAs, count_in, seen_from, seen_look};
+ghost use Rattle.cx_eval.specs.Shown.{ShowFrom, ShowsFrom};
 
-use crate::demanding::demand_node;
+use crate::demanding::{PortSources, port_seen};
 use cx_bits::Bits;
 use cx_cells::PrimState;
 use cx_design::{FaultKind, Seen};
@@ -28,11 +29,13 @@ fn demand_at(
     asking: &Asking<'_>,
     marks: &mut Marks,
     first: usize,
+    sources: PortSources<'_>,
     port: usize,
     inputs: &mut [Option<Bits>],
 ) -> Result<bool, CellStop>
     requires can { IsAsking asking.now }
     requires ready { CanDemand asking.now marks.old }
+    requires sources { ShowsFrom asking.now first port sources }
     requires node { first + port < count_in asking.now }
     requires few { port < 2 ^ 32 }
     requires within { port < length inputs.old }
@@ -44,7 +47,7 @@ fn demand_at(
     ensures ready { CanDemand asking.now marks.new }
 {
     let number = port as u32;
-    match demand_node(asking, marks, first + port) {
+    match port_seen(asking, marks, first, sources, port) {
         Seen::Value(bits) => {
             inputs[port] = Some(bits);
             Ok(bits.value() == 0)
@@ -59,12 +62,14 @@ fn demand_enabling(
     asking: &Asking<'_>,
     marks: &mut Marks,
     first: usize,
+    sources: PortSources<'_>,
     stepping: &SteppingCell<'_>,
     inputs: &mut [Option<Bits>],
 ) -> Result<bool, CellStop>
     requires can { IsAsking asking.now }
     requires ready { CanDemand asking.now marks.old }
     requires nodes { HaveNodes asking.now (row_of stepping.now.primitive.now).ports first }
+    requires sources { ShowFrom asking.now first (row_of stepping.now.primitive.now).ports sources }
     requires stepping { IsStepping stepping.now.primitive.now stepping.now }
     requires fits { FitsPorts (row_of stepping.now.primitive.now).ports inputs.old }
     ensures stand { OnOk result (AllStand (seen_from asking.now first)
@@ -79,7 +84,7 @@ fn demand_enabling(
     let mut quiet = true;
     for number in 0..stepping.enabling.len() {
         let port = stepping.enabling[number];
-        let zero = demand_at(asking, marks, first, port, inputs)?;
+        let zero = demand_at(asking, marks, first, sources, port, inputs)?;
         quiet = quiet & zero;
     }
     Ok(quiet)
@@ -90,6 +95,7 @@ fn demand_asked(
     asking: &Asking<'_>,
     marks: &mut Marks,
     first: usize,
+    sources: PortSources<'_>,
     stepping: &SteppingCell<'_>,
     state: &PrimState,
     port: usize,
@@ -98,6 +104,7 @@ fn demand_asked(
     requires can { IsAsking asking.now }
     requires ready { CanDemand asking.now marks.old }
     requires nodes { HaveNodes asking.now (row_of stepping.now.primitive.now).ports first }
+    requires sources { ShowFrom asking.now first (row_of stepping.now.primitive.now).ports sources }
     requires state { IsState (row_of stepping.now.primitive.now).shape state.now }
     requires within { port < length (row_of stepping.now.primitive.now).ports }
     requires fits { FitsPorts (row_of stepping.now.primitive.now).ports inputs.old }
@@ -111,7 +118,7 @@ fn demand_asked(
     ensures ready { CanDemand asking.now marks.new }
 {
     if stepping.primitive.demands(state, inputs, port) {
-        demand_at(asking, marks, first, port, inputs)?;
+        demand_at(asking, marks, first, sources, port, inputs)?;
     }
     Ok(())
 }
@@ -121,6 +128,7 @@ fn demand_plain(
     asking: &Asking<'_>,
     marks: &mut Marks,
     first: usize,
+    sources: PortSources<'_>,
     stepping: &SteppingCell<'_>,
     state: &PrimState,
     inputs: &mut [Option<Bits>],
@@ -128,6 +136,7 @@ fn demand_plain(
     requires can { IsAsking asking.now }
     requires ready { CanDemand asking.now marks.old }
     requires nodes { HaveNodes asking.now (row_of stepping.now.primitive.now).ports first }
+    requires sources { ShowFrom asking.now first (row_of stepping.now.primitive.now).ports sources }
     requires stepping { IsStepping stepping.now.primitive.now stepping.now }
     requires state { IsState (row_of stepping.now.primitive.now).shape state.now }
     requires fits { FitsPorts (row_of stepping.now.primitive.now).ports inputs.old }
@@ -145,7 +154,7 @@ fn demand_plain(
 {
     for number in 0..stepping.plain.len() {
         let port = stepping.plain[number];
-        demand_asked(asking, marks, first, stepping, state, port, inputs)?;
+        demand_asked(asking, marks, first, sources, stepping, state, port, inputs)?;
     }
     Ok(())
 }
@@ -157,6 +166,7 @@ fn look_at(
     asking: &Asking<'_>,
     marks: &mut Marks,
     first: usize,
+    sources: PortSources<'_>,
     stepping: &SteppingCell<'_>,
     state: &PrimState,
     inputs: &mut [Option<Bits>],
@@ -164,6 +174,7 @@ fn look_at(
     requires can { IsAsking asking.now }
     requires ready { CanDemand asking.now marks.old }
     requires nodes { HaveNodes asking.now (row_of stepping.now.primitive.now).ports first }
+    requires sources { ShowFrom asking.now first (row_of stepping.now.primitive.now).ports sources }
     requires stepping { IsStepping stepping.now.primitive.now stepping.now }
     requires state { IsState (row_of stepping.now.primitive.now).shape state.now }
     requires fits { FitsPorts (row_of stepping.now.primitive.now).ports inputs.old }
@@ -174,11 +185,11 @@ fn look_at(
     ensures fits { FitsPorts (row_of stepping.now.primitive.now).ports inputs.new }
     ensures ready { CanDemand asking.now marks.new }
 {
-    let quiet = demand_enabling(asking, marks, first, stepping, inputs)?;
+    let quiet = demand_enabling(asking, marks, first, sources, stepping, inputs)?;
     if quiet {
         return Ok(());
     }
-    demand_plain(asking, marks, first, stepping, state, inputs)?;
+    demand_plain(asking, marks, first, sources, stepping, state, inputs)?;
     match out_of_range(&stepping.addresses, inputs) {
         Some(port) => Err(CellStop {
             kind: FaultKind::Range,
@@ -193,6 +204,7 @@ pub fn look_in(
     asking: &Asking<'_>,
     marks: &mut Marks,
     first: usize,
+    sources: PortSources<'_>,
     stepping: &SteppingCell<'_>,
     state: &PrimState,
     room: &mut CellRoom,
@@ -200,6 +212,7 @@ pub fn look_in(
     requires can { IsAsking asking.now }
     requires ready { CanDemand asking.now marks.old }
     requires nodes { HaveNodes asking.now (row_of stepping.now.primitive.now).ports first }
+    requires sources { ShowFrom asking.now first (row_of stepping.now.primitive.now).ports sources }
     requires stepping { IsStepping stepping.now.primitive.now stepping.now }
     requires state { IsState (row_of stepping.now.primitive.now).shape state.now }
     requires room { HasRoom (row_of stepping.now.primitive.now).ports room.old }
@@ -210,5 +223,13 @@ pub fn look_in(
     ensures ready { CanDemand asking.now marks.new }
     ensures room { HasRoom (row_of stepping.now.primitive.now).ports room.new }
 {
-    look_at(asking, marks, first, stepping, state, &mut room.inputs)
+    look_at(
+        asking,
+        marks,
+        first,
+        sources,
+        stepping,
+        state,
+        &mut room.inputs,
+    )
 }

@@ -1,17 +1,21 @@
 //! What an evaluator knows of its design and never changes.
 
-ghost use Rattle.std.specs.Prelude.{◌≡◌, ◌<◌, IfOk, length};
+ghost use Rattle.std.specs.Prelude.{◌≡◌, ◌<◌, IfOk, IfSome, length};
 ghost use Rattle.cx_meaning.specs.Instances.{paths_of, tree_of};
 ghost use Rattle.cx_rules.specs.Wellformed.{IsDesign};
 ghost use Rattle.cx_rules.specs.Flat.{IsFlat};
 ghost use Rattle.cx_design.specs.PlainDesigns.{plain_design};
 ghost use Rattle.cx_state.specs.States.{IsStateOf, plain_state};
 ghost use Rattle.cx_eval_network.specs.Askings.{IsAsking, asked_of};
+ghost use Rattle.cx_eval_network.specs.Nodes.{part_at};
 ghost use Rattle.cx_eval_cycle.specs.Stepping.{AreSteppingCells};
 ghost use Rattle.cx_eval.specs.Evaluated.{CanAct};
 ghost use Rattle.cx_eval.specs.Tables.{AreRooms, AreSteppingParts, AreTables, asked_in, cells_at, design_of, kept_of};
+ghost use Rattle.cx_eval.specs.Sources.{AreSourcesOf};
 
 use crate::firsts::all_firsts;
+use crate::groups::{PartSources, all_sources, group_sources};
+use crate::sources::GroupSources;
 use cx_design::{Active, Checked, Design, Group};
 use cx_design_parts::component;
 use cx_eval_cycle::{CellRoom, SteppingCells, rooms_for};
@@ -28,6 +32,8 @@ pub(crate) struct Tables<'a> {
     pub(crate) nodes: Nodes,
     /// For each instance the nodes of the first ports of its cells.
     pub(crate) firsts: Vec<Vec<usize>>,
+    /// What is known of the groups of each component.
+    pub(crate) sources: Vec<PartSources>,
     /// The cells of each component that can step.
     pub(crate) parts: Vec<SteppingCells<'a>>,
     /// The empty active set, for the instances below the asked one.
@@ -45,12 +51,14 @@ impl<'a> Tables<'a> {
         let design = design.design();
         let nodes = Nodes::new(alloc, design, &table)?;
         let firsts = all_firsts(alloc, design, &table, &nodes)?;
+        let sources = all_sources(alloc, design, &nodes)?;
         let parts = stepping_parts(alloc, design)?;
         Ok(Tables {
             design,
             table,
             nodes,
             firsts,
+            sources,
             parts,
             nothing: Active::Nothing,
         })
@@ -70,6 +78,7 @@ pub(crate) fn ask<'b, 'a>(
     requires active { CanAct (design_of tables.now) instance active.now }
     ensures asked { asked_of result ≡ asked_in tables.now (plain_state state.now) instance active.now }
     ensures nodes { result.nodes.now ≡ tables.now.nodes }
+    ensures active { result.active.now ≡ active.now }
     ensures can { IsAsking result }
 {
     accepted_designs_are_networks();
@@ -128,4 +137,22 @@ pub(crate) fn group_at<'b>(
     let row = tables.table.rows.get(instance)?;
     let part = tables.design.components.get(row.component as usize)?;
     part.groups.get(group as usize)
+}
+
+/// What is known of a group of an instance before any run, where it is there.
+pub(crate) fn known_group<'b>(
+    tables: &'b Tables<'_>,
+    instance: usize,
+    group: u32,
+) -> Option<&'b GroupSources>
+    requires tables { AreTables tables.now }
+    requires instance { instance < length (paths_of (tree_of (design_of tables.now))) }
+    ensures value { IfSome result (λ known. AreSourcesOf
+        (part_at (design_of tables.now) tables.now.table.rows.items instance) group known.now) }
+{
+    group_sources(
+        &tables.sources,
+        tables.table.rows[instance].component,
+        group,
+    )
 }

@@ -16,18 +16,27 @@ use Rattle.cx_eval.specs.Tables.{asked_in, cells_at}
 use Rattle.cx_eval.proofs.AskedLemmas.{are_ready, can_demand, first_of}
 use Rattle.cx_eval.proofs.FirstLemmas.{stand_first}
 use Rattle.cx_eval.proofs.TableLemmas.{first_nodes, firsts_below}
+use Rattle.cx_eval.proofs.UsingLemmas.{component_is, serves}
 use Rattle.cx_eval.proofs.cycling.fault_in.Goals as goal
 
-pub index-requires : goal.index-requires
-index-requires c =
+pub index-requires-2 : goal.index-requires-2
+index-requires-2 c =
     let below = firsts_below c.args.tables.now c.requires.tables c.args.instance c.requires.instance in
     omega (arith, below, c.args.tables.now.firsts.ok.0)
 
-pub fill_list-requires : goal.fill_list-requires
-fill_list-requires c = record {
-  can = c.ask-asking.ensures.can;
-  ready = can_demand c.args.tables.now (plain_state c.args.state.now) c.args.instance c.args.active.now c.ask-asking.result c.ask-asking.ensures.asked c.ask-asking.ensures.nodes c.args.marks.now c.requires.ready;
-}
+pub find_ahead-known-requires : goal.find_ahead-known-requires
+find_ahead-known-requires c =
+    let t = c.args.tables.now in
+    let rows = plain_state c.args.state.now in
+    let n = c.args.instance in
+    let active = c.args.active.now in
+    let asking = c.ask-asking.result in
+    record {
+      can = c.ask-asking.ensures.can;
+      component = component_is t n rows active asking c.ask-asking.ensures.asked c.requires.tables c.requires.instance c.index.result.now c.index.ensures;
+      ready = can_demand t rows n active asking c.ask-asking.ensures.asked c.ask-asking.ensures.nodes c.args.marks.now c.requires.ready;
+      ahead = serves t n rows active asking c.ask-asking.ensures.asked c.ask-asking.ensures.active c.args.ahead c.requires.ahead;
+    }
 
 pub first_fault-requires : goal.first_fault-requires
 first_fault-requires c =
@@ -41,9 +50,10 @@ first_fault-requires c =
     record {
       can = c.ask-asking.ensures.can;
       firsts = subst (StandFirst asking) (sym c.as_slice-firsts.ensures.value)
-          (stand_first asking c.ask-asking.ensures.can (λ k p kind. c.seen_ports_are_wide.ensures asking k p c.ask-asking.ensures.can kind) c.index.result.now.items
-          (first_nodes t c.requires.tables n c.requires.instance rows active asking c.ask-asking.ensures.asked c.index.result.now c.index.ensures));
-      ready = c.fill_list.ensures.ready;
+          (stand_first asking c.ask-asking.ensures.can (λ k p kind. c.seen_ports_are_wide.ensures asking k p c.ask-asking.ensures.can kind) c.index-2.result.now.items
+          (first_nodes t c.requires.tables n c.requires.instance rows active asking c.ask-asking.ensures.asked c.index-2.result.now c.index-2.ensures));
+      ready = c.find_ahead-known.ensures.ready;
+      known = c.find_ahead-known.ensures.known;
       cells = subst (λ (cells : List PlainCell). AreStepping cells c.deref.result.now) own (subst (AreStepping (cells_at t n)) (sym c.deref.ensures.value) c.stepping_of-stepping.ensures.value.kept);
       rooms = subst (λ (ks : List (Option SteppingCell)). HaveRooms ks c.args.rooms.now) kept c.requires.rooms;
     }

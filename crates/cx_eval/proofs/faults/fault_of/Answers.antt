@@ -1,5 +1,6 @@
-use Rattle.std.proofs.Common.{List, Option, Some, None, sym, ap, ◌∙◌, arith}
+use Rattle.std.proofs.Common.{List, Option, Some, None, get_or, sym, ap, ◌∙◌, arith}
 use Rattle.cx_prim.specs.CellStates.{CellState}
+use Rattle.cx_prim.specs.Table.{row_of}
 use Rattle.cx_eval_cycle.specs.Passes.{cell_held}
 use Rattle.cx_eval_cycle.specs.Stops.{stop_in}
 use Rattle.cx_eval_cycle.proofs.PassLemmas.{fault_is}
@@ -7,6 +8,7 @@ use Rattle.cx_eval.specs.Looked.{own_cells, own_held, seen_look}
 use Rattle.cx_eval.proofs.FaultLemmas.{empty_faults, empty_gathered, idle_faults, idle_gathered}
 use Rattle.cx_eval.proofs.OwnLemmas.{own_state}
 use Rattle.cx_eval.proofs.SteppingLemmas.{first_below, gathered_after, has_room, number_few, others_after, own_of, room_below, rooms_after, stands_first}
+use Rattle.cx_eval.proofs.UsingLemmas.{shown_from}
 use Rattle.cx_eval.proofs.faults.fault_of.Goals as goal
 
 pub returns-in_default-clause-value : goal.returns-in_default-clause-value
@@ -43,6 +45,13 @@ bounds-firsts-cell c = first_below c.args.asking.now c.requires.can c.args.cells
 pub look_in-requires-clause-nodes : goal.look_in-requires-clause-nodes
 look_in-requires-clause-nodes c =
     (stands_first c.args.asking.now c.requires.can c.args.cells.now c.requires.cells c.args.cell c.in-Some.stepping.now c.in-Some.ensures.some c.args.firsts.now c.requires.firsts).nodes
+
+pub look_in-requires-clause-sources : goal.look_in-requires-clause-sources
+look_in-requires-clause-sources c =
+    let a = c.args.asking.now in
+    let stepping = c.in-Some.stepping.now in
+    let stand = stands_first a c.requires.can c.args.cells.now c.requires.cells c.args.cell stepping c.in-Some.ensures.some c.args.firsts.now c.requires.firsts in
+    shown_from a c.args.cell (get_or c.args.firsts.now c.args.cell 0) (row_of stepping.primitive.now).ports c.args.sources stand c.requires.sources
 
 pub look_in-requires-clause-stepping : goal.look_in-requires-clause-stepping
 look_in-requires-clause-stepping c = (own_of c.args.asking.now c.requires.can c.args.cells.now c.requires.cells c.args.cell c.in-Some.stepping.now c.in-Some.ensures.some).stepping_is

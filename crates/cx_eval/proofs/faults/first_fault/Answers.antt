@@ -1,4 +1,5 @@
 use Rattle.std.proofs.Common.{sym, ◌∙◌}
+use Rattle.cx_eval_network.specs.Askings.{asked_of}
 use Rattle.cx_eval_cycle.specs.Passes.{fault_of}
 use Rattle.cx_eval.specs.Looked.{own_cells, own_held, seen_look}
 use Rattle.cx_eval_cycle.proofs.PassLemmas.{all_listed}
@@ -23,3 +24,6 @@ returns-clause-gathered c =
     let xs = c.args.listed.now in
     let past = c.loop-number-test.false in
     λ n on. c.loop-number.invariant.gathered n (all_listed xs c.loop-number.number n past ∙ on)
+
+pub fault_of-requires-clause-sources : goal.fault_of-requires-clause-sources
+fault_of-requires-clause-sources c = c.ports-sources.ensures.value (asked_of c.args.asking.now) c.requires.known

@@ -10,6 +10,7 @@ demand_at-requires c =
     record {
       can = c.requires.can;
       ready = c.requires.ready;
+      sources = c.requires.sources c.args.port within;
       node = c.requires.nodes.within c.args.port within;
       few = omega (arith, within, short);
       within = omega (arith, within, count);

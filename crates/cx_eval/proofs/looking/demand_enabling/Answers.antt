@@ -24,6 +24,7 @@ demand_at-requires c =
     record {
       can = c.requires.can;
       ready = c.loop-number.invariant.ready;
+      sources = c.requires.sources c.index-port.result.now within;
       node = c.requires.nodes.within c.index-port.result.now within;
       few = omega (arith, within, short);
       within = omega (arith, within, count);

@@ -13,6 +13,7 @@ returns-clause-tables c = record {
   table = subst (λ d. IsTable (plain_design d) c.in_ok-table.table.rows.items c.in_ok-table.table.children.items) (sym c.design-design.ensures.value) c.in_ok-table.ensures.value;
   numbered = c.in_ok-nodes.ensures.value;
   firsts = c.in_ok-firsts.ensures.value;
+  sources = c.in_ok-sources.ensures.value;
   stepping = c.in_ok-parts.ensures.value;
   nothing = refl;
 }
@@ -26,3 +27,6 @@ all_firsts-requires c = record {
   table = subst (λ d. IsTable (plain_design d) c.in_ok-table.table.rows.items c.in_ok-table.table.children.items) (sym c.design-design.ensures.value) c.in_ok-table.ensures.value;
   numbered = c.in_ok-nodes.ensures.value;
 }
+
+pub all_sources-requires : goal.all_sources-requires
+all_sources-requires c = record { numbered = (c.in_ok-table.table.rows.items, c.in_ok-nodes.ensures.value) }
