@@ -1,6 +1,7 @@
 mod TurnsTaken
 mod LeafSteps
 mod PartSteps
+mod LevelSteps
 mod CallSteps
 mod RestSteps
 mod RoomSteps

@@ -23,6 +23,12 @@ pub leaf_turned : {E : Type 0} (s : Spares) (hand : Kind → ℕ) (r : Result (O
 leaf_turned s hand (Ok left) none takes = same_amounts s hand (λ x. left_amount x left) (λ x. (let e = none x in let f = takes x in omega (arith, e, f)))
 leaf_turned s hand (Err fault) none takes = tt
 
+-- one that stays in its place, or ends
+pub leaf_kept : {E : Type 0} (s : Spares) (hand : Kind → ℕ) (leaf : Strand) (r : Result Bool E) → ((x : Kind) → hand x ≡ 0) → ((x : Kind) → amount x leaf ≡ 0) → Turned s s hand (left_by r leaf)
+leaf_kept s hand leaf (Ok true) none takes = same_amounts s hand (λ x. amount x leaf) (λ x. (let e = none x in let f = takes x in omega (arith, e, f)))
+leaf_kept s hand leaf (Ok false) none takes = same_amounts s hand (λ x. 0) none
+leaf_kept s hand leaf (Err fault) none takes = tt
+
 -- a turn of a part, and then what is left around it
 pub part_turned : (old mid new : Spares) (part middle : Kind → ℕ) (around : Kind → ℕ) (before between after : Kind → ℕ) → Ledger old mid part middle → Ledger mid new between after → ((x : Kind) → before x ≡ part x + around x) → ((x : Kind) → between x ≡ middle x + around x) → Ledger old new before after
 part_turned old mid new part middle around before between after one two first second =

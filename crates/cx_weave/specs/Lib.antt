@@ -6,4 +6,5 @@ pub mod Takes
 pub mod Rows
 pub mod Ledger
 pub mod Supplied
+pub mod Levels
 pub mod Deep

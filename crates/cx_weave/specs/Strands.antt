@@ -93,8 +93,9 @@ IsLoop strand =
 abbrev pub IsRepeat : Strand → Type 0
 IsRepeat strand = (run : _) × (left : ℕ) × (body : _) × strand ≡ variants.InRepeat run left body
 
--- of none of these: it is a leaf, or a call
+-- of none of these, and no group: it is another leaf, or a call
 pub record HasNoPart (strand : Strand) : Type 0 where
+  pub group : (g : ℕ) → strand ≢ variants.InGroup g
   pub seq : (first later : _) → strand ≢ variants.InSeq first later
   pub par : (arms : _) → strand ≢ variants.InPar arms
   pub loop : (run : _) (port : PlacedPort) (comb : Option ℕ) (body : _) → strand ≢ variants.InLoop run port comb body

@@ -9,8 +9,9 @@ ghost use Rattle.cx_turns.specs.Machines.{design_of, rows_of, IsPlan, IsAt, IsIn
 ghost use Rattle.cx_turns.specs.Tests.{comb_active};
 ghost use Rattle.cx_orders.specs.Leaves.{test_drives};
 ghost use Rattle.cx_weave.specs.Ledger.{TakesNothing, Turned};
+ghost use Rattle.cx_weave.specs.declared.strands.Strand.TheVariants as strands;
 ghost use Rattle.cx_weave.specs.Strands.{ACapture, AChoice, AClosing, AGroup, ATest, CallsCell};
-ghost use Rattle.cx_weave.specs.Strides.{HasRested, HasStepped};
+ghost use Rattle.cx_weave.specs.Strides.{HasRested, HasStepped, left_by};
 ghost use Rattle.cx_weave.specs.Supplied.{Supplied};
 ghost use Rattle.cx_weave.specs.Takes.{box_takes, need};
 
@@ -28,22 +29,21 @@ use cx_turns::machine::{Machine, test};
 use cx_turns::plan::Plan;
 use cx_turns::turns::Turn;
 
-/// A turn of a group that calls nothing.
-pub(crate) fn step_group<'a>(
+/// A turn of a group that calls nothing, in place: whether it goes on.
+pub(crate) fn step_group(
     plan: &Plan<'_>,
     machine: &mut Machine<'_>,
     instance: usize,
     group: u32,
     leaf: u32,
-) -> Result<Option<Strand<'a>>, PortFault>
+) -> Result<bool, PortFault>
     requires plan { IsPlan plan.now }
     requires machine { IsAt plan.now machine.old }
     requires instance { IsInstance (design_of plan.now) instance }
     requires group { IsGroupOf (design_of plan.now) instance group }
     ensures machine { IsAt plan.now machine.new }
     ensures stepped { HasStepped (design_of plan.now) (rows_of machine.old) (rows_of machine.new) instance
-        (AGroup group) leaf result }
-    ensures ledger { TakesNothing result }
+        (AGroup group) leaf (left_by result (strands.InGroup group)) }
 {
     rows_stand();
     let _ = leaf;
@@ -52,9 +52,9 @@ pub(crate) fn step_group<'a>(
     match take_group(plan, machine, instance, group, cells) {
         Turn::Ends => {
             rest_listed(plan, machine, instance, cells);
-            Ok(None)
+            Ok(false)
         }
-        Turn::Goes => Ok(Some(Strand::InGroup(group))),
+        Turn::Goes => Ok(true),
         Turn::Faults(fault) => Err(fault),
     }
 }

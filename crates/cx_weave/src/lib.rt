@@ -6,6 +6,7 @@ mod islands;
 pub mod laws;
 mod leaf_turns;
 mod leaves;
+mod levels;
 mod making;
 mod needs;
 mod opening;

@@ -71,11 +71,12 @@ pub(crate) fn step<'a>(
             Ok(false) => Ok(repeat_ended(spares, plan, instance, strand)),
             Err(fault) => Err(fault),
         },
+        Strand::InGroup(group) => step_group(plan, machine, instance, *group, leaf),
         _ => step_whole(spares, plan, machine, instance, strand, leaf),
     }
 }
 
-/// That of a leaf, or of a call, which is taken out of its place.
+/// That of a leaf that is no group, or of a call, which is taken out of its place.
 #[cycle(step)]
 fn step_whole<'a>(
     spares: &mut Spares<'a>,
@@ -129,7 +130,6 @@ fn step_out<'a>(
 {
     match strand {
         Strand::Idling => Ok(None),
-        Strand::InGroup(group) => step_group(plan, machine, instance, group, leaf),
         Strand::Choosing {
             port,
             comb,
@@ -157,6 +157,7 @@ fn step_out<'a>(
                 spares, plan, machine, instance, group, cell, inputs, child, leaf,
             )
         }
+        Strand::InGroup(_) => unreachable!(),
         Strand::InSeq { .. } => unreachable!(),
         Strand::InPar(_) => unreachable!(),
         Strand::InLoop { .. } => unreachable!(),

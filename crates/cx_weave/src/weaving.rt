@@ -16,10 +16,10 @@ ghost use Rattle.cx_orders.specs.Woven.{by_list, woven};
 
 use crate::laws::takes_no_more;
 use crate::leaves::count_leaves;
+use crate::levels::step_leaf;
 use crate::making::make_spares;
 use crate::opening::open_statement;
 use crate::spares::Spares;
-use crate::stepping::step;
 use crate::strands::Strand;
 use cx_design::{Checked, PortFault};
 use cx_orders::laws::{run_ends_too, run_faults_too};
@@ -80,7 +80,7 @@ fn weave_on<'a>(
     let mut sum = 0u128;
     for made in 0..steps {
         let leaf = chosen_leaf(list, made, &strand);
-        match step(spares, plan, machine, 0, &mut strand, leaf) {
+        match step_leaf(spares, plan, machine, 0, &mut strand, leaf) {
             Ok(true) => {}
             Ok(false) => return Wove::End(made + 1, sum + u128::from(leaf)),
             Err(fault) => return Wove::Fault(fault, made),

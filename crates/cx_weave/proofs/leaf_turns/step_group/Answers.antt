@@ -13,7 +13,6 @@ use Rattle.cx_weave.specs.declared.strands.Strand.TheVariants as strands
 use Rattle.cx_orders.specs.Open.{InGroup}
 use Rattle.cx_weave.specs.Strands.{Shows}
 use Rattle.cx_weave.specs.Strides.{TakesTurn}
-use Rattle.cx_weave.proofs.Amounts.{amount_group}
 use Rattle.cx_weave.proofs.StrandFolds.{is_group}
 use Rattle.cx_weave.proofs.LeafSteps.{group_ends, group_goes, group_faults}
 use Rattle.std.proofs.lemmas.Option.{slice_get-get_or}
@@ -66,6 +65,3 @@ returns-in-Faults-clause-stepped c =
     let taken : TakesTurn d rows (rows_of c.take_group.new.machine) c.args.instance (turns.Faults c.in-Faults.fault) (λ i held s. own_turn i held c.args.group s) =
     subst (λ t. TakesTurn d rows (rows_of c.take_group.new.machine) c.args.instance t (λ i held s. own_turn i held c.args.group s)) c.in-Faults.is c.take_group.ensures.taken in
     group_faults d c.args.instance c.args.leaf rows (rows_of c.take_group.new.machine) c.args.group path (state_in (tree_of d) rows) number stood c.in-Faults.fault taken
-
-pub returns-in-Goes-clause-ledger : goal.returns-in-Goes-clause-ledger
-returns-in-Goes-clause-ledger c x = amount_group x c.args.group

@@ -19,7 +19,7 @@ use Rattle.cx_weave.specs.Ledger.{ArmsTurned, Kind, Ledger, Turned, amount, arms
 use Rattle.cx_weave.proofs.Amounts.{amount_both, amount_call, amount_capture, amount_choice, amount_closing, amount_group, amount_idling, amount_island, amount_loop, amount_one, amount_par, amount_repeat, amount_seq, amount_test, amount_waiting}
 use Rattle.cx_weave.proofs.PartLedgers.{same_amounts, told_before}
 use Rattle.cx_weave.proofs.Supplies.{all_may_as, all_turn_placed, arm_turns, back_placed, back_turns, call_placed, child_turns, choice_turns, front_placed, front_turns, hold_supplied, loop_goes_on, loop_turns, may_as, par_placed, par_turns, repeat_goes_on, repeat_turns, seq_goes_on, seq_turns, supplied_as, test_turns, turn_placed}
-use Rattle.cx_weave.proofs.TurnLedgers.{all_turned_before, arm_kept, call_turned, kept_turned, leaf_turned, part_turned, turned_before}
+use Rattle.cx_weave.proofs.TurnLedgers.{all_turned_before, arm_kept, call_turned, kept_turned, leaf_kept, leaf_turned, part_turned, turned_before}
 use Rattle.cx_weave.proofs.CallSteps.{call_goes, call_stops, call_part, child_shown}
 use Rattle.cx_weave.proofs.LeafSteps.{idling_ends, waiting_stays}
 use Rattle.cx_weave.proofs.PartSteps.{seq_on, seq_off, loop_on, loop_off, repeat_on, repeat_off, par_on, par_off, arms_of_par, one_arm_shown, first_shown, other_shown, first_counted, arm_turned, front_goes, front_stops, back_goes, back_stops, part_shown_seq, part_shown_loop, part_shown_repeat}
@@ -36,17 +36,6 @@ pub step_out-returns-in-Waiting-clause-stepped : goal.step_out-returns-in-Waitin
 step_out-returns-in-Waiting-clause-stepped t c =
     subst (λ p. HasStepped (design_of c.args.plan.now) (rows_of c.args.machine.now) (rows_of c.args.machine.now) c.args.instance p c.args.leaf (Ok (Some strands.Waiting))) (sym (ap plain_strand c.in-Waiting.is ∙ is_waiting))
     (waiting_stays (design_of c.args.plan.now) c.args.instance c.args.leaf (rows_of c.args.machine.now) strands.Waiting is_waiting)
-
-pub step_out-step_group-requires-clause-group : goal.step_out-step_group-requires-clause-group
-step_out-step_group-requires-clause-group t c =
-    let whole : plain_strand c.args.strand ≡ AGroup c.in-InGroup.group = ap plain_strand c.in-InGroup.is ∙ is_group c.in-InGroup.group in
-    let shown : IsShown (design_of c.args.plan.now) c.args.instance (AGroup c.in-InGroup.group) = subst (IsShown (design_of c.args.plan.now) c.args.instance) whole c.requires.shown in
-    shown.1.1
-
-pub step_out-returns-in-InGroup-clause-stepped : goal.step_out-returns-in-InGroup-clause-stepped
-step_out-returns-in-InGroup-clause-stepped t c =
-    let whole : plain_strand c.args.strand ≡ AGroup c.in-InGroup.group = ap plain_strand c.in-InGroup.is ∙ is_group c.in-InGroup.group in
-    subst (λ p. HasStepped (design_of c.args.plan.now) (rows_of c.args.machine.now) (rows_of c.step_group.new.machine) c.args.instance p c.args.leaf c.step_group.result) (sym whole) c.step_group.ensures.stepped
 
 pub step_out-step_choice-requires-clause-stands : goal.step_out-step_choice-requires-clause-stands
 step_out-step_choice-requires-clause-stands t c =
@@ -118,11 +107,6 @@ pub step_out-returns-in-Waiting-clause-ledger : goal.step_out-returns-in-Waiting
 step_out-returns-in-Waiting-clause-ledger t c =
     let none : (x : Kind) → amount x c.args.strand ≡ 0 = λ x. ap (amount x) c.in-Waiting.is ∙ amount_waiting x in
     same_amounts c.args.spares.now (λ x. amount x c.args.strand) (λ x. left_amount x (Some strands.Waiting)) (λ x. none x ∙ sym (amount_waiting x))
-
-pub step_out-returns-in-InGroup-clause-ledger : goal.step_out-returns-in-InGroup-clause-ledger
-step_out-returns-in-InGroup-clause-ledger t c =
-    let none : (x : Kind) → amount x c.args.strand ≡ 0 = λ x. ap (amount x) c.in-InGroup.is ∙ amount_group x c.in-InGroup.group in
-    leaf_turned c.args.spares.now (λ x. amount x c.args.strand) c.step_group.result none c.step_group.ensures.ledger
 
 pub step_out-returns-in-Capturing-clause-ledger : goal.step_out-returns-in-Capturing-clause-ledger
 step_out-returns-in-Capturing-clause-ledger t c =
@@ -606,6 +590,22 @@ step_arms-step_both-requires t c =
       ),
     )
 
+pub step-step_group-requires-clause-group : goal.step-step_group-requires-clause-group
+step-step_group-requires-clause-group t c =
+    let whole : plain_strand c.args.strand.now ≡ AGroup c.in-InGroup.group = ap plain_strand c.in-InGroup.is ∙ is_group c.in-InGroup.group in
+    let shown : IsShown (design_of c.args.plan.now) c.args.instance (AGroup c.in-InGroup.group) = subst (IsShown (design_of c.args.plan.now) c.args.instance) whole c.requires.shown in
+    shown.1.1
+
+pub step-returns-in-InGroup-clause-stepped : goal.step-returns-in-InGroup-clause-stepped
+step-returns-in-InGroup-clause-stepped t c =
+    let whole : plain_strand c.args.strand.now ≡ AGroup c.in-InGroup.group = ap plain_strand c.in-InGroup.is ∙ is_group c.in-InGroup.group in
+    subst (λ p. HasStepped (design_of c.args.plan.now) (rows_of c.args.machine.now) (rows_of c.step_group.new.machine) c.args.instance p c.args.leaf (left_by c.step_group.result (strands.InGroup c.in-InGroup.group))) (sym whole) c.step_group.ensures.stepped
+
+pub step-returns-in-InGroup-clause-ledger : goal.step-returns-in-InGroup-clause-ledger
+step-returns-in-InGroup-clause-ledger t c =
+    let none : (x : Kind) → amount x c.args.strand.now ≡ 0 = λ x. ap (amount x) c.in-InGroup.is ∙ amount_group x c.in-InGroup.group in
+    leaf_kept c.args.spares.now (λ x. amount x c.args.strand.now) (strands.InGroup c.in-InGroup.group) c.step_group.result none (λ x. amount_group x c.in-InGroup.group)
+
 pub step-step_whole-requires : goal.step-step_whole-requires
 step-step_whole-requires t c =
     let d = design_of c.args.plan.now in (
@@ -616,7 +616,7 @@ step-step_whole-requires t c =
           c.requires.machine,
           (
             c.requires.instance,
-            (record { seq = c.in_default.not-InSeq; par = c.in_default.not-InPar; loop = c.in_default.not-InLoop; repeat = c.in_default.not-InRepeat }, (c.requires.shown, (c.requires.leaf, c.requires.supplied))),
+            (record { group = c.in_default.not-InGroup; seq = c.in_default.not-InSeq; par = c.in_default.not-InPar; loop = c.in_default.not-InLoop; repeat = c.in_default.not-InRepeat }, (c.requires.shown, (c.requires.leaf, c.requires.supplied))),
           ),
         ),
       ),
