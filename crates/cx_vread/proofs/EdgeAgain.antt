@@ -1,8 +1,8 @@
 -- The lines of an edge that are spelled are read.
-use Rattle.std.proofs.Common.{◌≡◌, ℕ, ◌<◌, Bool, true, false, ◌&&◌, List, [], ◌∷◌, ◌++◌, map, length, Option, Some, None, refl, ◌∙◌, ap, sym, arith, append_assoc, if◌then◌else◌}
+use Rattle.std.proofs.Common.{◌≡◌, ℕ, ◌<◌, true, false, ◌&&◌, List, ◌++◌, map, length, Option, Some, None, refl, ◌∙◌, ap, sym, arith, append_assoc, if◌then◌else◌}
 use Rattle.std.specs.Prelude.{codes, is_some, option_map}
 use Rattle.std.specs.List.{list_all}
-use Rattle.std.proofs.lemmas.Bool.{and_parts, not-true}
+use Rattle.std.proofs.lemmas.Bool.{and_parts}
 use Rattle.cx_vtree.specs.Layout.{is_name, expr_fits, assign_fits, item_fits, edge_fits}
 use Rattle.cx_vtree.specs.Lines.{expr_text, SetLine, line_text, lines_text}
 use Rattle.cx_vtree.specs.Plain.{PlainExpr, PlainAssign, PlainItem, SetTo, StoreTo, PlainEdge}

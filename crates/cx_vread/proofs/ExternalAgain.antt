@@ -1,9 +1,9 @@
 -- The lines of external memories that are spelled are read.
-use Rattle.std.proofs.Common.{◌≡◌, ℕ, ◌<◌, ◌≤◌, ◌^◌, inl, Bool, true, false, ◌&&◌, List, [], ◌∷◌, ◌++◌, map, length, Some, None, refl, ◌∙◌, ap, sym, arith, append_assoc, ⊎_elim, if◌then◌else◌}
+use Rattle.std.proofs.Common.{◌≡◌, ℕ, ◌<◌, ◌≤◌, Bool, true, false, ◌&&◌, List, [], ◌∷◌, ◌++◌, map, length, Some, None, refl, ◌∙◌, ap, arith, append_assoc, if◌then◌else◌}
 use Rattle.std.specs.Prelude.{codes, nat_lt, nat_le}
 use Rattle.std.specs.List.{list_all}
 use Rattle.std.proofs.lemmas.List.{map-id}
-use Rattle.std.proofs.lemmas.Bool.{and_parts, ltb-true, leb-true, le-ltb, cases_lt}
+use Rattle.std.proofs.lemmas.Bool.{and_parts, ltb-true, leb-true}
 use Rattle.cx_vtree.specs.Layout.{is_name, is_word, is_name_byte, begins_word, external_fits}
 use Rattle.cx_vtree.specs.Lines.{decimal_text, sizes_text, ExternalLine, line_text, lines_text}
 use Rattle.cx_vtree.specs.Plain.{PlainExternal}

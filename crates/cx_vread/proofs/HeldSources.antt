@@ -12,7 +12,7 @@ use Rattle.cx_vtree.specs.Layout.{is_name, port_fits, decl_fits, assign_fits, in
 use Rattle.cx_vtree.specs.Plain.{PlainDecl, WireOf, RegisterOf, ArrayOf, PlainEdge, PlainModule, PlainExternal, PlainSource}
 use Rattle.cx_vtree.specs.Sound.{Faults, no_faults, Scope, Counts, width_of, meant_in, decl_name, drivers_in, module_named, module_counts, module_faults, ports_faults, decls_faults, assigns_faults, instances_faults, edge_faults, sets_faults, items_faults, lines_faults, modules_faults, last_named, instance_kind, memory_module, arrays_in, not_this_memory, memory_arrays, not_this_width, has_name, external_faults, externals_faults, faults_of, break_of, is_sound}
 use Rattle.cx_vread.specs.Held.{holds_port, holds_decl, holds_assign, holds_item, holds_edge, holds_module, holds_external, is_held}
-use Rattle.cx_vread.proofs.KeptSame.{ModuleHeld, module_held as parts_held}
+use Rattle.cx_vread.proofs.KeptSame.{module_held as parts_held}
 use Rattle.cx_vread.proofs.SoundHeld.{is_clean, no_break, ports_held, decls_held, meant_small, assigns_held, sets_held, items_held, parts_of}
 use Rattle.cx_vtree.proofs.SoundLemmas.{no_break as none_is}
 use Rattle.cx_text.proofs.BoolLaws.{not_not}

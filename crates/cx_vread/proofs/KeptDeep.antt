@@ -1,12 +1,12 @@
 -- What stands for an expression that nests deep breaks the same rules.
-use Rattle.std.proofs.Common.{◌≡◌, ℕ, ◌-◌, ◌<◌, ◌^◌, zero, suc, ◌==◌, Bool, true, false, ◌||◌, List, Option, Some, None, refl, ◌∙◌, ap, sym, subst, arith, if◌then◌else◌}
-use Rattle.std.specs.Prelude.{is_some, nat_le}
+use Rattle.std.proofs.Common.{◌≡◌, ℕ, ◌-◌, ◌<◌, ◌^◌, zero, suc, ◌==◌, Bool, true, false, List, Option, Some, None, refl, ◌∙◌, ap, sym, subst, arith, if◌then◌else◌}
+use Rattle.std.specs.Prelude.{is_some}
 use Rattle.std.proofs.lemmas.Bool.{or_right, lt-leb}
 use Rattle.std.proofs.lemmas.Nat.{pow_pos}
-use Rattle.cx_vtree.specs.Plain.{PlainExpr, Number}
+use Rattle.cx_vtree.specs.Plain.{PlainExpr}
 use Rattle.cx_vtree.specs.Sound.{Scope, width_of, misnames, fitting_width, nests_over, too_deep}
 use Rattle.cx_vread_exprs.specs.Deep.{bits_of, leaf_by, leaf_of, inverted, most_brackets, stand_for}
-use Rattle.cx_vread_exprs.specs.Shapes.{shape_of}
+use Rattle.cx_vscope.specs.Shapes.{shape_of}
 use Rattle.cx_vread_exprs.specs.Tokens.{fits_bits, misnamed}
 use Rattle.cx_vread_exprs.proofs.Kept.{kept_expr, kept_by}
 use Rattle.cx_vread_exprs.proofs.Levels.{brackets_are}

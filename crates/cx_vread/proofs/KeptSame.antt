@@ -1,12 +1,12 @@
 -- A source that a tree holds is kept as it is.
-use Rattle.std.proofs.Common.{◌≡◌, ℕ, not, Bool, true, ◌&&◌, List, [], ◌∷◌, map, Option, Some, None, refl, ◌∙◌, ap, if◌then◌else◌}
+use Rattle.std.proofs.Common.{◌≡◌, not, Bool, true, ◌&&◌, List, [], ◌∷◌, map, Option, Some, None, refl, ◌∙◌, ap, if◌then◌else◌}
 use Rattle.std.specs.Prelude.{nat_lt, option_map}
 use Rattle.std.specs.List.{list_all}
-use Rattle.std.proofs.lemmas.Bool.{and_parts, and_from, not-true}
+use Rattle.std.proofs.lemmas.Bool.{and_parts, not-true}
 use Rattle.cx_vtree.specs.Plain.{PlainPort, PlainDecl, WireOf, RegisterOf, ArrayOf, PlainAssign, PlainItem, SetTo, StoreTo, PlainEdge, PlainModule, PlainExternal, PlainSource, PlainExpr}
 use Rattle.cx_vtree.specs.Sound.{Scope, nests_over}
 use Rattle.cx_vread_exprs.specs.Deep.{stand_for}
-use Rattle.cx_vread_exprs.specs.Shapes.{shape_of}
+use Rattle.cx_vscope.specs.Shapes.{shape_of}
 use Rattle.cx_vread_exprs.specs.Holds.{numbers_fit, holds_expr}
 use Rattle.cx_vread_exprs.proofs.ExprAgain.{small_kept, expr_kept}
 use Rattle.cx_vread_exprs.proofs.Kept.{kept_expr, kept_by}

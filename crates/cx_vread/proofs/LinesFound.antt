@@ -1,16 +1,15 @@
 -- The lines that are read stand in the text: external memories, ports, declarations and assigns.
-use Rattle.std.proofs.Common.{◌≡◌, ℕ, suc, ◌+◌, ◌-◌, ◌<◌, ◌≤◌, ◌^◌, not, Bool, true, false, ◌&&◌, List, ◌∷◌, ◌++◌, map, length, Option, Some, None, refl, ◌∙◌, ap, sym, subst, arith, append_assoc, if◌then◌else◌}
+use Rattle.std.proofs.Common.{◌≡◌, ℕ, suc, ◌+◌, ◌-◌, ◌<◌, ◌≤◌, Bool, true, false, ◌&&◌, List, ◌∷◌, ◌++◌, map, length, Some, refl, ◌∙◌, ap, sym, subst, arith, append_assoc, if◌then◌else◌}
 use Rattle.std.specs.Prelude.{codes, nat_lt, nat_le}
 use Rattle.std.specs.List.{list_all}
 use Rattle.std.proofs.lemmas.List.{map-id}
-use Rattle.std.proofs.lemmas.Bool.{and_from, lt-ltb, le-leb, ltb-true}
-use Rattle.std.proofs.lemmas.Option.{same_Some}
+use Rattle.std.proofs.lemmas.Bool.{and_from, lt-ltb, le-leb}
 use Rattle.cx_vtree.specs.Layout.{is_name, is_word, expr_fits, port_fits, decl_fits, assign_fits, external_fits}
 use Rattle.cx_vtree.specs.Spelling.{port_lines}
 use Rattle.cx_vtree.specs.Lines.{decimal_text, expr_text, bounds_text, side_text, sizes_text, ExternalLine, DeclLine, AssignLine, line_text, lines_text}
 use Rattle.cx_vtree.specs.Plain.{PlainExpr, PlainPort, PlainDecl, WireOf, RegisterOf, ArrayOf, PlainAssign, PlainExternal}
 use Rattle.cx_vtree.specs.Sound.{Scope}
-use Rattle.cx_vread_exprs.specs.Places.{Place, Reads, then_reads, then_at, after, begins, many}
+use Rattle.cx_vread_exprs.specs.Places.{Place, then_reads, then_at, after, begins, many}
 use Rattle.cx_vread_exprs.specs.Tokens.{kept_small, word_at, name_at, number_at, any_number_at, capped, no_more, small_at, bounds_at}
 use Rattle.cx_vread_exprs.specs.Deep.{whole_expr_at}
 use Rattle.cx_vread_exprs.proofs.Found.{ends, Stands, WordFound, then_reads_some, step_at, word_found, name_found}

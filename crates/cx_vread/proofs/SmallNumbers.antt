@@ -1,6 +1,6 @@
 -- Numbers below 2^64.
-use Rattle.std.proofs.Common.{◌≡◌, ℕ, ◌<◌, ◌^◌, suc, true, ◌&&◌, Option, Some, None, ap, arith, if◌then◌else◌}
-use Rattle.std.specs.Prelude.{nat_lt, IsTrue}
+use Rattle.std.proofs.Common.{◌≡◌, ℕ, ◌<◌, ◌^◌, suc, true, ◌&&◌, Some, None, ap, if◌then◌else◌}
+use Rattle.std.specs.Prelude.{nat_lt}
 use Rattle.std.proofs.lemmas.Bool.{and_parts, lt-ltb, ltb-true}
 
 pub small_some : (n : ℕ) → n < 2 ^ 64 → (if nat_lt n (2 ^ 64) then Some n else None) ≡ Some n

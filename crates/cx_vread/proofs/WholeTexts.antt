@@ -1,5 +1,5 @@
 -- What reading a whole text tells of the source that it spells.
-use Rattle.std.proofs.Common.{◌≡◌, ℕ, inl, inr, Bool, true, false, List, [], Option, Some, None, option_map, Result, Ok, Err, refl, ap, sym, subst, ◌∙◌}
+use Rattle.std.proofs.Common.{◌≡◌, ℕ, inl, inr, true, List, [], Option, Some, None, option_map, Result, Ok, Err, refl, ap, sym, subst, ◌∙◌}
 use Rattle.std.specs.Prelude.{IfOk, IfErr, is_none}
 use Rattle.std.proofs.lemmas.Bool.{and_parts}
 use Rattle.cx_vtree.specs.declared.sources.Source.{Source}
@@ -10,11 +10,8 @@ use Rattle.cx_vtree.specs.Spelling.{text_of}
 use Rattle.cx_vsound.specs.Search.{told_break}
 use Rattle.cx_vsound.specs.declared.search.Break as told
 use Rattle.cx_vsound.specs.declared.search.Break.TheVariants as kinds
-use Rattle.cx_vread_exprs.specs.declared.faults.Fault.{Fault}
-use Rattle.cx_vread_exprs.specs.declared.faults.Fault.TheVariants as faults
 use Rattle.cx_vread.specs.declared.refusals.ReadRefusal.{ReadRefusal}
 use Rattle.cx_vread.specs.declared.refusals.ReadRefusal.TheVariants as refusals
-use Rattle.cx_vread_exprs.specs.Answers.{Fails}
 use Rattle.cx_vread.specs.Parts.{source_at}
 use Rattle.cx_vread.specs.Astray.{IsText}
 use Rattle.cx_vread_exprs.specs.Places.{Place}

@@ -1,5 +1,5 @@
 -- What is answered to a text that spells a source.
-use Rattle.std.specs.Prelude.{◌≡◌, ◌⊎◌, true, false, ℕ, List, Option, Some, None, option_map, Result, Ok, Err}
+use Rattle.std.specs.Prelude.{◌≡◌, ◌⊎◌, true, ℕ, List, Option, Some, None, option_map, Result, Ok, Err}
 use Rattle.cx_vtree.specs.declared.sources.Source.{Source}
 use Rattle.cx_vtree.specs.Plain.{PlainSource}
 use Rattle.cx_vtree.specs.PlainSources.{plain_source}

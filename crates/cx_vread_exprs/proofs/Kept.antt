@@ -4,7 +4,7 @@ use Rattle.std.specs.Prelude.{if◌then◌else◌}
 use Rattle.cx_vtree.specs.Plain.{PlainExpr, Named, Number, Part, Word, Applied, Inverted, Chosen, Joined}
 use Rattle.cx_vtree.specs.Sound.{Scope, nests_over}
 use Rattle.cx_vread_exprs.specs.Deep.{stand_for}
-use Rattle.cx_vread_exprs.specs.Shapes.{shape_of}
+use Rattle.cx_vscope.specs.Shapes.{shape_of}
 use Rattle.cx_vread_exprs.specs.Tokens.{kept_small, kept_literal}
 
 abbrev pub kept_expr : PlainExpr → PlainExpr

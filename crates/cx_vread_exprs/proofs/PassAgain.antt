@@ -12,8 +12,8 @@ use Rattle.cx_vread_exprs.specs.declared.passing.Await.{Await}
 use Rattle.cx_vread_exprs.specs.declared.passing.Await.TheVariants.{Inverse, Index, High, Low, Sign, One, Other, Right}
 use Rattle.cx_vread_exprs.specs.declared.passing.Found.{Found}
 use Rattle.cx_vread_exprs.specs.declared.passing.Found.TheVariants.{Within, Ended}
-use Rattle.cx_vread_exprs.specs.declared.shapes.Shape.{Shape}
-use Rattle.cx_vread_exprs.specs.Shapes.{shape_of, array_shape}
+use Rattle.cx_vscope.specs.declared.shapes.Shape.{Shape}
+use Rattle.cx_vscope.specs.Shapes.{shape_of, array_shape}
 use Rattle.cx_vread_exprs.specs.Places.{Place, Reads, then_reads, after_text, begins}
 use Rattle.cx_vread_exprs.specs.Tokens.{is_digit_in, is_numeral, kept_small, kept_literal}
 use Rattle.cx_vread_exprs.specs.Exprs.{operator_at, part_by}

@@ -10,8 +10,8 @@ use Rattle.cx_vread_exprs.specs.declared.passing.Await.{Await}
 use Rattle.cx_vread_exprs.specs.declared.passing.Await.TheVariants.{Inverse, Index, High, Low, Sign, One, Other, Right}
 use Rattle.cx_vread_exprs.specs.declared.passing.Found.{Found}
 use Rattle.cx_vread_exprs.specs.declared.passing.Found.TheVariants.{Within, Ended}
-use Rattle.cx_vread_exprs.specs.declared.shapes.Shape.{Shape}
-use Rattle.cx_vread_exprs.specs.Shapes.{shape_of, array_shape, indexed, applied, chosen, joined}
+use Rattle.cx_vscope.specs.declared.shapes.Shape.{Shape}
+use Rattle.cx_vscope.specs.Shapes.{shape_of, array_shape, indexed, applied, chosen, joined}
 use Rattle.cx_vscope.specs.Scopes.{nothing_meant}
 use Rattle.cx_vtree.specs.Sound.{Scope}
 use Rattle.cx_vread_exprs.proofs.Kept.{kept_expr}

@@ -6,7 +6,7 @@ use Rattle.cx_vread_exprs.specs.declared.faults.Fault.TheVariants as faults
 use Rattle.cx_vread_exprs.specs.declared.passing.Await.{Await}
 use Rattle.cx_vread_exprs.specs.declared.passing.Found.{Found}
 use Rattle.cx_vread_exprs.specs.declared.passing.Found.TheVariants.{Within, Ended}
-use Rattle.cx_vread_exprs.specs.declared.shapes.Shape.{Shape}
+use Rattle.cx_vscope.specs.declared.shapes.Shape.{Shape}
 use Rattle.cx_vtree.specs.Sound.{Scope}
 use Rattle.cx_vread_exprs.specs.Answers.{Fails}
 use Rattle.cx_vread_exprs.specs.Passing.{want_at, end_at, pass_on}

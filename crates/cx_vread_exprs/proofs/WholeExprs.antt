@@ -13,7 +13,7 @@ use Rattle.cx_vread_exprs.specs.Exprs.{part_by, item_by, bracketed_by, named_by,
 use Rattle.cx_vread_exprs.specs.Passing.{shape_at}
 use Rattle.cx_vread_exprs.specs.Places as Places
 use Rattle.cx_vread_exprs.specs.Places.{Place, Reads, then_reads, then_at, begins}
-use Rattle.cx_vread_exprs.specs.Shapes.{shape_of}
+use Rattle.cx_vscope.specs.Shapes.{shape_of}
 use Rattle.cx_vread_exprs.proofs.ExprAgain.{Ends, first_name, bracketed_again, round_again, fewer, closed, no_tilde, no_choice, operator_again, expr-not_part, word_pieces, applied_pieces, inverted_pieces, chosen_pieces, joined_pieces, expr_again}
 use Rattle.cx_vread_exprs.proofs.ExprFound.{expr_found}
 use Rattle.cx_vread_exprs.proofs.Found.{ends, then_reads_some}

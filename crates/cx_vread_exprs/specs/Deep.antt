@@ -4,7 +4,7 @@ use Rattle.std.specs.Option.{option_or}
 use Rattle.cx_bits.specs.BitVector.{BitVector}
 use Rattle.cx_vtree.specs.Plain.{PlainExpr, Number, Inverted}
 use Rattle.cx_vtree.specs.Sound.{Scope}
-use Rattle.cx_vread_exprs.specs.declared.shapes.Shape.{Shape}
+use Rattle.cx_vscope.specs.declared.shapes.Shape.{Shape}
 use Rattle.cx_vread_exprs.specs.Places.{Place, Reads, then_reads}
 use Rattle.cx_vread_exprs.specs.Tokens.{fits_bits, misnamed, miswidened}
 use Rattle.cx_vread_exprs.specs.Exprs.{expr_at, most_levels}

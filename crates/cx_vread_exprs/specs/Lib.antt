@@ -1,7 +1,6 @@
 pub mod Places
 pub mod Tokens
 pub mod Exprs
-pub mod Shapes
 pub mod Passing
 pub mod Deep
 pub mod Numbers

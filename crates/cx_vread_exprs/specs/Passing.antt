@@ -7,11 +7,11 @@ use Rattle.cx_vread_exprs.specs.declared.passing.Await.{Await}
 use Rattle.cx_vread_exprs.specs.declared.passing.Await.TheVariants.{Inverse, Index, High, Low, Sign, One, Other, Right}
 use Rattle.cx_vread_exprs.specs.declared.passing.Found.{Found}
 use Rattle.cx_vread_exprs.specs.declared.passing.Found.TheVariants.{Within, Ended}
-use Rattle.cx_vread_exprs.specs.declared.shapes.Shape.{Shape}
+use Rattle.cx_vscope.specs.declared.shapes.Shape.{Shape}
 use Rattle.cx_vread_exprs.specs.Places.{Place, Reads, then_reads, then_at, after, begins}
 use Rattle.cx_vread_exprs.specs.Tokens.{name_at, literal_at}
 use Rattle.cx_vread_exprs.specs.Exprs.{operator_at, is_part, part_by, starts_digit}
-use Rattle.cx_vread_exprs.specs.Shapes.{shape_of, array_shape, indexed, applied, chosen, joined}
+use Rattle.cx_vscope.specs.Shapes.{shape_of, array_shape, indexed, applied, chosen, joined}
 
 -- past a fixed text, behind which an expression of this shape has ended
 abbrev pub closed_by : List ℕ → Shape → Place → Reads Found

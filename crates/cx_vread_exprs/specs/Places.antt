@@ -1,5 +1,5 @@
 -- Where reading stands, and how one reading follows another.
-use Rattle.std.specs.Prelude.{ℕ, zero, suc, ◌==◌, Bool, false, List, [], ◌∷◌, ◌++◌, Option, Some, None, is_some, if◌then◌else◌}
+use Rattle.std.specs.Prelude.{ℕ, zero, suc, ◌==◌, Bool, List, [], ◌∷◌, ◌++◌, Option, Some, None, is_some, if◌then◌else◌}
 
 -- the bytes that are left, and whether a tree keeps of all before which rules it breaks
 pub record Place : Type 0 where

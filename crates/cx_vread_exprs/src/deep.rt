@@ -11,10 +11,9 @@ use crate::faults::Fault;
 use crate::numbers::{fitting, misnamed, miswidened};
 use crate::passing::pass_shape;
 use crate::places::ReadPoint;
-use crate::shapes::Shape;
 use cx_bits::Bits;
 use cx_text::Memory;
-use cx_vscope::ModuleScope;
+use cx_vscope::{ModuleScope, Shape};
 use cx_vtree::Expr;
 use std::alloc::Global;
 

@@ -9,7 +9,6 @@ mod numbers;
 mod operators;
 mod passing;
 mod places;
-mod shapes;
 
 pub use exprs::whole_expr;
 pub use faults::Fault;

@@ -11,9 +11,8 @@ use crate::names::name;
 use crate::numbers::{is_part, literal};
 use crate::operators::operator;
 use crate::places::{ReadPoint, begins, expect};
-use crate::shapes::{Shape, applied, array_shape, chosen, indexed, joined, shape_of};
 use cx_text::Name;
-use cx_vscope::ModuleScope;
+use cx_vscope::{ModuleScope, Shape, applied, array_shape, chosen, indexed, joined, shape_of};
 use cx_vtree::{Expr, Operator};
 use std::alloc::Global;
 

@@ -1,3 +1,4 @@
 pub mod Scopes
 pub mod ScopeValues
 pub mod Drafts
+pub mod Shapes

@@ -1,44 +1,16 @@
-//! The rules on expressions.
+//! Widths and nesting of expressions.
 
 ghost use Rattle.std.specs.Prelude.{◌≡◌, ◌^◌, nat_le, Some, None, if◌then◌else◌};
 ghost use Rattle.cx_vtree.specs.PlainParts.{plain_expr};
 ghost use Rattle.cx_vtree.specs.Sound as sound;
-ghost use Rattle.cx_vscope.specs.ScopeValues.{scope_by};
 
-use crate::meanings::{is_array, is_source, width_of};
-use crate::scopes::ModuleScope;
 use cx_bits::Bits;
-use cx_text::{Name, WIDTH_BITS};
+use cx_text::WIDTH_BITS;
 use cx_vtree::{Expr, Operator};
-
-/// Whether a name may stand in an expression.
-fn is_readable(scope: &ModuleScope, name: &Name) -> bool
-    ensures { result ≡ sound.is_readable (scope_by scope.now) name.now }
-{
-    is_source(scope.meaning(name)) && name.bytes() != b"clk".as_slice()
-}
-
-/// Whether a name stands where it may not.
-pub fn misnames(scope: &ModuleScope, e: &Expr) -> bool
-    ensures { result ≡ sound.misnames (scope_by scope.now) (plain_expr e.now) }
-{
-    match e {
-        Expr::Net(name) => !is_readable(scope, name),
-        Expr::Literal(bits) => overflows(*bits),
-        Expr::Slice(name, _, _) => !is_readable(scope, name),
-        Expr::Item(name, index) => !is_array(scope.meaning(name)) || misnames(scope, index),
-        Expr::Binary(_, left, right) => misnames(scope, left) || misnames(scope, right),
-        Expr::Not(inner) => misnames(scope, inner),
-        Expr::Choose(test, one, other) => {
-            misnames(scope, test) || misnames(scope, one) || misnames(scope, other)
-        }
-        Expr::Cat(high, low) => misnames(scope, high) || misnames(scope, low),
-    }
-}
 
 /// A literal that does not fit its width: no `Bits` is one.
 #[tactic(auto, using(crate::proofs::Literals::fits_no_overflow))]
-fn overflows(bits: Bits) -> bool
+pub fn overflows(bits: Bits) -> bool
     ensures { result ≡ nat_le (2 ^ bits.width) bits.value }
 {
     let _value = bits.value();
@@ -68,13 +40,14 @@ fn is_comparison(op: Operator) -> bool
 
 /// The width of a literal, which is 1 to 128.
 #[tactic(auto, using(cx_vtree::proofs::SoundLemmas::not_wide))]
-fn literal_width(bits: Bits) -> Option<u8>
+pub fn literal_width(bits: Bits) -> Option<u8>
     ensures { result ≡ (if sound.bad_width bits.width then None else Some bits.width) }
 {
     Some(bits.width())
 }
 
-fn part_width(width: u8, high: u8, low: u8) -> Option<u8>
+/// The width of the bits `high` to `low` of a net, None where they are not within it.
+pub fn part_width(width: u8, high: u8, low: u8) -> Option<u8>
     ensures { result ≡ sound.part_width width high low }
 {
     if low <= high && high < width {
@@ -109,48 +82,6 @@ pub fn joined_width(v: u8, w: u8) -> Option<u8>
         Some(v + w)
     } else {
         None
-    }
-}
-
-/// The width of an expression, where the widths in it fit.
-pub fn fitting_width(scope: &ModuleScope, e: &Expr) -> Option<u8>
-    ensures { result ≡ sound.fitting_width (scope_by scope.now) (plain_expr e.now) }
-{
-    match e {
-        Expr::Net(name) => Some(width_of(scope.meaning(name))),
-        Expr::Literal(bits) => literal_width(*bits),
-        Expr::Slice(name, high, low) => part_width(width_of(scope.meaning(name)), *high, *low),
-        Expr::Item(name, index) => {
-            let _index = fitting_width(scope, index)?;
-            Some(width_of(scope.meaning(name)))
-        }
-        Expr::Binary(op, left, right) => {
-            let v = fitting_width(scope, left)?;
-            let w = fitting_width(scope, right)?;
-            applied_width(*op, v, w)
-        }
-        Expr::Not(inner) => fitting_width(scope, inner),
-        Expr::Choose(test, one, other) => {
-            let t = fitting_width(scope, test)?;
-            let v = fitting_width(scope, one)?;
-            let w = fitting_width(scope, other)?;
-            chosen_width(t, v, w)
-        }
-        Expr::Cat(high, low) => {
-            let v = fitting_width(scope, high)?;
-            let w = fitting_width(scope, low)?;
-            joined_width(v, w)
-        }
-    }
-}
-
-/// Whether the widths in an expression fit, and it has this width.
-pub fn has_width(scope: &ModuleScope, e: &Expr, width: u8) -> bool
-    ensures { result ≡ sound.has_width (scope_by scope.now) (plain_expr e.now) width }
-{
-    match fitting_width(scope, e) {
-        None => false,
-        Some(w) => w == width,
     }
 }
 

@@ -54,19 +54,25 @@ pub fn is_word(bytes: &[u8]) -> bool
 pub fn is_keyword(bytes: &[u8]) -> bool
     ensures { result ≡ layout.is_keyword bytes.now }
 {
-    bytes == b"module".as_slice()
-        || bytes == b"input".as_slice()
-        || bytes == b"output".as_slice()
-        || bytes == b"wire".as_slice()
-        || bytes == b"reg".as_slice()
-        || bytes == b"assign".as_slice()
-        || bytes == b"always".as_slice()
-        || bytes == b"posedge".as_slice()
-        || bytes == b"begin".as_slice()
-        || bytes == b"end".as_slice()
-        || bytes == b"if".as_slice()
-        || bytes == b"else".as_slice()
-        || bytes == b"endmodule".as_slice()
+    let Some((first, _)) = bytes.split_first() else {
+        return false;
+    };
+    match *first {
+        b'a' => bytes == b"assign".as_slice() || bytes == b"always".as_slice(),
+        b'b' => bytes == b"begin".as_slice(),
+        b'e' => {
+            bytes == b"end".as_slice()
+                || bytes == b"else".as_slice()
+                || bytes == b"endmodule".as_slice()
+        }
+        b'i' => bytes == b"input".as_slice() || bytes == b"if".as_slice(),
+        b'm' => bytes == b"module".as_slice(),
+        b'o' => bytes == b"output".as_slice(),
+        b'p' => bytes == b"posedge".as_slice(),
+        b'r' => bytes == b"reg".as_slice(),
+        b'w' => bytes == b"wire".as_slice(),
+        _ => false,
+    }
 }
 
 fn is_name(name: &Name) -> bool

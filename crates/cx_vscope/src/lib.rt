@@ -8,11 +8,10 @@ mod meanings;
 mod names;
 mod numerals;
 mod scopes;
+mod shapes;
 
 pub use drafts::{DraftDecl, DraftExternal, DraftModule};
-pub use exprs::{
-    applied_width, chosen_width, fitting_width, has_width, joined_width, misnames, too_deep,
-};
+pub use exprs::too_deep;
 pub use layout::{is_keyword, is_laid_out, is_name_byte, is_word};
 pub use meanings::{
     decl_name, is_array, is_driven, is_register, is_source, is_wire, same, width_of,
@@ -20,3 +19,4 @@ pub use meanings::{
 pub use names::Names;
 pub use numerals::Numeral;
 pub use scopes::ModuleScope;
+pub use shapes::{Shape, applied, array_shape, chosen, has_width, indexed, joined, shape_of};

@@ -1,6 +1,5 @@
 -- The first places of names.
-use Rattle.std.specs.Prelude.{◌≡◌, ℕ, List, [], ◌∷◌, map, codes, if◌then◌else◌}
-use Rattle.std.specs.HashMap as maps
+use Rattle.std.specs.Prelude.{◌≡◌, ℕ, List, [], map, codes}
 use Rattle.std.specs.HashMap.{HashMap}
 use Rattle.std.specs.Option.{option_map_or}
 use denote.Ref.{Bor}

@@ -9,8 +9,7 @@ ghost use Rattle.cx_vsound.specs.Search.{faults_in, over};
 use crate::search::{LineFaults, Search, after, clean};
 use cx_text::{Memory, Name};
 use cx_vscope::{
-    ModuleScope, Names, fitting_width, has_width, is_array, is_register, misnames, too_deep,
-    width_of,
+    ModuleScope, Names, has_width, is_array, is_register, shape_of, too_deep, width_of,
 };
 use cx_vtree::{Edge, EdgeItem, Expr, NetAssign};
 use std::alloc::Global;
@@ -18,11 +17,11 @@ use std::alloc::Global;
 fn set_faults(scope: &ModuleScope, earlier: &Names, a: &NetAssign) -> LineFaults
     ensures { faults_in result ≡ sound.set_faults (scope_by scope.now) earlier.now (plain_assign a.now) }
 {
+    let register = scope.meaning(&a.name);
+    let value = shape_of(scope, &a.value);
     LineFaults {
-        name: !is_register(scope.meaning(&a.name))
-            || earlier.has(&a.name)
-            || misnames(scope, &a.value),
-        width: !has_width(scope, &a.value, width_of(scope.meaning(&a.name))),
+        name: !is_register(register) || earlier.has(&a.name) || value.misnamed,
+        width: !has_width(value, width_of(register)),
         limit: too_deep(&a.value),
     }
 }
@@ -43,15 +42,17 @@ fn store_faults(
           value = plain_expr value.now;
         }) }
 {
+    let words = scope.meaning(array);
+    let test = shape_of(scope, guard);
+    let place = shape_of(scope, index);
+    let word = shape_of(scope, value);
     LineFaults {
-        name: !is_array(scope.meaning(array))
+        name: !is_array(words)
             || earlier.has(array)
-            || misnames(scope, guard)
-            || misnames(scope, index)
-            || misnames(scope, value),
-        width: !has_width(scope, guard, 1)
-            || fitting_width(scope, index).is_none()
-            || !has_width(scope, value, width_of(scope.meaning(array))),
+            || test.misnamed
+            || place.misnamed
+            || word.misnamed,
+        width: !has_width(test, 1) || place.width.is_none() || !has_width(word, width_of(words)),
         limit: too_deep(guard) || too_deep(index) || too_deep(value),
     }
 }

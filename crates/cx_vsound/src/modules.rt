@@ -1,7 +1,7 @@
 //! The rules on modules.
 
 ghost use Rattle.std.specs.Prelude.{◌≡◌, [], ◌++◌, map, IfOk, OnOk};
-ghost use Rattle.cx_vtree.specs.PlainParts.{plain_port, plain_assign};
+ghost use Rattle.cx_vtree.specs.PlainParts.{plain_port};
 ghost use Rattle.cx_vscope.specs.Drafts.{draft_decl, draft_module, draft_modules};
 ghost use Rattle.cx_vtree.specs.Sound as sound;
 ghost use Rattle.cx_vsound.specs.Parts.{counts_in, signature_faults, body_faults};
@@ -16,7 +16,7 @@ use crate::parts::{assigns, decls, ports};
 use crate::search::{LineFaults, Search, after, clean};
 use cx_text::{Memory, Name};
 use cx_vscope::{DraftModule, ModuleScope, Names};
-use cx_vtree::{ModulePort, NetAssign};
+use cx_vtree::ModulePort;
 use std::alloc::Global;
 
 fn module_faults(is_main: bool, before: &Earlier, own: Sums, m: &DraftModule) -> LineFaults
@@ -47,17 +47,6 @@ fn port_names<'a>(alloc: Global, ports: &'a [ModulePort]) -> Result<Names<'a>, M
     let mut names = Names::new(alloc);
     for p in ports {
         names.push(&p.name)?;
-    }
-    Ok(names)
-}
-
-/// The names of what is assigned.
-fn assigned<'a>(alloc: Global, assigns: &'a [NetAssign]) -> Result<Names<'a>, Memory>
-    ensures { IfOk result (λ names. names ≡ map (λ a. a.name) (map plain_assign assigns.now)) }
-{
-    let mut names = Names::new(alloc);
-    for a in assigns {
-        names.push(&a.name)?;
     }
     Ok(names)
 }
@@ -99,8 +88,8 @@ fn body<'a>(
     ensures { IfOk result (λ s. s ≡ over search (body_faults (draft_modules before.now) (draft_module m.now))) }
 {
     let scope = ModuleScope::new(alloc, m)?;
-    let search = assigns(alloc, search, &scope, &m.assigns)?;
-    let mut driven = assigned(alloc, &m.assigns)?;
+    let mut driven = Names::new(alloc);
+    let search = assigns(search, &scope, &mut driven, &m.assigns)?;
     let search = instances(
         alloc,
         search,

@@ -10,7 +10,7 @@ ghost use Rattle.cx_vsound.specs.Search.{faults_in, over};
 use crate::search::{LineFaults, Search, after};
 use cx_text::{Memory, WIDTH_BITS};
 use cx_vscope::{
-    DraftDecl, ModuleScope, Names, Numeral, decl_name, has_width, is_driven, misnames, too_deep,
+    DraftDecl, ModuleScope, Names, Numeral, decl_name, has_width, is_driven, shape_of, too_deep,
     width_of,
 };
 use cx_vtree::{ModulePort, NetAssign};
@@ -143,30 +143,30 @@ pub fn decls<'a>(
 fn assign_faults(scope: &ModuleScope, earlier: &Names, a: &NetAssign) -> LineFaults
     ensures { faults_in result ≡ sound.assign_faults (scope_by scope.now) earlier.now (plain_assign a.now) }
 {
+    let net = scope.meaning(&a.name);
+    let value = shape_of(scope, &a.value);
     LineFaults {
-        name: !is_driven(scope.meaning(&a.name))
-            || earlier.has(&a.name)
-            || misnames(scope, &a.value),
-        width: !has_width(scope, &a.value, width_of(scope.meaning(&a.name))),
+        name: !is_driven(net) || earlier.has(&a.name) || value.misnamed,
+        width: !has_width(value, width_of(net)),
         limit: too_deep(&a.value),
     }
 }
 
-/// Goes on past the lines of assigns.
-pub fn assigns(
-    alloc: Global,
+/// Goes on past the lines of assigns. `driven` has the nets that are driven before, and gains those that are assigned.
+pub fn assigns<'a>(
     search: Search,
     scope: &ModuleScope,
-    assigns: &[NetAssign],
+    driven: &mut Names<'a>,
+    assigns: &'a [NetAssign],
 ) -> Result<Search, Memory>
-    ensures { IfOk result
-        (λ s. s ≡ over search (sound.assigns_faults (scope_by scope.now) [] (map plain_assign assigns.now))) }
+    ensures value { IfOk result
+        (λ s. s ≡ over search (sound.assigns_faults (scope_by scope.now) driven.old (map plain_assign assigns.now))) }
+    ensures names { OnOk result (driven.new ≡ driven.old ++ map (λ a. a.name) (map plain_assign assigns.now)) }
 {
     let mut search = search;
-    let mut earlier = Names::new(alloc);
     for a in assigns {
-        search = after(search, assign_faults(scope, &earlier, a));
-        earlier.push(&a.name)?;
+        search = after(search, assign_faults(scope, driven, a));
+        driven.push(&a.name)?;
     }
     Ok(search)
 }

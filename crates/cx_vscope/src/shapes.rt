@@ -1,17 +1,20 @@
 //! What the rules on names and widths look at of an expression.
 
-ghost use Rattle.std.specs.Prelude.{◌≡◌, Some};
+ghost use Rattle.std.specs.Prelude.{◌≡◌, ◌&&◌, not, codes};
+ghost use Rattle.cx_vtree.specs.InstanceTree.{same_name};
+ghost use Rattle.cx_vtree.specs.Plain.{Named, Part};
 ghost use Rattle.cx_vtree.specs.Sound as sound;
 ghost use Rattle.cx_vtree.specs.PlainParts.{plain_expr};
 ghost use Rattle.cx_vscope.specs.ScopeValues.{scope_by};
-ghost use Rattle.cx_vread_exprs.specs.Shapes as shapes;
+ghost use Rattle.cx_vscope.specs.Shapes as shapes;
 
-use cx_text::Name;
-use cx_vscope::{
-    ModuleScope, applied_width, chosen_width, fitting_width, is_array, joined_width, misnames,
-    width_of,
+use crate::exprs::{
+    applied_width, chosen_width, joined_width, literal_width, overflows, part_width,
 };
-use cx_vtree::{Expr, Operator};
+use crate::meanings::{is_array, is_source, width_of};
+use crate::scopes::ModuleScope;
+use cx_text::Name;
+use cx_vtree::{Expr, Meaning, Operator};
 
 /// Whether a name stands in an expression where it may not, and its width, None where the widths in it do not fit.
 #[derive(Clone, Copy, Debug, PartialEq, Eq)]
@@ -20,13 +23,32 @@ pub struct Shape {
     pub width: Option<u8>,
 }
 
-/// The shape of an expression.
-pub fn shape_of(scope: &ModuleScope, e: &Expr) -> Shape
-    ensures { result ≡ shapes.shape_of (scope_by scope.now) (plain_expr e.now) }
+/// Whether a name that means this may stand in an expression.
+fn is_readable(meaning: Meaning, name: &Name) -> bool
+    ensures { result ≡ (sound.is_source meaning && not (same_name name.now (codes "clk"))) }
 {
+    is_source(meaning) && name.bytes() != b"clk".as_slice()
+}
+
+/// The shape of a net.
+fn net_shape(scope: &ModuleScope, name: &Name) -> Shape
+    ensures { result ≡ shapes.shape_of (scope_by scope.now) (Named name.now) }
+{
+    let meaning = scope.meaning(name);
     Shape {
-        misnamed: misnames(scope, e),
-        width: fitting_width(scope, e),
+        misnamed: !is_readable(meaning, name),
+        width: Some(width_of(meaning)),
+    }
+}
+
+/// The shape of the bits `high` to `low` of a net.
+fn part_shape(scope: &ModuleScope, name: &Name, high: u8, low: u8) -> Shape
+    ensures { result ≡ shapes.shape_of (scope_by scope.now) (Part name.now high low) }
+{
+    let meaning = scope.meaning(name);
+    Shape {
+        misnamed: !is_readable(meaning, name),
+        width: part_width(width_of(meaning), high, low),
     }
 }
 
@@ -113,5 +135,40 @@ pub fn joined(high: Shape, low: Shape) -> Shape
     Shape {
         misnamed: high.misnamed || low.misnamed,
         width: sides_width(high.width, low.width),
+    }
+}
+
+/// The shape of an expression. Each name in it is looked up once.
+pub fn shape_of(scope: &ModuleScope, e: &Expr) -> Shape
+    ensures { result ≡ shapes.shape_of (scope_by scope.now) (plain_expr e.now) }
+{
+    match e {
+        Expr::Net(name) => net_shape(scope, name),
+        Expr::Literal(bits) => Shape {
+            misnamed: overflows(*bits),
+            width: literal_width(*bits),
+        },
+        Expr::Slice(name, high, low) => part_shape(scope, name, *high, *low),
+        Expr::Item(name, index) => indexed(array_shape(scope, name), shape_of(scope, index)),
+        Expr::Binary(op, left, right) => {
+            applied(*op, shape_of(scope, left), shape_of(scope, right))
+        }
+        Expr::Not(inner) => shape_of(scope, inner),
+        Expr::Choose(test, one, other) => chosen(
+            shape_of(scope, test),
+            shape_of(scope, one),
+            shape_of(scope, other),
+        ),
+        Expr::Cat(high, low) => joined(shape_of(scope, high), shape_of(scope, low)),
+    }
+}
+
+/// Whether the widths in an expression of this shape fit, and it has this width.
+pub fn has_width(shape: Shape, width: u8) -> bool
+    ensures { result ≡ shapes.has_width shape width }
+{
+    match shape.width {
+        None => false,
+        Some(w) => w == width,
     }
 }
