@@ -4,11 +4,11 @@
     tools/headings.py            writes it
     tools/headings.py --check    looks that it is there
 """
-import os
 import re
 import sys
 
-PAGE = os.path.join(os.path.dirname(os.path.abspath(__file__)), '..', 'docs', 'DECISIONS.md')
+import written
+
 BEGIN, END = '<!-- headings: written by tools/headings.py -->\n', '<!-- the end of the headings -->\n'
 
 
@@ -25,22 +25,15 @@ def listed(text):
     return ''.join(lines)
 
 
-def main():
-    with open(PAGE, encoding='utf-8') as file:
-        text = file.read()
+def page(text):
+    """The page with the list of its headings at its top."""
     before, _, rest = text.partition(BEGIN)
     _, _, after = rest.partition(END)
     if not rest:
         at = text.index('\n## ')
         before, after = text[:at] + '\n', text[at:]
-    made = before + BEGIN + listed(after) + END + after
-    if sys.argv[1:] == ['--check']:
-        print('docs/DECISIONS.md has the list of its headings' if made == text else 'docs/DECISIONS.md has another list of its headings: run tools/headings.py')
-        return 0 if made == text else 1
-    with open(PAGE, 'w', encoding='utf-8') as file:
-        file.write(made)
-    return 0
+    return before + BEGIN + listed(after) + END + after
 
 
 if __name__ == '__main__':
-    sys.exit(main())
+    sys.exit(written.keep('DECISIONS.md', 'the list of its headings', 'headings.py', page))

@@ -9,8 +9,9 @@ import os
 import re
 import sys
 
+import written
+
 ROOT = os.path.join(os.path.dirname(os.path.abspath(__file__)), '..')
-PAGE = os.path.join(ROOT, 'docs', 'MAP.md')
 ROW = re.compile(r'^\| `(\w+)` \| ([^|]*) \| [^|]* \| [^|]* \| [^|]* \|$')
 CODE = re.compile(r'^\s*(?:pub(?:\([a-z]+\))? )?(?:struct|enum|trait) (\w+)', re.M)
 RECORDS = re.compile(r'^\s*pub (?:record|data) (\w+)', re.M)
@@ -49,18 +50,11 @@ def row(crate, room):
     return f'| `{crate}` | {room} | ' + ' | '.join(', '.join(column) or 'none' for column in columns) + ' |'
 
 
-def main():
-    with open(PAGE, encoding='utf-8') as file:
-        text = file.read()
-    lines = [ROW.match(line) for line in text.split('\n')]
-    made = '\n'.join(row(found[1], found[2]) if found else line for found, line in zip(lines, text.split('\n')))
-    if sys.argv[1:] == ['--check']:
-        print('docs/MAP.md has the types and files of each crate' if made == text else 'docs/MAP.md has other types or files: run tools/rooms.py')
-        return 0 if made == text else 1
-    with open(PAGE, 'w', encoding='utf-8') as file:
-        file.write(made)
-    return 0
+def page(text):
+    """The page with the line of each crate written anew."""
+    lines = text.split('\n')
+    return '\n'.join(row(found[1], found[2]) if found else line for found, line in zip(map(ROW.match, lines), lines))
 
 
 if __name__ == '__main__':
-    sys.exit(main())
+    sys.exit(written.keep('MAP.md', 'the types and files of each crate', 'rooms.py', page))
