@@ -39,7 +39,7 @@ use cx_turns::calls::instance_part;
 use cx_turns::driven::driven_cells;
 use cx_turns::machine::{Machine, fault_in};
 use cx_turns::plan::Plan;
-use cx_turns::rest::rest_all;
+use cx_turns::rest::rest_listed;
 use cx_turns::rooms::activate;
 
 /// Sees the ports of the static ifs that begin in a cycle of an island: the fault of the first that is no value.
@@ -154,6 +154,7 @@ fn take_cycles(
         (λ part. control.form_drives part (plain_form form.now)) }
     requires ascending { IsAscending machine.old.room.cells.items }
     ensures machine { IsAt plan.now machine.new }
+    ensures cells { machine.new.room.cells ≡ machine.old.room.cells }
     ensures paused { Paused (design_of plan.now) (rows_of machine.old) (rows_of machine.new) instance
         (form_drives (plain_form form.now))
         (sampled_does (plain_form form.now)
@@ -209,6 +210,6 @@ pub(crate) fn run_island(
     let room = &mut machine.room;
     driven_cells(plan, instance, form, &mut room.marks, &mut room.cells);
     let answer = take_cycles(plan, machine, counts, instance, part, form, budget);
-    rest_all(plan, machine, instance);
+    rest_listed(plan, machine, instance);
     answer
 }

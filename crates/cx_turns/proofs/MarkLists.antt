@@ -9,7 +9,22 @@ use Rattle.std.proofs.lemmas.List.Sorted.{sum_by-IsPermutation}
 use Rattle.std.proofs.lemmas.List.Sums.{sum_by-cons, sum_by_push, sum_by-set}
 use Rattle.cx_eval_cycle.specs.Passes.{IsAscending, listed_in}
 use Rattle.cx_turns.specs.Marks.{Lists, is_marked, set_count}
+use Rattle.cx_eval_cycle.proofs.PassLemmas.{Above, above_of}
 use Rattle.cx_text.proofs.NumberLaws.{same_numbers}
+
+-- cells in order are no more than those that they are of
+pub ascending_few : (xs : List ℕ) (m : ℕ) → IsAscending xs → All (λ c. c < m) xs → length xs ≤ m
+ascending_few xs m ascending within =
+    let few = from xs 0 (omega arith) (above_of xs 0 (λ k e. omega arith) ascending) within in
+    omega (arith, few)
+  where
+    from : (ys : List ℕ) (k : ℕ) → k ≤ m → Above k ys → All (λ c. c < m) ys → k + length ys ≤ m
+    from [] k some above all = omega (arith, some)
+    from (y ∷ ys) k some above all =
+        let here = above.0 in
+        let less = all 0 y (omega arith) in
+        let rest = from ys (suc y) (omega (arith, less)) above.1 (λ j e lt. all (suc j) e (omega (arith, lt))) in
+        omega (arith, here, rest)
 
 pub not_joined : (a b m : Bool) → (not a && (not b && m)) ≡ (not (a || b) && m)
 not_joined true b m = refl

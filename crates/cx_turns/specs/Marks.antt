@@ -17,7 +17,11 @@ pub record Lists (marks : List Bool) (cells : List ℕ) : Type 0 where
   pub once : (c : ℕ) → count_by (λ k. nat_eq k c) cells ≡ cond (is_marked marks c) 1 0
   pub count : length cells ≡ set_count marks
 
+-- so many are no fewer than the cells of instance n
+abbrev pub IsRoomFor : PlainDesign → ℕ → ℕ → Type 0
+IsRoomFor d n count =
+    (path : Path) → IsNumber d n path → length (part_of (instance_at (tree_of d) path)).cells ≤ count
+
 -- a mark for each cell of instance n
 abbrev pub HasMarks : PlainDesign → ℕ → List Bool → Type 0
-HasMarks d n marks =
-    (path : Path) → IsNumber d n path → length (part_of (instance_at (tree_of d) path)).cells ≤ length marks
+HasMarks d n marks = IsRoomFor d n (length marks)

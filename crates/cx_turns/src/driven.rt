@@ -1,15 +1,14 @@
 //! The cells that the groups of a statement drive.
 
-ghost use Rattle.std.specs.Prelude.{◌≡◌, ◌||◌, ◌&&◌, ◌<◌, ◌≤◌, [], ◌∷◌, ℕ, nat_eq, not, All, length, vec_capacity};
+ghost use Rattle.std.specs.Prelude.{◌≡◌, true, ◌||◌, ◌&&◌, ◌<◌, ◌≤◌, [], ◌∷◌, ℕ, nat_eq, not, All, length, vec_capacity};
 ghost use Rattle.cx_meaning.specs.Control.{form_drives, groups_drive, groups_in, groups_in_all, groups_of, with_comb};
 ghost use Rattle.cx_meaning.specs.Instances.{Path, part_of, instance_at, tree_of};
 ghost use Rattle.cx_design.specs.PlainForms.{plain_form, plain_statement, plain_statements};
 ghost use Rattle.cx_eval_cycle.specs.Passes.{IsAscending, listed_in};
-ghost use Rattle.cx_turns.specs.Groups.{ListWithin};
+ghost use Rattle.cx_turns.specs.Groups.{IsGroupOf, ListDriven, ListGroup, ListWithin};
 ghost use Rattle.cx_turns.specs.Machines.{design_of, IsPlan, IsInstance};
 ghost use Rattle.cx_state.specs.Tables.{IsNumber};
-ghost use Rattle.cx_turns.specs.Marks.{HasMarks, Lists, is_marked, set_count};
-ghost use Rattle.cx_turns.specs.Groups.{ListDriven};
+ghost use Rattle.cx_turns.specs.Marks.{HasMarks, IsRoomFor, Lists, is_marked, set_count};
 
 use crate::calls::{group_row, instance_part};
 use crate::plan::Plan;
@@ -186,9 +185,45 @@ fn clear_marks(cells: &[u32], marks: &mut [bool])
     }
 }
 
+/// Whether an instance has a group of this number.
+fn is_group(plan: &Plan<'_>, instance: usize, group: u32) -> bool
+    requires plan { IsPlan plan.now }
+    requires instance { IsInstance (design_of plan.now) instance }
+    ensures group { result ≡ true → IsGroupOf (design_of plan.now) instance group }
+{
+    (group as usize) < instance_part(plan, instance).groups.len()
+}
+
+/// Puts a list of cells into room that was there before.
+fn copy_cells(driven: &[u32], cells: &mut Vec<u32>)
+    requires room { length driven.now ≤ vec_capacity cells.old }
+    ensures items { cells.new.items ≡ driven.now }
+    ensures room { vec_capacity cells.old ≤ vec_capacity cells.new }
+{
+    cells.clear();
+    for cell in driven {
+        cells.push_reserved(*cell);
+    }
+}
+
+/// Lists the cells that a group of an instance drives, ascending, as its row has them.
+fn list_group(plan: &Plan<'_>, instance: usize, group: u32, cells: &mut Vec<u32>)
+    requires plan { IsPlan plan.now }
+    requires instance { IsInstance (design_of plan.now) instance }
+    requires group { IsGroupOf (design_of plan.now) instance group }
+    requires room { IsRoomFor (design_of plan.now) instance (vec_capacity cells.old) }
+    ensures driven { ListGroup (design_of plan.now) instance group cells.new.items }
+    ensures ascending { IsAscending cells.new.items }
+    ensures within { ListWithin (design_of plan.now) instance cells.new.items }
+    ensures room { vec_capacity cells.old ≤ vec_capacity cells.new }
+{
+    let row = group_row(plan, instance, group);
+    copy_cells(row.cells.as_slice(), cells);
+}
+
 /// Lists the cells of an instance that the groups of a form drive, ascending. Marks, none of which is set before and
 /// after, tell what is listed, so that it takes the time of these groups and not of all cells.
-pub fn driven_cells(
+fn list_groups(
     plan: &Plan<'_>,
     instance: usize,
     form: &Form,
@@ -212,4 +247,35 @@ pub fn driven_cells(
     mark_form(plan, instance, form, marks, cells);
     clear_marks(cells.as_slice(), marks);
     cells.sort_unstable();
+}
+
+/// Lists the cells of an instance that the groups of a form drive, ascending, in the time of these groups and not of all cells.
+/// Marks, none of which is set before and after, tell what is listed; the cells of one group stand in its row.
+pub fn driven_cells(
+    plan: &Plan<'_>,
+    instance: usize,
+    form: &Form,
+    marks: &mut [bool],
+    cells: &mut Vec<u32>,
+)
+    requires plan { IsPlan plan.now }
+    requires instance { IsInstance (design_of plan.now) instance }
+    requires marks { HasMarks (design_of plan.now) instance marks.old }
+    requires clear { set_count marks.old ≡ 0 }
+    requires room { length marks.old ≤ vec_capacity cells.old }
+    ensures driven { ListDriven (design_of plan.now) instance cells.new.items
+        (λ part. form_drives part (plain_form form.now)) }
+    ensures ascending { IsAscending cells.new.items }
+    ensures within { ListWithin (design_of plan.now) instance cells.new.items }
+    ensures length { length marks.new ≡ length marks.old }
+    ensures clear { set_count marks.new ≡ 0 }
+    ensures room { vec_capacity cells.old ≤ vec_capacity cells.new }
+{
+    if let Form::Enable(group) = form {
+        if is_group(plan, instance, *group) {
+            list_group(plan, instance, *group, cells);
+            return;
+        }
+    }
+    list_groups(plan, instance, form, marks, cells);
 }

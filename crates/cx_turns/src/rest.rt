@@ -66,6 +66,26 @@ pub fn rest(plan: &Plan<'_>, machine: &mut Machine<'_>, instance: usize, listed:
     rest_cells(&component.cells, &mut row.cells, listed);
 }
 
+/// The idle edges of the cells that are listed in the room of a machine.
+pub fn rest_listed(plan: &Plan<'_>, machine: &mut Machine<'_>, instance: usize)
+    requires plan { IsPlan plan.now }
+    requires machine { IsAt plan.now machine.old }
+    requires instance { IsInstance (design_of plan.now) instance }
+    requires within { ListWithin (design_of plan.now) instance machine.old.room.cells.items }
+    requires ascending { IsAscending machine.old.room.cells.items }
+    ensures evaluator { machine.new.sight.evaluator ≡ machine.old.sight.evaluator }
+    ensures room { machine.new.room ≡ machine.old.room }
+    ensures rested { Rested (design_of plan.now) (rows_of machine.old) (rows_of machine.new) instance
+        (listed_in machine.old.room.cells.items) }
+{
+    one_row_changes();
+    let number = plan.table.rows[instance].component as usize;
+    let component = &plan.design.components[number];
+    let row = &mut machine.sight.state.instances[instance];
+    let listed = machine.room.cells.as_slice();
+    rest_cells(&component.cells, &mut row.cells, listed);
+}
+
 /// The idle edges of all cells.
 fn rest_every(cells: &[Cell], held: &mut [Option<PrimState>])
     requires fits { HoldCells (map plain_cell cells.now) held.old }

@@ -1,12 +1,14 @@
-use Rattle.std.proofs.Common.{◌≡◌, ◌≤◌, ℕ, Bool, true, false, List, length, sym, ap, ◌∙◌, subst}
+use Rattle.std.proofs.Common.{◌≡◌, ◌≤◌, Global, ℕ, Bool, List, Vec, length, sym, ap, ◌∙◌, subst}
 use Rattle.std.specs.Prelude.{vec_capacity}
 use Rattle.std.specs.Vec.{with_items}
 use Rattle.std.proofs.lemmas.List.{with_items_is}
 use Rattle.cx_meaning.specs.Designs.{PlainComponent, PlainForm}
 use Rattle.cx_meaning.specs.Instances.{Instance, instance_at, tree_of}
-use Rattle.cx_meaning.specs.Cycles.{every_cell}
+use Rattle.cx_meaning.specs.Control as control
 use Rattle.cx_meaning.specs.Islands.{form_length}
 use Rattle.cx_design.specs.PlainForms.{plain_component, plain_form}
+use Rattle.cx_eval_cycle.specs.Passes.{IsAscending, listed_in}
+use Rattle.cx_turns.specs.Groups.{ListDriven, ListWithin}
 use Rattle.cx_turns.specs.Machines.{design_of, rows_of}
 use Rattle.cx_turns.specs.Marks.{HasMarks, set_count}
 use Rattle.cx_turns.specs.Rooms.{HasRoom}
@@ -50,17 +52,25 @@ take_cycles-answer-requires-clause-machine c =
           (ap (λ (xs : List Bool). set_count xs) marks ∙ c.driven_cells.ensures.clear) c.driven_cells.ensures.room;
     }
 
+pub rest_listed-requires-clause-within : goal.rest_listed-requires-clause-within
+rest_listed-requires-clause-within c = subst (λ (cells : Vec ℕ Global). ListWithin (design_of c.args.plan.now) c.args.instance cells.items) (sym c.take_cycles-answer.ensures.cells) c.driven_cells.ensures.within
+
+pub rest_listed-requires-clause-ascending : goal.rest_listed-requires-clause-ascending
+rest_listed-requires-clause-ascending c = subst (λ (cells : Vec ℕ Global). IsAscending cells.items) (sym c.take_cycles-answer.ensures.cells) c.driven_cells.ensures.ascending
+
 pub returns-clause-machine : goal.returns-clause-machine
 returns-clause-machine c = record {
-  evaluator = c.rest_all.ensures.evaluator ∙ c.take_cycles-answer.ensures.machine.evaluator;
-  state = c.rest_all.ensures.rested.fits;
-  room = subst (λ r. HasRoom (design_of c.args.plan.now) r) (sym c.rest_all.ensures.room) c.take_cycles-answer.ensures.machine.room;
+  evaluator = c.rest_listed.ensures.evaluator ∙ c.take_cycles-answer.ensures.machine.evaluator;
+  state = c.rest_listed.ensures.rested.fits;
+  room = subst (λ r. HasRoom (design_of c.args.plan.now) r) (sym c.rest_listed.ensures.room) c.take_cycles-answer.ensures.machine.room;
 }
 
 pub returns-clause-done : goal.returns-clause-done
 returns-clause-done c =
+    let driven : ListDriven (design_of c.args.plan.now) c.args.instance c.take_cycles-answer.new.machine.room.cells.items (λ part. control.form_drives part (plain_form c.args.form.now)) =
+    subst (λ (cells : Vec ℕ Global). ListDriven (design_of c.args.plan.now) c.args.instance cells.items (λ part. control.form_drives part (plain_form c.args.form.now))) (sym c.take_cycles-answer.ensures.cells) c.driven_cells.ensures.driven in
     let count : ℕ = form_length (plain_component c.instance_part-part.result.now) (plain_form c.args.form.now) in
-    done_same_at (design_of c.args.plan.now) c.args.instance (form_drives (plain_form c.args.form.now)) (rows_of c.args.machine.now) (rows_of c.rest_all.new.machine) (sampled_does (plain_form c.args.form.now) count (samples_in c.args.machine.now))
+    done_same_at (design_of c.args.plan.now) c.args.instance (form_drives (plain_form c.args.form.now)) (rows_of c.args.machine.now) (rows_of c.rest_listed.new.machine) (sampled_does (plain_form c.args.form.now) count (samples_in c.args.machine.now))
     (form_does (plain_form c.args.form.now)) c.args.budget c.take_cycles-answer.result
     (λ path held s number.
     samples_run (instance_at (tree_of (design_of c.args.plan.now)) path) held (plain_form c.args.form.now) count (samples_in c.args.machine.now) s c.args.budget
@@ -69,11 +79,11 @@ returns-clause-done c =
     (c.islands_run_by_samples.ensures (instance_at (tree_of (design_of c.args.plan.now)) path) held (plain_form c.args.form.now) (samples_in c.args.machine.now) s c.args.budget
     (c.accepted_has_no_empty_if.ensures (design_of c.args.plan.now) path (there (plain_form c.args.form.now) c.requires.form.0) c.requires.plan.flat c.requires.plan.accepted
     (stands_there (design_of c.args.plan.now) c.args.instance (plain_form c.args.form.now) c.requires.form path number))))
-    (done_rested (design_of c.args.plan.now) c.args.instance (rows_of c.args.machine.now) (rows_of c.take_cycles-answer.new.machine) (rows_of c.rest_all.new.machine) (form_drives (plain_form c.args.form.now))
-    (sampled_does (plain_form c.args.form.now) count (samples_in c.args.machine.now)) c.args.budget c.take_cycles-answer.result every_cell
-    (λ path k number off. absurd (let f : true ≡ false = off in cc))
+    (done_rested (design_of c.args.plan.now) c.args.instance (rows_of c.args.machine.now) (rows_of c.take_cycles-answer.new.machine) (rows_of c.rest_listed.new.machine) (form_drives (plain_form c.args.form.now))
+    (sampled_does (plain_form c.args.form.now) count (samples_in c.args.machine.now)) c.args.budget c.take_cycles-answer.result (listed_in c.take_cycles-answer.new.machine.room.cells.items)
+    (λ path k number off. sym (driven path k number) ∙ off)
     (λ path s. c.idle_settles.ensures (instance_at (tree_of (design_of c.args.plan.now)) path) s (rows_at (tree_of (design_of c.args.plan.now)) path (c.designs_keep_idle.ensures (design_of c.args.plan.now))))
-    c.take_cycles-answer.ensures.paused c.rest_all.ensures.rested)
+    c.take_cycles-answer.ensures.paused c.rest_listed.ensures.rested)
 
 pub returns-clause-counted : goal.returns-clause-counted
 returns-clause-counted c =
